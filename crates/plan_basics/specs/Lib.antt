@@ -1,0 +1,11 @@
+pub mod Names
+pub mod Padding
+pub mod Digits
+pub mod Minutes
+pub mod CivilParts
+pub mod Intervals
+pub mod Keys
+pub mod KeyTexts
+pub mod Attributes
+pub mod Refusals
+pub mod Watched

@@ -1,0 +1,14 @@
+pub mod Quiet
+pub mod Given
+pub mod Allowed
+pub mod Places
+pub mod Pairs
+pub mod LatestStarts
+pub mod Drafted
+pub mod ReadyLists
+pub mod Backwards
+pub mod Followers
+pub mod Chosen
+pub mod Accepted
+pub mod Waiting
+pub mod Holding

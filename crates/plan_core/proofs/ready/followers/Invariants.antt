@@ -1,0 +1,11 @@
+use Rattle.std.proofs.Common.{◌≡◌, take}
+use Rattle.plan_records.specs.Contents.{plan_of}
+use Rattle.plan_core.specs.Loading.{AreFollowers, with_pairs}
+use Rattle.plan_core.proofs.ready.followers.Given as goal
+
+-- the pairs so far have come in
+abbrev pub invariant-loop-pair : goal.invariant-loop-pair
+invariant-loop-pair l = record {
+  same : l.pair-items ≡ l.contents.pairs.items;
+  so_far : AreFollowers (with_pairs (take l.pair-index l.pair-items) (plan_of 0 l.contents)) l.contents.operations.items l.flags.items;
+}

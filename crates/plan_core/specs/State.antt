@@ -1,0 +1,37 @@
+-- What callers see of a plan in memory, and of a request that was prepared for it.
+use Rattle.std.specs.Prelude.{◌≡◌, ◌≤◌, false, List, refl}
+use Rattle.std.specs.Coded.{Coded, code_by, coded×, coded_list}
+use Rattle.plan_basics.specs.contracts.keys.OpKey as operation_key
+use Rattle.plan_basics.specs.declared.keys.OpKey.{OpKey}
+use Rattle.plan_model.specs.Plan.{Plan}
+use Rattle.plan_model.specs.Code.{plan_code}
+use Rattle.plan_records.specs.declared.What.{What}
+use Rattle.plan_records.specs.declared.What.TheVariants as what
+
+pub record PlanState : Type 0 where
+  pub plan : Plan
+
+-- the plan that a request leads to, and the operations that are named, in order
+pub record PreparedState : Type 0 where
+  pub plan : Plan
+  pub named : List OpKey
+
+abbrev pub state_code : Coded PlanState
+state_code = code_by Plan plan_code (λ s. s.plan) (λ P. record { plan = P }) (λ _. refl)
+
+abbrev pub prepared_code : Coded PreparedState
+prepared_code = code_by (Plan × List OpKey) (coded× plan_code (coded_list (operation_key.the_row).coded)) (λ s. (s.plan, s.named)) (λ p. record { plan = p.0; named = p.1 }) (λ _. refl)
+
+-- the requests that are served so far
+abbrev pub IsServed : What → Type 0
+IsServed (what.Load draft) = Unit {0}
+IsServed _ = ⊥
+
+-- the plan that a prepared request leads to
+abbrev pub plan_after : PlanState → PreparedState → Plan
+plan_after s p = p.plan
+
+-- it leads on from this plan: nothing is loaded here yet, and the clock doesn't go back
+pub record IsPreparedFor (s : PlanState) (p : PreparedState) : Type 0 where
+  pub not_loaded : s.plan.loaded ≡ false
+  pub onward : s.plan.clock ≤ p.plan.clock

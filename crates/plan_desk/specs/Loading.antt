@@ -1,0 +1,20 @@
+-- What the load of a text's plan is answered where no plan is loaded.
+use Rattle.std.specs.Prelude.{◌≡◌, ◌⊎◌, ℤ, Option, Result, Ok, Err, Vec}
+use Rattle.std.specs.declared.alloc.Global.{Global}
+use Rattle.plan_basics.specs.declared.keys.OpKey.{OpKey}
+use Rattle.plan_basics.specs.declared.Refusal.{Refusal}
+use Rattle.plan_basics.specs.declared.Refusal.TheVariants as refusal
+use Rattle.plan_model.specs.Plan.{Plan, no_plan}
+use Rattle.plan_records.specs.declared.Request.{Request}
+use Rattle.plan_records.specs.declared.What.TheVariants.{Load}
+use Rattle.plan_records.specs.Answer.{accepted, refused}
+use Rattle.plan_records.specs.Step.{Step}
+
+-- the load of a draft at a minute; of none, for a text that denotes none
+abbrev pub load_request : ℤ → Option Plan → Request
+load_request at draft = record { at = at; what = Load draft }
+
+-- the load is accepted, and these are the operations that it names, in order; or it is refused, or memory lacks
+abbrev pub IsAnswerToLoad : ℤ → Option Plan → Result (Vec OpKey Global) Refusal → Type 0
+IsAnswerToLoad at draft (Ok named) = (after : Plan) × Step no_plan (load_request at draft) (accepted named.items) after
+IsAnswerToLoad at draft (Err r) = (r ≡ refusal.Memory) ⊎ Step no_plan (load_request at draft) (refused r) no_plan

@@ -1,0 +1,216 @@
+// One run of the desk: from its words to its answer and the status that it ends with.
+ghost use Rattle.std.specs.Prelude.{◌≡◌};
+ghost use Rattle.plan_desk.specs.Loading.{IsAnswerToLoad};
+
+use crate::words::{desk_command, value_of};
+use clap::ArgMatches;
+use clap::error::{Error, ErrorKind};
+use plan_basics::{OpKey, Refusal, Watched, minute_of_text};
+use plan_core::Plan;
+use plan_import::{ImportFault, read_plan};
+use plan_records::{PlanDraft, Request, What};
+use std::alloc::{AllocError, Global};
+use std::io::Write;
+use std::{fmt, fs, io};
+
+/// How a run ends that has told its answer.
+#[derive(Clone, Copy, Debug, PartialEq, Eq)]
+pub enum Ending {
+    /// Accepted, or the help that was asked for.
+    Done,
+    /// Refused by the plan.
+    Refused,
+    /// The words aren't understood.
+    Misunderstood,
+}
+
+impl Ending {
+    ghost use Rattle.plan_desk.specs.Statuses.{ending_status};
+
+    /// The exit status.
+    pub fn status(self) -> u8
+        ensures { result ≡ ending_status self }
+    {
+        match self {
+            Ending::Done => 0,
+            Ending::Refused => 1,
+            Ending::Misunderstood => 2,
+        }
+    }
+}
+
+/// Why a run ends without an answer.
+#[derive(Clone, Copy, Debug, PartialEq, Eq)]
+pub enum Fault {
+    /// A word isn't UTF-8.
+    Encoding,
+    /// The words ask for nothing.
+    Words,
+    /// The moment is no civil minute's text.
+    Moment,
+    /// A file or a standard stream failed, or the file isn't there.
+    File,
+    /// Memory lacks outside the plan.
+    Memory,
+}
+
+impl Fault {
+    ghost use Rattle.plan_desk.specs.Statuses.{fault_status};
+
+    /// The exit status: 2 where the words or the moment are at fault, 3 where the surroundings are.
+    pub fn status(self) -> u8
+        ensures { result ≡ fault_status self }
+    {
+        match self {
+            Fault::Encoding | Fault::Words | Fault::Moment => 2,
+            Fault::File | Fault::Memory => 3,
+        }
+    }
+}
+
+impl fmt::Display for Fault {
+    fn fmt<W: fmt::Write>(&self, f: &mut fmt::Formatter<W>) -> fmt::Result {
+        f.write_str(match self {
+            Fault::Encoding => "fault words (not UTF-8)",
+            Fault::Words => "fault words",
+            Fault::Moment => "fault moment",
+            Fault::File => "fault file",
+            Fault::Memory => "fault memory",
+        })
+    }
+}
+
+impl From<io::Error> for Fault {
+    fn from(error: io::Error) -> Fault {
+        match error.kind() {
+            io::ErrorKind::OutOfMemory => Fault::Memory,
+            _ => Fault::File,
+        }
+    }
+}
+
+impl From<AllocError> for Fault {
+    fn from(_e: AllocError) -> Fault {
+        Fault::Memory
+    }
+}
+
+impl From<ImportFault> for Fault {
+    fn from(fault: ImportFault) -> Fault {
+        match fault {
+            ImportFault::Reader => Fault::File,
+            ImportFault::Memory => Fault::Memory,
+        }
+    }
+}
+
+/// The plan that a file's text denotes, if it denotes one.
+fn plan_in_file(rt: &HostRuntime, path: &str) -> Result<Option<PlanDraft>, Fault> {
+    let mut reader = Watched::new(fs::open(rt, path)?);
+    Ok(read_plan(rt.alloc(), &mut reader)?)
+}
+
+/// What an empty plan answers to the load of a text at a moment: the keys that it names, or the refusal.
+fn load(alloc: Global, at: i64, draft: Option<PlanDraft>) -> Result<Vec<OpKey>, Refusal>
+    ensures { IsAnswerToLoad at draft result }
+{
+    let mut plan = Plan::empty(alloc);
+    let request = Request {
+        at,
+        what: What::Load(draft),
+    };
+    let prepared = plan.prepare(&request)?;
+    Ok(plan.apply(prepared))
+}
+
+/// Tells an answer: that it is accepted and a line for each key that it names, or the refusal.
+fn tell<W: Write>(
+    out: &mut Watched<W>,
+    answer: &Result<Vec<OpKey>, Refusal>,
+) -> Result<Ending, Fault> {
+    match answer {
+        Ok(named) => {
+            writeln!(out, "accepted")?;
+            for key in named {
+                writeln!(out, "starts {key}")?;
+            }
+            Ok(Ending::Done)
+        }
+        Err(refusal) => {
+            writeln!(out, "refused {refusal}")?;
+            Ok(Ending::Refused)
+        }
+    }
+}
+
+/// `check`: the plan of a file is loaded into an empty plan in memory. The moment is judged before the file.
+fn check<W: Write>(
+    rt: &HostRuntime,
+    given: &ArgMatches,
+    out: &mut Watched<W>,
+) -> Result<Ending, Fault> {
+    let at = minute_of_text(value_of(given, "at").as_bytes()).ok_or(Fault::Moment)?;
+    let draft = plan_in_file(rt, value_of(given, "plan"))?;
+    tell(out, &load(rt.alloc(), at, draft))
+}
+
+/// Tells what `clap` has to say where it hands out no words: help on standard output, else what is wrong with them.
+fn explain<W: Write, E: Write>(
+    error: &Error,
+    out: &mut Watched<W>,
+    err: &mut Watched<E>,
+) -> Result<Ending, Fault> {
+    if error.kind() == ErrorKind::OutOfMemory {
+        return Err(Fault::Memory);
+    }
+    if error.use_stderr() {
+        write!(err, "{error}")?;
+        Ok(Ending::Misunderstood)
+    } else {
+        write!(out, "{error}")?;
+        Ok(Ending::Done)
+    }
+}
+
+/// Understands the words and does what they ask for.
+fn obey<W: Write, E: Write>(
+    rt: &HostRuntime,
+    words: &[String],
+    out: &mut Watched<W>,
+    err: &mut Watched<E>,
+) -> Result<Ending, Fault> {
+    let matches = match desk_command(rt.alloc())?.try_get_matches_from(words) {
+        Ok(matches) => matches,
+        Err(error) => return explain(&error, out, err),
+    };
+    let ending = match matches.subcommand() {
+        Some(("check", given)) => check(rt, given, out)?,
+        _ => return Err(Fault::Words),
+    };
+    out.flush()?;
+    Ok(ending)
+}
+
+/// Tells a fault on standard error, and gives the exit status: that of a stream's fault where standard error fails too.
+pub fn tell_fault<E: Write>(fault: Fault, err: &mut Watched<E>) -> u8 {
+    if writeln!(err, "{fault}").is_ok() {
+        fault.status()
+    } else {
+        Fault::File.status()
+    }
+}
+
+/// Runs the desk with these words, of which the first is the program's name, and gives the exit status: 0 accepted or
+/// done, 1 refused, 2 a fault of the words or the moment, 3 a fault of a file, a standard stream or memory outside the
+/// plan. Answers go to `out`, faults to `err`. (The words and their meaning: this project's own.)
+pub fn desk_run<W: Write, E: Write>(
+    rt: &HostRuntime,
+    words: &[String],
+    out: &mut Watched<W>,
+    err: &mut Watched<E>,
+) -> u8 {
+    match obey(rt, words, out, err) {
+        Ok(ending) => ending.status(),
+        Err(fault) => tell_fault(fault, err),
+    }
+}

@@ -1,0 +1,35 @@
+//! The program plandesk: a current plan at the command line.
+#![tactic(auto)]
+
+mod desk;
+#[cfg(test)]
+mod tests;
+mod words;
+
+use desk::{Fault, desk_run, tell_fault};
+use plan_basics::Watched;
+use std::process::ExitCode;
+use std::{env, io};
+
+/// The words that the program was started with. One that isn't UTF-8 is a fault.
+fn own_words(rt: &HostRuntime) -> Result<Vec<String>, Fault> {
+    let mut words = Vec::new(rt.alloc());
+    let given = env::args(rt).map_err(|error| match error.kind() {
+        io::ErrorKind::OutOfMemory => Fault::Memory,
+        _ => Fault::Encoding,
+    })?;
+    for word in given {
+        words.push(word).map_err(|_| Fault::Memory)?;
+    }
+    Ok(words)
+}
+
+fn main(rt: HostRuntime) -> ExitCode {
+    let mut out = Watched::new(rt.stdout());
+    let mut err = Watched::new(rt.stderr());
+    let status = match own_words(&rt) {
+        Ok(words) => desk_run(&rt, words.as_slice(), &mut out, &mut err),
+        Err(fault) => tell_fault(fault, &mut err),
+    };
+    ExitCode::from(status)
+}

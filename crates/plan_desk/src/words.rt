@@ -1,0 +1,34 @@
+// The words of the command line: the subcommands and their options.
+use clap::{Arg, ArgAction, ArgMatches, Command};
+use std::alloc::{AllocError, Global};
+
+/// A required long option with one value.
+fn option<'a>(alloc: Global, name: &'a str, shown: &'a str, help: &'a str) -> Arg<'a> {
+    Arg::new(alloc, name)
+        .long(name)
+        .value_name(shown)
+        .help(help)
+        .required(true)
+        .action(ArgAction::Set)
+}
+
+/// `check`: what a plan's text would start at a moment.
+fn check_command<'a>(alloc: Global) -> Result<Command<'a>, AllocError> {
+    Command::new(alloc, "check")
+        .about("Reads a plan and tells what starts at a moment")
+        .arg(option(alloc, "plan", "FILE", "The plan, as records of ten fields"))?
+        .arg(option(alloc, "at", "MOMENT", "The moment, as 2024-03-01T22:00"))
+}
+
+/// All that the program understands.
+pub fn desk_command<'a>(alloc: Global) -> Result<Command<'a>, AllocError> {
+    Command::new(alloc, "plandesk")
+        .about("The desk of a current plan")
+        .subcommand_required(true)
+        .subcommand(check_command(alloc)?)
+}
+
+/// The value of a required option, which a parse that succeeded has given.
+pub fn value_of<'a>(given: &ArgMatches<'a>, name: &str) -> &'a str {
+    given.get_str(name).unwrap_or("")
+}

@@ -1,0 +1,43 @@
+-- Which records bytes read as, by the reader of comma-separated fields without a header row, without trimming and with records of one length.
+use Rattle.std.specs.Prelude.{◌≡◌, ℕ, List, [], Option, Some, None, false, length, IfSome}
+use Rattle.std.specs.List.{AllByRecursion}
+use Rattle.csv.specs.Machine.{Read, next_record}
+use Rattle.csv.specs.Reading.{AreRecords, Ready, default_config, source_of, reader_config, reader_trim, reader_state, is_flexible, expected_len}
+use Rattle.csv.specs.declared.reader.Reader.{Reader}
+use Rattle.csv.specs.declared.reader.Trim.TheVariants as trim
+use Rattle.csv.specs.declared.parser.State.TheVariants as st
+use Rattle.plan_items.specs.Items.{Fields, fields_of}
+use Rattle.plan_import.specs.declared.Turn.{Turn}
+use Rattle.plan_import.specs.declared.Turn.TheVariants as turn
+
+-- a record of ten fields
+abbrev pub IsTen : Fields → Type 0
+IsTen fields = length fields ≡ 10
+
+-- the bytes' records are these, and each has ten fields
+abbrev pub AreOfTen : List ℕ → List Fields → Type 0
+AreOfTen bytes records = AreRecords default_config st.StartRecord bytes records × AllByRecursion IsTen records
+
+-- the bytes' records are these, each of ten fields; or, as nothing, no such list is theirs
+abbrev pub IsReadingOf : List ℕ → Option (List Fields) → Type 0
+IsReadingOf bytes (Some records) = AreOfTen bytes records
+IsReadingOf bytes None = ¬ ((records : List Fields) × AreOfTen bytes records)
+
+-- a reader as it is set up here: no trimming, no header row, records of one length, which is ten once one was read
+pub record IsPlain {R : Type 0} (text : Reader R) : Type 0 where
+  pub trim : reader_trim text ≡ trim.None
+  pub ready : Ready text
+  pub config : reader_config text ≡ default_config
+  pub flexible : is_flexible text ≡ false
+  pub length : IfSome (expected_len text) (λ n. n ≡ 10)
+
+-- the next record of a reader whose bytes are known
+abbrev pub next_of : {R : Type 0} → Reader R → List ℕ → Option Read
+next_of text bytes = next_record default_config (reader_state text) [] [] bytes
+
+-- what a turn tells of the reader before and after it, where its bytes are known: the next record, one of another length, or the end
+abbrev pub TurnsTo : {R : Type 0} → (R → Option (List ℕ)) → Reader R → Reader R → Turn → Type 0
+TurnsTo rem old new (turn.Record fields) = IsPlain new × IsTen (fields_of fields)
+    × ((bytes : List ℕ) → source_of rem old ≡ Some bytes → (rest : List ℕ) × (source_of rem new ≡ Some rest) × (next_of old bytes ≡ Some (fields_of fields, reader_state new, rest)))
+TurnsTo rem old new turn.Malformed = (bytes : List ℕ) → source_of rem old ≡ Some bytes → (p : Read) × (next_of old bytes ≡ Some p) × (IsTen p.0 → ⊥)
+TurnsTo rem old new turn.End = (bytes : List ℕ) → source_of rem old ≡ Some bytes → next_of old bytes ≡ None

@@ -1,0 +1,165 @@
+// Texts as the formats describe them, and readers that give them in pieces or fail.
+use super::{ImportFault, read_plan, read_records};
+use plan_basics::Watched;
+use plan_records::Record;
+use std::io;
+use std::io::Read;
+use std::test::Fail;
+
+const DAY: &[u8] = b"W,CPU1,A,,,,,,,
+I,CPU1,1972-01-01T00:00,2071-12-31T23:59,2,0,0,,,
+O,DAILY,2024-03-01T22:00,5,2024-03-02T05:00,,,,,
+P,DAILY,2024-03-01T22:00,10,CPU1,30,0,0,,
+P,DAILY,2024-03-01T22:00,20,CPU1,60,0,0,,
+D,DAILY,2024-03-01T22:00,10,DAILY,2024-03-01T22:00,20,,,
+";
+
+/// Gives at most `step` bytes a call, and fails at the call `fault`; the calls are counted from 1.
+#[derive(Drop)]
+struct Pieces<'a> {
+    text: &'a [u8],
+    step: usize,
+    calls: usize,
+    fault: usize,
+}
+
+impl<'a> Pieces<'a> {
+    fn new(text: &'a [u8], step: usize, fault: usize) -> Watched<Pieces<'a>> {
+        Watched::new(Pieces {
+            text,
+            step,
+            calls: 0,
+            fault,
+        })
+    }
+}
+
+impl<'a> Read for Pieces<'a> {
+    fn read(&mut self, buf: &mut [u8]) -> io::Result<usize> {
+        self.calls = self.calls.saturating_add(1);
+        if self.calls == self.fault {
+            return Err(io::Error::from(io::ErrorKind::Interrupted));
+        }
+        let most = self.step.min(buf.len());
+        let mut place = &mut buf[..most];
+        let mut text = self.text;
+        let n = text.read(&mut place)?;
+        self.text = text;
+        Ok(n)
+    }
+}
+
+fn field(records: &[Record], record: usize, field: usize) -> &[u8] {
+    match records.get(record).and_then(|fields| fields.get(field)) {
+        Some(bytes) => bytes.as_slice(),
+        None => b"none",
+    }
+}
+
+#[test]
+fn texts_and_their_records(rt: HostRuntime) -> Result<(), Fail> {
+    let many: [(&str, &[u8], usize, &[u8]); 6] = [
+        (
+            "line feeds",
+            b"W,CPU1,A,,,,,,,\nX,TAPE,Y,,,,,,,\n",
+            2,
+            b"CPU1",
+        ),
+        (
+            "CR LF",
+            b"W,CPU1,A,,,,,,,\r\nX,TAPE,Y,,,,,,,\r\n",
+            2,
+            b"CPU1",
+        ),
+        (
+            "no last line end, an empty line",
+            b"W,CPU1,A,,,,,,,\n\nX,TAPE,Y,,,,,,,",
+            2,
+            b"CPU1",
+        ),
+        (
+            "a quoted field",
+            b"\"W\",\"CP,\"\"1\",A,,,,,,,\n",
+            1,
+            b"CP,\"1",
+        ),
+        (
+            "a byte order mark",
+            b"\xef\xbb\xbfW,CPU1,A,,,,,,,\n",
+            1,
+            b"CPU1",
+        ),
+        (
+            "blanks and other bytes stay",
+            b"W, \xff ,A,,,,,,,\n",
+            1,
+            b" \xff ",
+        ),
+    ];
+    for (what, text, count, name) in many {
+        let mut reader = Watched::new(text);
+        let records = read_records(rt.alloc(), &mut reader)?.ok_or("none")?;
+        assert_eq!(rt; records.len(), count, "{what}");
+        assert_eq!(rt; field(&records, 0, 0), b"W".as_slice(), "{what}");
+        assert_eq!(rt; field(&records, 0, 1), name, "{what}");
+    }
+    let none: [(&str, &[u8]); 3] = [
+        ("nine fields", b"W,CPU1,A,,,,,,,\nX,TAPE,Y,,,,,,\n"),
+        ("eleven fields", b"W,CPU1,A,,,,,,,,\n"),
+        ("a line of blanks", b"W,CPU1,A,,,,,,,\n \n"),
+    ];
+    for (what, text) in none {
+        let mut reader = Watched::new(text);
+        let records = read_records(rt.alloc(), &mut reader)?;
+        assert!(rt; records.is_none(), "{what}");
+    }
+    Ok(())
+}
+
+#[test]
+fn pieces_of_any_size(rt: HostRuntime) -> Result<(), Fail> {
+    for step in [1, 2, 7, 8192] {
+        let mut reader = Pieces::new(DAY, step, 0);
+        let draft = read_plan(rt.alloc(), &mut reader)?;
+        assert!(rt; draft.is_some(), "in pieces of {step}");
+        assert!(rt; !reader.failed());
+    }
+    Ok(())
+}
+
+#[test]
+fn texts_that_denote_no_plan(rt: HostRuntime) -> Result<(), Fail> {
+    let texts: [(&str, &[u8]); 3] = [
+        ("an empty text", b""),
+        ("the byte 255 in a name", b"W,CP\xff1,A,,,,,,,\n"),
+        ("nine fields", b"W,CPU1,A,,,,,,\n"),
+    ];
+    for (what, text) in texts {
+        let mut reader = Watched::new(text);
+        let draft = read_plan(rt.alloc(), &mut reader)?;
+        assert!(rt; draft.is_none(), "{what}");
+    }
+    Ok(())
+}
+
+#[test]
+fn each_read_fails_once(rt: HostRuntime) -> Result<(), Fail> {
+    let calls = DAY.len() + 1;
+    for fault in 1..=calls {
+        let mut reader = Pieces::new(DAY, 1, fault);
+        let found = read_plan(rt.alloc(), &mut reader);
+        assert!(rt; reader.failed(), "at {fault}");
+        assert_eq!(rt; found.err(), Some(ImportFault::Reader), "at {fault}");
+    }
+    Ok(())
+}
+
+#[test]
+fn an_earlier_fault_is_cleared(rt: HostRuntime) -> Result<(), Fail> {
+    let mut reader = Pieces::new(DAY, 8192, 1);
+    let mut buf = [0u8; 4];
+    assert!(rt; reader.read(&mut buf).is_err());
+    let draft = read_plan(rt.alloc(), &mut reader)?;
+    assert!(rt; draft.is_some());
+    Ok(())
+}

@@ -1,0 +1,114 @@
+-- Whether an operation is allowed to start can be told.
+use Rattle.std.proofs.Common.{◌≡◌, ◌≢◌, ◌⊎◌, inl, inr, refl, sym, ap, subst, arith, ℕ, ◌+◌, ◌≤◌, Bool, true, false, Option, Some, None}
+use Rattle.std.proofs.lemmas.Bool.{cases_lt}
+use Rattle.std.specs.FinMap.{get, nat_cmp-IsAntisymmetric}
+use Rattle.std.specs.Cmp.{nat_cmp_total}
+use Rattle.plan_basics.specs.declared.Attr.TheVariants as attribute
+use Rattle.plan_basics.specs.declared.Refusal.{Refusal}
+use Rattle.plan_basics.specs.declared.Refusal.TheVariants as refusal
+use Rattle.plan_basics.specs.declared.keys.OpKey.{OpKey}
+use Rattle.plan_basics.specs.Intervals.{IsOpenAt, OpenInterval}
+use Rattle.plan_basics.specs.Keys.{Name, name_cmp-IsAntisymmetric, name_cmp_total}
+use Rattle.special_resources.specs.Holders.{SharesWithHolders, Usage}
+use Rattle.special_resources.specs.declared.Mode.{Mode}
+use Rattle.special_resources.specs.declared.Mode.TheVariants as mode
+use Rattle.status_rules.specs.Table.{marked_status}
+use Rattle.status_rules.specs.declared.Status.TheVariants as status
+use Rattle.workstations.specs.Workstations.{HasCapacity, HasRoom, Workstation, capacity_of}
+use Rattle.workstations.specs.declared.Capacity.{Capacity}
+use Rattle.plan_laws.proofs.Entries.{same_operation, told_at, told_each_at, told_entries, told_entry, told_has, told_operations}
+use Rattle.plan_laws.proofs.Looks.{none_is_not_some, same_some}
+use Rattle.plan_laws.proofs.Numbers.{told_refusals}
+use Rattle.plan_laws.proofs.Readying.{ready_told}
+use Rattle.plan_laws.proofs.Standing.{status_told}
+use Rattle.plan_laws.proofs.Decide.{told_attribute}
+use Rattle.plan_laws.proofs.Telling.{Told, told_alike, told_and, told_if_then, told_none, told_or, told_true}
+use Rattle.plan_model.specs.Holdings.{Holds, given_out, holds_resource, takes}
+use Rattle.plan_model.specs.Plan.{HasAttribute, Operation, Plan, attribute_at}
+use Rattle.plan_model.specs.Starting.{FitsAt, IsAllowedToStart, MayStart}
+use Rattle.plan_model.specs.Status.{HasStatus, IsReady}
+use Rattle.plan_model.specs.Valid.{IsAcyclic}
+
+pub told_le : (a b : ℕ) → Told (a ≤ b)
+told_le a b = elim (cases_lt b a) [ inl less ↦ inr (λ h. omega (arith, less, h)) | inr le ↦ inl le ]
+
+pub told_available : (x : Option Bool) (b : Bool) → Told (x ≡ Some b)
+told_available None b = inr (λ e. none_is_not_some b e)
+told_available (Some a) b = told_alike (λ e. ap Some e) (λ e. same_some a b e) (told_true a b)
+
+told_shared : (m : Mode) → Told (m ≡ mode.Shared)
+told_shared mode.Shared = inl refl
+told_shared m = inr (λ e. cc)
+
+-- ---- room on a workstation
+
+open_told : (x : OpenInterval) (m : ℕ) → Told (IsOpenAt x m)
+open_told x m = told_and (told_le x.from m) (λ _. told_le _ x.end)
+
+module _ (w : Workstation) (m : ℕ) where
+  some_capacity : Told ((capacity : Capacity) × HasCapacity w m capacity)
+  some_capacity = told_alike {A = (from : ℕ) × ((x : OpenInterval) × (get w.intervals from ≡ Some x) × IsOpenAt x m)}
+      (λ h. (capacity_of h.1.0, (h.0, h.1.0, h.1.1, h.1.2, refl)))
+      (λ h. (h.1.0, (h.1.1, h.1.2, h.1.3)))
+      (told_entry w.intervals nat_cmp-IsAntisymmetric (λ from x. IsOpenAt x m) (λ from x. open_told x m))
+
+  each_capacity : (Q : Capacity → Type 0) → ((c : Capacity) → Told (Q c)) → Told ((capacity : Capacity) → HasCapacity w m capacity → Q capacity)
+  each_capacity Q each = told_alike {A = (from : ℕ) (x : OpenInterval) → get w.intervals from ≡ Some x → IsOpenAt x m → Q (capacity_of x)}
+      (λ h capacity has. subst Q (sym has.4) (h has.0 has.1 has.2 has.3))
+      (λ h from x e now. h (capacity_of x) (from, x, e, now, refl))
+      (told_entries w.intervals nat_cmp_total nat_cmp-IsAntisymmetric (λ from x. IsOpenAt x m → Q (capacity_of x)) (λ from x. told_if_then (open_told x m) (λ _. each (capacity_of x))))
+
+  room_told : (taken : Capacity) (r1 r2 : ℕ) (line : Refusal) → Told (HasRoom w m taken r1 r2 line)
+  room_told taken r1 r2 refusal.Closed = some_capacity
+  room_told taken r1 r2 refusal.NoServer = each_capacity (λ c. taken.servers + 1 ≤ c.servers) (λ c. told_le _ _)
+  room_told taken r1 r2 refusal.NoFixed = each_capacity (λ c. (taken.r1 + r1 ≤ c.r1) × (taken.r2 + r2 ≤ c.r2)) (λ c. told_and (told_le _ _) (λ _. told_le _ _))
+  room_told taken r1 r2 line = inl tt
+
+module _ (P : Plan) where
+  fits_told : (op : Operation) (m : ℕ) (line : Refusal) → Told (FitsAt P op m line)
+  fits_told op m line = told_at P.workstations op.workstation (λ ws. HasRoom ws m (given_out P op.workstation) op.r1 op.r2 line) (λ ws e. room_told ws m (given_out P op.workstation) op.r1 op.r2 line)
+
+  -- ---- special resources
+
+  -- what one other operation takes of a resource is shared, if it takes any
+  abbrev OtherShares : OpKey → Name → Usage → OpKey → Operation → Usage → Type 0
+  OtherShares o r usage other op held = other ≢ o → takes (attribute_at P op.workstation) ≡ true → holds_resource held.keep (marked_status op.mark) ≡ true → (usage.mode ≡ mode.Shared) × (held.mode ≡ mode.Shared)
+
+  other_told : (o : OpKey) (r : Name) (usage : Usage) (other : OpKey) (op : Operation) (held : Usage) → Told (OtherShares o r usage other op held)
+  other_told o r usage other op held =
+      told_if_then (told_none (same_operation other o)) (λ _.
+      told_if_then (told_true (takes (attribute_at P op.workstation)) true) (λ _.
+      told_if_then (told_true (holds_resource held.keep (marked_status op.mark)) true) (λ _.
+      told_and (told_shared usage.mode) (λ _. told_shared held.mode))))
+
+  shares_told : (o : OpKey) (r : Name) (usage : Usage) → Told (SharesWithHolders (Holds P) o r usage)
+  shares_told o r usage = told_alike {A = (other : OpKey) (op : Operation) → get P.operations other ≡ Some op → (held : Usage) → get op.needs r ≡ Some held → OtherShares o r usage other op held}
+      (λ h other held apart holds. h other holds.0 holds.1 held holds.2.0 apart holds.2.1 holds.2.2)
+      (λ h other op e held n apart t k. h other held apart (op, e, (n, t, k)))
+      (told_operations P (λ other. (op : Operation) → get P.operations other ≡ Some op → (held : Usage) → get op.needs r ≡ Some held → OtherShares o r usage other op held)
+      (λ other. told_each_at P.operations other (λ op. (held : Usage) → get op.needs r ≡ Some held → OtherShares o r usage other op held) (λ op e.
+      told_each_at op.needs r (λ held. OtherShares o r usage other op held) (λ held n. other_told o r usage other op held)))
+      (λ other not op e. absurd (not (op, e, tt))))
+
+  needs_told : (o : OpKey) (op : Operation) → Told ((r : Name) (usage : Usage) → get op.needs r ≡ Some usage → (get P.resources r ≡ Some true) × SharesWithHolders (Holds P) o r usage)
+  needs_told o op = told_entries op.needs name_cmp_total name_cmp-IsAntisymmetric (λ r usage. (get P.resources r ≡ Some true) × SharesWithHolders (Holds P) o r usage)
+      (λ r usage. told_and (told_available (get P.resources r) true) (λ _. shares_told o r usage))
+
+  -- ---- all that an operation needs to start
+
+  module _ (acyclic : IsAcyclic P.pairs) where
+    may_begin_told : (o : OpKey) (op : Operation) → Told (IsReady P o ⊎ (HasStatus P o status.Interrupted × HasAttribute P op.workstation attribute.StartAndCompletion))
+    may_begin_told o op = told_or (ready_told P acyclic o) (told_and (status_told P acyclic o status.Interrupted) (λ _. told_attribute P op.workstation attribute.StartAndCompletion))
+
+    pub may_start_told : (o : OpKey) (op : Operation) (m : ℕ) (line : Refusal) → Told (MayStart P o op m line)
+    may_start_told o op m refusal.WrongStatus = may_begin_told o op
+    may_start_told o op m refusal.Held = told_true op.held false
+    may_start_told o op m refusal.TooEarly = told_le op.not_before m
+    may_start_told o op m refusal.Closed = fits_told op m refusal.Closed
+    may_start_told o op m refusal.NoServer = fits_told op m refusal.NoServer
+    may_start_told o op m refusal.NoFixed = fits_told op m refusal.NoFixed
+    may_start_told o op m refusal.ResourceBusy = needs_told o op
+    may_start_told o op m line = inl tt
+
+    pub allowed_told : (o : OpKey) (m : ℕ) → Told (IsAllowedToStart P o m)
+    allowed_told o m = told_has P o (λ op. (line : Refusal) → MayStart P o op m line) (λ op e. told_refusals (MayStart P o op m) (may_start_told o op m))

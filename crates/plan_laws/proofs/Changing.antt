@@ -1,0 +1,224 @@
+-- A load, a change of availability and new intervals keep a plan sound.
+use Rattle.std.proofs.Common.{◌≡◌, ◌⊎◌, inl, inr, refl, sym, ◌∙◌, ap, subst, true≢false, arith, ℕ, zero, suc, ◌+◌, ◌<◌, ◌≤◌, Bool, true, false, cond, List, [], ◌∷◌, map, length, Contains, All, Option, Some, None, option_map, is_some}
+use Rattle.std.specs.Prelude.{AllPairs, slice_index_or}
+use Rattle.std.specs.Ordering.{eq_by_cmp, nat_cmp}
+use Rattle.std.specs.Cmp.{Equal-is, nat_cmp_total}
+use Rattle.std.specs.FinMap.{FinMap, get, insert, get-insert, len, len-insert, len-empty, contains_key, from_entries, get-from_entries, nat_cmp-IsAntisymmetric, get-empty}
+use Rattle.std.specs.FinMap.Entries.{find}
+use Rattle.std.proofs.lemmas.List.Elements.{All-contains}
+use Rattle.std.proofs.lemmas.Bool.{cases_order}
+use Rattle.plan_basics.specs.declared.Refusal.TheVariants as refusal
+use Rattle.status_rules.specs.declared.Mark.TheVariants as mark
+use Rattle.plan_records.specs.declared.What.TheVariants as what
+use Rattle.plan_basics.specs.declared.moments.Interval.{Interval}
+use Rattle.std.proofs.Common.{Vec, Global}
+use Rattle.plan_basics.specs.Intervals.{AreApart, IsInterval, IsOpenAt, OpenInterval}
+use Rattle.plan_basics.specs.Keys.{Name, name_cmp, name_cmp-IsAntisymmetric, name_cmp_total}
+use Rattle.plan_basics.specs.Names.{IsName}
+use Rattle.plan_basics.specs.declared.keys.OpKey.{OpKey}
+use Rattle.plan_laws.proofs.Looks.{found_key, mapped, none_is_not_some, same_some}
+use Rattle.plan_laws.proofs.Revising.{of_either}
+use Rattle.plan_laws.proofs.Sorted.{contains_head, contains_later}
+use Rattle.plan_model.specs.Holdings.{Holds, holds_resource, takes}
+use Rattle.plan_model.specs.Plan.{Operation, Plan, attribute_at, no_plan}
+use Rattle.plan_model.specs.Revise.{get-revise, len-revise, revise}
+use Rattle.plan_model.specs.Status.{IsSatisfied, NeedsNoReport}
+use Rattle.plan_model.specs.Valid.{IsSound, MayBear}
+use Rattle.plan_records.specs.Drafts.{IsDraft}
+use Rattle.plan_records.specs.Laws.{ChangeKeepsSound}
+use Rattle.special_resources.specs.Holders.{Usage}
+use Rattle.status_rules.specs.LeastSet.{LeastSet, by_all_before, by_given}
+use Rattle.status_rules.specs.Table.{marked_status}
+use Rattle.workstations.specs.Workstations.{IsWorkstation, Workstation, with_intervals}
+
+-- ---- a load
+
+pub draft_is_sound : (P : Plan) → IsDraft P → IsSound P
+draft_is_sound P d = record {
+  valid = d.valid;
+  in_order = λ o h. absurd (h.2.0 (d.untouched o h.0 h.1).0);
+  compatible = λ a b r x y apart ha hb. absurd (true≢false (sym (ap (λ z. holds_resource x.keep (marked_status z)) (sym (d.untouched a ha.0 ha.1).0) ∙ ha.2.2)));
+  held = λ o op e h. inl (d.untouched o op e).0;
+  marks = λ o op a e w. subst (MayBear a) (sym (d.untouched o op e).0) tt;
+  deleted = λ a b e ha op hb. absurd (let k : mark.Unmarked ≡ mark.Deleted = sym (d.untouched a ha.0 ha.1).0 ∙ ha.2 in cc);
+  before_load = λ h. absurd (true≢false (sym d.loaded ∙ h));
+}
+
+pub load_keeps_sound : (d : Plan) → ChangeKeepsSound (what.Load (Some d))
+load_keeps_sound d P Q at sound may request c = subst IsSound (same_some d Q c) (draft_is_sound d request)
+
+-- ---- availability
+
+found_or : {X : Type 0} (b : Bool) (v : X) (x : Option X) → is_some (cond b (Some v) x) ≡ true → (b ≡ true) ⊎ (is_some x ≡ true)
+found_or true v x e = inl refl
+found_or false v x e = inr e
+
+or_found : {X : Type 0} (b : Bool) (v : X) (x : Option X) → is_some x ≡ true → is_some (cond b (Some v) x) ≡ true
+or_found true v x e = refl
+or_found false v x e = e
+
+module _ (P : Plan) (sound : IsSound P) (r : Name) (available : Bool) (known : contains_key P.resources r ≡ true) where
+  abbrev after : Plan
+  after = record P { resources = insert P.resources r available }
+
+  still_there : (n : Name) → contains_key P.resources n ≡ true → contains_key after.resources n ≡ true
+  still_there n h = ap is_some (get-insert name_cmp_total P.resources r available n) ∙ or_found (eq_by_cmp name_cmp n r) available (get P.resources n) h
+
+  was_there : (n : Name) → contains_key after.resources n ≡ true → contains_key P.resources n ≡ true
+  was_there n h = elim (found_or (eq_by_cmp name_cmp n r) available (get P.resources n) (ap is_some (sym (get-insert name_cmp_total P.resources r available n)) ∙ h)) [
+    | inl e ↦ subst (λ z. contains_key P.resources z ≡ true) (sym (name_cmp-IsAntisymmetric n r ((Equal-is (name_cmp n r)).0 e))) known
+    | inr old ↦ old
+  ]
+
+  as_many : len after.resources ≡ len P.resources
+  as_many = len-insert name_cmp_total P.resources r available ∙ ap (λ b. cond b (len P.resources) (len P.resources + 1)) known
+
+  pub availability_is_sound : IsSound after
+  availability_is_sound = let v = sound.valid in record {
+    valid = record {
+      clock = v.clock;
+      workstations = v.workstations;
+      resources = λ n h. v.resources n (was_there n h);
+      occurrences = v.occurrences;
+      have_workstations = v.have_workstations;
+      have_resources = λ o op e n usage h. still_there n (v.have_resources o op e n usage h);
+      pairs = v.pairs;
+      acyclic = v.acyclic;
+      limits = record { workstations = v.limits.workstations; resources = subst (λ n. n ≤ 999) (sym as_many) v.limits.resources; occurrences = v.limits.occurrences; operations = v.limits.operations; pairs = v.limits.pairs };
+    };
+    in_order = sound.in_order;
+    compatible = sound.compatible;
+    held = sound.held;
+    marks = sound.marks;
+    deleted = sound.deleted;
+    before_load = λ h. absurd (none_is_known (ap (λ X. contains_key X.resources r) (sym (sound.before_load h)) ∙ known));
+  }
+    where
+      none_is_known : contains_key no_plan.resources r ≡ true → ⊥
+      none_is_known e = true≢false (sym e ∙ ap is_some (get-empty name_cmp r))
+
+pub availability_keeps_sound : (r : Name) (available : Bool) → ChangeKeepsSound (what.SetAvailable r available)
+availability_keeps_sound r available P Q at sound may request c = subst IsSound (sym c) (availability_is_sound P sound r available (may refusal.UnknownResource))
+
+-- ---- intervals
+
+abbrev entries_of : List OpenInterval → List (ℕ × OpenInterval)
+entries_of items = map (λ x. (x.from, x)) items
+
+found_at_head : (y : OpenInterval) (items : List OpenInterval) (k : ℕ) (x : OpenInterval) → (find nat_cmp k (entries_of items) ≡ Some x → (k ≡ x.from) × Contains items x) → (b : Bool) → eq_by_cmp nat_cmp k y.from ≡ b → cond b (Some y) (find nat_cmp k (entries_of items)) ≡ Some x → (k ≡ x.from) × Contains (y ∷ items) x
+found_at_head y items k x rest true t h = let same : y ≡ x = same_some y x h in (nat_cmp-IsAntisymmetric k y.from ((Equal-is (nat_cmp k y.from)).0 t) ∙ ap (λ z. z.from) same, subst (Contains (y ∷ items)) same (contains_head y items))
+found_at_head y items k x rest false t h = let r = rest h in (r.0, contains_later y items x r.1)
+
+found_among : (items : List OpenInterval) (k : ℕ) (x : OpenInterval) → find nat_cmp k (entries_of items) ≡ Some x → (k ≡ x.from) × Contains items x
+found_among [] k x e = absurd (none_is_not_some x e)
+found_among (y ∷ items) k x e = found_at_head y items k x (found_among items k x) (eq_by_cmp nat_cmp k y.from) refl e
+
+one_more : (b : Bool) (n m : ℕ) → n ≤ m → cond b n (n + 1) ≤ m + 1
+one_more true n m h = omega arith
+one_more false n m h = omega arith
+
+as_long : (items : List OpenInterval) → len (from_entries {R = nat_cmp} (entries_of items)) ≤ length items
+as_long [] = rw (len-empty nat_cmp OpenInterval) (omega arith)
+as_long (y ∷ items) =
+    let rest = as_long items in
+    let m : FinMap nat_cmp OpenInterval = from_entries (entries_of items) in
+    let step : cond (contains_key m y.from) (len m) (len m + 1) ≤ length items + 1 = one_more (contains_key m y.from) (len m) (length items) rest in
+    rw (len-insert nat_cmp_total m y.from y) (omega (arith, step))
+
+module _ (items : List OpenInterval) (each : All IsInterval items) (apart : AllPairs AreApart items) (few : length items ≤ 400) where
+  clash : (x y : OpenInterval) (m : ℕ) → AreApart x y → IsOpenAt x m → IsOpenAt y m → ⊥
+  clash x y m (inl h) a b = omega (arith, h, a.1, b.0)
+  clash x y m (inr h) a b = omega (arith, h, a.0, b.1)
+
+  pub intervals_are : (w : Workstation) → IsWorkstation (with_intervals items w)
+  intervals_are w = record {
+    intervals = λ from x e. let h = found_among items from x (sym (get-from_entries nat_cmp_total (entries_of items) from) ∙ e) in (h.0, All-contains IsInterval items x each h.1);
+    disjoint = λ a b m x y ex ey ox oy.
+        let hx = found_among items a x (sym (get-from_entries nat_cmp_total (entries_of items) a) ∙ ex) in
+        let hy = found_among items b y (sym (get-from_entries nat_cmp_total (entries_of items) b) ∙ ey) in
+        hx.0 ∙ ap (λ z. z.from) (one x y m ox oy hx.1 hy.1) ∙ sym hy.0;
+    few = let l = as_long items in omega (arith, l, few);
+  }
+    where
+      at : (i : ℕ) (x y : OpenInterval) → i < length items → slice_index_or items i x ≡ x → slice_index_or items i y ≡ x
+      at i x y h e = same_default items i x y h ∙ e
+        where
+          same_default : (xs : List OpenInterval) (i : ℕ) (x y : OpenInterval) → i < length xs → slice_index_or xs i y ≡ slice_index_or xs i x
+          same_default [] i x y h = absurd (omega (arith, h))
+          same_default (z ∷ xs) zero x y h = refl
+          same_default (z ∷ xs) (suc i) x y h = same_default xs i x y (omega (arith, h))
+
+      one : (x y : OpenInterval) (m : ℕ) → IsOpenAt x m → IsOpenAt y m → Contains items x → Contains items y → x ≡ y
+      one x y m ox oy (i, hi, ei) (j, hj, ej) = by_order (cases_order i j)
+        where
+          by_order : (i ≡ j) ⊎ ((i < j) ⊎ (j < i)) → x ≡ y
+          by_order (inr (inl h)) = absurd (clash x y m (subst (λ z. AreApart z y) ei (subst (λ z. AreApart (slice_index_or items i x) z) (at j y x hj ej) (apart i j x h hj))) ox oy)
+          by_order (inl e) = sym ei ∙ ap (λ n. slice_index_or items n x) e ∙ at j y x hj ej
+          by_order (inr (inr h)) = absurd (clash y x m (subst (λ z. AreApart z x) ej (subst (λ z. AreApart (slice_index_or items j y) z) (at i x y hi ei) (apart j i y h hi))) oy ox)
+
+-- one least set lies in another
+pub widened : {K : Type 0} {g p : K → Type 0} {b : K → K → Type 0} {h q : K → Type 0} {c : K → K → Type 0} → ((x : K) → g x → h x) → ((x : K) → p x → q x) → ((y x : K) → c y x → b y x) → {x : K} → LeastSet g p b x → LeastSet h q c x
+widened f k d (by_given a) = by_given (f _ a)
+widened f k d (by_all_before a all) = by_all_before (k _ a) (λ y e. widened f k d (all y (d y _ e)))
+
+module _ (P : Plan) (sound : IsSound P) (w : Name) (known : contains_key P.workstations w ≡ true) (items : List OpenInterval) (fine : (ws : Workstation) → IsWorkstation (with_intervals items ws)) where
+  abbrev reopened : Plan
+  reopened = record P { workstations = revise (λ v ws. cond (eq_by_cmp name_cmp v w) (with_intervals items ws) ws) P.workstations }
+
+  found_at : (v : Name) → get reopened.workstations v ≡ option_map (λ ws. cond (eq_by_cmp name_cmp v w) (with_intervals items ws) ws) (get P.workstations v)
+  found_at v = get-revise name_cmp-IsAntisymmetric _ P.workstations v
+
+  same_attributes : (b : Bool) (x : Option Workstation) → option_map (λ ws. ws.attribute) (option_map (λ ws. cond b (with_intervals items ws) ws) x) ≡ option_map (λ ws. ws.attribute) x
+  same_attributes true (Some ws) = refl
+  same_attributes false (Some ws) = refl
+  same_attributes b None = refl
+
+  same_attribute : (v : Name) → attribute_at reopened v ≡ attribute_at P v
+  same_attribute v = ap (option_map (λ ws. ws.attribute)) (found_at v) ∙ same_attributes (eq_by_cmp name_cmp v w) (get P.workstations v)
+
+  no_report : (op : Operation) → NeedsNoReport P op → NeedsNoReport reopened op
+  no_report op (inl nop) = inl nop
+  no_report op (inr on) = inr (same_attribute op.workstation ∙ on)
+
+  still : {q : OpKey} → IsSatisfied P q → IsSatisfied reopened q
+  still {q} s = widened (λ x h. h) (λ x h. (h.0, h.1, (h.2.0, h.2.1, no_report h.0 h.2.2))) (λ y x h. h) s
+
+  held_before : (q : OpKey) (r : Name) (x : Usage) → Holds reopened q r x → Holds P q r x
+  held_before q r x h = (h.0, h.1, (h.2.0, ap takes (sym (same_attribute h.0.workstation)) ∙ h.2.1, h.2.2))
+
+  still_known : (v : Name) → contains_key P.workstations v ≡ true → contains_key reopened.workstations v ≡ true
+  still_known v h = let one = found_key (get P.workstations v) h in ap is_some (found_at v ∙ ap (option_map (λ ws. cond (eq_by_cmp name_cmp v w) (with_intervals items ws) ws)) one.1)
+
+  each_workstation : (v : Name) (ws : Workstation) → get reopened.workstations v ≡ Some ws → IsName 4 v × IsWorkstation ws
+  each_workstation v ws e =
+      let m = mapped (λ z. cond (eq_by_cmp name_cmp v w) (with_intervals items z) z) (get P.workstations v) ws (sym (found_at v) ∙ e) in
+      let old = sound.valid.workstations v m.0 m.1 in
+      (old.0, subst IsWorkstation m.2 (of_either IsWorkstation (eq_by_cmp name_cmp v w) (with_intervals items m.0) m.0 (λ t. fine m.0) (λ t. old.1)))
+
+  pub intervals_are_sound : IsSound reopened
+  intervals_are_sound = let v = sound.valid in record {
+    valid = record {
+      clock = v.clock;
+      workstations = each_workstation;
+      resources = v.resources;
+      occurrences = v.occurrences;
+      have_workstations = λ o op e. still_known op.workstation (v.have_workstations o op e);
+      have_resources = v.have_resources;
+      pairs = v.pairs;
+      acyclic = v.acyclic;
+      limits = record { workstations = subst (λ n. n ≤ 99) (sym (len-revise _ P.workstations)) v.limits.workstations; resources = v.limits.resources; occurrences = v.limits.occurrences; operations = v.limits.operations; pairs = v.limits.pairs };
+    };
+    in_order = λ o h p live. still (sound.in_order o h p live);
+    compatible = λ a b r x y apart ha hb. sound.compatible a b r x y apart (held_before a r x ha) (held_before b r y hb);
+    held = sound.held;
+    marks = λ o op a e on. sound.marks o op a e (sym (same_attribute op.workstation) ∙ on);
+    deleted = sound.deleted;
+    before_load = λ h. absurd (none_is_known (ap (λ X. contains_key X.workstations w) (sym (sound.before_load h)) ∙ known));
+  }
+    where
+      none_is_known : contains_key no_plan.workstations w ≡ true → ⊥
+      none_is_known e = true≢false (sym e ∙ ap is_some (get-empty name_cmp w))
+
+pub intervals_keep_sound : (w : Name) (items : Vec Interval Global) → ChangeKeepsSound (what.ReplaceIntervals w items)
+intervals_keep_sound w items P Q at sound may request c =
+    subst IsSound (sym c) (intervals_are_sound P sound w (may refusal.UnknownWorkstation) items.items (intervals_are items.items request (may refusal.BadPlan) (may refusal.Limit)))

@@ -1,0 +1,120 @@
+-- A valid plan has a ready list, in which each operation stands once.
+use Rattle.std.proofs.Common.{◌≡◌, inl, inr, refl, sym, ◌∙◌, ap, subst, Bool, true, false, ◌||◌, List, [], ◌∷◌, ◌++◌, Contains, Ordering, Less, Equal, Greater}
+use Rattle.std.specs.List.Sorted.{IsStrictlySortedBy}
+use Rattle.std.specs.Ordering.{eq_by_cmp, int_cmp, nat_cmp, ordering_then}
+use Rattle.std.specs.FinMap.{IsAntisymmetric, get, int_cmp-IsAntisymmetric, keys, nat_cmp-IsAntisymmetric}
+use Rattle.plan_basics.specs.Keys.{operation_cmp, operation_cmp-IsAntisymmetric}
+use Rattle.plan_basics.specs.declared.keys.OpKey.{OpKey}
+use Rattle.ready_list.specs.Choice.{is_among, operations_of}
+use Rattle.ready_list.specs.Order.{ready_cmp, ready_cmp_total, urgency}
+use Rattle.ready_list.specs.declared.ReadyKey.{ReadyKey}
+use Rattle.status_rules.specs.declared.Status.TheVariants as status
+use Rattle.plan_laws.proofs.Finite.{Listed, alike_listed, in_keys, none_listed, one_listed, union_listed}
+use Rattle.plan_laws.proofs.Latest.{one_latest_start, some_latest_start}
+use Rattle.plan_laws.proofs.Looks.{found_key, same_key, same_some}
+use Rattle.plan_laws.proofs.Sorted.{contains_head, contains_later, not_itself}
+use Rattle.plan_laws.proofs.Sorting.{ascending, ascending_rest, less_before}
+use Rattle.plan_laws.proofs.Standing.{status_told}
+use Rattle.plan_laws.proofs.Telling.{Told, told_or}
+use Rattle.plan_laws.specs.Derived.{SomeReadyList}
+use Rattle.plan_model.specs.Plan.{IsInPlan, Plan}
+use Rattle.plan_model.specs.Ready.{IsEntry, IsReadyList}
+use Rattle.plan_model.specs.Status.{IsReady}
+use Rattle.plan_model.specs.Valid.{IsAcyclic, IsValid}
+
+pub ready_told : (P : Plan) → IsAcyclic P.pairs → (o : OpKey) → Told (IsReady P o)
+ready_told P acyclic o = told_or (status_told P acyclic o status.Arriving) (told_or (status_told P acyclic o status.ReadyAfterNonreporting) (status_told P acyclic o status.Ready))
+
+ready_in_plan : (P : Plan) (o : OpKey) → IsReady P o → IsInPlan P o
+ready_in_plan P o (inl h) = (h.0, h.1, tt)
+ready_in_plan P o (inr (inl h)) = (h.0, h.1, tt)
+ready_in_plan P o (inr (inr h)) = (h.0, h.1, tt)
+
+-- ---- only equal keys tie
+
+both_tie : (a b : Ordering) → ordering_then a b ≡ Equal → (a ≡ Equal) × (b ≡ Equal)
+both_tie Less b e = absurd (cc)
+both_tie Equal b e = (refl, e)
+both_tie Greater b e = absurd (cc)
+
+pub ready_cmp-IsAntisymmetric : IsAntisymmetric ready_cmp
+ready_cmp-IsAntisymmetric x y e =
+    let a = both_tie (nat_cmp (urgency x.priority) (urgency y.priority)) _ e in
+    let b = both_tie (int_cmp x.latest y.latest) _ a.1 in
+    let c = both_tie (nat_cmp y.priority x.priority) _ b.1 in
+    let d = both_tie (nat_cmp x.duration y.duration) _ c.1 in
+    let latest : x.latest ≡ y.latest = int_cmp-IsAntisymmetric x.latest y.latest b.0 in
+    let priority : y.priority ≡ x.priority = nat_cmp-IsAntisymmetric y.priority x.priority c.0 in
+    let duration : x.duration ≡ y.duration = nat_cmp-IsAntisymmetric x.duration y.duration d.0 in
+    let op : x.op ≡ y.op = operation_cmp-IsAntisymmetric x.op y.op d.1 in
+    λ i. record { latest = latest i; priority = sym priority i; duration = duration i; op = op i }
+
+-- ---- the entries
+
+module _ (P : Plan) (valid : IsValid P) where
+  -- an operation has one entry at most
+  pub one_entry : (k l : ReadyKey) → IsEntry P k → IsEntry P l → k.op ≡ l.op → k ≡ l
+  one_entry k l x y e =
+      let y' : IsEntry P (record l { op = k.op }) = subst (λ o. IsEntry P (record l { op = o })) (sym e) y in
+      let latest : k.latest ≡ l.latest = one_latest_start P k.op k.latest l.latest x.1 y'.1 in
+      let op : x.2.0 ≡ y'.2.0 = same_some x.2.0 y'.2.0 (sym x.2.1 ∙ y'.2.1) in
+      let duration : k.duration ≡ l.duration = x.2.2 ∙ ap (λ z. z.duration) op ∙ sym y'.2.2 in
+      let occurrence : x.3.0 ≡ y'.3.0 = same_some x.3.0 y'.3.0 (sym x.3.1 ∙ y'.3.1) in
+      let priority : k.priority ≡ l.priority = x.3.2 ∙ ap (λ z. z.priority) occurrence ∙ sym y'.3.2 in
+      λ i. record { latest = latest i; priority = priority i; duration = duration i; op = e i }
+
+  abbrev EntryOf : OpKey → ReadyKey → Type 0
+  EntryOf o k = (k.op ≡ o) × IsEntry P k
+
+  entry_of : (o : OpKey) → IsReady P o → (k : ReadyKey) × EntryOf o k
+  entry_of o ready =
+      let found = ready_in_plan P o ready in
+      let v = some_latest_start P valid.acyclic o in
+      let c = found_key (get P.occurrences o.occurrence) (valid.occurrences.each_operation o found.0 found.1).1 in
+      (record { latest = v.0; priority = c.0.priority; duration = found.0.duration; op = o }, (refl, (ready, v.1, (found.0, found.1, refl), (c.0, c.1, refl))))
+
+  entries_of : (o : OpKey) → Told (IsReady P o) → Listed (EntryOf o)
+  entries_of o (inl ready) =
+      let k = entry_of o ready in
+      alike_listed {S = λ x. k.0 ≡ x} (λ x e. subst (EntryOf o) e k.1) (λ x h. one_entry k.0 x k.1.1 h.1 (k.1.0 ∙ sym h.0)) (one_listed k.0)
+  entries_of o (inr never) = none_listed (λ k h. never (subst (IsReady P) h.0 h.1.0))
+
+  entries_listed : Listed (IsEntry P)
+  entries_listed = alike_listed {S = λ k. (o : OpKey) × Contains (keys P.operations) o × EntryOf o k}
+      (λ k h. h.2.1)
+      (λ k h. let found = ready_in_plan P k.op h.0 in (k.op, in_keys operation_cmp-IsAntisymmetric P.operations k.op found.0 found.1, (refl, h)))
+      (union_listed EntryOf (keys P.operations) (λ o has. entries_of o (ready_told P valid.acyclic o)))
+
+  pub ready_list : (ready : List ReadyKey) × IsReadyList P ready
+  ready_list = let a = ascending ready_cmp_total ready_cmp-IsAntisymmetric entries_listed in (a.0, record { ascends = a.1; has_all = a.2 })
+
+pub some_ready_list : SomeReadyList
+some_ready_list P valid = ready_list P valid
+
+-- ---- each operation once
+
+some_key : (ks : List ReadyKey) (before after : List OpKey) (o : OpKey) → operations_of ks ≡ before ++ o ∷ after → (k : ReadyKey) × Contains ks k × (k.op ≡ o)
+some_key [] [] after o e = absurd (cc)
+some_key [] (b ∷ before) after o e = absurd (cc)
+some_key (k ∷ ks) [] after o e = let head : k.op ≡ o = cc in (k, contains_head k ks, head)
+some_key (k ∷ ks) (b ∷ before) after o e =
+    let tail : operations_of ks ≡ before ++ o ∷ after = cc in
+    let found = some_key ks before after o tail in
+    (found.0, contains_later k ks found.0 found.1, found.2)
+
+neither : (a b : Bool) → (a ≡ true → ⊥) → b ≡ false → (a || b) ≡ false
+neither true b h e = absurd (h refl)
+neither false b h e = e
+
+pub once : (ks : List ReadyKey) → IsStrictlySortedBy ready_cmp ks → ((k l : ReadyKey) → Contains ks k → Contains ks l → k.op ≡ l.op → k ≡ l) → (before after : List OpKey) (o : OpKey) → operations_of ks ≡ before ++ o ∷ after → is_among before o ≡ false
+once ks up one [] after o e = refl
+once [] up one (b ∷ before) after o e = absurd (cc)
+once (k ∷ ks) up one (b ∷ before) after o e =
+    let head : k.op ≡ b = cc in
+    let tail : operations_of ks ≡ before ++ o ∷ after = cc in
+    let found = some_key ks before after o tail in
+    neither (eq_by_cmp operation_cmp o b) (is_among before o)
+    (λ tie.
+    let same : k ≡ found.0 = one k found.0 (contains_head k ks) (contains_later k ks found.0 found.1) (head ∙ sym (same_key o b tie) ∙ sym found.2) in
+    not_itself ready_cmp_total k (subst (λ z. ready_cmp k z ≡ Less) (sym same) (less_before ready_cmp_total ready_cmp-IsAntisymmetric ks k found.0 up found.1)))
+    (once ks (ascending_rest ready_cmp_total ready_cmp-IsAntisymmetric ks k up) (λ x y hx hy. one x y (contains_later k ks x hx) (contains_later k ks y hy)) before after o tail)

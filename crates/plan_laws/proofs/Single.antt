@@ -1,0 +1,59 @@
+-- A request has one answer, which leaves one plan.
+use Rattle.std.proofs.Common.{◌≡◌, ◌↔◌, inl, inr, refl, sym, ◌∙◌, ap, ap₂, subst, Bool, true, false, List}
+use Rattle.std.proofs.lemmas.Bool.{cases_order}
+use Rattle.plan_basics.specs.declared.Refusal.{Refusal}
+use Rattle.plan_basics.specs.declared.keys.OpKey.{OpKey}
+use Rattle.plan_basics.specs.Refusals.{number_of}
+use Rattle.status_rules.specs.declared.Mark.TheVariants as mark
+use Rattle.plan_model.specs.Plan.{Plan}
+use Rattle.plan_model.specs.Ready.{IsChosen, named, with_mark}
+use Rattle.plan_records.specs.declared.What.{What}
+use Rattle.plan_records.specs.declared.What.TheVariants as what
+use Rattle.plan_records.specs.declared.Request.{Request}
+use Rattle.plan_records.specs.Accepting.{MayBeAccepted, minute_of}
+use Rattle.plan_records.specs.Answer.{Answer, accepted, refused}
+use Rattle.plan_records.specs.Changes.{Changes, revised, with_supplement}
+use Rattle.plan_records.specs.Step.{IsAccepted, IsRefused, StepBy}
+use Rattle.plan_laws.specs.Steps.{OneStep}
+use Rattle.plan_laws.proofs.Choice.{one_choice}
+use Rattle.plan_laws.proofs.Looks.{same_some}
+use Rattle.plan_laws.proofs.Numbers.{same_number}
+
+-- two tests that tell one set are one test
+pub same_bool : (a b : Bool) → (a ≡ true → b ≡ true) → (b ≡ true → a ≡ true) → a ≡ b
+same_bool true b f g = sym (f refl)
+same_bool false true f g = g refl
+same_bool false false f g = refl
+
+one_test : {S : OpKey → Type 0} (t u : OpKey → Bool) → ((q : OpKey) → (t q ≡ true) ↔ S q) → ((q : OpKey) → (u q ≡ true) ↔ S q) → t ≡ u
+one_test t u f g = λ i q. same_bool (t q) (u q) (λ e. (g q).1 ((f q).0 e)) (λ e. (f q).1 ((g q).0 e)) i
+
+pub one_change : (P a b : Plan) (w : What) → Changes P w a → Changes P w b → a ≡ b
+one_change P a b (what.Load draft) x y = same_some a b (sym x ∙ y)
+one_change P a b (what.Rerun o) x y = x.2 ∙ ap (λ t. revised t (with_mark mark.Unmarked) P) (one_test x.0 y.0 x.1 y.1) ∙ sym y.2
+one_change P a b (what.AddOccurrence s) x y = x.2 ∙ ap (with_supplement P) (same_some x.0 y.0 (sym x.1 ∙ y.1)) ∙ sym y.2
+one_change P a b w x y = x ∙ sym y
+
+module _ (allows : Refusal → Type 0) (P : Plan) where
+  one_acceptance : (a b : Plan) (q : Request) (c d : List OpKey) → IsAccepted allows P q c a → IsAccepted allows P q d b → (c ≡ d) × (a ≡ b)
+  one_acceptance a b q c d x y =
+      let m = minute_of q.at in
+      let changed : x.changed ≡ y.changed = one_change P x.changed y.changed q.what x.changes y.changes in
+      let chosen : c ≡ d = one_choice (record y.changed { clock = m }) m c d (subst (λ X. IsChosen (record X { clock = m }) m c) changed x.is_chosen) y.is_chosen in
+      (chosen, x.is_after ∙ ap₂ (λ os X. named os (record X { clock = m })) chosen changed ∙ sym y.is_after)
+
+  one_refusal : (a b : Plan) (r s : Refusal) → IsRefused allows P r a → IsRefused allows P s b → r ≡ s
+  one_refusal a b r s x y = elim (cases_order (number_of r) (number_of s)) [
+    | inl e ↦ same_number r s e
+    | inr (inl less) ↦ absurd (x.applies (y.is_least r less))
+    | inr (inr more) ↦ absurd (y.applies (x.is_least s more))
+  ]
+
+  pub one_step_by : (a b : Plan) (q : Request) (x y : Answer) → StepBy allows P q x a → StepBy allows P q y b → (x ≡ y) × (a ≡ b)
+  one_step_by a b q (accepted c) (accepted d) x y = let one = one_acceptance a b q c d x y in (ap accepted one.0, one.1)
+  one_step_by a b q (accepted c) (refused r) x y = absurd (y.applies (x.none_refuses r))
+  one_step_by a b q (refused r) (accepted c) x y = absurd (x.applies (y.none_refuses r))
+  one_step_by a b q (refused r) (refused s) x y = (ap refused (one_refusal a b r s x y), x.is_after ∙ sym y.is_after)
+
+pub one_step : OneStep
+one_step P a b q x y = one_step_by (MayBeAccepted P q) P a b q x y

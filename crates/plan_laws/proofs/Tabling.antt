@@ -1,0 +1,156 @@
+-- Each operation of a valid plan has one row, and the rows of the tables determine the plan.
+use Rattle.std.proofs.Common.{◌≡◌, refl, sym, ◌∙◌, ap, subst, ℕ, Bool, Option, Some, None, option_map}
+use Rattle.std.specs.Cmp.{nat_cmp_total}
+use Rattle.std.specs.FinMap.{get, nat_cmp-IsAntisymmetric, same_map}
+use Rattle.std.specs.FinSet as set
+use Rattle.plan_basics.specs.Intervals.{OpenInterval}
+use Rattle.plan_basics.specs.Keys.{Name, name_cmp-IsAntisymmetric, name_cmp_total, occurrence_cmp-IsAntisymmetric, occurrence_cmp_total, operation_cmp-IsAntisymmetric, operation_cmp_total}
+use Rattle.plan_basics.specs.declared.keys.OccKey.{OccKey}
+use Rattle.plan_basics.specs.declared.keys.OpKey.{OpKey}
+use Rattle.special_resources.specs.Holders.{Usage}
+use Rattle.workstations.specs.Workstations.{Workstation}
+use Rattle.plan_laws.proofs.Latest.{one_latest_start, some_latest_start}
+use Rattle.plan_laws.proofs.Looks.{none_is_not_some, same_some}
+use Rattle.plan_laws.proofs.Pairs.{pair_cmp-IsAntisymmetric, pair_cmp_total}
+use Rattle.plan_laws.proofs.Single.{same_bool}
+use Rattle.plan_laws.proofs.Standing.{one_status, some_status}
+use Rattle.plan_laws.proofs.Waiting.{one_count, some_occurrence_status, some_waiting}
+use Rattle.plan_laws.specs.Tables.{EachHasOneRow, RowsTellPlan}
+use Rattle.plan_model.specs.Plan.{LivePredecessor, Operation, Plan, Precedes}
+use Rattle.plan_model.specs.Starting.{IsLatestStart}
+use Rattle.plan_model.specs.Status.{HasStatus, IsSatisfied}
+use Rattle.plan_model.specs.Valid.{IsAcyclic, IsValid}
+use Rattle.plan_model.specs.declared.Occurrence.{Occurrence}
+use Rattle.plan_records.specs.Rows.{IsOperationRow, IsRow, IsWaitingFor}
+use Rattle.plan_records.specs.declared.OperationRow.{OperationRow}
+use Rattle.plan_records.specs.declared.PlanRow.{PlanRow}
+use Rattle.plan_records.specs.declared.PlanRow.TheVariants as row
+
+-- ---- the row of an operation
+
+pub some_row : (P : Plan) → IsValid P → (o : OpKey) (op : Operation) → get P.operations o ≡ Some op → (r : OperationRow) × (r.op ≡ o) × IsOperationRow P r
+some_row P valid o op e =
+    let s = some_status P valid o (op, e, tt) in
+    let latest = some_latest_start P valid.acyclic o in
+    let waiting = some_waiting P valid.acyclic o in (
+      record { op = o; ws = op.workstation; duration = op.duration; r1 = op.r1; r2 = op.r2; not_before = op.not_before; deadline = op.deadline; mark = op.mark; held = op.held; nop = op.nop; status = s.0; latest = latest.0; waiting = waiting.0 },
+      refl,
+      record { op = op; is_in_plan = e; columns = (refl, refl, refl, refl, refl, refl, refl, refl, refl); status = s.1; latest = latest.1; waiting = waiting.1 },
+    )
+
+-- two rows of one key
+module _ (P : Plan) (acyclic : IsAcyclic P.pairs) (r s : OperationRow) (x : IsOperationRow P r) (y : IsOperationRow P s) (key : r.op ≡ s.op) where
+  same_operation_of : x.op ≡ y.op
+  same_operation_of = same_some x.op y.op (sym x.is_in_plan ∙ ap (get P.operations) key ∙ y.is_in_plan)
+
+  same_column : {A : Type 0} (f : Operation → A) (a b : A) → a ≡ f x.op → b ≡ f y.op → a ≡ b
+  same_column f a b p q = p ∙ ap f same_operation_of ∙ sym q
+
+  pub one_row : r ≡ s
+  one_row =
+      let status = one_status P acyclic s.op r.status s.status (subst (λ o. HasStatus P o r.status) key x.status) y.status in
+      let latest = one_latest_start P s.op r.latest s.latest (subst (λ o. IsLatestStart P o r.latest) key x.latest) y.latest in
+      let waiting = one_count (λ p. LivePredecessor P p s.op × ¬ IsSatisfied P p) r.waiting s.waiting (subst (λ o. IsWaitingFor P o r.waiting) key x.waiting) y.waiting in
+      let ws = same_column (λ op. op.workstation) r.ws s.ws x.columns.0 y.columns.0 in
+      let duration = same_column (λ op. op.duration) r.duration s.duration x.columns.1 y.columns.1 in
+      let r1 = same_column (λ op. op.r1) r.r1 s.r1 x.columns.2 y.columns.2 in
+      let r2 = same_column (λ op. op.r2) r.r2 s.r2 x.columns.3 y.columns.3 in
+      let not_before = same_column (λ op. op.not_before) r.not_before s.not_before x.columns.4 y.columns.4 in
+      let deadline = same_column (λ op. op.deadline) r.deadline s.deadline x.columns.5 y.columns.5 in
+      let mark = same_column (λ op. op.mark) r.mark s.mark x.columns.6 y.columns.6 in
+      let held = same_column (λ op. op.held) r.held s.held x.columns.7 y.columns.7 in
+      let nop = same_column (λ op. op.nop) r.nop s.nop x.columns.8 y.columns.8 in
+      λ i. record { op = key i; ws = ws i; duration = duration i; r1 = r1 i; r2 = r2 i; not_before = not_before i; deadline = deadline i; mark = mark i; held = held i; nop = nop i; status = status i; latest = latest i; waiting = waiting i }
+
+pub each_has_one_row : EachHasOneRow
+each_has_one_row P valid o h =
+    let r = some_row P valid o h.0 h.1 in
+    (r.0, r.1, r.2, λ s key is. one_row P valid.acyclic s r.0 is r.2 (key ∙ sym r.1))
+
+-- ---- from the rows back to the plan
+
+pub same_look : {X : Type 0} (a b : Option X) → ((v : X) → a ≡ Some v → b ≡ Some v) → ((v : X) → b ≡ Some v → a ≡ Some v) → a ≡ b
+same_look (Some v) b f g = sym (f v refl)
+same_look None (Some w) f g = g w refl
+same_look None None f g = refl
+
+-- where each row of P is one of Q, what P has Q has
+module _ (P Q : Plan) (valid : IsValid P) (carried : (r : PlanRow) → IsRow P r → IsRow Q r) where
+  resource : (r : Name) (available : Bool) → get P.resources r ≡ Some available → get Q.resources r ≡ Some available
+  resource r available e = carried (row.Resource r available) e
+
+  pair : (p o : OpKey) → Precedes P p o → Precedes Q p o
+  pair p o h = carried (row.Dependency p o) h
+
+  occurrence : (c : OccKey) (x : Occurrence) → get P.occurrences c ≡ Some x → get Q.occurrences c ≡ Some x
+  occurrence c x e =
+      let s = some_occurrence_status P valid.acyclic c in
+      (carried (row.Occurrence c x.priority x.deadline s.0) (e, s.1)).0
+
+  interval : (w : Name) (ws vs : Workstation) → get P.workstations w ≡ Some ws → get Q.workstations w ≡ Some vs → (from : ℕ) (x : OpenInterval) → get ws.intervals from ≡ Some x → get vs.intervals from ≡ Some x
+  interval w ws vs e f from x at =
+      let key : from ≡ x.from = ((valid.workstations w ws e).1.intervals from x at).0 in
+      let found = carried (row.Interval w x) (ws, e, subst (λ z. get ws.intervals z ≡ Some x) key at) in
+      let same : found.0 ≡ vs = same_some found.0 vs (sym found.1 ∙ f) in
+      subst (λ z. get vs.intervals z ≡ Some x) (sym key) (subst (λ u. get u.intervals x.from ≡ Some x) same found.2)
+
+  attribute : (w : Name) (ws : Workstation) → get P.workstations w ≡ Some ws → (vs : Workstation) × (get Q.workstations w ≡ Some vs) × (vs.attribute ≡ ws.attribute)
+  attribute w ws e = known (get Q.workstations w) (carried (row.Workstation w ws.attribute) (ap (option_map (λ u. u.attribute)) e))
+    where
+      known : (x : Option Workstation) → option_map (λ u. u.attribute) x ≡ Some ws.attribute → (vs : Workstation) × (x ≡ Some vs) × (vs.attribute ≡ ws.attribute)
+      known None h = absurd (none_is_not_some ws.attribute h)
+      known (Some vs) h = (vs, refl, same_some vs.attribute ws.attribute h)
+
+  need : (o : OpKey) (op oq : Operation) → get P.operations o ≡ Some op → get Q.operations o ≡ Some oq → (r : Name) (usage : Usage) → get op.needs r ≡ Some usage → get oq.needs r ≡ Some usage
+  need o op oq e f r usage at =
+      let found = carried (row.Need o (record { name = r; mode = usage.mode; keep = usage.keep })) (op, e, at) in
+      let same : found.0 ≡ oq = same_some found.0 oq (sym found.1 ∙ f) in
+      subst (λ z. get z.needs r ≡ Some usage) same found.2
+
+  -- the operation of the same key, with the same columns
+  operation : (o : OpKey) (op : Operation) → get P.operations o ≡ Some op → (r : OperationRow) × (r.op ≡ o) × IsOperationRow P r × IsOperationRow Q r
+  operation o op e =
+      let r = some_row P valid o op e in
+      (r.0, r.1, r.2, carried (row.Operation r.0) r.2)
+
+module _ (P Q : Plan) (p : IsValid P) (q : IsValid Q) (to : (r : PlanRow) → IsRow P r → IsRow Q r) (back : (r : PlanRow) → IsRow Q r → IsRow P r) where
+  workstation_there : (w : Name) (ws : Workstation) → get P.workstations w ≡ Some ws → get Q.workstations w ≡ Some ws
+  workstation_there w ws e =
+      let vs = attribute P Q p to w ws e in
+      let intervals : vs.0.intervals ≡ ws.intervals = same_map nat_cmp_total nat_cmp-IsAntisymmetric vs.0.intervals ws.intervals (λ from.
+      same_look (get vs.0.intervals from) (get ws.intervals from) (interval Q P q back w vs.0 ws vs.1 e from) (interval P Q p to w ws vs.0 e vs.1 from)) in
+      let same : vs.0 ≡ ws = (λ i. record { attribute = vs.2 i; intervals = intervals i }) in
+      vs.1 ∙ ap Some same
+
+  operation_there : (o : OpKey) (op : Operation) → get P.operations o ≡ Some op → get Q.operations o ≡ Some op
+  operation_there o op e =
+      let r = operation P Q p to o op e in
+      let x = r.2 in
+      let y = r.3 in
+      let first : x.op ≡ op = same_some x.op op (sym x.is_in_plan ∙ ap (get P.operations) r.1 ∙ e) in
+      let there : get Q.operations o ≡ Some y.op = ap (get Q.operations) (sym r.1) ∙ y.is_in_plan in
+      let needs : y.op.needs ≡ op.needs = same_map name_cmp_total name_cmp-IsAntisymmetric y.op.needs op.needs (λ n.
+      same_look (get y.op.needs n) (get op.needs n) (need Q P q back o y.op op there e n) (need P Q p to o op y.op e there n)) in
+      let workstation = sym y.columns.0 ∙ x.columns.0 ∙ ap (λ z. z.workstation) first in
+      let duration = sym y.columns.1 ∙ x.columns.1 ∙ ap (λ z. z.duration) first in
+      let r1 = sym y.columns.2 ∙ x.columns.2 ∙ ap (λ z. z.r1) first in
+      let r2 = sym y.columns.3 ∙ x.columns.3 ∙ ap (λ z. z.r2) first in
+      let not_before = sym y.columns.4 ∙ x.columns.4 ∙ ap (λ z. z.not_before) first in
+      let deadline = sym y.columns.5 ∙ x.columns.5 ∙ ap (λ z. z.deadline) first in
+      let mark = sym y.columns.6 ∙ x.columns.6 ∙ ap (λ z. z.mark) first in
+      let held = sym y.columns.7 ∙ x.columns.7 ∙ ap (λ z. z.held) first in
+      let nop = sym y.columns.8 ∙ x.columns.8 ∙ ap (λ z. z.nop) first in
+      let same : y.op ≡ op = (λ i. record { workstation = workstation i; duration = duration i; r1 = r1 i; r2 = r2 i; not_before = not_before i; deadline = deadline i; needs = needs i; mark = mark i; held = held i; nop = nop i }) in
+      there ∙ ap Some same
+
+pub rows_tell_plan : RowsTellPlan
+rows_tell_plan P Q p q rows =
+    let to : (r : PlanRow) → IsRow P r → IsRow Q r = λ r. (rows r).0 in
+    let back : (r : PlanRow) → IsRow Q r → IsRow P r = λ r. (rows r).1 in
+    let meta = to (row.Meta 1 P.loaded P.clock) (refl, refl, refl) in
+    let workstations : P.workstations ≡ Q.workstations = same_map name_cmp_total name_cmp-IsAntisymmetric P.workstations Q.workstations (λ w. same_look (get P.workstations w) (get Q.workstations w) (workstation_there P Q p q to back w) (workstation_there Q P q p back to w)) in
+    let resources : P.resources ≡ Q.resources = same_map name_cmp_total name_cmp-IsAntisymmetric P.resources Q.resources (λ r. same_look (get P.resources r) (get Q.resources r) (resource P Q p to r) (resource Q P q back r)) in
+    let occurrences : P.occurrences ≡ Q.occurrences = same_map occurrence_cmp_total occurrence_cmp-IsAntisymmetric P.occurrences Q.occurrences (λ c. same_look (get P.occurrences c) (get Q.occurrences c) (occurrence P Q p to c) (occurrence Q P q back c)) in
+    let operations : P.operations ≡ Q.operations = same_map operation_cmp_total operation_cmp-IsAntisymmetric P.operations Q.operations (λ o. same_look (get P.operations o) (get Q.operations o) (operation_there P Q p q to back o) (operation_there Q P q p back to o)) in
+    let pairs : P.pairs ≡ Q.pairs = set.same_set pair_cmp_total pair_cmp-IsAntisymmetric P.pairs Q.pairs (λ x. same_bool (set.contains P.pairs x) (set.contains Q.pairs x) (pair P Q p to x.0 x.1) (pair Q P q back x.0 x.1)) in
+    λ i. record { loaded = meta.1 i; clock = meta.2 i; workstations = workstations i; resources = resources i; occurrences = occurrences i; operations = operations i; pairs = pairs i }

@@ -1,0 +1,4 @@
+pub mod Steps
+pub mod Ranks
+pub mod Derived
+pub mod Tables

@@ -1,0 +1,48 @@
+-- When an operation is allowed to start, and its latest start.
+use Rattle.std.specs.Prelude.{◌≡◌, ◌⊎◌, ℕ, ◌≤◌, true, false, Option, Some, None, ℤ}
+use Rattle.std.specs.FinMap.{get}
+use Rattle.plan_basics.specs.declared.Attr.TheVariants as attribute
+use Rattle.plan_basics.specs.declared.keys.OpKey.{OpKey}
+use Rattle.plan_basics.specs.declared.Refusal.{Refusal}
+use Rattle.plan_basics.specs.declared.Refusal.TheVariants as refusal
+use Rattle.plan_basics.specs.Keys.{Name}
+use Rattle.workstations.specs.Workstations.{Workstation, HasRoom}
+use Rattle.special_resources.specs.Holders.{Usage, SharesWithHolders}
+use Rattle.operation_graph.specs.Paths.{ReachesBy}
+use Rattle.latest_start.specs.LeastStart.{IsLeastStart}
+use Rattle.status_rules.specs.declared.Status.TheVariants as status
+use Rattle.plan_model.specs.Plan.{Plan, Operation, Has, HasAttribute, Precedes, IsLive}
+use Rattle.plan_model.specs.Status.{HasStatus, IsReady}
+use Rattle.plan_model.specs.Holdings.{given_out, Holds}
+
+-- one more operation fits on its workstation at m
+abbrev pub FitsAt : Plan → Operation → ℕ → Refusal → Type 0
+FitsAt P op m line = (ws : Workstation) × (get P.workstations op.workstation ≡ Some ws) × HasRoom ws m (given_out P op.workstation) op.r1 op.r2 line
+
+-- what o needs to start at m, under the refusal that is given where it fails
+abbrev pub MayStart : Plan → OpKey → Operation → ℕ → Refusal → Type 0
+MayStart P o op m refusal.WrongStatus = IsReady P o ⊎ (HasStatus P o status.Interrupted × HasAttribute P op.workstation attribute.StartAndCompletion)
+MayStart P o op m refusal.Held = op.held ≡ false
+MayStart P o op m refusal.TooEarly = op.not_before ≤ m
+MayStart P o op m refusal.Closed = FitsAt P op m refusal.Closed
+MayStart P o op m refusal.NoServer = FitsAt P op m refusal.NoServer
+MayStart P o op m refusal.NoFixed = FitsAt P op m refusal.NoFixed
+MayStart P o op m refusal.ResourceBusy = (r : Name) (usage : Usage) → get op.needs r ≡ Some usage → (get P.resources r ≡ Some true) × SharesWithHolders (Holds P) o r usage
+MayStart P o op m _ = Unit {0}
+
+-- o is in the plan, and none of these refusals is given at m
+abbrev pub IsAllowedToStart : Plan → OpKey → ℕ → Type 0
+IsAllowedToStart P o m = Has P o (λ op. (line : Refusal) → MayStart P o op m line)
+
+-- by a path whose members after the first aren't deleted
+abbrev pub Reaches : Plan → OpKey → OpKey → Type 0
+Reaches P = ReachesBy (Precedes P) (IsLive P)
+
+-- a number of the operation, 0 where there is none
+abbrev number_of : Option Operation → (Operation → ℕ) → ℕ
+number_of (Some op) f = f op
+number_of None f = 0
+
+-- the least, over all paths from o, of the last member's deadline less all durations
+abbrev pub IsLatestStart : Plan → OpKey → ℤ → Type 0
+IsLatestStart P = IsLeastStart (Precedes P) (IsLive P) (λ o. number_of (get P.operations o) (λ op. op.duration)) (λ o. number_of (get P.operations o) (λ op. op.deadline))

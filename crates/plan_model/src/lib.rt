@@ -1,0 +1,51 @@
+//! What a plan holds: the records of its occurrences and operations. Everything that is read off a plan, as a status or
+//! a latest start, is defined in `specs/`, over finite maps in which nothing is derived.
+#![tactic(auto)]
+
+use plan_basics::{Moment, WsName};
+use status_rules::Mark;
+use std::marker::Model;
+
+/// An occurrence of an application: its priority, from 1 (low) to 9 (urgent), and its deadline.
+#[derive(Clone, Copy, Debug, PartialEq, Eq)]
+pub struct Occurrence {
+    pub priority: u8,
+    pub deadline: Moment,
+}
+
+/// An operation: what was planned of it, and what was reported. Contracts see it as the record `Operation` of the
+/// definitions, with no needs of special resources.
+#[derive(Clone, Copy, Debug)]
+pub struct OperationRecord {
+    /// The workstation that carries it out.
+    pub workstation: WsName,
+    /// In minutes, 1 to 5,999.
+    pub duration: u16,
+    /// How much of the fixed resource R1 it takes, 0 to 99.
+    pub r1: u8,
+    /// How much of the fixed resource R2 it takes, 0 to 99.
+    pub r2: u8,
+    /// It doesn't start before this moment.
+    pub not_before: Moment,
+    pub deadline: Moment,
+    /// What was reported of it.
+    pub mark: Mark,
+    /// An operator holds it: it neither starts nor passes.
+    pub held: bool,
+    /// It is a no-operation: it passes once its predecessors are satisfied.
+    pub nop: bool,
+}
+
+impl Model for OperationRecord {
+    ghost use Rattle.plan_model.specs.Plan.{Operation};
+    ghost use Rattle.plan_model.specs.Code.{operation_code};
+    ghost use Rattle.std.specs.FinMap as map;
+
+    ghost Value = { Operation };
+
+    ghost coded = { operation_code };
+
+    ghost view = { λ a. record { workstation = a.workstation; duration = a.duration; r1 = a.r1; r2 = a.r2; not_before = a.not_before; deadline = a.deadline; needs = map.empty; mark = a.mark; held = a.held; nop = a.nop } };
+
+    ghost inverse = { λ v. record { workstation = v.workstation; duration = v.duration; r1 = v.r1; r2 = v.r2; not_before = v.not_before; deadline = v.deadline; mark = v.mark; held = v.held; nop = v.nop } };
+}

@@ -1,0 +1,92 @@
+-- What records denote, from what each of them says.
+use Rattle.std.proofs.Common.{◌≡◌, refl, sym, subst, ap₂, arith, ℕ, zero, suc, ◌+◌, ◌<◌, List, [], ◌∷◌, ◌++◌, length, get_or, take, All, Vec}
+use Rattle.std.specs.List.{AllZip}
+use Rattle.std.specs.declared.alloc.Global.{Global}
+use Rattle.std.specs.FinMap.{len}
+use Rattle.std.proofs.lemmas.List.Elements.{All-nil, All-cons}
+use Rattle.plan_basics.specs.Keys.{name_cmp_total, name_cmp-IsAntisymmetric, occurrence_cmp_total, occurrence_cmp-IsAntisymmetric}
+use Rattle.plan_model.specs.Plan.{Plan}
+use Rattle.plan_items.specs.declared.Item.{Item}
+use Rattle.plan_items.specs.Items.{Fields, fields_of, IsItem, Says}
+use Rattle.plan_items.proofs.ItemLaws.{one_item}
+use Rattle.plan_records.specs.declared.building.Heads.{Heads}
+use Rattle.plan_records.specs.declared.contents.PlanContents.{PlanContents}
+use Rattle.plan_records.specs.Contents.{plan_of, AreDraftContents}
+use Rattle.plan_records.specs.Drafts.{IsLoadable}
+use Rattle.plan_records.specs.Loading.{CanBeLoaded, AreContentsOf}
+use Rattle.plan_records.specs.Records.{records_of, StandsIn, IsItemOfPlan, AreItems, Denotes}
+use Rattle.plan_records.proofs.Tables.{len_one}
+use Rattle.plan_records.proofs.Needed.{needed}
+use Rattle.plan_records.proofs.Made.{are_items, is_draft, is_loadable}
+
+-- ---- one record after another
+abbrev Records : Type 0
+Records = List (List (Vec ℕ Global))
+
+said_next : (records : Records) (items : List Item) (i : ℕ) (fields : List (Vec ℕ Global)) (item : Item) → i < length records → fields ≡ get_or records i fields → AllZip Says (records_of (take i records)) items → Says (fields_of fields) item → AllZip Says (records_of (take (suc i) records)) (items ++ item ∷ [])
+said_next [] items i fields item lt is said one = absurd (omega arith)
+said_next (x ∷ xs) [] zero fields item lt is said one = (subst (λ r. Says (fields_of r) item) is one, tt)
+said_next (x ∷ xs) (y ∷ ys) zero fields item lt is said one = absurd said
+said_next (x ∷ xs) [] (suc i) fields item lt is said one = absurd said
+said_next (x ∷ xs) (y ∷ ys) (suc i) fields item lt is said one = (said.0, said_next xs ys i fields item (omega arith) is said.1 one)
+
+-- what a record says goes to the end
+pub said_more : (records : Records) (items : List Item) (i : ℕ) (fields : List (Vec ℕ Global)) (item : Item) → i < length records → fields ≡ get_or records i fields → AllZip Says (records_of (take i records)) items → Says (fields_of fields) item → AllZip Says (records_of (take (i + 1) records)) (items ++ item ∷ [])
+said_more records items i fields item lt is said one = let next : suc i ≡ i + 1 = omega arith in subst (λ n. AllZip Says (records_of (take n records)) (items ++ item ∷ [])) next (said_next records items i fields item lt is said one)
+
+-- each record says an item
+pub said_at : (records : Records) (items : List Item) (i : ℕ) (fields : List (Vec ℕ Global)) → i < length records → fields ≡ get_or records i fields → AllZip Says (records_of records) items → (item : Item) × Says (fields_of fields) item
+said_at [] items i fields lt is said = absurd (omega arith)
+said_at (x ∷ xs) [] i fields lt is said = absurd said
+said_at (x ∷ xs) (y ∷ ys) zero fields lt is said = (y, subst (λ r. Says (fields_of r) y) (sym is) said.0)
+said_at (x ∷ xs) (y ∷ ys) (suc i) fields lt is said = said_at xs ys i fields (omega arith) is said.1
+
+-- records say one list of items at most
+pub same_items : (records : List Fields) (a b : List Item) → AllZip Says records a → AllZip Says records b → a ≡ b
+same_items [] [] [] h k = refl
+same_items [] (x ∷ xs) b h k = absurd h
+same_items [] [] (y ∷ ys) h k = absurd k
+same_items (r ∷ rs) [] b h k = absurd h
+same_items (r ∷ rs) (x ∷ xs) [] h k = absurd k
+same_items (r ∷ rs) (x ∷ xs) (y ∷ ys) h k = ap₂ (λ z zs. z ∷ zs) (one_item r x y h.0 k.0) (same_items rs xs ys h.1 k.1)
+
+-- what is said is in range
+items_legal : (records : List Fields) (items : List Item) → AllZip Says records items → All IsItem items
+items_legal [] [] h = All-nil IsItem
+items_legal [] (y ∷ ys) h = absurd h
+items_legal (r ∷ rs) [] h = absurd h
+items_legal (r ∷ rs) (y ∷ ys) h = All-cons IsItem y ys h.0.0 (items_legal rs ys h.1)
+
+-- ---- the plan
+module _ (records : List Fields) (items : List Item) (said : AllZip Says records items) where
+  pub are_draft_contents : (c : PlanContents) → AreContentsOf items c → AreDraftContents c
+  are_draft_contents c made = record {
+    in_order = made.in_order;
+    draft = is_draft items c (items_legal records items said) made;
+    loadable = is_loadable items c (items_legal records items said) made;
+  }
+
+  pub are_denoted : (c : PlanContents) → AreContentsOf items c → Denotes records (plan_of 0 c) × IsLoadable (plan_of 0 c)
+  are_denoted c made =
+      let P : Plan = plan_of 0 c in
+      let workstations : len P.workstations ≡ 1 = len_one name_cmp_total name_cmp-IsAntisymmetric _ _ in
+      let occurrences : len P.occurrences ≡ 1 = len_one occurrence_cmp_total occurrence_cmp-IsAntisymmetric _ _ in (
+        record {
+          draft = is_draft items c (items_legal records items said) made;
+          clock = refl;
+          some_workstation = omega arith;
+          some_occurrence = omega arith;
+          described = record { items = items; said = said; are = are_items items c (items_legal records items said) made };
+        },
+        is_loadable items c (items_legal records items said) made,
+      )
+
+  pub none_denoted : ((h : Heads) → ¬ CanBeLoaded h items) → (P : Plan) → IsLoadable P → ¬ Denotes records P
+  none_denoted none P loadable d =
+      let same = same_items records d.described.items items d.described.said said in
+      let can = needed P d.draft.valid loadable items (subst (AreItems (StandsIn P) (IsItemOfPlan P)) same d.described.are) in
+      none can.0 can.1
+
+-- where a record says nothing
+pub none_said : (records : List Fields) → ((items : List Item) → ¬ AllZip Says records items) → (P : Plan) → IsLoadable P → ¬ Denotes records P
+none_said records none P loadable d = none d.described.items d.described.said

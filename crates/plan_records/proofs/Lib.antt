@@ -1,0 +1,9 @@
+pub mod Lists
+pub mod Tables
+pub mod ItemKinds
+pub mod Needed
+pub mod Made
+pub mod Orders
+pub mod Assembling
+pub mod Denoting
+pub mod Unique

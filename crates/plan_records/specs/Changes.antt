@@ -1,0 +1,68 @@
+-- What each request changes where it is accepted.
+use Rattle.std.specs.Prelude.{◌≡◌, ◌↔◌, Bool, true, false, cond, Some, All}
+use Rattle.std.specs.Ordering.{eq_by_cmp}
+use Rattle.std.specs.FinMap.{insert}
+use Rattle.std.specs.FinSet as set
+use Rattle.plan_basics.specs.declared.keys.OpKey.{OpKey}
+use Rattle.plan_basics.specs.Names.{IsName}
+use Rattle.plan_basics.specs.Intervals.{IsInterval}
+use Rattle.plan_basics.specs.Keys.{name_cmp, occurrence_cmp, operation_cmp}
+use Rattle.workstations.specs.Workstations.{with_intervals}
+use Rattle.status_rules.specs.declared.Mark.{Mark}
+use Rattle.status_rules.specs.declared.Mark.TheVariants as mark
+use Rattle.plan_model.specs.Plan.{Plan, Operation, Supplement}
+use Rattle.plan_model.specs.Starting.{Reaches}
+use Rattle.plan_model.specs.Ready.{with_mark}
+use Rattle.plan_model.specs.Revise.{revise, joined}
+use Rattle.plan_records.specs.declared.What.{What}
+use Rattle.plan_records.specs.declared.What.TheVariants as what
+use Rattle.plan_records.specs.Drafts.{IsDraft, IsAddition}
+
+-- what a request's own parts are: texts that were read, a legal code, intervals
+abbrev pub IsRequest : What → Type 0
+IsRequest (what.Load (Some draft)) = IsDraft draft
+IsRequest (what.AddOccurrence (Some s)) = IsAddition s
+IsRequest (what.Error o code) = IsName 4 code
+IsRequest (what.ReplaceIntervals w items) = All IsInterval items.items
+IsRequest _ = Unit {0}
+
+-- the plan with the operations at which the test passes made anew
+abbrev pub revised : (OpKey → Bool) → (Operation → Operation) → Plan → Plan
+revised test f P = record P { operations = revise (λ o op. cond (test o) (f op) op) P.operations }
+
+-- whether q is o
+abbrev pub is_at : OpKey → OpKey → Bool
+is_at o q = eq_by_cmp operation_cmp q o
+
+-- with this mark on one operation
+abbrev pub marked : OpKey → Mark → Plan → Plan
+marked o mark P = revised (is_at o) (with_mark mark) P
+
+-- with what comes in
+abbrev pub with_supplement : Plan → Supplement → Plan
+with_supplement P s = record P { occurrences = joined P.occurrences s.occurrences; operations = joined P.operations s.operations; pairs = set.union P.pairs s.pairs }
+
+-- with one more pair
+abbrev pub with_pair : Plan → OpKey → OpKey → Plan
+with_pair P p s = record P { pairs = set.insert P.pairs (p, s) }
+
+-- what an accepted request makes of P: marks, flags, intervals, availability and pairs as it says, all else as it was
+abbrev pub Changes : Plan → What → Plan → Type 0
+Changes P (what.Load draft) Q = draft ≡ Some Q
+Changes P what.Tick Q = Q ≡ P
+Changes P (what.Started o) Q = Q ≡ marked o mark.Running P
+Changes P (what.Ended o) Q = Q ≡ marked o mark.Done P
+Changes P (what.Error o code) Q = Q ≡ marked o (mark.Error code) P
+Changes P (what.Interrupted o) Q = Q ≡ marked o mark.Interrupted P
+Changes P (what.Unknown o) Q = Q ≡ marked o mark.Undecided P
+Changes P (what.Hold o) Q = Q ≡ revised (is_at o) (λ op. record op { held = true }) P
+Changes P (what.Release o) Q = Q ≡ revised (is_at o) (λ op. record op { held = false }) P
+Changes P (what.Nop o) Q = Q ≡ revised (is_at o) (λ op. record op { nop = true }) P
+Changes P (what.Unnop o) Q = Q ≡ revised (is_at o) (λ op. record op { nop = false }) P
+Changes P (what.Rerun o) Q = (test : OpKey → Bool) × ((q : OpKey) → (test q ≡ true) ↔ Reaches P o q) × (Q ≡ revised test (with_mark mark.Unmarked) P)
+Changes P (what.Complete o) Q = Q ≡ marked o mark.Done P
+Changes P (what.DeleteOccurrence c) Q = Q ≡ revised (λ o. eq_by_cmp occurrence_cmp o.occurrence c) (with_mark mark.Deleted) P
+Changes P (what.AddOccurrence a) Q = (s : Supplement) × (a ≡ Some s) × (Q ≡ with_supplement P s)
+Changes P (what.AddDependency p s) Q = Q ≡ with_pair P p s
+Changes P (what.SetAvailable r available) Q = Q ≡ record P { resources = insert P.resources r available }
+Changes P (what.ReplaceIntervals w items) Q = Q ≡ record P { workstations = revise (λ v ws. cond (eq_by_cmp name_cmp v w) (with_intervals items.items ws) ws) P.workstations }

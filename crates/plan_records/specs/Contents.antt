@@ -1,0 +1,41 @@
+-- The plan that contents in key order are.
+use Rattle.std.specs.Prelude.{ℕ, List, true}
+use Rattle.std.specs.List.Sorted.{IsStrictlySortedBy}
+use Rattle.std.specs.Map.{keys_of}
+use Rattle.std.specs.FinMap as map
+use Rattle.std.specs.FinSet as set
+use Rattle.plan_basics.specs.declared.Attr.TheVariants.{Automatic}
+use Rattle.plan_basics.specs.declared.keys.OccKey.{OccKey}
+use Rattle.plan_basics.specs.declared.keys.OpKey.{OpKey}
+use Rattle.plan_basics.specs.Keys.{operation_cmp}
+use Rattle.plan_model.specs.declared.Occurrence.{Occurrence}
+use Rattle.plan_model.specs.Plan.{Plan, Operation, Supplement, pair_cmp}
+use Rattle.plan_records.specs.declared.contents.PlanContents.{PlanContents}
+use Rattle.plan_records.specs.Drafts.{IsDraft, IsLoadable}
+
+-- an occurrence with its operations and pairs
+abbrev pub supplement_of : OccKey → Occurrence → List (OpKey × Operation) → List (OpKey × OpKey) → Supplement
+supplement_of occurrence terms operations pairs = record { occurrences = map.insert map.empty occurrence terms; operations = map.from_entries operations; pairs = set.from_list pairs }
+
+-- the loaded plan that holds this, at a clock
+abbrev pub plan_of : ℕ → PlanContents → Plan
+plan_of clock c = record {
+  loaded = true;
+  clock = clock;
+  workstations = map.insert map.empty c.workstation (record { attribute = Automatic; intervals = map.insert map.empty c.interval.from c.interval });
+  resources = map.empty;
+  occurrences = map.insert map.empty c.occurrence c.terms;
+  operations = map.from_entries c.operations.items;
+  pairs = set.from_list c.pairs.items;
+}
+
+-- operations by key, pairs by predecessor and then successor, and each of them once
+pub record AreContents (c : PlanContents) : Type 0 where
+  pub operations : IsStrictlySortedBy operation_cmp (keys_of c.operations.items)
+  pub pairs : IsStrictlySortedBy pair_cmp c.pairs.items
+
+-- contents of a draft that can be loaded so far
+pub record AreDraftContents (c : PlanContents) : Type 0 where
+  pub in_order : AreContents c
+  pub draft : IsDraft (plan_of 0 c)
+  pub loadable : IsLoadable (plan_of 0 c)

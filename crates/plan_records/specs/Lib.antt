@@ -1,0 +1,14 @@
+pub mod Answer
+pub mod Drafts
+pub mod Contents
+pub mod Changes
+pub mod Accepting
+pub mod Step
+pub mod Run
+pub mod Rows
+pub mod Work
+pub mod Laws
+pub mod Records
+pub mod Loading
+pub mod Receipts
+pub mod Schedules

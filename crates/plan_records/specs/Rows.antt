@@ -1,0 +1,99 @@
+-- The tables' rows for a plan, and those that change from one plan to the next.
+use Rattle.std.specs.Prelude.{◌≡◌, ◌≢◌, ◌↔◌, ℕ, List, length, map, Contains, AllPairs, Some}
+use Rattle.std.specs.List.Sorted.{IsStrictlySortedBy}
+use Rattle.std.specs.declared.cmp.Ordering.{Ordering}
+use Rattle.std.specs.declared.cmp.Ordering.TheVariants.{Equal}
+use Rattle.std.specs.Ordering.{nat_cmp, ordering_then}
+use Rattle.std.specs.FinMap.{get}
+use Rattle.plan_basics.specs.declared.keys.OpKey.{OpKey}
+use Rattle.plan_basics.specs.Keys.{name_cmp, occurrence_cmp, operation_cmp}
+use Rattle.workstations.specs.Workstations.{Workstation}
+use Rattle.plan_model.specs.Plan.{Plan, Operation, Has, HasAttribute, Precedes, LivePredecessor}
+use Rattle.plan_model.specs.Status.{HasStatus, HasOccurrenceStatus, IsSatisfied}
+use Rattle.plan_model.specs.Starting.{IsLatestStart}
+use Rattle.plan_records.specs.declared.PlanRow.{PlanRow}
+use Rattle.plan_records.specs.declared.PlanRow.TheVariants as row
+use Rattle.plan_records.specs.declared.OperationRow.{OperationRow}
+use Rattle.plan_records.specs.declared.RowKey.{RowKey}
+use Rattle.plan_records.specs.declared.RowKey.TheVariants as key
+
+-- the operations of which S holds are this many
+abbrev pub IsCount : (OpKey → Type 0) → ℕ → Type 0
+IsCount S n = (os : List OpKey) × IsStrictlySortedBy operation_cmp os × ((o : OpKey) → Contains os o ↔ S o) × (length os ≡ n)
+
+-- how many live predecessors aren't satisfied
+abbrev pub IsWaitingFor : Plan → OpKey → ℕ → Type 0
+IsWaitingFor P o n = IsCount (λ p. LivePredecessor P p o × ¬ IsSatisfied P p) n
+
+-- the row of one operation: its own columns, and what is read off the plan for it
+pub record IsOperationRow (P : Plan) (r : OperationRow) : Type 0 where
+  pub op : Operation
+  pub is_in_plan : get P.operations r.op ≡ Some op
+  pub columns : (r.ws ≡ op.workstation) × (r.duration ≡ op.duration) × (r.r1 ≡ op.r1) × (r.r2 ≡ op.r2) × (r.not_before ≡ op.not_before) × (r.deadline ≡ op.deadline) × (r.mark ≡ op.mark) × (r.held ≡ op.held) × (r.nop ≡ op.nop)
+  pub status : HasStatus P r.op r.status
+  pub latest : IsLatestStart P r.op r.latest
+  pub waiting : IsWaitingFor P r.op r.waiting
+
+-- a row of the tables for P
+abbrev pub IsRow : Plan → PlanRow → Type 0
+IsRow P (row.Meta version loaded clock) = (version ≡ 1) × (loaded ≡ P.loaded) × (clock ≡ P.clock)
+IsRow P (row.Workstation name a) = HasAttribute P name a
+IsRow P (row.Interval w i) = (ws : Workstation) × (get P.workstations w ≡ Some ws) × (get ws.intervals i.from ≡ Some i)
+IsRow P (row.Resource name available) = get P.resources name ≡ Some available
+IsRow P (row.Occurrence c priority deadline status) = (get P.occurrences c ≡ Some (record { priority = priority; deadline = deadline })) × HasOccurrenceStatus P c status
+IsRow P (row.Operation r) = IsOperationRow P r
+IsRow P (row.Dependency p s) = Precedes P p s
+IsRow P (row.Need o n) = Has P o (λ op. get op.needs n.name ≡ Some (record { mode = n.mode; keep = n.keep }))
+
+-- the key columns of a row
+abbrev pub key_of : PlanRow → RowKey
+key_of (row.Meta version loaded clock) = key.Meta
+key_of (row.Workstation name a) = key.Workstation name
+key_of (row.Interval w i) = key.Interval w i.from
+key_of (row.Resource name available) = key.Resource name
+key_of (row.Occurrence c priority deadline status) = key.Occurrence c
+key_of (row.Operation r) = key.Operation r.op
+key_of (row.Dependency p s) = key.Dependency p s
+key_of (row.Need o n) = key.Need o n.name
+
+-- the tables in their order
+abbrev pub table_of : RowKey → ℕ
+table_of key.Meta = 0
+table_of (key.Workstation w) = 1
+table_of (key.Interval w from) = 2
+table_of (key.Resource r) = 3
+table_of (key.Occurrence c) = 4
+table_of (key.Operation o) = 5
+table_of (key.Dependency p s) = 6
+table_of (key.Need o r) = 7
+
+-- in one table
+abbrev pub key_cmp : RowKey → RowKey → Ordering
+key_cmp (key.Workstation a) (key.Workstation b) = name_cmp a b
+key_cmp (key.Interval a m) (key.Interval b n) = ordering_then (name_cmp a b) (nat_cmp m n)
+key_cmp (key.Resource a) (key.Resource b) = name_cmp a b
+key_cmp (key.Occurrence a) (key.Occurrence b) = occurrence_cmp a b
+key_cmp (key.Operation a) (key.Operation b) = operation_cmp a b
+key_cmp (key.Dependency p s) (key.Dependency q t) = ordering_then (operation_cmp p q) (operation_cmp s t)
+key_cmp (key.Need a m) (key.Need b n) = ordering_then (operation_cmp a b) (name_cmp m n)
+key_cmp a b = Equal
+
+-- by table, then key
+abbrev pub row_cmp : RowKey → RowKey → Ordering
+row_cmp a b = ordering_then (nat_cmp (table_of a) (table_of b)) (key_cmp a b)
+
+-- the tables for P have a row of this key
+abbrev pub HasKey : Plan → RowKey → Type 0
+HasKey P k = (r : PlanRow) × IsRow P r × (key_of r ≡ k)
+
+-- the rows of Q that aren't rows of P, and the keys of P that Q hasn't, in order
+pub record AreChanges (P Q : Plan) (rows : List PlanRow) (gone : List RowKey) : Type 0 where
+  pub rows_ascend : IsStrictlySortedBy row_cmp (map key_of rows)
+  pub has_rows : (r : PlanRow) → Contains rows r ↔ (IsRow Q r × ¬ IsRow P r)
+  pub gone_ascend : IsStrictlySortedBy row_cmp gone
+  pub has_gone : (k : RowKey) → Contains gone k ↔ (HasKey P k × ¬ HasKey Q k)
+
+-- these are all rows of P, each once
+pub record AreRows (P : Plan) (rows : List PlanRow) : Type 0 where
+  pub has_all : (r : PlanRow) → Contains rows r ↔ IsRow P r
+  pub once : AllPairs (λ a b. a ≢ b) rows

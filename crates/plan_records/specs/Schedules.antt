@@ -1,0 +1,67 @@
+-- Calls, stops and openings, one after another.
+use Rattle.std.specs.Prelude.{◌≡◌, ◌⊎◌, List, [], ◌∷◌, Option, Some, None}
+use Rattle.plan_basics.specs.declared.keys.OpKey.{OpKey}
+use Rattle.plan_basics.specs.declared.Refusal.{Refusal}
+use Rattle.plan_model.specs.Valid.{IsSound}
+use Rattle.plan_records.specs.Answer.{Answer}
+use Rattle.plan_records.specs.Answer.{accepted, refused}
+use Rattle.plan_records.specs.Receipts.{AreReceipts}
+use Rattle.plan_records.specs.Run.{State, Call, CallStep, Usable, usable, to_be_reopened, Answers, Run, empty_state}
+
+-- what an opening answers: a desk with this plan and these receipts; that the tables are no plan's; or nothing, for want of memory, by a fault or by a stop
+pub data Opened : Type 0 where
+  found : State → Opened
+  damaged : Opened
+  nothing : Opened
+
+-- a call that ended, a call that was stopped, a stop between calls, or an opening
+pub data Event : Type 0 where
+  ended : Call → Answer → Event
+  -- its desk is gone, or stays and answers that it is to be reopened
+  stopped : Call → Option Usable → Event
+  stop : Event
+  opening : Opened → Event
+
+-- what the tables hold, and the desk if there is one
+pub record World : Type 0 where
+  pub stored : State
+  pub desk : Option Usable
+
+-- after `create` in a database without tables
+abbrev pub created : World
+created = record { stored = empty_state; desk = Some usable }
+
+-- a desk may have this state
+abbrev pub IsDeskState : State → Type 0
+IsDeskState s = IsSound s.plan × AreReceipts s.plan.loaded s.receipts
+
+-- what an event makes of what is stored
+abbrev pub Leaves : State → Option Usable → Event → State → Option Usable → Type 0
+Leaves s (Some u) (ended c reply) t d = (v : Usable) × Answers s u c reply t v × (d ≡ Some v)
+Leaves s (Some usable) (stopped c None) t d = ((t ≡ s) ⊎ ((named : List OpKey) × CallStep s c (accepted named) t)) × (d ≡ None)
+Leaves s (Some usable) (stopped c (Some v)) t d = ((t ≡ s) ⊎ ((named : List OpKey) × CallStep s c (accepted named) t)) × (v ≡ to_be_reopened) × (d ≡ Some to_be_reopened)
+Leaves s (Some to_be_reopened) (stopped c None) t d = (t ≡ s) × (d ≡ None)
+Leaves s d stop t e = (t ≡ s) × (e ≡ None)
+Leaves s None (opening (found x)) t d = IsDeskState s × (x ≡ s) × (t ≡ s) × (d ≡ Some usable)
+Leaves s None (opening damaged) t d = ¬ IsDeskState s × (t ≡ s) × (d ≡ None)
+Leaves s None (opening nothing) t d = (t ≡ s) × (d ≡ None)
+Leaves s d event t e = ⊥
+
+-- events one after another, each from what the one before left
+abbrev pub Schedule : World → List Event → World → Type 0
+Schedule w [] x = x ≡ w
+Schedule w (event ∷ events) x = (mid : World) × Leaves w.stored w.desk event mid.stored mid.desk × Schedule mid events x
+
+-- of the events' calls: all that were answered accepted, and some of the stopped, in order
+pub data IsWithin : List Event → List Call → List Answer → Type 0 where
+  no_more : IsWithin [] [] []
+  was_accepted : {c : Call} {named : List OpKey} {events : List Event} {calls : List Call} {replies : List Answer} → IsWithin events calls replies → IsWithin (ended c (accepted named) ∷ events) (c ∷ calls) (accepted named ∷ replies)
+  was_refused : {c : Call} {r : Refusal} {events : List Event} {calls : List Call} {replies : List Answer} → IsWithin events calls replies → IsWithin (ended c (refused r) ∷ events) calls replies
+  was_in : {c : Call} {d : Option Usable} {named : List OpKey} {events : List Event} {calls : List Call} {replies : List Answer} → IsWithin events calls replies → IsWithin (stopped c d ∷ events) (c ∷ calls) (accepted named ∷ replies)
+  was_out : {c : Call} {d : Option Usable} {events : List Event} {calls : List Call} {replies : List Answer} → IsWithin events calls replies → IsWithin (stopped c d ∷ events) calls replies
+  between : {events : List Event} {calls : List Call} {replies : List Answer} → IsWithin events calls replies → IsWithin (stop ∷ events) calls replies
+  opened : {x : Opened} {events : List Event} {calls : List Call} {replies : List Answer} → IsWithin events calls replies → IsWithin (opening x ∷ events) calls replies
+
+-- what is stored is what a run over such calls leaves, and an opening doesn't find it damaged
+abbrev pub EverySchedule : Type 0
+EverySchedule = (events : List Event) (w : World) → Schedule created events w → IsDeskState w.stored × ((calls : List Call) × (replies : List Answer) × Run empty_state usable calls replies w.stored usable × IsWithin events calls replies)

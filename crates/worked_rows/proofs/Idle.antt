@@ -1,0 +1,66 @@
+-- A tick on a plan with nothing in it.
+use Rattle.std.proofs.Common.{rules, arith, ◌≡◌, refl, sym, true≢false, pos, [], ◌∷◌, ◌++◌}
+use Rattle.std.specs.List.Sorted.{IsStrictlySortedBy}
+use Rattle.std.specs.FinMap.{get, get-empty}
+use Rattle.plan_basics.specs.declared.Refusal.{Refusal}
+use Rattle.plan_basics.specs.declared.Refusal.TheVariants as refusal
+use Rattle.plan_basics.specs.declared.keys.OpKey.{OpKey}
+use Rattle.plan_basics.specs.Keys.{operation_cmp}
+use Rattle.plan_model.specs.Plan.{Plan}
+use Rattle.plan_model.specs.Ready.{IsReadyList, IsChosen}
+use Rattle.plan_records.specs.declared.Request.{Request}
+use Rattle.plan_records.specs.declared.What.TheVariants as what
+use Rattle.plan_records.specs.Answer.{accepted}
+use Rattle.plan_records.specs.Accepting.{MayBeAccepted}
+use Rattle.plan_records.specs.Step.{Step}
+use Rattle.plan_laws.proofs.Every.{nothing_at}
+use Rattle.plan_laws.proofs.Kept.{named_none}
+use Rattle.worked_rows.specs.Day.{idle, evening}
+
+abbrev later : Plan
+later = record idle { clock = evening }
+
+abbrev ticking : Request
+ticking = record { at = pos evening; what = what.Tick }
+
+nothing_refuses : (r : Refusal) → MayBeAccepted idle ticking r
+nothing_refuses refusal.Past = search rules
+nothing_refuses refusal.MomentRange = (evening, refl, omega arith)
+nothing_refuses refusal.NotLoaded = λ needs. refl
+nothing_refuses r = tt
+
+nothing_ready : IsReadyList later []
+unfolding IsStrictlySortedBy
+nothing_ready = record {
+  ascends = tt;
+  has_all = λ k. (
+    λ has. absurd (let h = has.1 in omega (arith, h)),
+    λ entry. nothing_at (get later.operations k.op) entry.2.0 (get-empty operation_cmp k.op) entry.2.1,
+  );
+}
+
+no_split : {A : Type 0} (before after : _) (o : OpKey) → [] ≡ before ++ o ∷ after → A
+no_split [] after o e = cc
+no_split (x ∷ before) after o e = cc
+
+nothing_chosen : IsChosen later evening []
+nothing_chosen = record {
+  ready = [];
+  is_ready_list = nothing_ready;
+  choice = record {
+    in_order = refl;
+    on_automatic = λ o e. absurd (true≢false (sym e));
+    members = λ before after o split. no_split before after o split;
+    others = λ before after o split on left. no_split before after o split;
+  };
+}
+
+pub tick_is_accepted : Step idle ticking (accepted []) later
+tick_is_accepted = record {
+  none_refuses = nothing_refuses;
+  is_request = tt;
+  changed = idle;
+  changes = refl;
+  is_chosen = nothing_chosen;
+  is_after = sym (named_none later);
+}

@@ -1,0 +1,82 @@
+-- Members and splits of lists that are written out, and the entries of finite maps.
+use Rattle.std.proofs.Common.{arith, ◌≡◌, inl, inr, refl, sym, ◌∙◌, ap, ap₂, subst, zero, suc, Bool, true, false, cond, List, [], ◌∷◌, ◌++◌, Contains, T, Option, Some, None, option_map}
+use Rattle.std.specs.declared.cmp.Ordering.{Ordering}
+use Rattle.std.specs.Ordering.{eq_by_cmp}
+use Rattle.std.specs.Cmp.{IsTotalOrder, Equal-is}
+use Rattle.std.specs.FinMap.{IsAntisymmetric, entries, entries-from_sorted, find, from_entries, from_sorted, get-from_entries, get-from_sorted, is_sorted, same_map}
+use Rattle.plan_model.specs.Revise.{get-joined, get-revise, joined, or_else, revise}
+use Rattle.plan_laws.proofs.Sorted.{contains_head, contains_later}
+use Rattle.worked_rows.proofs.Literal.{OneOf}
+
+-- each way to split the list at an element has it
+abbrev pub EachSplit : {A : Type 0} → List A → (List A → A → Type 0) → Type 0
+EachSplit [] Q = Unit {0}
+EachSplit (x ∷ xs) Q = Q [] x × EachSplit xs (λ before. Q (x ∷ before))
+
+pub each_split : {A : Type 0} (xs : List A) (Q : List A → A → Type 0) → EachSplit xs Q → (before after : List A) (o : A) → xs ≡ before ++ o ∷ after → Q before o
+each_split [] Q h [] after o e = absurd (cc)
+each_split [] Q h (b ∷ before) after o e = absurd (cc)
+each_split (x ∷ xs) Q h [] after o e = let k : x ≡ o = cc in subst (Q []) k h.0
+each_split (x ∷ xs) Q h (b ∷ before) after o e =
+    let k : x ≡ b = cc in
+    let rest : xs ≡ before ++ o ∷ after = cc in
+    subst (λ z. Q (z ∷ before) o) k (each_split xs (λ bs. Q (x ∷ bs)) h.1 before after o rest)
+
+-- one of the list is a member of it
+pub contained : {A : Type 0} (xs : List A) (k : A) → OneOf (λ x. k ≡ x) xs → Contains xs k
+contained [] k h = absurd h
+contained (x ∷ xs) k (inl e) = subst (Contains (x ∷ xs)) (sym e) (contains_head x xs)
+contained (x ∷ xs) k (inr h) = contains_later x xs k (contained xs k h)
+
+pub one_of : {A : Type 0} (xs : List A) (k : A) → Contains xs k → OneOf (λ x. k ≡ x) xs
+one_of [] k (i, h, e) = absurd (omega arith)
+one_of (x ∷ xs) k (zero, h, e) = inl (sym e)
+one_of (x ∷ xs) k (suc i, h, e) = inr (one_of xs k (i, omega arith, e))
+
+-- each entry with its value made anew
+abbrev pub anew : {K X : Type 0} → (K → X → X) → List (K × X) → List (K × X)
+anew f [] = []
+anew f (e ∷ es) = (e.0, f e.0 e.1) ∷ anew f es
+
+module _ {K X : Type 0} {R : K → K → Ordering} where
+  found_by : IsAntisymmetric R → (f : K → X → X) (q k : K) (v : X) (b : Bool) (x y : Option X) → eq_by_cmp R q k ≡ b → x ≡ option_map (f q) y → cond b (Some (f k v)) x ≡ option_map (f q) (cond b (Some v) y)
+  found_by same f q k v true x y is e = ap (λ z. Some (f z v)) (sym (same q k ((Equal-is (R q k)).0 is)))
+  found_by same f q k v false x y is e = e
+
+  found_anew : IsAntisymmetric R → (f : K → X → X) (es : List (K × X)) (q : K) → find R q (anew f es) ≡ option_map (f q) (find R q es)
+  found_anew same f [] q = refl
+  found_anew same f (e ∷ es) q = found_by same f q e.0 e.1 (eq_by_cmp R q e.0) (find R q (anew f es)) (find R q es) refl (found_anew same f es q)
+
+  module _ (o : IsTotalOrder R) (same : IsAntisymmetric R) where
+    -- a map written out in the keys' order has these entries
+    pub entries-from_entries : (es : List (K × X)) → T (is_sorted R es) → entries (from_entries {R = R} es) ≡ es
+    entries-from_entries es h =
+        ap entries (same_map o same (from_entries es) (from_sorted es) (λ q. get-from_entries o es q ∙ sym (get-from_sorted R es q h)))
+        ∙ entries-from_sorted R es h
+
+    -- made anew, it has those entries with their values made anew
+    pub entries-revise : (f : K → X → X) (es : List (K × X)) → T (is_sorted R es) → T (is_sorted R (anew f es)) → entries (revise f (from_entries {R = R} es)) ≡ anew f es
+    entries-revise f es h k =
+        ap entries (same_map o same (revise f (from_entries es)) (from_sorted (anew f es))
+        (λ q. get-revise same f (from_entries es) q ∙ ap (option_map (f q)) (get-from_entries o es q) ∙ sym (found_anew same f es q) ∙ sym (get-from_sorted R (anew f es) q k)))
+        ∙ entries-from_sorted R (anew f es) k
+
+    -- a map written out, made anew
+    pub revise_written : (f : K → X → X) (es : List (K × X)) → revise f (from_entries {R = R} es) ≡ from_entries (anew f es)
+    revise_written f es =
+        same_map o same (revise f (from_entries es)) (from_entries (anew f es))
+        (λ q. get-revise same f (from_entries es) q ∙ ap (option_map (f q)) (get-from_entries o es q) ∙ sym (found_anew same f es q) ∙ sym (get-from_entries o (anew f es) q))
+
+    -- a map written out, with one more entry
+    pub joined_written : (es : List (K × X)) (k : K) (v : X) → joined (from_entries {R = R} es) (from_entries ((k, v) ∷ [])) ≡ from_entries ((k, v) ∷ es)
+    joined_written es k v =
+        same_map o same (joined (from_entries es) (from_entries ((k, v) ∷ []))) (from_entries ((k, v) ∷ es))
+        (λ q.
+        get-joined o (from_entries es) (from_entries ((k, v) ∷ [])) q
+        ∙ ap₂ or_else (get-from_entries o ((k, v) ∷ []) q) (get-from_entries o es q)
+        ∙ first_of_two (eq_by_cmp R q k) v (find R q es)
+        ∙ sym (get-from_entries o ((k, v) ∷ es) q))
+      where
+        first_of_two : (b : Bool) (x : X) (y : Option X) → or_else (cond b (Some x) None) y ≡ cond b (Some x) y
+        first_of_two true x y = refl
+        first_of_two false x y = refl

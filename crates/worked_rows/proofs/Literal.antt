@@ -1,0 +1,84 @@
+-- What is found in a plan that is written out: its entries and pairs, and the neighbours of an operation.
+use Rattle.std.proofs.Common.{◌≡◌, ◌⊎◌, inl, inr, refl, sym, ◌∙◌, ap, subst, true≢false, Bool, true, false, cond, ◌||◌, List, [], ◌∷◌, Some}
+use Rattle.std.specs.declared.cmp.Ordering.{Ordering}
+use Rattle.std.specs.List.{list_any}
+use Rattle.std.specs.Ordering.{eq_by_cmp, is_eq}
+use Rattle.std.specs.Cmp.{IsTotalOrder, Equal-is, tied_itself}
+use Rattle.std.specs.FinMap.{IsAntisymmetric, get, find, from_entries, get-from_entries}
+use Rattle.std.specs.FinSet.{contains, contains-from_list, from_list}
+use Rattle.plan_basics.specs.declared.keys.OpKey.{OpKey}
+use Rattle.plan_basics.specs.Keys.{operation_cmp, operation_cmp_total}
+use Rattle.plan_model.specs.Plan.{pair_cmp}
+use Rattle.plan_laws.proofs.Looks.{same_some, none_is_not_some}
+use Rattle.plan_laws.proofs.Decide.{pair_cmp_total, pair_same}
+
+-- some element of the list has it
+abbrev pub OneOf : {A : Type 0} → (A → Type 0) → List A → Type 0
+OneOf Q [] = ⊥
+OneOf Q (x ∷ xs) = Q x ⊎ OneOf Q xs
+
+module _ {K X : Type 0} {R : K → K → Ordering} where
+  entry_cases : IsAntisymmetric R → (q k : K) (v x : X) (es : List (K × X)) (r : Bool) → eq_by_cmp R q k ≡ r → cond r (Some v) (find R q es) ≡ Some x → (find R q es ≡ Some x → OneOf (λ e. (q ≡ e.0) × (x ≡ e.1)) es) → OneOf (λ e. (q ≡ e.0) × (x ≡ e.1)) ((k, v) ∷ es)
+  entry_cases same q k v x es true ties is rest = inl (same q k ((Equal-is (R q k)).0 ties), sym (same_some v x is))
+  entry_cases same q k v x es false ties is rest = inr (rest is)
+
+  -- what is found in a list of entries is one of them
+  pub found_entry : IsAntisymmetric R → (es : List (K × X)) (q : K) (x : X) → find R q es ≡ Some x → OneOf (λ e. (q ≡ e.0) × (x ≡ e.1)) es
+  found_entry same [] q x is = absurd (none_is_not_some x is)
+  found_entry same (e ∷ es) q x is = entry_cases same q e.0 e.1 x es (eq_by_cmp R q e.0) refl is (found_entry same es q x)
+
+  pub entry_of : IsTotalOrder R → IsAntisymmetric R → (es : List (K × X)) (q : K) (x : X) → get (from_entries {R = R} es) q ≡ Some x → OneOf (λ e. (q ≡ e.0) × (x ≡ e.1)) es
+  entry_of o same es q x is = found_entry same es q x (sym (get-from_entries o es q) ∙ is)
+
+-- ---- neighbours
+
+-- the predecessors of o by a list of pairs
+abbrev pub befores : List (OpKey × OpKey) → OpKey → List OpKey
+befores [] o = []
+befores (pair ∷ pairs) o = cond (eq_by_cmp operation_cmp o pair.1) (pair.0 ∷ befores pairs o) (befores pairs o)
+
+-- the successors of p
+abbrev pub afters : List (OpKey × OpKey) → OpKey → List OpKey
+afters [] p = []
+afters (pair ∷ pairs) p = cond (eq_by_cmp operation_cmp p pair.0) (pair.1 ∷ afters pairs p) (afters pairs p)
+
+ties : (o b : OpKey) → o ≡ b → eq_by_cmp operation_cmp o b ≡ true
+ties o b e = subst (λ z. eq_by_cmp operation_cmp o z ≡ true) e (ap is_eq (tied_itself operation_cmp_total o))
+
+taken : {A : Type 0} (Q : A → Type 0) (b : Bool) (x : A) (xs : List A) → b ≡ true → Q x → OneOf Q (cond b (x ∷ xs) xs)
+taken Q true x xs e h = inl h
+taken Q false x xs e h = absurd (true≢false (sym e))
+
+kept : {A : Type 0} (Q : A → Type 0) (b : Bool) (x : A) (xs : List A) → OneOf Q xs → OneOf Q (cond b (x ∷ xs) xs)
+kept Q true x xs h = inr h
+kept Q false x xs h = h
+
+or_cases : {A : Type 0} (a b : Bool) → (a || b) ≡ true → (a ≡ true → A) → (b ≡ true → A) → A
+or_cases true b e f g = f refl
+or_cases false b e f g = g e
+
+before_in : (pairs : List (OpKey × OpKey)) (p o : OpKey) → list_any (eq_by_cmp pair_cmp (p, o)) pairs ≡ true → OneOf (λ q. p ≡ q) (befores pairs o)
+before_in [] p o e = absurd (true≢false (sym e))
+before_in (pair ∷ pairs) p o e =
+    or_cases (eq_by_cmp pair_cmp (p, o) pair) (list_any (eq_by_cmp pair_cmp (p, o)) pairs) e
+    (λ is. let same = pair_same p o pair.0 pair.1 is in taken (λ q. p ≡ q) (eq_by_cmp operation_cmp o pair.1) pair.0 (befores pairs o) (ties o pair.1 same.1) same.0)
+    (λ later. kept (λ q. p ≡ q) (eq_by_cmp operation_cmp o pair.1) pair.0 (befores pairs o) (before_in pairs p o later))
+
+after_in : (pairs : List (OpKey × OpKey)) (p o : OpKey) → list_any (eq_by_cmp pair_cmp (p, o)) pairs ≡ true → OneOf (λ q. o ≡ q) (afters pairs p)
+after_in [] p o e = absurd (true≢false (sym e))
+after_in (pair ∷ pairs) p o e =
+    or_cases (eq_by_cmp pair_cmp (p, o) pair) (list_any (eq_by_cmp pair_cmp (p, o)) pairs) e
+    (λ is. let same = pair_same p o pair.0 pair.1 is in taken (λ q. o ≡ q) (eq_by_cmp operation_cmp p pair.0) pair.1 (afters pairs p) (ties p pair.0 same.0) same.1)
+    (λ later. kept (λ q. o ≡ q) (eq_by_cmp operation_cmp p pair.0) pair.1 (afters pairs p) (after_in pairs p o later))
+
+-- a predecessor is among those of the list
+pub one_before : (pairs : List (OpKey × OpKey)) (p o : OpKey) → contains (from_list {R = pair_cmp} pairs) (p, o) ≡ true → OneOf (λ q. p ≡ q) (befores pairs o)
+one_before pairs p o e = before_in pairs p o (sym (contains-from_list pair_cmp_total pairs (p, o)) ∙ e)
+
+-- so is a successor
+pub one_after : (pairs : List (OpKey × OpKey)) (p o : OpKey) → contains (from_list {R = pair_cmp} pairs) (p, o) ≡ true → OneOf (λ q. o ≡ q) (afters pairs p)
+one_after pairs p o e = after_in pairs p o (sym (contains-from_list pair_cmp_total pairs (p, o)) ∙ e)
+
+pub only : {A : Type 0} (x y : A) → OneOf (λ q. x ≡ q) (y ∷ []) → x ≡ y
+only x y (inl e) = e
+only x y (inr h) = absurd h

@@ -1,0 +1,96 @@
+-- The night's plan is loaded at 21:00, and nothing is named.
+use Rattle.std.proofs.Common.{rules, arith, ◌≡◌, inl, inr, refl, sym, ◌∙◌, ap, subst, pos, true, false, true≢false, List, [], ◌∷◌, ◌++◌, Some}
+use Rattle.std.specs.List.Sorted.{IsStrictlySortedBy}
+use Rattle.std.specs.FinMap.{get, get-from_entries}
+use Rattle.plan_basics.specs.declared.Attr.TheVariants as attribute
+use Rattle.plan_basics.specs.declared.keys.OpKey.{OpKey}
+use Rattle.plan_basics.specs.declared.Refusal.{Refusal}
+use Rattle.plan_basics.specs.declared.Refusal.TheVariants as refusal
+use Rattle.plan_basics.specs.Keys.{occurrence_cmp_total}
+use Rattle.ready_list.specs.declared.ReadyKey.{ReadyKey}
+use Rattle.plan_model.specs.Plan.{Operation, attribute_at, no_plan}
+use Rattle.plan_model.specs.Ready.{IsChosen, IsEntry, IsOnAutomatic, IsReadyList}
+use Rattle.plan_model.specs.Status.{IsReady}
+use Rattle.plan_records.specs.declared.Request.{Request}
+use Rattle.plan_records.specs.declared.What.TheVariants as what
+use Rattle.plan_records.specs.Accepting.{MayBeAccepted}
+use Rattle.plan_laws.proofs.Looks.{same_some}
+use Rattle.worked_rows.specs.Day.{morning}
+use Rattle.worked_rows.specs.Night.{loading, night, night_draft, night_occurrences, payroll, payroll_at}
+use Rattle.worked_rows.specs.Statements.{LoadOfTheNight}
+use Rattle.worked_rows.proofs.Entries.{same_entry}
+use Rattle.worked_rows.proofs.Facts.{waiting_is_not_ready}
+use Rattle.worked_rows.proofs.Lists.{contained, each_split, one_of}
+use Rattle.worked_rows.proofs.NightDraft.{night_is_draft, of_five}
+use Rattle.worked_rows.proofs.NightRefusals.{on_setp}
+use Rattle.worked_rows.proofs.NightReports.{found_at, p5, p10, p20, p30, p40, statuses_when_loaded}
+use Rattle.worked_rows.proofs.NightStarts.{latest_5}
+
+abbrev asking : Request
+asking = record { at = pos loading; what = what.Load (Some night_draft) }
+
+nothing_refuses : (r : Refusal) → MayBeAccepted no_plan asking r
+nothing_refuses refusal.Past = search rules
+nothing_refuses refusal.MomentRange = (loading, refl, omega arith)
+nothing_refuses refusal.NotLoaded = λ needs. absurd needs
+nothing_refuses refusal.Loaded = refl
+nothing_refuses refusal.BadPlan = refl
+nothing_refuses r = tt
+
+abbrev first_key : ReadyKey
+first_key = record { latest = pos 27437939; priority = 5; duration = 10; op = payroll_at 5 }
+
+first_entry : IsEntry night first_key
+first_entry = (inl statuses_when_loaded.0, latest_5, (p5, found_at (payroll_at 5), refl), (record { priority = 5; deadline = morning }, get-from_entries occurrence_cmp_total night_occurrences payroll, refl))
+
+-- the others wait
+only_first : (o : OpKey) (op : Operation) → get night.operations o ≡ Some op → IsReady night o → o ≡ payroll_at 5
+only_first = of_five (λ o op. IsReady night o → o ≡ payroll_at 5)
+    (λ ready. refl)
+    (λ ready. absurd (waiting_is_not_ready night (payroll_at 10) p10 (found_at (payroll_at 10)) refl statuses_when_loaded.1 ready))
+    (λ ready. absurd (waiting_is_not_ready night (payroll_at 20) p20 (found_at (payroll_at 20)) refl statuses_when_loaded.2 ready))
+    (λ ready. absurd (waiting_is_not_ready night (payroll_at 30) p30 (found_at (payroll_at 30)) refl statuses_when_loaded.3 ready))
+    (λ ready. absurd (waiting_is_not_ready night (payroll_at 40) p40 (found_at (payroll_at 40)) refl statuses_when_loaded.4 ready))
+
+ready_is : IsReadyList night (first_key ∷ [])
+unfolding IsStrictlySortedBy
+ready_is = record {
+  ascends = (tt, tt);
+  has_all = λ k. (
+    λ has. elim (one_of (first_key ∷ []) k has) [ inl e ↦ subst (IsEntry night) (sym e) first_entry | inr never ↦ absurd never ],
+    λ entry. contained (first_key ∷ []) k (inl (same_entry night k first_key entry first_entry (only_first k.op entry.2.0 entry.2.1 entry.0))),
+  );
+}
+
+-- SETP isn't automatic
+not_automatic : IsOnAutomatic night (payroll_at 5) → ⊥
+not_automatic h =
+    let e : h.0 ≡ p5 = same_some h.0 p5 (sym h.1 ∙ found_at (payroll_at 5)) in
+    let a : attribute.StartAndCompletion ≡ attribute.Automatic = same_some attribute.StartAndCompletion attribute.Automatic (sym on_setp ∙ ap (λ op. attribute_at night op.workstation) (sym e) ∙ h.2) in
+    cc
+
+no_split : {A : Type 0} (before after : List OpKey) (o : OpKey) → [] ≡ before ++ o ∷ after → A
+no_split [] after o e = cc
+no_split (x ∷ before) after o e = cc
+
+none_chosen : IsChosen night loading []
+none_chosen = record {
+  ready = first_key ∷ [];
+  is_ready_list = ready_is;
+  choice = record {
+    in_order = refl;
+    on_automatic = λ o has. absurd (let e : true ≡ false = sym has in true≢false e);
+    members = λ before after o split. no_split before after o split;
+    others = λ before after o split on left. absurd (each_split (payroll_at 5 ∷ []) (λ bs x. IsOnAutomatic night x → ⊥) (not_automatic, tt) before after o split on);
+  };
+}
+
+pub load_of_the_night : LoadOfTheNight
+load_of_the_night = record {
+  none_refuses = nothing_refuses;
+  is_request = night_is_draft;
+  changed = night_draft;
+  changes = refl;
+  is_chosen = none_chosen;
+  is_after = refl;
+}
