@@ -158,6 +158,7 @@ impl Write for Faulty {
     }
 
     fn flush(&mut self) -> io::Result<()> {
+        self.count(0)?;
         Ok(())
     }
 }
@@ -180,7 +181,17 @@ fn a_fault_is_remembered_and_nothing_tried_again(rt: HostRuntime) {
     assert!(rt; writer.write_all(b"all").is_ok());
     assert!(rt; writer.flush().is_ok());
     assert!(rt; !writer.failed());
-    assert_eq!(rt; writer.into_inner().calls, 5);
+    assert_eq!(rt; writer.into_inner().calls, 6);
+}
+
+#[test]
+fn a_flush_is_passed_on_and_its_fault_remembered(rt: HostRuntime) {
+    let mut writer = Watched::new(Faulty { calls: 0, fault: 2 });
+    assert!(rt; writer.flush().is_ok());
+    assert!(rt; !writer.failed());
+    assert!(rt; writer.flush().is_err());
+    assert!(rt; writer.failed());
+    assert_eq!(rt; writer.into_inner().calls, 2);
 }
 
 #[test]

@@ -1,5 +1,9 @@
--- The statuses that the program ends with.
+-- The statuses that the program ends with, and the faults that errors of its surroundings are.
 use Rattle.std.specs.Prelude.{ℕ}
+use Rattle.std.specs.declared.io.ErrorKind.{ErrorKind}
+use Rattle.std.specs.declared.io.ErrorKind.TheVariants as kind
+use Rattle.plan_import.specs.declared.ImportFault.{ImportFault}
+use Rattle.plan_import.specs.declared.ImportFault.TheVariants as import_fault
 use Rattle.plan_desk.specs.declared.desk.Ending.{Ending}
 use Rattle.plan_desk.specs.declared.desk.Ending.TheVariants as ending
 use Rattle.plan_desk.specs.declared.desk.Fault.{Fault}
@@ -17,3 +21,13 @@ fault_status fault.Words = 2
 fault_status fault.Moment = 2
 fault_status fault.File = 3
 fault_status fault.Memory = 3
+
+-- want of memory, or else a file's or a stream's fault
+abbrev pub fault_of_kind : ErrorKind → Fault
+fault_of_kind kind.OutOfMemory = fault.Memory
+fault_of_kind _ = fault.File
+
+-- so it is while a plan is read
+abbrev pub fault_of_import : ImportFault → Fault
+fault_of_import import_fault.Reader = fault.File
+fault_of_import import_fault.Memory = fault.Memory
