@@ -5,7 +5,7 @@ use super::taking::take_all;
 use plan_basics::{Moment, OpKey, Refusal, Watched};
 use plan_core::Plan;
 use plan_import::{ImportFault, read_plan};
-use plan_records::{PlanDraft, Request, What};
+use plan_records::{PlanDraft, Reply, Request, What};
 use std::alloc::{AllocError, Global};
 use std::test::Fail;
 
@@ -62,7 +62,9 @@ fn a_load_without_memory_changes_nothing(rt: HostRuntime) -> Result<(), Fail> {
     assert_eq!(rt; plan.clock().minute(), 0);
     assert!(rt; plan.view_op(&first).is_none());
 
-    let prepared = plan.prepare(&request).ok().ok_or("refused with memory")?;
+    let Ok(prepared) = plan.prepare(&request) else {
+        return Err("refused with memory")?;
+    };
     assert_eq!(rt; prepared.named(), [first].as_slice());
     let held = take_all(rt.alloc())?;
     let named = plan.apply(prepared);
@@ -70,6 +72,28 @@ fn a_load_without_memory_changes_nothing(rt: HostRuntime) -> Result<(), Fail> {
     assert_eq!(rt; named.as_slice(), [first].as_slice());
     assert_eq!(rt; plan.clock().minute(), EVENING);
     assert!(rt; plan.view_op(&first).is_some());
+    Ok(())
+}
+
+#[test]
+fn a_run_without_memory_changes_nothing(rt: HostRuntime) -> Result<(), Fail> {
+    let first = key(b"DAILY/2024-03-01T22:00/010")?;
+    let requests = [load(day(rt.alloc()).ok().ok_or("no memory")?)];
+    let mut plan = Plan::empty(rt.alloc());
+    let held = take_all(rt.alloc())?;
+    let without = plan.run(&requests).err();
+    drop(held);
+    assert_eq!(rt; without, Some(Refusal::Memory));
+    assert!(rt; !plan.is_loaded());
+    assert_eq!(rt; plan.clock().minute(), 0);
+
+    let replies = plan.run(&requests).ok().ok_or("no memory for the replies")?;
+    assert_eq!(rt; replies.len(), 1);
+    match &replies[0] {
+        Reply::Accepted { named } => assert_eq!(rt; named.as_slice(), [first].as_slice()),
+        Reply::Refused(_) => return Err("refused with memory")?,
+    }
+    assert_eq!(rt; plan.clock().minute(), EVENING);
     Ok(())
 }
 

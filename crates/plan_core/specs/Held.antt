@@ -1,31 +1,26 @@
--- The plan that is held in memory as its contents.
-use Rattle.std.specs.Prelude.{◌≡◌, ◌⊎◌, ℕ, false, Option, Some, None}
-use Rattle.std.specs.FinMap.{get}
-use Rattle.plan_basics.specs.declared.keys.OpKey.{OpKey}
-use Rattle.status_rules.specs.declared.Mark.TheVariants as mark
-use Rattle.plan_model.specs.Plan.{Plan, Operation, no_plan}
-use Rattle.plan_model.specs.Valid.{IsValid}
-use Rattle.plan_records.specs.declared.contents.PlanContents.{PlanContents}
+-- The plan that is held in memory, with what is read off it.
+use Rattle.std.specs.Prelude.{◌≡◌, ℕ, Option, Some, None}
+use Rattle.plan_model.specs.Plan.{Plan, no_plan}
+use Rattle.plan_model.specs.Valid.{IsSound}
 use Rattle.plan_records.specs.Contents.{plan_of, AreContents}
 use Rattle.plan_records.specs.Drafts.{IsLoadable}
+use Rattle.plan_status.specs.Standings.{AreStandings, AreTallies}
+use Rattle.plan_core.specs.declared.loaded.LoadedPlan.{LoadedPlan}
 
 -- none before one is loaded
-abbrev pub plan_held : ℕ → Option PlanContents → Plan
+abbrev pub plan_held : ℕ → Option LoadedPlan → Plan
 plan_held clock None = record no_plan { clock = clock }
-plan_held clock (Some c) = plan_of clock c
+plan_held clock (Some h) = plan_of clock h.contents
 
--- nothing was reported of it, it was named at most, and its flags are clear
-abbrev pub IsNamedAtMost : Operation → Type 0
-IsNamedAtMost op = ((op.mark ≡ mark.Unmarked) ⊎ (op.mark ≡ mark.Named)) × (op.held ≡ false) × (op.nop ≡ false)
-
--- contents in order, of a valid plan that can be loaded, in which operations are named at most
-pub record AreHeld (clock : ℕ) (c : PlanContents) : Type 0 where
-  pub in_order : AreContents c
-  pub valid : IsValid (plan_of clock c)
-  pub loadable : IsLoadable (plan_of clock c)
-  pub named_at_most : (o : OpKey) (op : Operation) → get (plan_of clock c).operations o ≡ Some op → IsNamedAtMost op
+-- contents in order, of a sound plan that can be loaded so far, with what is read off it
+pub record AreHeld (clock : ℕ) (h : LoadedPlan) : Type 0 where
+  pub in_order : AreContents h.contents
+  pub sound : IsSound (plan_of clock h.contents)
+  pub loadable : IsLoadable (plan_of clock h.contents)
+  pub standings : AreStandings (plan_of clock h.contents) h.contents.operations.items h.standings.items
+  pub tallies : AreTallies (plan_of clock h.contents) h.contents.occurrences.items h.tallies.items
 
 -- before a plan is loaded the clock stands at its first minute
-abbrev pub IsHeld : ℕ → Option PlanContents → Type 0
+abbrev pub IsHeld : ℕ → Option LoadedPlan → Type 0
 IsHeld clock None = clock ≡ 0
-IsHeld clock (Some c) = AreHeld clock c
+IsHeld clock (Some h) = AreHeld clock h

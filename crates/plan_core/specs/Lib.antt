@@ -1,4 +1,5 @@
 pub mod State
 pub mod Held
-pub mod Loading
+pub mod Marking
+pub mod Requested
 pub mod Views

@@ -1,10 +1,14 @@
 -- What callers see of a plan in memory, and of a request that was prepared for it.
-use Rattle.std.specs.Prelude.{◌≡◌, ◌≤◌, false, List, refl}
+use Rattle.std.specs.Prelude.{List, map, refl}
 use Rattle.std.specs.Coded.{Coded, code_by, coded×, coded_list}
 use Rattle.plan_basics.specs.contracts.keys.OpKey as operation_key
 use Rattle.plan_basics.specs.declared.keys.OpKey.{OpKey}
 use Rattle.plan_model.specs.Plan.{Plan}
 use Rattle.plan_model.specs.Code.{plan_code}
+use Rattle.plan_records.specs.Answer.{Answer, accepted}
+use Rattle.plan_records.specs.Run.{Run, plain, usable}
+use Rattle.plan_records.specs.Step.{Step, Receipts}
+use Rattle.plan_records.specs.declared.Request.{Request}
 use Rattle.plan_records.specs.declared.What.{What}
 use Rattle.plan_records.specs.declared.What.TheVariants as what
 
@@ -25,13 +29,21 @@ prepared_code = code_by (Plan × List OpKey) (coded× plan_code (coded_list (ope
 -- the requests that are served so far
 abbrev pub IsServed : What → Type 0
 IsServed (what.Load draft) = Unit {0}
+IsServed what.Tick = Unit {0}
+IsServed (what.Started o) = Unit {0}
+IsServed (what.Ended o) = Unit {0}
+IsServed (what.Error o code) = Unit {0}
 IsServed _ = ⊥
 
 -- the plan that a prepared request leads to
 abbrev pub plan_after : PlanState → PreparedState → Plan
 plan_after s p = p.plan
 
--- it leads on from this plan: nothing is loaded here yet, and the clock doesn't go back
+-- some request leads from this plan to that one, and names these
 pub record IsPreparedFor (s : PlanState) (p : PreparedState) : Type 0 where
-  pub not_loaded : s.plan.loaded ≡ false
-  pub onward : s.plan.clock ≤ p.plan.clock
+  pub request : Request
+  pub step : Step s.plan request (accepted p.named) (plan_after s p)
+
+-- these are the answers to the requests in their order, and the plan at their end, whatever receipts stand beside it
+abbrev pub AnswersAll : Plan → List Request → List Answer → Plan → Type 0
+AnswersAll P requests answers after = (receipts : Receipts) → Run (record { plan = P; receipts = receipts }) usable (map plain requests) answers (record { plan = after; receipts = receipts }) usable

@@ -1,10 +1,25 @@
--- What is read off the plan for one operation.
-use Rattle.std.specs.Prelude.{◌≡◌, Some}
-use Rattle.std.specs.FinMap.{get}
-use Rattle.plan_model.specs.Plan.{Plan, Operation}
-use Rattle.plan_model.specs.Status.{HasStatus}
+-- What is read off the plan for one operation or one occurrence, and for all of them.
+use Rattle.std.specs.Prelude.{◌≡◌, ◌↔◌, ℕ, true, List, [], map, drop, Contains, Option, Some, None}
+use Rattle.std.specs.Borrow.{Bor}
+use Rattle.std.specs.List.{zip}
+use Rattle.std.specs.FinMap.{get, contains_key}
+use Rattle.std.specs.List.Sorted.{IsStrictlySortedBy}
+use Rattle.plan_basics.specs.Keys.{occurrence_cmp, operation_cmp}
+use Rattle.plan_basics.specs.declared.Attr.TheVariants.{Automatic}
+use Rattle.plan_basics.specs.declared.keys.OccKey.{OccKey}
+use Rattle.plan_basics.specs.declared.keys.OpKey.{OpKey}
+use Rattle.plan_model.specs.Plan.{Plan, Operation, Occurrences, IsInPlan}
+use Rattle.plan_model.specs.Status.{HasStatus, HasOccurrenceStatus}
 use Rattle.plan_model.specs.declared.Occurrence.{Occurrence}
-use Rattle.plan_records.specs.Rows.{IsWaitingFor}
+use Rattle.plan_records.specs.Contents.{plan_of}
+use Rattle.plan_records.specs.Rows.{IsCount, IsWaitingFor}
+use Rattle.plan_status.specs.declared.standings.Standing.{Standing}
+use Rattle.status_rules.specs.Table.{status_by, occurrence_by}
+use Rattle.status_rules.specs.declared.Counts.{Counts}
+use Rattle.status_rules.specs.declared.Status.TheVariants.{Complete}
+use Rattle.plan_core.specs.Held.{AreHeld}
+use Rattle.plan_core.specs.declared.loaded.LoadedPlan.{LoadedPlan}
+use Rattle.plan_core.specs.declared.views.OccView.{OccView}
 use Rattle.plan_core.specs.declared.views.OpView.{OpView}
 
 -- the operation's own columns, its occurrence's priority, and what is read off the plan for it
@@ -15,3 +30,83 @@ pub record IsOpView (P : Plan) (v : OpView) : Type 0 where
   pub priority : (c : Occurrence) × (get P.occurrences v.key.occurrence ≡ Some c) × (v.priority ≡ c.priority)
   pub status : HasStatus P v.key v.status
   pub waiting : IsWaitingFor P v.key v.waiting
+
+-- the occurrence's own columns, its status, and the numbers of its operations and of those complete
+pub record IsOccView (P : Plan) (v : OccView) : Type 0 where
+  pub is_in_plan : get P.occurrences v.key ≡ Some (record { priority = v.priority; deadline = v.deadline })
+  pub status : HasOccurrenceStatus P v.key v.status
+  pub operations : IsCount (λ o. (o.occurrence ≡ v.key) × IsInPlan P o) v.operations
+  pub complete : IsCount (λ o. (o.occurrence ≡ v.key) × HasStatus P o Complete) v.complete
+
+-- all operations of the plan, in key order
+pub record AreOpViews (P : Plan) (views : List OpView) : Type 0 where
+  pub in_order : IsStrictlySortedBy operation_cmp (map (λ v. v.key) views)
+  pub every : (o : OpKey) → Contains (map (λ v. v.key) views) o ↔ IsInPlan P o
+  pub each : (v : OpView) → Contains views v → IsOpView P v
+
+-- all occurrences of the plan, in key order
+pub record AreOccViews (P : Plan) (views : List OccView) : Type 0 where
+  pub in_order : IsStrictlySortedBy occurrence_cmp (map (λ v. v.key) views)
+  pub every : (c : OccKey) → Contains (map (λ v. v.key) views) c ↔ (contains_key P.occurrences c ≡ true)
+  pub each : (v : OccView) → Contains views v → IsOccView P v
+
+-- it is held at some clock
+abbrev pub IsHeldAtSome : LoadedPlan → Type 0
+IsHeldAtSome h = (clock : ℕ) × AreHeld clock h
+
+-- the priority of an occurrence, 0 where there is none
+abbrev pub priority_of : Option Occurrence → ℕ
+priority_of None = 0
+priority_of (Some c) = c.priority
+
+-- the view of an operation on an automatic workstation, by its row and its standing
+abbrev pub op_view_of : Occurrences → (OpKey × Operation) × Standing → OpView
+op_view_of occurrences x = record {
+  key = x.0.0;
+  workstation = x.0.1.workstation;
+  duration = x.0.1.duration;
+  r1 = x.0.1.r1;
+  r2 = x.0.1.r2;
+  not_before = x.0.1.not_before;
+  deadline = x.0.1.deadline;
+  mark = x.0.1.mark;
+  held = x.0.1.held;
+  nop = x.0.1.nop;
+  priority = priority_of (get occurrences x.0.0.occurrence);
+  status = status_by x.0.1.mark x.0.1.held x.0.1.nop Automatic x.1.preds;
+  waiting = x.1.waiting;
+}
+
+-- the view of an occurrence, by its row and the numbers of its operations
+abbrev pub occ_view_of : (OccKey × Occurrence) × Counts → OccView
+occ_view_of x = record {
+  key = x.0.0;
+  priority = x.0.1.priority;
+  deadline = x.0.1.deadline;
+  status = occurrence_by x.1;
+  operations = x.1.all;
+  complete = x.1.complete;
+}
+
+-- the views of all operations that are held, in the order of their rows
+abbrev pub op_views : LoadedPlan → List OpView
+op_views h = map (op_view_of (plan_of 0 h.contents).occurrences) (zip h.contents.operations.items h.standings.items)
+
+-- so of all occurrences
+abbrev pub occ_views : LoadedPlan → List OccView
+occ_views h = map occ_view_of (zip h.contents.occurrences.items h.tallies.items)
+
+-- the views of the operations from a place on; none where nothing is loaded
+abbrev pub ops_from : Option (Bor LoadedPlan) → ℕ → List OpView
+ops_from None place = []
+ops_from (Some h) place = drop place (op_views h.now)
+
+-- so of the occurrences
+abbrev pub occs_from : Option (Bor LoadedPlan) → ℕ → List OccView
+occs_from None place = []
+occs_from (Some h) place = drop place (occ_views h.now)
+
+-- where a plan is borrowed, it is held
+abbrev pub IsHeldIfLoaded : Option (Bor LoadedPlan) → Type 0
+IsHeldIfLoaded None = Unit {0}
+IsHeldIfLoaded (Some h) = IsHeldAtSome h.now

@@ -1,28 +1,31 @@
 // The plan in memory, and the steps that requests take in it.
-ghost use Rattle.std.specs.Prelude.{◌≡◌, ◌≢◌, ◌⊎◌, ◌↔◌, pos, Some, None, IfOk, IfErr, OnOk, IfSome, IsSome};
+ghost use Rattle.std.specs.Prelude.{◌≡◌, ◌≢◌, ◌⊎◌, pos, true, map, All, Some, None, IfOk, IfErr, OnOk};
 ghost use Rattle.plan_basics.specs.declared.Refusal.{Refusal};
-ghost use Rattle.plan_model.specs.Plan.{no_plan, IsInPlan};
+ghost use Rattle.plan_model.specs.Plan.{no_plan};
 ghost use Rattle.plan_records.specs.declared.What.{What};
-ghost use Rattle.plan_records.specs.Answer.{accepted, refused};
-ghost use Rattle.plan_records.specs.Accepting.{MayBeAccepted};
+ghost use Rattle.plan_records.specs.declared.Request.{Request};
+ghost use Rattle.plan_records.specs.Answer.{accepted, refused, answer_of};
+ghost use Rattle.plan_records.specs.Accepting.{MayBeAccepted, NeedsPlan};
 ghost use Rattle.plan_records.specs.Step.{Step};
-ghost use Rattle.plan_core.specs.State.{IsServed, IsPreparedFor, plan_after};
-ghost use Rattle.plan_core.specs.Views.{IsOpView};
+ghost use Rattle.plan_core.specs.Requested.{AreMadeBy, IsAnswered, IsFree, IsStopped};
+ghost use Rattle.plan_core.specs.State.{IsServed, IsPreparedFor, plan_after, AnswersAll};
 
-use super::load::load;
+use super::checks::{check_load, check_report};
+use super::loaded::LoadedPlan;
 use super::prepared::Prepared;
-use super::views::{OpView, view_of};
+use super::requests::{changed, drafted};
+use super::settle::settle;
 use plan_basics::{Moment, OpKey, Refusal};
-use plan_records::{PlanContents, PlanDraft, Request, What};
-use std::alloc::Global;
+use plan_records::{PlanContents, Reply, Request, What};
+use std::alloc::{AllocError, Global};
 use std::marker::Model;
 
 /// The plan in memory, with its clock. Contracts see it as that plan.
 #[derive(Drop)]
 pub struct Plan {
-    alloc: Global,
-    clock: Moment,
-    contents: Option<PlanContents>,
+    pub(crate) alloc: Global,
+    pub(crate) clock: Moment,
+    pub(crate) loaded: Option<LoadedPlan>,
 }
 
 impl Model for Plan {
@@ -33,22 +36,9 @@ impl Model for Plan {
 
     ghost coded = { state_code };
 
-    ghost view = { λ p. record { plan = plan_held p.clock p.contents } };
+    ghost view = { λ p. record { plan = plan_held p.clock p.loaded } };
 
-    ghost invariant = { λ p. IsHeld p.clock p.contents };
-}
-
-// The draft that a request loads.
-fn draft_of(what: &What) -> &PlanDraft
-    requires served { IsServed what.now }
-    requires some { what.now ≢ What.Load None }
-    ensures { what.now ≡ What.Load (Some result.now) }
-{
-    match what {
-        What::Load(Some(draft)) => draft,
-        What::Load(None) => unreachable!(),
-        _ => unreachable!(),
-    }
+    ghost invariant = { λ p. IsHeld p.clock p.loaded };
 }
 
 impl Plan {
@@ -59,7 +49,7 @@ impl Plan {
         Plan {
             alloc,
             clock: Moment::new(0).unwrap(),
-            contents: None,
+            loaded: None,
         }
     }
 
@@ -68,6 +58,20 @@ impl Plan {
         ensures { result ≡ self.now.plan.clock }
     {
         self.clock
+    }
+
+    // What stands in the way of a request, but for its moment.
+    fn check_what(&self, what: &What) -> Result<(), Refusal>
+        requires { IsServed what.now }
+        ensures ok { OnOk result (IsFree self.now.plan what.now) }
+        ensures refused { IfErr result (IsStopped self.now.plan what.now) }
+    {
+        if let What::Load(draft) = what {
+            check_load(self.loaded.is_some(), draft)
+        } else {
+            let loaded = self.loaded.as_ref().ok_or(Refusal::NotLoaded)?;
+            check_report(&loaded.contents, what)
+        }
     }
 
     // The moment of a request that may be accepted; else the least refusal that applies.
@@ -81,13 +85,21 @@ impl Plan {
             return Err(Refusal::Past);
         }
         let at = Moment::new(request.at).ok_or(Refusal::MomentRange)?;
-        if self.contents.is_some() {
-            return Err(Refusal::Loaded);
-        }
-        match &request.what {
-            What::Load(Some(_)) => Ok(at),
-            What::Load(None) => Err(Refusal::BadPlan),
-            _ => unreachable!(),
+        self.check_what(&request.what)?;
+        Ok(at)
+    }
+
+    // What a request that may be accepted makes of what the plan holds.
+    fn contents_after(&self, what: &What) -> Result<PlanContents, AllocError>
+        requires served { IsServed what.now }
+        requires loaded { NeedsPlan what.now → self.now.plan.loaded ≡ true }
+        requires denotes { what.now ≢ What.Load None }
+        ensures { IfOk result (AreMadeBy self.now.plan what.now) }
+    {
+        if let What::Load(draft) = what {
+            drafted(self.alloc, draft.as_ref().unwrap())
+        } else {
+            changed(self.alloc, &self.loaded.as_ref().unwrap().contents, what)
         }
     }
 
@@ -101,10 +113,8 @@ impl Plan {
         ensures refused { IfErr result (λ r. (r ≡ Refusal.Memory) ⊎ Step self.old.plan request.now (refused r) self.old.plan) }
     {
         let at = self.check(request)?;
-        match load(self.alloc, draft_of(&request.what), at) {
-            Ok(prepared) => Ok(prepared),
-            Err(_) => Err(Refusal::Memory),
-        }
+        let contents = self.contents_after(&request.what)?;
+        Ok(settle(self.alloc, &contents, at)?)
     }
 
     /// Takes the step that was prepared for this plan, and gives the operations that are named to start, in order. It takes
@@ -115,18 +125,35 @@ impl Plan {
         ensures named { result.items ≡ prepared.named }
     {
         self.clock = prepared.clock;
-        self.contents = Some(prepared.contents);
+        self.loaded = Some(prepared.loaded);
         prepared.named
     }
 
-    /// An operation of the plan, if it is there. It takes no memory.
-    pub fn view_op(&self, key: &OpKey) -> Option<OpView>
-        ensures some { IsSome result ↔ IsInPlan self.now.plan key.now }
-        ensures view { IfSome result (λ v. (v.key ≡ key.now) × IsOpView self.now.plan v) }
+    // Makes a request: a step, or for want of memory nothing.
+    fn answer(&mut self, request: &Request) -> Reply
+        requires { IsServed request.now.what }
+        ensures { IsAnswered self.old.plan request.now (answer_of result) self.new.plan }
     {
-        let Some(contents) = &self.contents else {
-            return None;
-        };
-        view_of(contents, key)
+        match self.prepare(request) {
+            Ok(prepared) => Reply::Accepted {
+                named: self.apply(prepared),
+            },
+            Err(refusal) => Reply::Refused(refusal),
+        }
+    }
+
+    /// Makes these requests, one after the other, each answered by a step of the plan that the one before left, or by want
+    /// of memory, nothing changed. The error is always `Memory`: the list of replies found no memory, and nothing changed.
+    pub fn run(&mut self, requests: &[Request]) -> Result<Vec<Reply>, Refusal>
+        requires { All (λ q. IsServed q.what) requests.now }
+        ensures answers { IfOk result (λ replies. AnswersAll self.old.plan requests.now (map answer_of replies.items) self.new.plan) }
+        ensures memory { IfErr result (λ r. (r ≡ Refusal.Memory) × (self.new ≡ self.old)) }
+    {
+        let mut replies = Vec::with_capacity(self.alloc, requests.len())?;
+        for request in requests {
+            let reply = self.answer(request);
+            replies.push(reply).unwrap();
+        }
+        Ok(replies)
     }
 }

@@ -1,8 +1,8 @@
 // A request that was prepared.
 ghost use Rattle.std.specs.Prelude.{◌≡◌};
 
+use super::loaded::LoadedPlan;
 use plan_basics::{Moment, OpKey};
-use plan_records::PlanContents;
 use std::marker::Model;
 
 /// A request that is accepted, with all that it takes: the plan that it leads to, and the operations that are named to
@@ -10,7 +10,7 @@ use std::marker::Model;
 #[derive(Debug, Drop)]
 pub struct Prepared {
     pub(crate) clock: Moment,
-    pub(crate) contents: PlanContents,
+    pub(crate) loaded: LoadedPlan,
     pub(crate) named: Vec<OpKey>,
 }
 
@@ -23,9 +23,9 @@ impl Model for Prepared {
 
     ghost coded = { prepared_code };
 
-    ghost view = { λ p. record { plan = plan_of p.clock p.contents; named = p.named.items } };
+    ghost view = { λ p. record { plan = plan_of p.clock p.loaded.contents; named = p.named.items } };
 
-    ghost invariant = { λ p. AreHeld p.clock p.contents };
+    ghost invariant = { λ p. AreHeld p.clock p.loaded };
 }
 
 impl Prepared {

@@ -1,18 +1,12 @@
-// What is read off the plan.
-ghost use Rattle.std.specs.Prelude.{◌≡◌, ◌↔◌, ◌<◌, ◌≤◌, ℕ, IfSome, IsSome, count_by, length};
-ghost use Rattle.std.specs.Ordering.{eq_by_cmp};
-ghost use Rattle.plan_basics.specs.Keys.{operation_cmp};
-ghost use Rattle.plan_model.specs.Plan.{IsInPlan};
-ghost use Rattle.plan_records.specs.Contents.{plan_of, AreContents};
-ghost use Rattle.status_rules.specs.declared.Mark.{Mark};
-ghost use Rattle.status_rules.specs.declared.Status.{Status};
-ghost use Rattle.plan_core.specs.Held.{AreHeld};
-ghost use Rattle.plan_core.specs.Views.{IsOpView};
+// What is read off the plan for one operation or one occurrence.
+ghost use Rattle.std.specs.Prelude.{◌≡◌, ◌<◌, Some, length, slice_get};
+ghost use Rattle.plan_core.specs.Views.{IsHeldAtSome, op_views, occ_views};
 
-use super::rows::place_of;
-use plan_basics::{Moment, OpKey, WsName};
-use plan_records::PlanContents;
-use status_rules::{Mark, Status};
+use super::loaded::LoadedPlan;
+use plan_basics::{Moment, OccKey, OpKey, WsName};
+use plan_records::known_occurrence;
+use plan_status::{occurrence_status_with, status_with};
+use status_rules::{Mark, OccStatus, Status};
 
 /// An operation of the plan, with what is read off the plan for it.
 #[derive(Clone, Copy, Debug)]
@@ -40,47 +34,31 @@ pub struct OpView {
     pub waiting: u32,
 }
 
-// How many pairs have this successor.
-fn pairs_before(pairs: &[(OpKey, OpKey)], key: &OpKey) -> u32
-    requires { length pairs.now ≤ 100000 }
-    ensures { result ≡ count_by (λ pair. eq_by_cmp operation_cmp pair.1 key.now) pairs.now }
-{
-    let mut count = 0;
-    for pair in pairs {
-        if pair.1.order(key).is_eq() {
-            count += 1;
-        }
-    }
-    count
+/// An occurrence of the plan, with what is read off the plan for it.
+#[derive(Clone, Copy, Debug)]
+pub struct OccView {
+    pub key: OccKey,
+    /// From 1 (low) to 9 (urgent).
+    pub priority: u8,
+    pub deadline: Moment,
+    pub status: OccStatus,
+    /// How many operations it has.
+    pub operations: u32,
+    /// How many of them are complete.
+    pub complete: u32,
 }
 
-// The status of an operation that is named at most, by the number of its predecessors.
-fn status_of(mark: Mark, waiting: u32) -> Status
-    ensures named { mark ≡ Mark.Named → result ≡ Status.Started }
-    ensures first { mark ≡ Mark.Unmarked → waiting ≡ 0 → result ≡ Status.Arriving }
-    ensures later { mark ≡ Mark.Unmarked → 0 < waiting → result ≡ Status.Waiting }
+/// The view of the operation at a place.
+pub(crate) fn op_view(loaded: &LoadedPlan, place: usize) -> OpView
+    requires held { IsHeldAtSome loaded.now }
+    requires within { place < length loaded.now.contents.operations.items }
+    ensures { slice_get (op_views loaded.now) place ≡ Some result }
 {
-    if matches!(mark, Mark::Named) {
-        Status::Started
-    } else if waiting == 0 {
-        Status::Arriving
-    } else {
-        Status::Waiting
-    }
-}
-
-/// The view of a key's operation, if it is among the contents.
-pub fn view_of(contents: &PlanContents, key: &OpKey) -> Option<OpView>
-    requires in_order { AreContents contents.now }
-    requires few { length contents.now.pairs.items ≤ 100000 }
-    ensures some { (clock : ℕ) → IsSome result ↔ IsInPlan (plan_of clock contents.now) key.now }
-    ensures view { (clock : ℕ) → AreHeld clock contents.now → IfSome result (λ v. (v.key ≡ key.now) × IsOpView (plan_of clock contents.now) v) }
-{
-    let place = place_of(&contents.operations, key)?;
-    let operation = contents.operations[place].1;
-    let waiting = pairs_before(&contents.pairs, key);
-    Some(OpView {
-        key: *key,
+    let (key, operation) = loaded.contents.operations[place];
+    let standing = loaded.standings[place];
+    let occurrence = known_occurrence(&loaded.contents.occurrences, &key.occurrence);
+    OpView {
+        key,
         workstation: operation.workstation,
         duration: operation.duration,
         r1: operation.r1,
@@ -90,8 +68,26 @@ pub fn view_of(contents: &PlanContents, key: &OpKey) -> Option<OpView>
         mark: operation.mark,
         held: operation.held,
         nop: operation.nop,
-        priority: contents.terms.priority,
-        status: status_of(operation.mark, waiting),
-        waiting,
-    })
+        priority: loaded.contents.occurrences[occurrence].1.priority,
+        status: status_with(&operation, &standing),
+        waiting: standing.waiting,
+    }
+}
+
+/// The view of the occurrence at a place.
+pub(crate) fn occ_view(loaded: &LoadedPlan, place: usize) -> OccView
+    requires held { IsHeldAtSome loaded.now }
+    requires within { place < length loaded.now.contents.occurrences.items }
+    ensures { slice_get (occ_views loaded.now) place ≡ Some result }
+{
+    let (key, terms) = loaded.contents.occurrences[place];
+    let counts = loaded.tallies[place];
+    OccView {
+        key,
+        priority: terms.priority,
+        deadline: terms.deadline,
+        status: occurrence_status_with(counts),
+        operations: counts.all,
+        complete: counts.complete,
+    }
 }

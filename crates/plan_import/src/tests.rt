@@ -14,6 +14,17 @@ P,DAILY,2024-03-01T22:00,20,CPU1,60,0,0,,
 D,DAILY,2024-03-01T22:00,10,DAILY,2024-03-01T22:00,20,,,
 ";
 
+// Two occurrences, and a pair that leads from one to the other.
+const NIGHT: &[u8] = b"W,CPU1,A,,,,,,,
+I,CPU1,1972-01-01T00:00,2071-12-31T23:59,2,0,0,,,
+O,DAILY,2024-03-01T22:00,5,2024-03-02T05:00,,,,,
+P,DAILY,2024-03-01T22:00,10,CPU1,30,0,0,,
+O,BILLING,2024-03-01T23:00,7,2024-03-02T03:00,,,,,
+P,BILLING,2024-03-01T23:00,10,CPU1,15,0,0,,
+P,BILLING,2024-03-01T23:00,20,CPU1,45,0,0,,
+D,BILLING,2024-03-01T23:00,20,DAILY,2024-03-01T22:00,10,,,
+";
+
 /// Gives at most `step` bytes a call, and fails at the call `fault`; the calls are counted from 1.
 #[derive(Drop)]
 struct Pieces<'a> {
@@ -128,9 +139,37 @@ fn pieces_of_any_size(rt: HostRuntime) -> Result<(), Fail> {
 }
 
 #[test]
+fn several_occurrences(rt: HostRuntime) -> Result<(), Fail> {
+    let mut reader = Watched::new(NIGHT);
+    let draft = read_plan(rt.alloc(), &mut reader)?.ok_or("no draft")?;
+    let contents = draft.contents();
+    let [(billing, due), (daily, late)] = contents.occurrences.as_slice() else {
+        return Err("two occurrences")?;
+    };
+    assert_eq!(rt; (due.priority, late.priority), (7, 5));
+    let [(_, first), (last, second), (other, third)] = contents.operations.as_slice() else {
+        return Err("three operations")?;
+    };
+    assert!(rt; last.occurrence == *billing && other.occurrence == *daily);
+    assert!(rt; first.deadline == due.deadline && second.deadline == due.deadline);
+    assert!(rt; third.deadline == late.deadline);
+    assert!(rt; contents.pairs.as_slice() == [(*last, *other)].as_slice());
+    Ok(())
+}
+
+#[test]
 fn texts_that_denote_no_plan(rt: HostRuntime) -> Result<(), Fail> {
-    let texts: [(&str, &[u8]); 3] = [
+    let texts: [(&str, &[u8]); 4] = [
         ("an empty text", b""),
+        (
+            "an occurrence without operations",
+            b"W,CPU1,A,,,,,,,
+I,CPU1,1972-01-01T00:00,2071-12-31T23:59,2,0,0,,,
+O,DAILY,2024-03-01T22:00,5,2024-03-02T05:00,,,,,
+P,DAILY,2024-03-01T22:00,10,CPU1,30,0,0,,
+O,BILLING,2024-03-01T23:00,7,2024-03-02T03:00,,,,,
+",
+        ),
         ("the byte 255 in a name", b"W,CP\xff1,A,,,,,,,\n"),
         ("nine fields", b"W,CPU1,A,,,,,,\n"),
     ];

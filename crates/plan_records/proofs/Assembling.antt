@@ -3,38 +3,77 @@ use Rattle.std.proofs.Common.{◌≡◌, ◌≢◌, sym, subst, ap, ◌∙◌, �
 use Rattle.std.specs.List.{filter_map}
 use Rattle.std.specs.List.Sorted.{IsPermutation, IsSorted, IsSortedByKey, IsStrictlySortedBy}
 use Rattle.std.specs.Map.{keys_of}
-use Rattle.std.proofs.lemmas.List.Elements.{All-weaker}
-use Rattle.std.proofs.lemmas.List.Sorted.{IsPermutation-sym, Contains-permutation}
+use Rattle.std.proofs.lemmas.List.Elements.{All-contains, All-weaker}
+use Rattle.std.proofs.lemmas.List.Sorted.{IsPermutation-map, IsPermutation-sym, Contains-permutation}
+use Rattle.plan_basics.specs.declared.keys.OccKey.{OccKey}
 use Rattle.plan_basics.specs.declared.keys.OpKey.{OpKey}
-use Rattle.plan_basics.specs.Keys.{operation_cmp, operation_cmp_total, operation_cmp-IsAntisymmetric}
+use Rattle.plan_basics.specs.Keys.{Name, occurrence_cmp, occurrence_cmp_total, occurrence_cmp-IsAntisymmetric, operation_cmp, operation_cmp_total, operation_cmp-IsAntisymmetric}
 use Rattle.plan_model.specs.Plan.{Operation, pair_cmp}
 use Rattle.plan_model.specs.declared.Occurrence.{Occurrence}
 use Rattle.plan_items.specs.declared.Item.{Item}
 use Rattle.plan_items.specs.declared.OperationItem.{OperationItem}
 use Rattle.plan_records.specs.declared.building.Heads.{Heads}
 use Rattle.plan_records.specs.declared.contents.PlanContents.{PlanContents}
-use Rattle.plan_records.specs.Loading.{Fits, HaveHeads, AreOperations, AreRowsOf, IsPairIn, ArePairs, AreInOrder, CanBeLoaded, AreContentsOf, as_operation, as_pair, row_of, heads_of}
-use Rattle.plan_records.proofs.Lists.{differ_from_pairs, pairs_from_differ, differ_map, differ_unmap, in_map, from_map}
+use Rattle.plan_records.specs.Loading.{Fits, HaveHeads, AreOccurrenceRows, AreOccurrencesInOrder, AreOperations, EachHasOperation, AreRowsOf, IsPairIn, ArePairs, ArePairsInOrder, CanBeLoaded, AreContentsOf, as_occurrence, as_operation, as_pair, keys_said, occurrence_of, row_of, heads_of}
+use Rattle.plan_records.proofs.Lists.{all_by_members, differ_from_pairs, pairs_from_differ, differ_map, differ_unmap, in_map, from_map}
 use Rattle.plan_records.proofs.Tables.{rows_apart, sorted_apart}
 use Rattle.plan_records.proofs.Orders.{differ_permuted, strict_from_sorted, map_same}
-use Rattle.plan_records.proofs.Needed.{pair_cmp_total, pair_cmp-IsAntisymmetric}
+use Rattle.plan_records.proofs.Pairs.{pair_cmp_total, pair_cmp-IsAntisymmetric}
 
--- ---- rows
-pub rows_ascend : (h : Heads) (said : List OperationItem) (rows : List (OpKey × Operation)) → IsPermutation (map (row_of h.terms) said) rows → IsSortedByKey (λ row. row.0) operation_cmp rows → AreOperations h said → IsStrictlySortedBy operation_cmp (keys_of rows)
-rows_ascend h said rows same sorted are =
+-- ---- occurrences
+pub occurrences_ascend : (said ordered : List (OccKey × Occurrence)) → IsPermutation said ordered → IsSortedByKey (λ row. row.0) occurrence_cmp ordered → AreOccurrenceRows said → IsStrictlySortedBy occurrence_cmp (keys_of ordered)
+occurrences_ascend said ordered same sorted are =
+    strict_from_sorted occurrence_cmp_total occurrence_cmp-IsAntisymmetric (λ (row : OccKey × Occurrence). row.0) ordered sorted
+    (differ_permuted occurrence_cmp_total occurrence_cmp-IsAntisymmetric (λ (row : OccKey × Occurrence). row.0) said ordered same (differ_from_pairs (λ a b. a.0 ≢ b.0) said are.distinct))
+
+pub occurrences_are : (said ordered : List (OccKey × Occurrence)) → 0 < length said → length said ≤ 5000 → IsPermutation said ordered → IsStrictlySortedBy occurrence_cmp (keys_of ordered) → AreOccurrencesInOrder said ordered
+occurrences_are said ordered some few same up =
+    let apart = rows_apart occurrence_cmp_total occurrence_cmp-IsAntisymmetric ordered up in
+    let before = differ_permuted occurrence_cmp_total occurrence_cmp-IsAntisymmetric (λ (row : OccKey × Occurrence). row.0) ordered said (IsPermutation-sym said ordered same) apart in
+    record { are = record { some = some; few = few; distinct = pairs_from_differ (λ a b. a.0 ≢ b.0) said before }; same = same; in_order = up }
+
+-- ---- rows of operations
+pub rows_ascend : (w : Name) (occurrences : List (OccKey × Occurrence)) (said : List OperationItem) (rows : List (OpKey × Operation)) → IsPermutation (map (row_of occurrences) said) rows → IsSortedByKey (λ row. row.0) operation_cmp rows → AreOperations w occurrences said → IsStrictlySortedBy operation_cmp (keys_of rows)
+rows_ascend w occurrences said rows same sorted are =
     strict_from_sorted operation_cmp_total operation_cmp-IsAntisymmetric (λ (row : OpKey × Operation). row.0) rows sorted
-    (differ_permuted operation_cmp_total operation_cmp-IsAntisymmetric (λ (row : OpKey × Operation). row.0) (map (row_of h.terms) said) rows same
-    (differ_map (row_of h.terms) (λ a b. a.0 ≢ b.0) said (differ_from_pairs (λ a b. a.key ≢ b.key) said are.distinct)))
+    (differ_permuted operation_cmp_total operation_cmp-IsAntisymmetric (λ (row : OpKey × Operation). row.0) (map (row_of occurrences) said) rows same
+    (differ_map (row_of occurrences) (λ a b. a.0 ≢ b.0) said (differ_from_pairs (λ a b. a.key ≢ b.key) said are.distinct)))
 
-pub rows_are : (h : Heads) (said : List OperationItem) (rows : List (OpKey × Operation)) → 0 < length said → length said ≤ 20000 → All (Fits h) said → IsPermutation (map (row_of h.terms) said) rows → IsStrictlySortedBy operation_cmp (keys_of rows) → AreRowsOf h said rows
-rows_are h said rows some few fit same up =
+module _ (occurrences : List (OccKey × Occurrence)) (said : List OperationItem) (rows : List (OpKey × Operation)) (same : IsPermutation (map (row_of occurrences) said) rows) where
+  key_to_row : (o : OpKey) → Contains (keys_said said) o → Contains (keys_of rows) o
+  key_to_row o has =
+      let r = from_map (λ (s : OperationItem). s.key) said o has in
+      subst (Contains (keys_of rows)) r.2 (in_map (λ (row : OpKey × Operation). row.0) rows (row_of occurrences r.0) (Contains-permutation (map (row_of occurrences) said) rows (row_of occurrences r.0) same (in_map (row_of occurrences) said r.0 r.1)))
+
+  row_to_key : (o : OpKey) → Contains (keys_of rows) o → Contains (keys_said said) o
+  row_to_key o has =
+      let r = from_map (λ (row : OpKey × Operation). row.0) rows o has in
+      let s = from_map (row_of occurrences) said r.0 (Contains-permutation rows (map (row_of occurrences) said) r.0 (IsPermutation-sym (map (row_of occurrences) said) rows same) r.1) in
+      subst (Contains (keys_said said)) (ap (λ (row : OpKey × Operation). row.0) s.2 ∙ r.2) (in_map (λ (s : OperationItem). s.key) said s.0 s.1)
+
+-- each occurrence has one of more operations
+has_over : (ks ls : List OpKey) (occurrences : List (OccKey × Occurrence)) → ((o : OpKey) → Contains ks o → Contains ls o) → EachHasOperation ks occurrences → EachHasOperation ls occurrences
+has_over ks ls occurrences all has = All-weaker (λ row. Contains (map occurrence_of ks) row.0) (λ row. Contains (map occurrence_of ls) row.0)
+    (λ row is. let r = from_map occurrence_of ks row.0 is in subst (Contains (map occurrence_of ls)) r.2 (in_map occurrence_of ls r.0 (all r.0 r.1))) occurrences has
+
+pub rows_are : (w : Name) (occurrences : List (OccKey × Occurrence)) (said : List OperationItem) (rows : List (OpKey × Operation)) → length said ≤ 20000 → All (Fits w occurrences) said → IsPermutation (map (row_of occurrences) said) rows → IsStrictlySortedBy operation_cmp (keys_of rows) → EachHasOperation (keys_of rows) occurrences → AreRowsOf w occurrences said rows
+rows_are w occurrences said rows few fit same up has =
     let apart = rows_apart operation_cmp_total operation_cmp-IsAntisymmetric rows up in
-    let before = differ_permuted operation_cmp_total operation_cmp-IsAntisymmetric (λ (row : OpKey × Operation). row.0) rows (map (row_of h.terms) said) (IsPermutation-sym (map (row_of h.terms) said) rows same) apart in
+    let before = differ_permuted operation_cmp_total operation_cmp-IsAntisymmetric (λ (row : OpKey × Operation). row.0) rows (map (row_of occurrences) said) (IsPermutation-sym (map (row_of occurrences) said) rows same) apart in
     record {
-      operations = record { some = some; few = few; fit = fit; distinct = pairs_from_differ (λ a b. a.key ≢ b.key) said (differ_unmap (row_of h.terms) (λ a b. a.0 ≢ b.0) said before) };
+      operations = record {
+        few = few;
+        fit = fit;
+        distinct = pairs_from_differ (λ a b. a.key ≢ b.key) said (differ_unmap (row_of occurrences) (λ a b. a.0 ≢ b.0) said before);
+        not_empty = has_over (keys_of rows) (keys_said said) occurrences (row_to_key occurrences said rows same) has;
+      };
       same = same;
       in_order = up;
     }
+
+-- where the rows' keys leave out an occurrence, so do those that are said
+pub none_has : (w : Name) (occurrences : List (OccKey × Occurrence)) (said : List OperationItem) (rows : List (OpKey × Operation)) → IsPermutation (map (row_of occurrences) said) rows → ¬ EachHasOperation (keys_of rows) occurrences → ¬ AreOperations w occurrences said
+none_has w occurrences said rows same none are = none (has_over (keys_said said) (keys_of rows) occurrences (key_to_row occurrences said rows same) are.not_empty)
 
 -- ---- pairs
 pub pairs_ascend : (keys : List OpKey) (pairs ordered : List (OpKey × OpKey)) → IsPermutation pairs ordered → IsSorted pair_cmp ordered → ArePairs keys pairs → IsStrictlySortedBy pair_cmp ordered
@@ -43,7 +82,7 @@ pairs_ascend keys pairs ordered same sorted are =
     (strict_from_sorted pair_cmp_total pair_cmp-IsAntisymmetric (λ (p : OpKey × OpKey). p) ordered sorted
     (differ_permuted pair_cmp_total pair_cmp-IsAntisymmetric (λ (p : OpKey × OpKey). p) pairs ordered same (differ_from_pairs (λ a b. a ≢ b) pairs are.distinct)))
 
-pub pairs_are : (keys : List OpKey) (pairs ordered : List (OpKey × OpKey)) → length pairs ≤ 100000 → All (IsPairIn keys) pairs → IsPermutation pairs ordered → IsStrictlySortedBy pair_cmp ordered → AreInOrder keys pairs ordered
+pub pairs_are : (keys : List OpKey) (pairs ordered : List (OpKey × OpKey)) → length pairs ≤ 100000 → All (IsPairIn keys) pairs → IsPermutation pairs ordered → IsStrictlySortedBy pair_cmp ordered → ArePairsInOrder keys pairs ordered
 pairs_are keys pairs ordered few within same up = record {
   are = record {
     few = few;
@@ -62,17 +101,19 @@ pairs_over ks ls pairs all are = record {
   distinct = are.distinct;
 }
 
-module _ (t : Occurrence) (said : List OperationItem) (rows : List (OpKey × Operation)) (same : IsPermutation (map (row_of t) said) rows) where
-  key_to_row : (o : OpKey) → Contains (map (λ (s : OperationItem). s.key) said) o → Contains (keys_of rows) o
-  key_to_row o has =
-      let r = from_map (λ (s : OperationItem). s.key) said o has in
-      subst (Contains (keys_of rows)) r.2 (in_map (λ (row : OpKey × Operation). row.0) rows (row_of t r.0) (Contains-permutation (map (row_of t) said) rows (row_of t r.0) same (in_map (row_of t) said r.0 r.1)))
-
-  row_to_key : (o : OpKey) → Contains (keys_of rows) o → Contains (map (λ (s : OperationItem). s.key) said) o
-  row_to_key o has =
-      let r = from_map (λ (row : OpKey × Operation). row.0) rows o has in
-      let s = from_map (row_of t) said r.0 (Contains-permutation rows (map (row_of t) said) r.0 (IsPermutation-sym (map (row_of t) said) rows same) r.1) in
-      subst (Contains (map (λ (s : OperationItem). s.key) said)) (ap (λ (row : OpKey × Operation). row.0) s.2 ∙ r.2) (in_map (λ (s : OperationItem). s.key) said s.0 s.1)
+-- operations go by which occurrences there are
+operations_over : (w : Name) (os ps : List (OccKey × Occurrence)) (said : List OperationItem) → IsPermutation os ps → AreOperations w os said → AreOperations w ps said
+operations_over w os ps said same are = record {
+  few = are.few;
+  fit = All-weaker (Fits w os) (Fits w ps) (λ s is. record {
+    workstation = is.workstation;
+    occurrence = Contains-permutation (keys_of os) (keys_of ps) s.key.occurrence (IsPermutation-map (λ (row : OccKey × Occurrence). row.0) os ps same) is.occurrence;
+    r1 = is.r1;
+    r2 = is.r2;
+  }) said are.fit;
+  distinct = are.distinct;
+  not_empty = all_by_members (λ row. Contains (map occurrence_of (keys_said said)) row.0) ps (λ row has. All-contains (λ row. Contains (map occurrence_of (keys_said said)) row.0) os row are.not_empty (Contains-permutation ps os row (IsPermutation-sym os ps same) has));
+}
 
 -- ---- the whole
 first_same : {X : Type 0} {x y : X} → x ∷ [] ≡ y ∷ [] → x ≡ y
@@ -82,32 +123,34 @@ pub same_heads : (h k : Heads) (items : List Item) → HaveHeads h items → Hav
 same_heads h k items a b =
     let ws = first_same (sym a.workstation ∙ b.workstation) in
     let is = first_same (sym a.interval ∙ b.interval) in
-    let os = first_same (sym a.occurrence ∙ b.occurrence) in
     let w : h.workstation ≡ k.workstation = ap (λ y. y.0) ws in
     let i : h.interval ≡ k.interval = ap (λ y. y.1) is in
-    let o : h.occurrence ≡ k.occurrence = ap (λ y. y.0) os in
-    let t : h.terms ≡ k.terms = ap (λ y. y.1) os in
-    λ j. record { workstation = w j; interval = i j; occurrence = o j; terms = t j }
+    λ j. record { workstation = w j; interval = i j }
 
 -- the operations don't fit together
-pub no_operations : (k : Heads) (items : List Item) (said : List OperationItem) → HaveHeads k items → said ≡ filter_map as_operation items → ¬ AreOperations k said → (h : Heads) → ¬ CanBeLoaded h items
-no_operations k items said have is none h can =
-    none (subst (λ (l : Heads). AreOperations l said) (same_heads h k items can.heads have) (subst (AreOperations h) (sym is) can.operations))
+pub no_operations : (k : Heads) (items : List Item) (occurrences ordered : List (OccKey × Occurrence)) (said : List OperationItem) → HaveHeads k items → occurrences ≡ filter_map as_occurrence items → AreOccurrencesInOrder occurrences ordered → said ≡ filter_map as_operation items → ¬ AreOperations k.workstation ordered said → (h : Heads) → ¬ CanBeLoaded h items
+no_operations k items occurrences ordered said have from in_order is none h can =
+    let w : h.workstation ≡ k.workstation = ap (λ (l : Heads). l.workstation) (same_heads h k items can.heads have) in
+    let of_items : AreOperations h.workstation occurrences said = subst (λ os. AreOperations h.workstation os said) (sym from) (subst (AreOperations h.workstation (filter_map as_occurrence items)) (sym is) can.operations) in
+    none (operations_over k.workstation occurrences ordered said in_order.same (subst (λ n. AreOperations n occurrences said) w of_items))
 
 -- the pairs aren't pairs of the operations
-pub no_pairs : (k : Heads) (items : List Item) (said : List OperationItem) (rows : List (OpKey × Operation)) (keys : List OpKey) (pairs : List (OpKey × OpKey)) → said ≡ filter_map as_operation items → AreRowsOf k said rows → keys ≡ keys_of rows → pairs ≡ filter_map as_pair items → ¬ ArePairs keys pairs → (h : Heads) → ¬ CanBeLoaded h items
-no_pairs k items said rows keys pairs is are keyed given none h can =
-    let over : ArePairs (map (λ (s : OperationItem). s.key) said) (filter_map as_pair items) = subst (λ ss. ArePairs (map (λ (s : OperationItem). s.key) ss) (filter_map as_pair items)) (sym is) can.pairs in
-    let moved : ArePairs (keys_of rows) (filter_map as_pair items) = pairs_over (map (λ (s : OperationItem). s.key) said) (keys_of rows) (filter_map as_pair items) (key_to_row k.terms said rows are.same) over in
+pub no_pairs : (w : Name) (occurrences : List (OccKey × Occurrence)) (items : List Item) (said : List OperationItem) (rows : List (OpKey × Operation)) (keys : List OpKey) (pairs : List (OpKey × OpKey)) → said ≡ filter_map as_operation items → AreRowsOf w occurrences said rows → keys ≡ keys_of rows → pairs ≡ filter_map as_pair items → ¬ ArePairs keys pairs → (h : Heads) → ¬ CanBeLoaded h items
+no_pairs w occurrences items said rows keys pairs is are keyed given none h can =
+    let over : ArePairs (keys_said said) (filter_map as_pair items) = subst (λ ss. ArePairs (keys_said ss) (filter_map as_pair items)) (sym is) can.pairs in
+    let moved : ArePairs (keys_of rows) (filter_map as_pair items) = pairs_over (keys_said said) (keys_of rows) (filter_map as_pair items) (key_to_row occurrences said rows are.same) over in
     none (subst (λ ks. ArePairs ks pairs) (sym keyed) (subst (ArePairs (keys_of rows)) (sym given) moved))
 
-pub contents_are : (items : List Item) (c : PlanContents) (said : List OperationItem) (keys : List OpKey) (pairs : List (OpKey × OpKey)) → HaveHeads (heads_of c) items → said ≡ filter_map as_operation items → AreRowsOf (heads_of c) said c.operations.items → keys ≡ keys_of c.operations.items → pairs ≡ filter_map as_pair items → AreInOrder keys pairs c.pairs.items → AreContentsOf items c
-contents_are items c said keys pairs have is are keyed given ordered =
-    let moved : ArePairs (map (λ (s : OperationItem). s.key) said) pairs = pairs_over (keys_of c.operations.items) (map (λ (s : OperationItem). s.key) said) pairs (row_to_key c.terms said c.operations.items are.same) (subst (λ ks. ArePairs ks pairs) keyed ordered.are) in
-    let over : ArePairs (map (λ (s : OperationItem). s.key) (filter_map as_operation items)) (filter_map as_pair items) = subst (λ ss. ArePairs (map (λ (s : OperationItem). s.key) ss) (filter_map as_pair items)) is (subst (ArePairs (map (λ (s : OperationItem). s.key) said)) given moved) in
+pub contents_are : (items : List Item) (c : PlanContents) (occurrences : List (OccKey × Occurrence)) (said : List OperationItem) (keys : List OpKey) (pairs : List (OpKey × OpKey)) → HaveHeads (heads_of c) items → occurrences ≡ filter_map as_occurrence items → AreOccurrencesInOrder occurrences c.occurrences.items → said ≡ filter_map as_operation items → AreRowsOf c.workstation c.occurrences.items said c.operations.items → keys ≡ keys_of c.operations.items → pairs ≡ filter_map as_pair items → ArePairsInOrder keys pairs c.pairs.items → AreContentsOf items c
+contents_are items c occurrences said keys pairs have from in_order is are keyed given ordered =
+    let moved : ArePairs (keys_said said) pairs = pairs_over (keys_of c.operations.items) (keys_said said) pairs (row_to_key c.occurrences.items said c.operations.items are.same) (subst (λ ks. ArePairs ks pairs) keyed ordered.are) in
+    let over : ArePairs (keys_said (filter_map as_operation items)) (filter_map as_pair items) = subst (λ ss. ArePairs (keys_said ss) (filter_map as_pair items)) is (subst (ArePairs (keys_said said)) given moved) in
+    let same : IsPermutation (filter_map as_occurrence items) c.occurrences.items = subst (λ os. IsPermutation os c.occurrences.items) from in_order.same in
+    let of_items : AreOperations c.workstation (filter_map as_occurrence items) said = operations_over c.workstation c.occurrences.items (filter_map as_occurrence items) said (IsPermutation-sym (filter_map as_occurrence items) c.occurrences.items same) are.operations in
     record {
-      items_are = record { heads = have; operations = subst (AreOperations (heads_of c)) is are.operations; pairs = over };
-      operations = subst (λ ss. IsPermutation (map (row_of c.terms) ss) c.operations.items) is are.same;
+      items_are = record { heads = have; occurrences = subst AreOccurrenceRows from in_order.are; operations = subst (AreOperations c.workstation (filter_map as_occurrence items)) is of_items; pairs = over };
+      occurrences = same;
+      operations = subst (λ ss. IsPermutation (map (row_of c.occurrences.items) ss) c.operations.items) is are.same;
       pairs = subst (λ ps. IsPermutation ps c.pairs.items) given ordered.same;
-      in_order = record { operations = are.in_order; pairs = ordered.in_order };
+      in_order = record { occurrences = in_order.in_order; operations = are.in_order; pairs = ordered.in_order };
     }

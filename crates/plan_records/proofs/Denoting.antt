@@ -4,7 +4,7 @@ use Rattle.std.specs.List.{AllZip}
 use Rattle.std.specs.declared.alloc.Global.{Global}
 use Rattle.std.specs.FinMap.{len}
 use Rattle.std.proofs.lemmas.List.Elements.{All-nil, All-cons}
-use Rattle.plan_basics.specs.Keys.{name_cmp_total, name_cmp-IsAntisymmetric, occurrence_cmp_total, occurrence_cmp-IsAntisymmetric}
+use Rattle.plan_basics.specs.Keys.{name_cmp_total, name_cmp-IsAntisymmetric}
 use Rattle.plan_model.specs.Plan.{Plan}
 use Rattle.plan_items.specs.declared.Item.{Item}
 use Rattle.plan_items.specs.Items.{Fields, fields_of, IsItem, Says}
@@ -17,7 +17,8 @@ use Rattle.plan_records.specs.Loading.{CanBeLoaded, AreContentsOf}
 use Rattle.plan_records.specs.Records.{records_of, StandsIn, IsItemOfPlan, AreItems, Denotes}
 use Rattle.plan_records.proofs.Tables.{len_one}
 use Rattle.plan_records.proofs.Needed.{needed}
-use Rattle.plan_records.proofs.Made.{are_items, is_draft, is_loadable}
+use Rattle.plan_records.proofs.Made.{are_items}
+use Rattle.plan_records.proofs.MadeDrafts.{some_occurrence, is_draft, is_loadable}
 
 -- ---- one record after another
 abbrev Records : Type 0
@@ -70,21 +71,21 @@ module _ (records : List Fields) (items : List Item) (said : AllZip Says records
   are_denoted c made =
       let P : Plan = plan_of 0 c in
       let workstations : len P.workstations ≡ 1 = len_one name_cmp_total name_cmp-IsAntisymmetric _ _ in
-      let occurrences : len P.occurrences ≡ 1 = len_one occurrence_cmp_total occurrence_cmp-IsAntisymmetric _ _ in (
+      let legal = items_legal records items said in (
         record {
-          draft = is_draft items c (items_legal records items said) made;
+          draft = is_draft items c legal made;
           clock = refl;
           some_workstation = omega arith;
-          some_occurrence = omega arith;
-          described = record { items = items; said = said; are = are_items items c (items_legal records items said) made };
+          some_occurrence = some_occurrence items c legal made;
+          described = record { items = items; said = said; are = are_items items c made };
         },
-        is_loadable items c (items_legal records items said) made,
+        is_loadable items c legal made,
       )
 
   pub none_denoted : ((h : Heads) → ¬ CanBeLoaded h items) → (P : Plan) → IsLoadable P → ¬ Denotes records P
   none_denoted none P loadable d =
       let same = same_items records d.described.items items d.described.said said in
-      let can = needed P d.draft.valid loadable items (subst (AreItems (StandsIn P) (IsItemOfPlan P)) same d.described.are) in
+      let can = needed P d.draft.valid d.some_occurrence loadable items (subst (AreItems (StandsIn P) (IsItemOfPlan P)) same d.described.are) in
       none can.0 can.1
 
 -- where a record says nothing

@@ -3,7 +3,12 @@ pub mod Tables
 pub mod ItemKinds
 pub mod Needed
 pub mod Made
+pub mod MadeDrafts
 pub mod Orders
+pub mod Terms
 pub mod Assembling
 pub mod Denoting
 pub mod Unique
+pub mod RowPlaces
+pub mod Pairs
+pub mod MadeEntries

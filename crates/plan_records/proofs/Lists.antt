@@ -60,16 +60,9 @@ module _ {X : Type 0} where
   one_member (x ∷ []) e = (x, refl)
   one_member (x ∷ y ∷ xs) e = absurd (omega arith)
 
-  pub first_member : (xs : List X) → 0 < length xs → (x : X) × Contains xs x
-  first_member [] h = absurd (omega arith)
-  first_member (x ∷ xs) h = (x, contains_head x xs)
-
   pub at_member : (P : X → Type 0) (xs : List X) (x : X) → AllByRecursion P xs → Contains xs x → P x
   at_member P [] x all has = absurd (contains_none x has)
   at_member P (a ∷ xs) x all has = elim (contains_cases a xs x has) [ inl e ↦ subst P e all.0 | inr later ↦ at_member P xs x all.1 later ]
-
-  pub some_member : (xs : List X) (x : X) → Contains xs x → 0 < length xs
-  some_member xs x (i, h, e) = omega arith
 
 module _ {X Y : Type 0} (f : X → Y) where
   pub in_map : (xs : List X) (x : X) → Contains xs x → Contains (map f xs) (f x)

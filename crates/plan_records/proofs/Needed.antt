@@ -1,8 +1,8 @@
 -- Where items are those of a plan that can be loaded, they can be loaded, kind by kind.
 use Rattle.std.proofs.Common.{◌≡◌, ◌≢◌, refl, sym, subst, ap, ◌∙◌, arith, ℕ, ◌<◌, ◌≤◌, true, List, [], ◌∷◌, map, length, Contains, Option, Some, None, option_map}
 use Rattle.std.specs.List.{filter_map}
-use Rattle.std.specs.Cmp.{IsTotalOrder, nat_cmp_total, on_total, then_total}
-use Rattle.std.specs.FinMap.{IsAntisymmetric, get, contains_key, len, empty_of_len, get-empty, nat_cmp-IsAntisymmetric}
+use Rattle.std.specs.Cmp.{nat_cmp_total}
+use Rattle.std.specs.FinMap.{get, contains_key, len, empty_of_len, get-empty, nat_cmp-IsAntisymmetric}
 use Rattle.std.specs.FinSet as set
 use Rattle.std.proofs.lemmas.List.Elements.{All-contains}
 use Rattle.std.proofs.lemmas.Map.Entries.{length-keys_of}
@@ -10,10 +10,10 @@ use Rattle.plan_basics.specs.declared.Attr.{Attr}
 use Rattle.plan_basics.specs.declared.Attr.TheVariants.{Automatic}
 use Rattle.plan_basics.specs.declared.keys.OccKey.{OccKey}
 use Rattle.plan_basics.specs.declared.keys.OpKey.{OpKey}
-use Rattle.plan_basics.specs.Keys.{Name, name_cmp, name_cmp_total, name_cmp-IsAntisymmetric, occurrence_cmp_total, occurrence_cmp-IsAntisymmetric, operation_cmp, operation_cmp_total, operation_cmp-IsAntisymmetric, then_IsAntisymmetric}
+use Rattle.plan_basics.specs.Keys.{Name, name_cmp, name_cmp_total, name_cmp-IsAntisymmetric, occurrence_cmp_total, occurrence_cmp-IsAntisymmetric, operation_cmp_total, operation_cmp-IsAntisymmetric}
 use Rattle.plan_basics.specs.Intervals.{OpenInterval}
 use Rattle.workstations.specs.Workstations.{Workstation}
-use Rattle.plan_model.specs.Plan.{Plan, Operation, IsPairOf, pair_cmp}
+use Rattle.plan_model.specs.Plan.{Plan, Operation, IsPairOf}
 use Rattle.plan_model.specs.Valid.{IsValid}
 use Rattle.plan_model.specs.declared.Occurrence.{Occurrence}
 use Rattle.plan_items.specs.declared.Item.{Item}
@@ -23,9 +23,10 @@ use Rattle.plan_records.specs.declared.RowKey.TheVariants as key
 use Rattle.plan_records.specs.Drafts.{IsLoadable}
 use Rattle.plan_records.specs.declared.building.Heads.{Heads}
 use Rattle.plan_records.specs.Records.{key_of, StandsIn, IsItemOfPlan, AreItems, IsAsSaid}
-use Rattle.plan_records.specs.Loading.{HaveHeads, Fits, AreOperations, IsPairIn, ArePairs, CanBeLoaded, as_workstation, as_interval, as_occurrence, as_operation, as_pair, as_resource}
-use Rattle.plan_records.proofs.Lists.{Differ, differ_from_pairs, pairs_from_differ, differ_weaken, differ_map, length_map, in_map, from_map, from_filter, contains_head, contains_one, all_by_members, no_members, one_member, some_member}
+use Rattle.plan_records.specs.Loading.{HaveHeads, Fits, AreOccurrenceRows, AreOperations, occurrence_of, IsPairIn, ArePairs, CanBeLoaded, as_workstation, as_interval, as_occurrence, as_operation, as_pair, as_resource}
+use Rattle.plan_records.proofs.Lists.{Differ, differ_from_pairs, pairs_from_differ, differ_weaken, differ_map, length_map, in_map, from_map, from_filter, contains_head, contains_one, all_by_members, no_members, one_member}
 use Rattle.plan_records.proofs.Tables.{some_is, same_some, no_some, map_count, set_count}
+use Rattle.plan_records.proofs.Pairs.{pair_cmp_total, pair_cmp-IsAntisymmetric}
 use Rattle.plan_records.proofs.ItemKinds as kinds
 use Rattle.plan_records.proofs.ItemKinds.{read_apart, keys_apart, read_stands, key_in, key_out}
 
@@ -34,13 +35,7 @@ pub found_attribute : (o : Option Workstation) (a : Attr) → option_map (λ ws.
 found_attribute None a e = absurd (no_some a e)
 found_attribute (Some ws) a e = (ws, refl, same_some ws.attribute a e)
 
-pub pair_cmp_total : IsTotalOrder pair_cmp
-pair_cmp_total = then_total (on_total (λ (a : OpKey × OpKey). a.0) operation_cmp_total) (on_total (λ (a : OpKey × OpKey). a.1) operation_cmp_total)
-
-pub pair_cmp-IsAntisymmetric : IsAntisymmetric pair_cmp
-pair_cmp-IsAntisymmetric = then_IsAntisymmetric {R = operation_cmp} {S = operation_cmp} (λ a. a.0) (λ a. a.1) (λ x y p q i. (p i, q i)) operation_cmp-IsAntisymmetric operation_cmp-IsAntisymmetric
-
-module _ (P : Plan) (valid : IsValid P) (loadable : IsLoadable P) (items : List Item) (are : AreItems (StandsIn P) (IsItemOfPlan P) items) where
+module _ (P : Plan) (valid : IsValid P) (some : 0 < len P.occurrences) (loadable : IsLoadable P) (items : List Item) (are : AreItems (StandsIn P) (IsItemOfPlan P) items) where
   apart : Differ (λ a b. key_of a ≢ key_of b) items
   apart = differ_from_pairs (λ a b. key_of a ≢ key_of b) items are.distinct
 
@@ -81,10 +76,17 @@ module _ (P : Plan) (valid : IsValid P) (loadable : IsLoadable P) (items : List 
       let m = from_map (λ (y : OccKey × Occurrence). y.0) (filter_map as_occurrence items) c has in
       subst (λ z. contains_key P.occurrences z ≡ true) m.2 (some_is (get P.occurrences m.0.0) m.0.1 (occurrence_is m.0 m.1))
 
-  one_occurrence : (y : OccKey × Occurrence) × (filter_map as_occurrence items ≡ y ∷ [])
-  one_occurrence =
-      let count : length OccurrenceKeys ≡ len P.occurrences = map_count occurrence_cmp_total occurrence_cmp-IsAntisymmetric OccurrenceKeys P.occurrences (keys_apart as_occurrence (λ y. item.Occurrence y.0 y.1.priority y.1.deadline) (λ y. y.0) (λ q. key.Occurrence q) kinds.occurrences items apart) occurrence_there occurrence_in in
-      one_member (filter_map as_occurrence items) (sym (length-keys_of (filter_map as_occurrence items)) ∙ count ∙ loadable.one_occurrence)
+  occurrences_count : length (filter_map as_occurrence items) ≡ len P.occurrences
+  occurrences_count =
+      sym (length-keys_of (filter_map as_occurrence items))
+      ∙ map_count occurrence_cmp_total occurrence_cmp-IsAntisymmetric OccurrenceKeys P.occurrences (keys_apart as_occurrence (λ y. item.Occurrence y.0 y.1.priority y.1.deadline) (λ y. y.0) (λ q. key.Occurrence q) kinds.occurrences items apart) occurrence_there occurrence_in
+
+  are_occurrences : AreOccurrenceRows (filter_map as_occurrence items)
+  are_occurrences = record {
+    some = omega (arith, some, occurrences_count);
+    few = let most : len P.occurrences ≤ 5000 = valid.limits.occurrences in omega (arith, occurrences_count);
+    distinct = pairs_from_differ (λ a b. a.0 ≢ b.0) (filter_map as_occurrence items) (read_apart as_occurrence (λ y. item.Occurrence y.0 y.1.priority y.1.deadline) (λ y. y.0) (λ q. key.Occurrence q) kinds.occurrences items apart);
+  }
 
   operation_is : (y : OperationItem) → Contains (filter_map as_operation items) y → (op : Operation) × (c : Occurrence) × (get P.operations y.key ≡ Some op) × (get P.occurrences y.key.occurrence ≡ Some c) × IsAsSaid y c op
   operation_is y has = read_stands as_operation (λ y. item.Operation y) (λ y. y.key) (λ q. key.Operation q) kinds.operations (StandsIn P) items are.stand y has
@@ -133,9 +135,6 @@ module _ (P : Plan) (valid : IsValid P) (loadable : IsLoadable P) (items : List 
   is_name : (w : Name) → contains_key P.workstations w ≡ true → w ≡ name
   is_name w e = sym (contains_one name w (subst (λ ys. Contains (map (λ (y : Name × Attr). y.0) ys) w) one_workstation.1 (name_in w e)))
 
-  is_the_occurrence : (c : OccKey) → contains_key P.occurrences c ≡ true → c ≡ one_occurrence.0.0
-  is_the_occurrence c e = sym (contains_one one_occurrence.0.0 c (subst (λ ys. Contains (map (λ (y : OccKey × Occurrence). y.0) ys) c) one_occurrence.1 (occurrence_in c e)))
-
   interval_is : (y : Name × OpenInterval) → Contains (filter_map as_interval items) y → (y.0 ≡ name) × (get found.0.intervals y.1.from ≡ Some y.1)
   interval_is y has =
       let stands = read_stands as_interval (λ y. item.Interval y.0 y.1) kinds.interval_key (λ q. key.Interval q.0 q.1) kinds.intervals (StandsIn P) items are.stand y has in
@@ -169,42 +168,37 @@ module _ (P : Plan) (valid : IsValid P) (loadable : IsLoadable P) (items : List 
       one_member (filter_map as_interval items) (sym (length_map (λ (y : Name × OpenInterval). y.1.from) (filter_map as_interval items)) ∙ count ∙ (loadable.automatic name found.0 found.1).1)
 
   heads : Heads
-  heads = record { workstation = name; interval = one_interval.0.1; occurrence = one_occurrence.0.0; terms = one_occurrence.0.1 }
+  heads = record { workstation = name; interval = one_interval.0.1 }
 
   have_heads : HaveHeads heads items
   unfolding heads
   have_heads = record {
     workstation = one_workstation.1 ∙ ap (λ a. (name, a) ∷ []) is_automatic;
     interval = one_interval.1 ∙ ap (λ n. (n, one_interval.0.1) ∷ []) (interval_is one_interval.0 (subst (λ ys. Contains ys one_interval.0) (sym one_interval.1) (contains_head one_interval.0 []))).0;
-    occurrence = one_occurrence.1;
     no_resources = no_members (filter_map as_resource items) resource_none;
   }
 
-  fits : (y : OperationItem) → Contains (filter_map as_operation items) y → Fits heads y
-  unfolding heads
+  fits : (y : OperationItem) → Contains (filter_map as_operation items) y → Fits name (filter_map as_occurrence items) y
   fits y has =
       let is = operation_is y has in
       record {
         workstation = sym is.4.workstation ∙ is_name is.0.workstation (valid.have_workstations y.key is.0 is.2);
-        occurrence = is_the_occurrence y.key.occurrence (some_is (get P.occurrences y.key.occurrence) is.1 is.3);
+        occurrence = occurrence_in y.key.occurrence (some_is (get P.occurrences y.key.occurrence) is.1 is.3);
         r1 = sym is.4.fixed.0 ∙ (loadable.without_needs y.key is.0 is.2).0;
         r2 = sym is.4.fixed.1 ∙ (loadable.without_needs y.key is.0 is.2).1;
       }
 
-  some_operation : 0 < length (filter_map as_operation items)
-  some_operation =
-      let c = one_occurrence.0 in
-      let there = occurrence_is c (subst (λ ys. Contains ys c) (sym one_occurrence.1) (contains_head c [])) in
-      let o = valid.occurrences.not_empty c.0 (some_is (get P.occurrences c.0) c.1 there) in
-      let r = from_map (λ (y : OperationItem). y.key) (filter_map as_operation items) o.0 (operation_in o.0 o.2) in
-      some_member (filter_map as_operation items) r.0 r.1
+  has_operation : (y : OccKey × Occurrence) → Contains (filter_map as_occurrence items) y → Contains (map occurrence_of OperationKeys) y.0
+  has_operation y has =
+      let o = valid.occurrences.not_empty y.0 (some_is (get P.occurrences y.0) y.1 (occurrence_is y has)) in
+      subst (Contains (map occurrence_of OperationKeys)) o.1 (in_map occurrence_of OperationKeys o.0 (operation_in o.0 o.2))
 
-  are_operations : AreOperations heads (filter_map as_operation items)
+  are_operations : AreOperations name (filter_map as_occurrence items) (filter_map as_operation items)
   are_operations = record {
-    some = some_operation;
     few = let most : len P.operations ≤ 20000 = valid.limits.operations in omega (arith, operations_count);
-    fit = all_by_members (Fits heads) (filter_map as_operation items) fits;
+    fit = all_by_members (Fits name (filter_map as_occurrence items)) (filter_map as_operation items) fits;
     distinct = pairs_from_differ (λ a b. a.key ≢ b.key) (filter_map as_operation items) (read_apart as_operation (λ y. item.Operation y) (λ y. y.key) (λ q. key.Operation q) kinds.operations items apart);
+    not_empty = all_by_members (λ y. Contains (map occurrence_of OperationKeys) y.0) (filter_map as_occurrence items) has_operation;
   }
 
   pair_in : (y : OpKey × OpKey) → IsPairOf P.pairs y.0 y.1 → Contains (filter_map as_pair items) y
@@ -223,4 +217,5 @@ module _ (P : Plan) (valid : IsValid P) (loadable : IsLoadable P) (items : List 
   }
 
   pub needed : (h : Heads) × CanBeLoaded h items
-  needed = (heads, record { heads = have_heads; operations = are_operations; pairs = are_pairs })
+  unfolding heads
+  needed = (heads, record { heads = have_heads; occurrences = are_occurrences; operations = are_operations; pairs = are_pairs })

@@ -1,5 +1,5 @@
 -- Lists that are sorted, searched and tested for order, where only equal keys tie.
-use Rattle.std.proofs.Common.{◌≡◌, ◌≢◌, ◌↔◌, refl, sym, subst, ap, ◌∙◌, arith, ℕ, suc, ◌+◌, ◌<◌, Bool, true, false, true≢false, IsTrue, List, [], ◌∷◌, map, length, get_or, Contains, Result, Ok, Err, is_ok, inl, inr}
+use Rattle.std.proofs.Common.{◌≡◌, ◌≢◌, ◌↔◌, refl, sym, subst, ap, ◌∙◌, arith, ℕ, suc, ◌+◌, ◌<◌, Bool, true, false, true≢false, IsTrue, List, [], ◌∷◌, map, length, get_or, slice_get, Contains, Some, Result, Ok, Err, is_ok, inl, inr}
 use Rattle.std.proofs.lemmas.Bool.{cases_lt}
 use Rattle.std.specs.List.{IsDistinct, IsAllAdjacentAnswer}
 use Rattle.std.specs.List.Sorted.{IsPermutation, IsSortedBy, IsSortedByKey, IsStrictlySortedBy, IsBinarySearchResult, IsSearchInRange}
@@ -11,8 +11,14 @@ use Rattle.std.specs.FinMap.{IsAntisymmetric}
 use Rattle.std.proofs.lemmas.List.Elements.{All-contains, recursion_from_All, All-from_recursion}
 use Rattle.std.proofs.lemmas.List.Sorted.{ranks_by, sorted_far, searchable_from_sorted, IsPermutation-map}
 use Rattle.std.proofs.lemmas.Map.Keys.{IsDistinct-IsPermutation, Less-from_sorted, sorted_from_all_adjacent}
-use Rattle.plan_records.proofs.Lists.{all_by_members, from_map, Differ, differ_map, differ_unmap}
+use Rattle.plan_records.proofs.Lists.{all_by_members, in_map, from_map, Differ, differ_map, differ_unmap}
+use Rattle.std.proofs.lemmas.Option.{get_or_from_slice_get}
+use Rattle.plan_records.proofs.RowPlaces.{row_at}
 use Rattle.plan_records.proofs.Tables.{other_key, itself}
+
+pub map_same : {X : Type 0} (xs : List X) → map (λ x. x) xs ≡ xs
+map_same [] = refl
+map_same (x ∷ xs) = ap (λ ys. x ∷ ys) (map_same xs)
 
 module _ {K : Type 0} {R : K → K → Ordering} (total : IsTotalOrder R) where
   ascends_when : (xs : List K) → (k : ℕ) × (k + 1 < length xs) × ((d : K) → false ≡ is_lt (R (get_or xs k d) (get_or xs (k + 1) d))) → IsStrictlySortedBy R xs → ⊥
@@ -38,19 +44,26 @@ module _ {K : Type 0} {R : K → K → Ordering} (total : IsTotalOrder R) where
   sorted_from_strict xs up = λ k d low high. ap is_lt (total.antisymm (get_or xs (k + 1) d) (get_or xs k d) ∙ ap ordering_reverse (Less-from_sorted R xs k (k + 1) d up (omega arith) high))
 
   module _ (exact : IsAntisymmetric R) where
+    -- a search by a key tells whether it is the key of an element, where the list is sorted by it
+    pub search_told_by : {X : Type 0} (key : X → K) (xs : List X) (k : K) (r : Result ℕ ℕ) → IsSearchInRange r (length xs) → IsBinarySearchResult (λ x. R (key x) k) xs r → IsSortedBy (λ a b. is_lt (R (key a) (key b))) xs → IsTrue (is_ok r) ↔ Contains (map key xs) k
+    search_told_by {X} key xs k (Ok i) within h sorted = (λ _. found (row_at xs i within), λ _. refl)
+      where
+        found : (x : X) × (slice_get xs i ≡ Some x) → Contains (map key xs) k
+        found (x, is) = subst (Contains (map key xs)) (ap key (sym (get_or_from_slice_get xs i x x is)) ∙ exact (key (get_or xs i x)) k (h x)) (in_map key xs x (i, within, get_or_from_slice_get xs i x x is))
+    search_told_by {X} key xs k (Err i) within h sorted = (λ e. absurd (true≢false (sym e)), λ has. absurd (missing (from_map key xs k has)))
+      where
+        missing : (x : X) × Contains xs x × (key x ≡ k) → ⊥
+        missing (x, (j, lt, is), same) =
+            let parts = h (searchable_from_sorted total key xs k sorted) in
+            let tied : R (key (get_or xs j x)) k ≡ Equal = ap (λ y. R (key y) k) is ∙ ap (λ q. R q k) same ∙ tied_itself total k in
+            elim (cases_lt j i) [
+              | inl before ↦ let less : R (key (get_or xs j x)) k ≡ Less = parts.0 j x (omega arith) before in cc
+              | inr after ↦ let greater : R (key (get_or xs j x)) k ≡ Greater = parts.1 j x after lt in cc
+            ]
+
     -- a search in a list that ascends tells whether it has the key
     pub search_told : (xs : List K) (x : K) (r : Result ℕ ℕ) → IsSearchInRange r (length xs) → IsBinarySearchResult (λ y. R y x) xs r → IsStrictlySortedBy R xs → IsTrue (is_ok r) ↔ Contains xs x
-    search_told xs x (Ok i) within h up = (λ _. (i, within, exact (get_or xs i x) x (h x)), λ _. refl)
-    search_told xs x (Err i) within h up = (λ e. absurd (true≢false (sym e)), λ has. absurd (missing has))
-      where
-        missing : Contains xs x → ⊥
-        missing (k, lt, is) =
-            let parts = h (searchable_from_sorted total (λ (y : K). y) xs x (sorted_from_strict xs up)) in
-            let tied : R (get_or xs k x) x ≡ Equal = ap (λ y. R y x) is ∙ tied_itself total x in
-            elim (cases_lt k i) [
-              | inl before ↦ let less : R (get_or xs k x) x ≡ Less = parts.0 k x (omega arith) before in cc
-              | inr after ↦ let greater : R (get_or xs k x) x ≡ Greater = parts.1 k x after lt in cc
-            ]
+    search_told xs x r within h up = subst (λ ys. IsTrue (is_ok r) ↔ Contains ys x) (map_same xs) (search_told_by (λ y. y) xs x r within h (sorted_from_strict xs up))
 
     less_from : (a b : K) → is_lt (R b a) ≡ false → a ≢ b → R a b ≡ Less
     less_from a b not_less apart = elim (R a b) as (λ o. R a b ≡ o → R a b ≡ Less) [
@@ -92,7 +105,3 @@ module _ {K : Type 0} {R : K → K → Ordering} (total : IsTotalOrder R) where
               let far : is_lt (R (key (get_or xs i z)) (key x)) ≡ false = sorted_far (λ a b. is_lt (R (key a) (key b))) (ranks_by total key) (x ∷ xs) up 0 (suc i) z (omega arith) (omega arith) in
               let far' : is_lt (R (key z) (key x)) ≡ false = subst (λ w. is_lt (R (key w) (key x)) ≡ false) is far in
               subst (λ w. R (key x) w ≡ Less) e (less_from (key x) (key z) far' (All-contains (λ b. key x ≢ key b) xs z d.0 (i, lt, is)))
-
-pub map_same : {X : Type 0} (xs : List X) → map (λ x. x) xs ≡ xs
-map_same [] = refl
-map_same (x ∷ xs) = ap (λ ys. x ∷ ys) (map_same xs)

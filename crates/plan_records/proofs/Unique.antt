@@ -22,7 +22,8 @@ use Rattle.plan_records.specs.declared.RowKey.{RowKey}
 use Rattle.plan_records.specs.declared.RowKey.TheVariants as key
 use Rattle.plan_records.specs.Records.{key_of, entered, IsAsSaid, StandsInSupplement, StandsIn, IsItemOf, IsItemOfPlan, AreItems, OnePlan, OneAddition}
 use Rattle.plan_records.proofs.Tables.{some_is, same_some, no_some}
-use Rattle.plan_records.proofs.Needed.{found_attribute, pair_cmp_total, pair_cmp-IsAntisymmetric}
+use Rattle.plan_records.proofs.Needed.{found_attribute}
+use Rattle.plan_records.proofs.Pairs.{pair_cmp_total, pair_cmp-IsAntisymmetric}
 use Rattle.plan_records.proofs.Denoting.{same_items}
 
 -- two maps of which each has what the other has are one

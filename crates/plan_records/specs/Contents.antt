@@ -7,9 +7,10 @@ use Rattle.std.specs.FinSet as set
 use Rattle.plan_basics.specs.declared.Attr.TheVariants.{Automatic}
 use Rattle.plan_basics.specs.declared.keys.OccKey.{OccKey}
 use Rattle.plan_basics.specs.declared.keys.OpKey.{OpKey}
-use Rattle.plan_basics.specs.Keys.{operation_cmp}
+use Rattle.plan_basics.specs.Keys.{occurrence_cmp, operation_cmp}
 use Rattle.plan_model.specs.declared.Occurrence.{Occurrence}
 use Rattle.plan_model.specs.Plan.{Plan, Operation, Supplement, pair_cmp}
+use Rattle.plan_model.specs.Valid.{IsValid}
 use Rattle.plan_records.specs.declared.contents.PlanContents.{PlanContents}
 use Rattle.plan_records.specs.Drafts.{IsDraft, IsLoadable}
 
@@ -24,15 +25,22 @@ plan_of clock c = record {
   clock = clock;
   workstations = map.insert map.empty c.workstation (record { attribute = Automatic; intervals = map.insert map.empty c.interval.from c.interval });
   resources = map.empty;
-  occurrences = map.insert map.empty c.occurrence c.terms;
+  occurrences = map.from_entries c.occurrences.items;
   operations = map.from_entries c.operations.items;
   pairs = set.from_list c.pairs.items;
 }
 
--- operations by key, pairs by predecessor and then successor, and each of them once
+-- occurrences and operations by key, pairs by predecessor and then successor, and each of them once
 pub record AreContents (c : PlanContents) : Type 0 where
+  pub occurrences : IsStrictlySortedBy occurrence_cmp (keys_of c.occurrences.items)
   pub operations : IsStrictlySortedBy operation_cmp (keys_of c.operations.items)
   pub pairs : IsStrictlySortedBy pair_cmp c.pairs.items
+
+-- contents in order, of a valid plan that can be loaded so far
+pub record AreValidContents (c : PlanContents) : Type 0 where
+  pub in_order : AreContents c
+  pub valid : IsValid (plan_of 0 c)
+  pub loadable : IsLoadable (plan_of 0 c)
 
 -- contents of a draft that can be loaded so far
 pub record AreDraftContents (c : PlanContents) : Type 0 where

@@ -15,12 +15,11 @@ pub record IsDraft (P : Plan) : Type 0 where
   pub loaded : P.loaded ≡ true
   pub untouched : AreUntouched P.operations
 
--- what can be loaded so far: one automatic workstation with one open interval, one occurrence, no special resources and no needs of any resource, and each predecessor has the smaller key
+-- what can be loaded so far: one automatic workstation with one open interval, no special resources and no needs of any resource, and each predecessor has the smaller key
 pub record IsLoadable (P : Plan) : Type 0 where
   pub one_workstation : len P.workstations ≡ 1
   pub automatic : (w : Name) (ws : Workstation) → get P.workstations w ≡ Some ws → (ws.attribute ≡ Automatic) × (len ws.intervals ≡ 1)
   pub no_resources : len P.resources ≡ 0
-  pub one_occurrence : len P.occurrences ≡ 1
   pub without_needs : (o : OpKey) (op : Operation) → get P.operations o ≡ Some op → (op.r1 ≡ 0) × (op.r2 ≡ 0) × (len op.needs ≡ 0)
   pub ascending : (p o : OpKey) → IsPairOf P.pairs p o → operation_cmp p o ≡ Less
 

@@ -1,6 +1,7 @@
 pub mod Answer
 pub mod Drafts
 pub mod Contents
+pub mod Places
 pub mod Changes
 pub mod Accepting
 pub mod Step

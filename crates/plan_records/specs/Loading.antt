@@ -7,7 +7,7 @@ use Rattle.plan_basics.specs.declared.Attr.{Attr}
 use Rattle.plan_basics.specs.declared.Attr.TheVariants.{Automatic}
 use Rattle.plan_basics.specs.declared.keys.OccKey.{OccKey}
 use Rattle.plan_basics.specs.declared.keys.OpKey.{OpKey}
-use Rattle.plan_basics.specs.Keys.{Name, operation_cmp}
+use Rattle.plan_basics.specs.Keys.{Name, occurrence_cmp, operation_cmp}
 use Rattle.plan_basics.specs.Intervals.{OpenInterval}
 use Rattle.status_rules.specs.declared.Mark.TheVariants.{Unmarked}
 use Rattle.plan_model.specs.Plan.{Operation, pair_cmp}
@@ -52,38 +52,59 @@ as_resource (item.Resource name available) = Some name
 as_resource (item.Need operation need) = Some need.name
 as_resource _ = None
 
+-- the priority and deadline of an occurrence that is one of these, and zeros for any other
+abbrev pub terms_of : List (OccKey × Occurrence) → OccKey → Occurrence
+terms_of occurrences c = unwrap_or (fin.get {R = occurrence_cmp} (fin.from_entries occurrences) c) (record { priority = 0; deadline = 0 })
+
 -- the operation that its record says, of an occurrence
 abbrev pub operation_of : Occurrence → OperationItem → Operation
 operation_of c said = record { workstation = said.workstation; duration = said.duration; r1 = said.r1; r2 = said.r2; not_before = said.not_before; deadline = unwrap_or said.deadline c.deadline; needs = fin.empty; mark = Unmarked; held = false; nop = false }
 
--- with its key
-abbrev pub row_of : Occurrence → OperationItem → OpKey × Operation
-row_of c said = (said.key, operation_of c said)
+-- with its key, where these are the occurrences
+abbrev pub row_of : List (OccKey × Occurrence) → OperationItem → OpKey × Operation
+row_of occurrences said = (said.key, operation_of (terms_of occurrences said.key.occurrence) said)
 
--- an operation of that workstation and that occurrence, without fixed resources
-pub record Fits (h : Heads) (said : OperationItem) : Type 0 where
-  pub workstation : said.workstation ≡ h.workstation
-  pub occurrence : said.key.occurrence ≡ h.occurrence
+-- the occurrence of an operation
+abbrev pub occurrence_of : OpKey → OccKey
+occurrence_of o = o.occurrence
+
+-- an operation of that workstation and of one of these occurrences, without fixed resources
+pub record Fits (w : Name) (occurrences : List (OccKey × Occurrence)) (said : OperationItem) : Type 0 where
+  pub workstation : said.workstation ≡ w
+  pub occurrence : Contains (keys_of occurrences) said.key.occurrence
   pub r1 : said.r1 ≡ 0
   pub r2 : said.r2 ≡ 0
 
--- one automatic workstation, one interval of it, one occurrence, and no resources
-pub record AreHeads (h : Heads) (workstations : List (Name × Attr)) (intervals : List (Name × OpenInterval)) (occurrences : List (OccKey × Occurrence)) (resources : List Name) : Type 0 where
+-- one automatic workstation, one interval of it, and no resources
+pub record AreHeads (h : Heads) (workstations : List (Name × Attr)) (intervals : List (Name × OpenInterval)) (resources : List Name) : Type 0 where
   pub workstation : workstations ≡ (h.workstation, Automatic) ∷ []
   pub interval : intervals ≡ (h.workstation, h.interval) ∷ []
-  pub occurrence : occurrences ≡ (h.occurrence, h.terms) ∷ []
   pub no_resources : resources ≡ []
 
 -- the items name these, and no others
 abbrev pub HaveHeads : Heads → List Item → Type 0
-HaveHeads h items = AreHeads h (filter_map as_workstation items) (filter_map as_interval items) (filter_map as_occurrence items) (filter_map as_resource items)
+HaveHeads h items = AreHeads h (filter_map as_workstation items) (filter_map as_interval items) (filter_map as_resource items)
 
--- at least one operation, each fits, and no two have one key
-pub record AreOperations (h : Heads) (said : List OperationItem) : Type 0 where
+-- at least one occurrence, 5,000 at most, and no two have one key
+pub record AreOccurrenceRows (said : List (OccKey × Occurrence)) : Type 0 where
   pub some : 0 < length said
+  pub few : length said ≤ 5000
+  pub distinct : AllPairs (λ a b. a.0 ≢ b.0) said
+
+-- the keys of the operations that are said
+abbrev pub keys_said : List OperationItem → List OpKey
+keys_said said = map (λ (s : OperationItem). s.key) said
+
+-- each occurrence has an operation of the list
+abbrev pub EachHasOperation : List OpKey → List (OccKey × Occurrence) → Type 0
+EachHasOperation keys occurrences = All (λ row. Contains (map occurrence_of keys) row.0) occurrences
+
+-- 20,000 operations at most: each fits, no two have one key, and each occurrence has one
+pub record AreOperations (w : Name) (occurrences : List (OccKey × Occurrence)) (said : List OperationItem) : Type 0 where
   pub few : length said ≤ 20000
-  pub fit : All (Fits h) said
+  pub fit : All (Fits w occurrences) said
   pub distinct : AllPairs (λ a b. a.key ≢ b.key) said
+  pub not_empty : EachHasOperation (keys_said said) occurrences
 
 -- a pair of operations of the list, in ascending order
 pub record IsPairIn (keys : List OpKey) (p : OpKey × OpKey) : Type 0 where
@@ -91,20 +112,26 @@ pub record IsPairIn (keys : List OpKey) (p : OpKey × OpKey) : Type 0 where
   pub first : Contains keys p.0
   pub second : Contains keys p.1
 
--- each pair is one of these operations, and none stands twice
+-- 100,000 pairs at most: each is one of these operations, and none stands twice
 pub record ArePairs (keys : List OpKey) (pairs : List (OpKey × OpKey)) : Type 0 where
   pub few : length pairs ≤ 100000
   pub within : All (IsPairIn keys) pairs
   pub distinct : AllPairs (λ a b. a ≢ b) pairs
 
+-- the occurrences in key order
+pub record AreOccurrencesInOrder (said : List (OccKey × Occurrence)) (ordered : List (OccKey × Occurrence)) : Type 0 where
+  pub are : AreOccurrenceRows said
+  pub same : IsPermutation said ordered
+  pub in_order : IsStrictlySortedBy occurrence_cmp (keys_of ordered)
+
 -- the operations' rows in key order
-pub record AreRowsOf (h : Heads) (said : List OperationItem) (rows : List (OpKey × Operation)) : Type 0 where
-  pub operations : AreOperations h said
-  pub same : IsPermutation (map (row_of h.terms) said) rows
+pub record AreRowsOf (w : Name) (occurrences : List (OccKey × Occurrence)) (said : List OperationItem) (rows : List (OpKey × Operation)) : Type 0 where
+  pub operations : AreOperations w occurrences said
+  pub same : IsPermutation (map (row_of occurrences) said) rows
   pub in_order : IsStrictlySortedBy operation_cmp (keys_of rows)
 
 -- the pairs by predecessor and then successor
-pub record AreInOrder (keys : List OpKey) (pairs : List (OpKey × OpKey)) (ordered : List (OpKey × OpKey)) : Type 0 where
+pub record ArePairsInOrder (keys : List OpKey) (pairs : List (OpKey × OpKey)) (ordered : List (OpKey × OpKey)) : Type 0 where
   pub are : ArePairs keys pairs
   pub same : IsPermutation pairs ordered
   pub in_order : IsStrictlySortedBy pair_cmp ordered
@@ -112,16 +139,18 @@ pub record AreInOrder (keys : List OpKey) (pairs : List (OpKey × OpKey)) (order
 -- the items are those of a plan that can be loaded so far
 pub record CanBeLoaded (h : Heads) (items : List Item) : Type 0 where
   pub heads : HaveHeads h items
-  pub operations : AreOperations h (filter_map as_operation items)
-  pub pairs : ArePairs (map (λ said. said.key) (filter_map as_operation items)) (filter_map as_pair items)
+  pub occurrences : AreOccurrenceRows (filter_map as_occurrence items)
+  pub operations : AreOperations h.workstation (filter_map as_occurrence items) (filter_map as_operation items)
+  pub pairs : ArePairs (keys_said (filter_map as_operation items)) (filter_map as_pair items)
 
--- the workstation, interval and occurrence of contents
+-- the workstation and interval of contents
 abbrev pub heads_of : PlanContents → Heads
-heads_of c = record { workstation = c.workstation; interval = c.interval; occurrence = c.occurrence; terms = c.terms }
+heads_of c = record { workstation = c.workstation; interval = c.interval }
 
 -- contents in key order of what the items say
 pub record AreContentsOf (items : List Item) (c : PlanContents) : Type 0 where
   pub items_are : CanBeLoaded (heads_of c) items
-  pub operations : IsPermutation (map (row_of c.terms) (filter_map as_operation items)) c.operations.items
+  pub occurrences : IsPermutation (filter_map as_occurrence items) c.occurrences.items
+  pub operations : IsPermutation (map (row_of c.occurrences.items) (filter_map as_operation items)) c.operations.items
   pub pairs : IsPermutation (filter_map as_pair items) c.pairs.items
   pub in_order : AreContents c

@@ -6,12 +6,15 @@ ghost use Rattle.plan_records.specs.Records.{OnePlan, OneAddition};
 mod building;
 mod contents;
 mod drafts;
+mod in_order;
+mod places;
 #[cfg(test)]
 mod tests;
 
 pub use building::Record;
 pub use contents::PlanContents;
 pub use drafts::{Addition, PlanDraft};
+pub use places::{known_occurrence, known_place, occurrence_place, place_of};
 use plan_basics::{Attr, ErrCode, Interval, Moment, OccKey, OpKey, Refusal, ResName, WsName};
 use special_resources::Need;
 use status_rules::{Mark, OccStatus, Status};

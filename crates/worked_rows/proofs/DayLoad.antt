@@ -130,6 +130,9 @@ day_is_valid = record {
 pub day_is_draft : IsDraft day
 day_is_draft = record { valid = day_is_valid; loaded = refl; untouched = of_both (λ o op. IsUntouched op) (refl, refl, refl) (refl, refl, refl) }
 
+pub one_occurrence : len day.occurrences ≡ 1
+one_occurrence = len-entries day.occurrences ∙ ap length (entries-from_entries occurrence_cmp_total occurrence_cmp-IsAntisymmetric ((daily, occurrence) ∷ []) tt)
+
 pub day_is_loadable : IsLoadable day
 day_is_loadable = record {
   one_workstation = len-entries day.workstations ∙ ap length (entries-from_entries name_cmp_total name_cmp-IsAntisymmetric ((cpu1, always_open) ∷ []) tt);
@@ -138,7 +141,6 @@ day_is_loadable = record {
     | inr never ↦ absurd never
   ];
   no_resources = len-empty name_cmp _;
-  one_occurrence = len-entries day.occurrences ∙ ap length (entries-from_entries occurrence_cmp_total occurrence_cmp-IsAntisymmetric ((daily, occurrence) ∷ []) tt);
   without_needs = of_both (λ o op. (op.r1 ≡ 0) × (op.r2 ≡ 0) × (len op.needs ≡ 0)) (refl, refl, len-empty name_cmp _) (refl, refl, len-empty name_cmp _);
   ascending = only_pair (λ p o. operation_cmp p o ≡ Less) refl;
 }

@@ -10,6 +10,5 @@ returns c =
     record {
       workstation = c.in_ok-workstation.ensures ∙ ap (λ a. (c.in_ok-workstation.workstation, a) ∷ []) automatic;
       interval = c.in_ok-of.ensures ∙ ap (λ w. (w, c.in_ok-of.interval) ∷ []) same;
-      occurrence = c.in_ok-occurrence.ensures;
       no_resources = nil_from_test c.args.resources.now c.if-not-is_empty.ensures;
     }

@@ -1,33 +1,34 @@
-use Rattle.std.proofs.Common.{sym, subst, ◌∙◌, IfOk}
-use Rattle.plan_basics.specs.declared.Refusal.TheVariants as refusal
-use Rattle.plan_records.specs.Accepting.{minute_of}
-use Rattle.plan_records.specs.Answer.{accepted}
-use Rattle.plan_records.specs.Step.{Step}
-use Rattle.plan_core.specs.State.{IsPreparedFor, plan_after}
-use Rattle.plan_core.proofs.Accepted.{accepted_step, in_range, prepared_for}
-use Rattle.plan_core.proofs.Holding.{load_is_some, loads_some}
+use Rattle.std.proofs.Common.{subst}
+use Rattle.plan_model.specs.Valid.{IsSound}
+use Rattle.plan_core.specs.State.{PlanState}
+use Rattle.plan_core.proofs.Preparing.{accepted_step, denotes, held_sound, made_sound, needs_loaded}
 use Rattle.plan_core.proofs.plan.Plan.prepare.Goals as goal
-use Rattle.plan_core.proofs.plan.Plan.prepare.Goals.{in-Ok, in-Err}
 
-pub draft_of-requires-clause-some : goal.draft_of-requires-clause-some
-draft_of-requires-clause-some c e =
-    let some = loads_some c.args.self.now.plan (minute_of c.args.request.now.at) c.args.request.now.what c.requires (c.in_ok-at.ensures.ok refusal.BadPlan) in
-    load_is_some some.0 (sym e ∙ some.1)
+pub contents_after-requires-clause-loaded : goal.contents_after-requires-clause-loaded
+contents_after-requires-clause-loaded c = needs_loaded c.args.self.now.plan c.args.request.now c.in_ok-at.ensures.ok
 
-pub load-requires : goal.load-requires
-load-requires c = in_range c.args.self.now.plan c.args.request.now c.draft_of.result.now c.in_ok-at.at c.in_ok-at.ensures.at c.draft_of.ensures c.in_ok-at.ensures.ok
+pub contents_after-requires-clause-denotes : goal.contents_after-requires-clause-denotes
+contents_after-requires-clause-denotes c = denotes c.args.self.now.plan c.args.request.now c.in_ok-at.ensures.ok
 
-pub returns-clause-prepared : goal.returns-clause-prepared
-returns-clause-prepared c =
-    elim c.match-load.branch [
-      | in-Ok w ↦ subst (λ r. IfOk r (IsPreparedFor c.args.self.now)) (sym w.result-is) (prepared_for c.args.self.now w.in-Ok.prepared c.draft_of.result.now c.in_ok-at.at c.args.request.now c.in_ok-at.ensures.at c.draft_of.ensures c.in_ok-at.ensures.ok w.in-Ok.ensures.plan)
-      | in-Err w ↦ subst (λ r. IfOk r (IsPreparedFor c.args.self.now)) (sym w.result-is) tt
-    ]
+pub settle-requires-clause-sound : goal.settle-requires-clause-sound
+settle-requires-clause-sound c =
+    let sound = subst (λ (s : PlanState). IsSound s.plan) c.self.view_is (held_sound c.self.inside.clock c.self.inside.loaded c.self.invariant) in
+    made_sound c.args.self.now.plan c.args.request.now c.in_ok-at.ensures.ok c.in_ok-at.at c.in_ok-at.ensures.at c.in_ok-contents.contents c.in_ok-contents.ensures sound
+
+pub settle-requires-clause-loadable : goal.settle-requires-clause-loadable
+settle-requires-clause-loadable c = c.in_ok-contents.ensures.loadable c.in_ok-at.at
 
 pub returns-clause-step : goal.returns-clause-step
 returns-clause-step c =
-    elim c.match-load.branch [
-      | in-Ok w ↦ subst (λ r. IfOk r (λ p. Step c.args.self.now.plan c.args.request.now (accepted p.named) (plan_after c.args.self.now p))) (sym w.result-is)
-          (accepted_step c.args.self.now.plan c.args.request.now c.draft_of.result.now c.in_ok-at.at c.in_ok-at.ensures.at c.draft_of.ensures c.in_ok-at.ensures.ok w.in-Ok.prepared.plan w.in-Ok.prepared.named w.in-Ok.ensures.draft w.in-Ok.ensures.chosen w.in-Ok.ensures.plan)
-      | in-Err w ↦ subst (λ r. IfOk r (λ p. Step c.args.self.now.plan c.args.request.now (accepted p.named) (plan_after c.args.self.now p))) (sym w.result-is) tt
-    ]
+    let made = c.in_ok-contents in
+    let settled = c.in_ok-settle in
+    accepted_step c.args.self.now.plan c.args.request.now c.in_ok-at.ensures.ok c.in_ok-at.at c.in_ok-at.ensures.at made.contents made.ensures settled.field-0.plan settled.field-0.named settled.ensures.chosen settled.ensures.plan
+
+pub returns-clause-prepared : goal.returns-clause-prepared
+returns-clause-prepared c =
+    let made = c.in_ok-contents in
+    let settled = c.in_ok-settle in
+    record {
+      request = c.args.request.now;
+      step = accepted_step c.args.self.now.plan c.args.request.now c.in_ok-at.ensures.ok c.in_ok-at.at c.in_ok-at.ensures.at made.contents made.ensures settled.field-0.plan settled.field-0.named settled.ensures.chosen settled.ensures.plan;
+    }

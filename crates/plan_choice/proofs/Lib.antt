@@ -1,0 +1,11 @@
+pub mod Allowed
+pub mod ChoiceSteps
+pub mod Given
+pub mod KeyOrder
+pub mod LatestStarts
+pub mod Naming
+pub mod PairsBackwards
+pub mod Readied
+pub mod ReadyLists
+pub mod Station
+pub mod Tally

@@ -1,0 +1,32 @@
+-- Answers to requests, one after another.
+use Rattle.std.proofs.Common.{refl, subst, List, [], ◌∷◌, ◌++◌}
+use Rattle.plan_basics.specs.declared.Refusal.TheVariants as refusal
+use Rattle.plan_laws.proofs.Running.{plan_answers}
+use Rattle.plan_laws.specs.Steps.{IsOfThePlan}
+use Rattle.plan_model.specs.Plan.{Plan}
+use Rattle.plan_records.specs.Answer.{Answer, accepted, refused}
+use Rattle.plan_records.specs.Run.{Answers, Call, CallStep, Run, State, Usable, plain, usable}
+use Rattle.plan_records.specs.Step.{Step}
+use Rattle.plan_records.specs.declared.Request.{Request}
+use Rattle.plan_core.specs.Requested.{IsAnswered}
+
+answered : (s t : State) (c : Call) (x : Answer) → IsOfThePlan x → CallStep s c x t → Answers s usable c x t usable
+answered s t c (accepted chosen) own h = (h, refl)
+answered s t c (refused refusal.Memory) own h = absurd own
+answered s t c (refused refusal.Store) own h = absurd own
+answered s t c (refused r) own h = (h, refl)
+
+-- a step answers the request, whatever receipts stand beside the plan
+pub step_answers : (P Q : Plan) (q : Request) (x : Answer) → Step P q x Q → IsAnswered P q x Q
+step_answers P Q q x step receipts =
+    let s : State = record { plan = P; receipts = receipts } in
+    let t : State = record { plan = Q; receipts = receipts } in
+    answered s t (plain q) x (plan_answers s t (plain q) x (step, refl)) (step, refl)
+
+-- a run that goes on by one call
+pub run_more : (s mid t : State) (u v w : Usable) (calls : List Call) (replies : List Answer) (c : Call) (x : Answer) → Run s u calls replies mid v → Answers mid v c x t w
+    → Run s u (calls ++ c ∷ []) (replies ++ x ∷ []) t w
+run_more s mid t u v w [] [] c x run step = (t, w, subst (λ z. Answers z u c x t w) run.0 (subst (λ z. Answers mid z c x t w) run.1 step), (refl, refl))
+run_more s mid t u v w [] (r ∷ replies) c x run step = absurd run
+run_more s mid t u v w (d ∷ calls) [] c x run step = absurd run
+run_more s mid t u v w (d ∷ calls) (r ∷ replies) c x run step = (run.0, run.1, run.2, run_more run.0 mid t run.1 v w calls replies c x run.3 step)

@@ -1,0 +1,121 @@
+-- The views of what is held are those of the plan's operations.
+use Rattle.std.proofs.Common.{◌≡◌, ◌↔◌, refl, sym, ap, subst, ◌∙◌, arith, ℕ, List, map, Contains, slice_get, Some, option_map}
+use Rattle.std.proofs.lemmas.Option.{slice_get_within}
+use Rattle.std.specs.FinMap.{get}
+use Rattle.std.specs.List.Sorted.{IsStrictlySortedBy}
+use Rattle.std.specs.Map.{keys_of}
+use Rattle.plan_basics.specs.Keys.{occurrence_cmp, occurrence_cmp_total, occurrence_cmp-IsAntisymmetric, operation_cmp, operation_cmp_total, operation_cmp-IsAntisymmetric}
+use Rattle.plan_basics.specs.declared.Attr.TheVariants.{Automatic}
+use Rattle.plan_basics.specs.declared.keys.OpKey.{OpKey}
+use Rattle.plan_laws.proofs.Standing.{each_has_one_status}
+use Rattle.plan_model.specs.Plan.{HasAttribute, IsInPlan, Operation, Plan}
+use Rattle.plan_model.specs.Status.{HasStatus}
+use Rattle.plan_model.specs.declared.Occurrence.{Occurrence}
+use Rattle.plan_records.proofs.Lists.{from_map}
+use Rattle.plan_records.proofs.RowPlaces.{get_at, row_at}
+use Rattle.plan_records.proofs.Tables.{is_found, key_found, some_is}
+use Rattle.plan_records.specs.Contents.{plan_of}
+use Rattle.plan_status.proofs.ByStanding.{status_on}
+use Rattle.plan_status.specs.Standings.{IsStanding}
+use Rattle.plan_status.specs.declared.standings.Standing.{Standing}
+use Rattle.plan_core.proofs.SideBySide.{from_viewed, keys_viewed, place_of_member, viewed_at}
+use Rattle.plan_core.specs.Held.{AreHeld}
+use Rattle.plan_core.specs.Views.{AreOpViews, IsOpView, op_view_of, op_views, priority_of}
+use Rattle.plan_core.specs.declared.loaded.LoadedPlan.{LoadedPlan}
+use Rattle.plan_core.specs.declared.views.OpView.{OpView}
+use Rattle.status_rules.specs.declared.Status.{Status}
+
+-- it follows from the row and from what is known of its predecessors, in any plan
+abbrev pub FollowsFrom : Operation → Standing → Status → Type 0
+FollowsFrom op s t = (Q : Plan) (o : OpKey) → get Q.operations o ≡ Some op → HasAttribute Q op.workstation Automatic → IsStanding Q o s → HasStatus Q o t
+
+module _ (clock : ℕ) (h : LoadedPlan) (held : AreHeld clock h) where
+  abbrev P : Plan
+  P = plan_of clock h.contents
+
+  abbrev rows : List (OpKey × Operation)
+  rows = h.contents.operations.items
+
+  abbrev standings : List Standing
+  standings = h.standings.items
+
+  -- the view of a row with its standing
+  abbrev seen : OpKey → Operation → Standing → OpView
+  seen o op s = op_view_of P.occurrences ((o, op), s)
+
+  pub row_in_plan : (i : ℕ) (o : OpKey) (op : Operation) → slice_get rows i ≡ Some (o, op) → get P.operations o ≡ Some op
+  row_in_plan i o op at = get_at operation_cmp operation_cmp_total operation_cmp-IsAntisymmetric rows held.in_order.operations i o op at
+
+  -- the occurrence of an operation is there
+  pub its_occurrence : (o : OpKey) (op : Operation) → get P.operations o ≡ Some op → (c : Occurrence) × (get P.occurrences o.occurrence ≡ Some c)
+  its_occurrence o op is = is_found (get P.occurrences o.occurrence) (held.sound.valid.occurrences.each_operation o op is).1
+
+  is_automatic : (o : OpKey) (op : Operation) → get P.operations o ≡ Some op → HasAttribute P op.workstation Automatic
+  is_automatic o op is =
+      let ws = is_found (get P.workstations op.workstation) (held.sound.valid.have_workstations o op is) in
+      ap (option_map (λ w. w.attribute)) ws.1 ∙ ap Some (held.loadable.automatic op.workstation ws.0 ws.1).0
+
+  by_standing : (o : OpKey) (op : Operation) (s : Standing) → get P.operations o ≡ Some op → IsStanding P o s → HasStatus P o (seen o op s).status
+  by_standing o op s is stands = status_on P o op Automatic s.preds is (is_automatic o op is) stands.preds
+
+  is_op_view : (i : ℕ) (o : OpKey) (op : Operation) (s : Standing) → slice_get rows i ≡ Some (o, op) → slice_get standings i ≡ Some s → IsOpView P (seen o op s)
+  is_op_view i o op s row at =
+      let is = row_in_plan i o op row in
+      let stands = held.standings.each i o op s row at in
+      let c = its_occurrence o op is in
+      record {
+        op = op;
+        is_in_plan = is;
+        columns = (refl, refl, refl, refl, refl, refl, refl, refl, refl);
+        priority = (c.0, c.1, ap priority_of c.1);
+        status = by_standing o op s is stands;
+        waiting = stands.waiting;
+      }
+
+  -- an operation has one status
+  one_status : (o : OpKey) → IsInPlan P o → (s t : Status) → HasStatus P o s → HasStatus P o t → s ≡ t
+  one_status o there s t x y = let one = each_has_one_status P held.sound.valid o there in one.2 s x ∙ sym (one.2 t y)
+
+  module _ (i k : ℕ) (o : OpKey) (op : Operation) (s : Standing) (c : Occurrence) (t : Status) where
+    -- the view at a place, with the priority of its occurrence and the status that follows
+    pub op_view_at : slice_get rows i ≡ Some (o, op) → slice_get standings i ≡ Some s → slice_get h.contents.occurrences.items k ≡ Some (o.occurrence, c) → FollowsFrom op s t
+        → slice_get (op_views h) i ≡ Some (record (seen o op s) { priority = c.priority; status = t })
+    op_view_at row at occurrence told =
+        let is = row_in_plan i o op row in
+        let stands = held.standings.each i o op s row at in
+        let terms = get_at occurrence_cmp occurrence_cmp_total occurrence_cmp-IsAntisymmetric h.contents.occurrences.items held.in_order.occurrences k o.occurrence c occurrence in
+        let priority : (seen o op s).priority ≡ c.priority = ap priority_of terms in
+        let status = one_status o (op, is, tt) (seen o op s).status t (by_standing o op s is stands) (told P o is (is_automatic o op is) stands) in
+        viewed_at (op_view_of P.occurrences) rows standings i (o, op) s row at ∙ (λ j. Some (record (seen o op s) { priority = priority j; status = status j }))
+
+  op_keys : map (λ v. v.key) (op_views h) ≡ keys_of rows
+  op_keys = keys_viewed (op_view_of P.occurrences) (λ v. v.key) (λ p. refl) rows standings held.standings.size
+
+  in_plan : (o : OpKey) → Contains (keys_of rows) o → IsInPlan P o
+  in_plan o has =
+      let r = from_map (λ (p : OpKey × Operation). p.0) rows o has in
+      let at = place_of_member rows r.0 r.1 in
+      (r.0.1, row_in_plan at.0 o r.0.1 (at.1 ∙ ap (λ z. Some (z, r.0.1)) r.2), tt)
+
+  among_keys : (o : OpKey) → IsInPlan P o → Contains (keys_of rows) o
+  among_keys o there = key_found operation_cmp_total operation_cmp-IsAntisymmetric rows o (some_is (get P.operations o) there.0 there.1)
+
+  pub are_op_views : AreOpViews P (op_views h)
+  are_op_views = record {
+    in_order = subst (IsStrictlySortedBy operation_cmp) (sym op_keys) held.in_order.operations;
+    every = λ o. subst (λ ks. Contains ks o ↔ IsInPlan P o) (sym op_keys) (in_plan o, among_keys o);
+    each = λ v has. let x = from_viewed (op_view_of P.occurrences) rows standings v has in subst (IsOpView P) x.5 (is_op_view x.0 x.1.0 x.1.1 x.2 x.3 x.4);
+  }
+
+  standing_at : (i : ℕ) (o : OpKey) (op : Operation) → slice_get rows i ≡ Some (o, op) → (s : Standing) × (slice_get standings i ≡ Some s)
+  standing_at i o op row = row_at standings i (let lt = slice_get_within rows i (o, op) row in omega (arith, lt, held.standings.size))
+
+  same_view : {a b : OpView} → Some a ≡ Some b → a ≡ b
+  same_view e = cc
+
+  -- the view at the place of a row
+  pub op_view_is : (i : ℕ) (o : OpKey) (op : Operation) (v : OpView) → slice_get rows i ≡ Some (o, op) → slice_get (op_views h) i ≡ Some v → (v.key ≡ o) × IsOpView P v
+  op_view_is i o op v row at =
+      let s = standing_at i o op row in
+      let e : seen o op s.0 ≡ v = same_view (sym (viewed_at (op_view_of P.occurrences) rows standings i (o, op) s.0 row s.1) ∙ at) in
+      (sym (ap (λ w. w.key) e), subst (IsOpView P) e (is_op_view i o op s.0 row s.1))

@@ -1,0 +1,60 @@
+-- Rows beside what is known of each of them, seen as one list of views.
+use Rattle.std.proofs.Common.{◌≡◌, refl, ap, subst, arith, ℕ, zero, suc, List, [], ◌∷◌, map, drop, length, slice_get, Contains, Some, inl, inr}
+use Rattle.std.specs.List.{zip}
+use Rattle.std.specs.Map.{keys_of}
+use Rattle.plan_records.proofs.Lists.{contains_cases, contains_head, contains_later, contains_none}
+
+module _ {X : Type 0} where
+  -- what stands at a place is a member, and a member stands at some place
+  pub member_at : (xs : List X) (i : ℕ) (x : X) → slice_get xs i ≡ Some x → Contains xs x
+  member_at [] i x e = cc
+  member_at (y ∷ xs) zero x e = let same : y ≡ x = cc in subst (Contains (y ∷ xs)) same (contains_head y xs)
+  member_at (y ∷ xs) (suc i) x e = contains_later y xs x (member_at xs i x e)
+
+  pub place_of_member : (xs : List X) (x : X) → Contains xs x → (i : ℕ) × (slice_get xs i ≡ Some x)
+  place_of_member [] x has = absurd (contains_none x has)
+  place_of_member (y ∷ xs) x has = elim (contains_cases y xs x has) [
+    | inl e ↦ (0, ap Some e)
+    | inr later ↦ let r = place_of_member xs x later in (suc r.0, r.1)
+  ]
+
+  -- what is left from a place on begins with what stands there
+  pub left_from : (xs : List X) (i : ℕ) (x : X) → slice_get xs i ≡ Some x → drop i xs ≡ x ∷ drop (suc i) xs
+  left_from [] i x e = cc
+  left_from (y ∷ xs) zero x e = let same : y ≡ x = cc in ap (λ z. z ∷ xs) same
+  left_from (y ∷ xs) (suc i) x e = left_from xs i x e
+
+module _ {K V X W : Type 0} (view : (K × V) × X → W) where
+  abbrev pub viewed : List (K × V) → List X → List W
+  viewed rows xs = map view (zip rows xs)
+
+  -- the view at a place is that of what stands there on both sides
+  pub viewed_at : (rows : List (K × V)) (xs : List X) (i : ℕ) (row : K × V) (x : X) → slice_get rows i ≡ Some row → slice_get xs i ≡ Some x
+      → slice_get (viewed rows xs) i ≡ Some (view (row, x))
+  viewed_at [] xs i row x e f = cc
+  viewed_at (r ∷ rows) [] i row x e f = cc
+  viewed_at (r ∷ rows) (y ∷ xs) zero row x e f = let a : r ≡ row = cc in let b : y ≡ x = cc in λ j. Some (view (a j, b j))
+  viewed_at (r ∷ rows) (y ∷ xs) (suc i) row x e f = viewed_at rows xs i row x e f
+
+  -- each view is that of some row
+  pub from_viewed : (rows : List (K × V)) (xs : List X) (w : W) → Contains (viewed rows xs) w
+      → (i : ℕ) × (row : K × V) × (x : X) × (slice_get rows i ≡ Some row) × (slice_get xs i ≡ Some x) × (view (row, x) ≡ w)
+  from_viewed [] xs w has = absurd (contains_none w has)
+  from_viewed (r ∷ rows) [] w has = absurd (contains_none w has)
+  from_viewed (r ∷ rows) (y ∷ xs) w has = elim (contains_cases (view (r, y)) (viewed rows xs) w has) [
+    | inl e ↦ (0, r, y, refl, refl, e)
+    | inr later ↦ let h = from_viewed rows xs w later in (suc h.0, h.1, h.2, h.3, h.4, h.5)
+  ]
+
+  -- as many as there are rows
+  pub length_viewed : (rows : List (K × V)) (xs : List X) → length xs ≡ length rows → length (viewed rows xs) ≡ length rows
+  length_viewed [] xs e = refl
+  length_viewed (r ∷ rows) [] e = absurd (omega (arith, e))
+  length_viewed (r ∷ rows) (y ∷ xs) e = ap suc (length_viewed rows xs (omega (arith, e)))
+
+  -- where a view bears its row's key, the views' keys are the rows'
+  pub keys_viewed : (key : W → K) → ((p : (K × V) × X) → key (view p) ≡ p.0.0) → (rows : List (K × V)) (xs : List X) → length xs ≡ length rows
+      → map key (viewed rows xs) ≡ keys_of rows
+  keys_viewed key same [] xs e = refl
+  keys_viewed key same (r ∷ rows) [] e = absurd (omega (arith, e))
+  keys_viewed key same (r ∷ rows) (y ∷ xs) e = let h = keys_viewed key same rows xs (omega (arith, e)) in λ j. same (r, y) j ∷ h j

@@ -1,0 +1,25 @@
+use Rattle.std.proofs.Common.{◌≡◌, ◌+◌, ◌++◌, ◌∷◌, [], take, map, cond, length, length-append, sym, ap, ◌∙◌, arith}
+use Rattle.std.specs.Result.{is_ok}
+use Rattle.std.proofs.lemmas.List.{map-append, take_more}
+use Rattle.plan_records.specs.Answer.{answer_of}
+use Rattle.plan_records.specs.Run.{plain, usable}
+use Rattle.plan_records.specs.declared.Request.{Request}
+use Rattle.plan_core.proofs.Answering.{run_more}
+use Rattle.plan_core.proofs.plan.Plan.run.Goals as goal
+
+pub loop-request-preserved : goal.loop-request-preserved
+loop-request-preserved c =
+    let i = c.loop-request.request-index in
+    let requests = c.args.requests.now in
+    let item = c.request-item.result in
+    let replies = c.loop-request.replies.items in
+    let reply = c.answer-reply.result in
+    let items : c.push.new.self.items ≡ replies ++ reply ∷ [] = c.push.ensures.items ∙ ap (λ r. cond (is_ok r) (replies ++ reply ∷ []) replies) c.unwrap.ensures in
+    let front : take (i + 1) requests ≡ take i requests ++ item ∷ [] = take_more requests i item c.loop-request-test.true ∙ ap (λ (r : Request). take i requests ++ r ∷ []) (sym c.request-item.is) in
+    let calls : map plain (take (i + 1) requests) ≡ map plain (take i requests) ++ plain item ∷ [] = ap (map plain) front ∙ map-append plain (take i requests) (item ∷ []) in
+    let answers : map answer_of c.push.new.self.items ≡ map answer_of replies ++ answer_of reply ∷ [] = ap (map answer_of) items ∙ map-append answer_of replies (reply ∷ []) in
+    record {
+      so_far = λ receipts. rw (calls, answers) (run_more (record { plan = c.args.self.now.plan; receipts = receipts }) (record { plan = c.loop-request.self.plan; receipts = receipts }) (record { plan = c.answer-reply.new.self.plan; receipts = receipts }) usable usable usable (map plain (take i requests)) (map answer_of replies) (plain item) (answer_of reply) (c.loop-request.invariant.so_far receipts) (c.answer-reply.ensures receipts));
+      told = omega (arith, ap length items, length-append replies (reply ∷ []), c.loop-request.invariant.told, c.push.new.self.ok.0, c.loop-request.replies.ok.0);
+      room = omega (arith, c.push.ensures.capacity, c.loop-request.invariant.room);
+    }

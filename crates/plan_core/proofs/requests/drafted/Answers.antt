@@ -1,0 +1,8 @@
+use Rattle.plan_core.proofs.Made.{if_ok, made_drafted}
+use Rattle.plan_core.proofs.requests.drafted.Goals as goal
+
+pub returns : goal.returns
+returns c =
+    let contents = c.contents.result.now in
+    let is = c.contents.ensures in
+    if_ok c.copy_of.result (λ new h P. made_drafted contents new c.args.draft.now is.view is.draft is.loadable (h 0).0 ((h 0).1 is.in_order) P) c.copy_of.ensures

@@ -1,0 +1,82 @@
+// What a request changes of what the plan holds.
+ghost use Rattle.std.specs.Prelude.{◌≡◌, ℕ, IfOk, cond};
+ghost use Rattle.ready_list.specs.Choice.{is_among};
+ghost use Rattle.plan_model.specs.Ready.{with_mark};
+ghost use Rattle.plan_records.specs.Changes.{revised};
+ghost use Rattle.plan_records.specs.Contents.{plan_of, AreContents};
+ghost use Rattle.plan_core.specs.Marking.{marked_rows};
+
+use plan_basics::OpKey;
+use plan_model::OperationRecord;
+use plan_records::PlanContents;
+use status_rules::Mark;
+use std::alloc::{AllocError, Global};
+
+/// A copy of the contents.
+pub fn copy_of(alloc: Global, contents: &PlanContents) -> Result<PlanContents, AllocError>
+    ensures { IfOk result (λ new. (clock : ℕ) → (plan_of clock new ≡ plan_of clock contents.now) × (AreContents contents.now → AreContents new)) }
+{
+    Ok(PlanContents {
+        workstation: contents.workstation,
+        interval: contents.interval,
+        occurrences: Vec::from_slice(alloc, &contents.occurrences)?,
+        operations: Vec::from_slice(alloc, &contents.operations)?,
+        pairs: Vec::from_slice(alloc, &contents.pairs)?,
+    })
+}
+
+// Whether a key is one of these.
+fn is_one_of(keys: &[OpKey], key: &OpKey) -> bool
+    ensures { result ≡ is_among keys.now key.now }
+{
+    keys.contains(key)
+}
+
+// The operation, with the mark where it is to have it.
+fn marked_if(takes_it: bool, operation: &OperationRecord, mark: &Mark) -> OperationRecord
+    ensures { result ≡ cond takes_it (with_mark mark.now operation.now) operation.now }
+{
+    let mut marked = *operation;
+    if takes_it {
+        marked.mark = *mark;
+    }
+    marked
+}
+
+// The rows with this mark on these operations.
+fn rows_with(
+    alloc: Global,
+    rows: &[(OpKey, OperationRecord)],
+    keys: &[OpKey],
+    mark: &Mark,
+) -> Result<Vec<(OpKey, OperationRecord)>, AllocError>
+    ensures { IfOk result (λ new. new.items ≡ marked_rows keys.now mark.now rows.now) }
+{
+    let mut new = Vec::with_capacity(alloc, rows.len())?;
+    for (key, operation) in rows {
+        new.push((*key, marked_if(is_one_of(keys, key), operation, mark)))?;
+    }
+    Ok(new)
+}
+
+/// The contents with this mark on these operations.
+pub fn with_marks(
+    alloc: Global,
+    contents: &PlanContents,
+    keys: &[OpKey],
+    mark: Mark,
+) -> Result<PlanContents, AllocError>
+    ensures plan { IfOk result (λ new. (clock : ℕ) → plan_of clock new ≡ revised (is_among keys.now) (with_mark mark) (plan_of clock contents.now)) }
+    ensures in_order { IfOk result (λ new. AreContents contents.now → AreContents new) }
+{
+    let occurrences = Vec::from_slice(alloc, &contents.occurrences)?;
+    let operations = rows_with(alloc, &contents.operations, keys, &mark)?;
+    let pairs = Vec::from_slice(alloc, &contents.pairs)?;
+    Ok(PlanContents {
+        workstation: contents.workstation,
+        interval: contents.interval,
+        occurrences,
+        operations,
+        pairs,
+    })
+}

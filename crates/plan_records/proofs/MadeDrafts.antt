@@ -1,0 +1,163 @@
+-- Contents of items that can be loaded are a draft that can be loaded.
+use Rattle.std.proofs.Common.{◌≡◌, Bool, refl, sym, subst, ◌∙◌, arith, ℕ, ◌<◌, ◌≤◌, true, List, [], map, length, All, Contains, Option, Some, None, unwrap_or, MatchOption}
+use Rattle.std.specs.List.{filter_map}
+use Rattle.std.specs.declared.cmp.Ordering.TheVariants.{Less, Equal}
+use Rattle.std.specs.Cmp.{nat_cmp_total, tied_itself}
+use Rattle.std.specs.FinMap.{get, contains_key, len, get-empty, len-empty, nat_cmp-IsAntisymmetric}
+use Rattle.std.specs.FinMap as fin
+use Rattle.std.specs.FinSet as set
+use Rattle.std.proofs.lemmas.List.Elements.{All-contains}
+use Rattle.std.proofs.lemmas.List.Sorted.{length_permutation}
+use Rattle.plan_basics.specs.declared.Attr.TheVariants.{Automatic}
+use Rattle.plan_basics.specs.declared.keys.OccKey.{OccKey}
+use Rattle.plan_basics.specs.declared.keys.OpKey.{OpKey}
+use Rattle.plan_basics.specs.Keys.{Name, name_cmp, name_cmp_total, name_cmp-IsAntisymmetric, occurrence_cmp_total, occurrence_cmp-IsAntisymmetric, operation_cmp, operation_cmp_total, operation_cmp-IsAntisymmetric}
+use Rattle.plan_basics.specs.Intervals.{OpenInterval, IsInterval}
+use Rattle.plan_basics.specs.Minutes.{IsMoment}
+use Rattle.plan_basics.specs.Names.{IsName}
+use Rattle.workstations.specs.Workstations.{IsWorkstation}
+use Rattle.special_resources.specs.Holders.{Usage}
+use Rattle.operation_graph.specs.Paths.{LeadsBy, by_edge, by_more}
+use Rattle.plan_model.specs.Plan.{Plan, IsPairOf}
+use Rattle.plan_model.specs.Valid.{IsValid, IsOccurrence, IsOperation, AreOccurrences, IsWithinLimits, IsUntouched}
+use Rattle.plan_model.specs.declared.Occurrence.{Occurrence}
+use Rattle.plan_items.specs.declared.Item.{Item}
+use Rattle.plan_items.specs.declared.Item.TheVariants as item
+use Rattle.plan_items.specs.declared.OperationItem.{OperationItem}
+use Rattle.plan_items.specs.Items.{Fields, Says, IsOperationItem}
+use Rattle.plan_items.specs.Items as items_of
+use Rattle.plan_records.specs.declared.contents.PlanContents.{PlanContents}
+use Rattle.plan_records.specs.Contents.{plan_of}
+use Rattle.plan_records.specs.Drafts.{IsDraft, IsLoadable}
+use Rattle.plan_records.specs.Loading.{AreContentsOf, as_interval, as_occurrence, as_operation, as_pair, keys_said, occurrence_of, row_of}
+use Rattle.plan_records.proofs.Lists.{from_map, from_filter, contains_head, length_map}
+use Rattle.plan_records.proofs.Tables.{some_is, is_found, no_some, one_entry, len_one, sorted_apart, len_rows, len_set}
+use Rattle.plan_records.proofs.Pairs.{pair_cmp_total, pair_cmp-IsAntisymmetric}
+use Rattle.plan_records.proofs.ItemKinds as kinds
+use Rattle.plan_records.proofs.ItemKinds.{key_out}
+use Rattle.plan_records.proofs.Made.{each_row, pair_in, end_there, fits, each_workstation, workstation_there, each_interval, terms_at, occurrence_from, occurrences_apart, apart, made_of, no_key, terms_in, workstation_of}
+
+module _ (items : List Item) (c : PlanContents) (legal : All items_of.IsItem items) (made : AreContentsOf items c) where
+  abbrev P : Plan
+  P = plan_of 0 c
+
+  abbrev Said : List OperationItem
+  Said = filter_map as_operation items
+
+  abbrev Occurrences : List (OccKey × Occurrence)
+  Occurrences = filter_map as_occurrence items
+
+  abbrev Pairs : List (OpKey × OpKey)
+  Pairs = filter_map as_pair items
+
+  -- ---- the parts are in range
+  workstation_legal : IsName 4 c.workstation × IsInterval c.interval
+  workstation_legal =
+      let y : Name × OpenInterval = (c.workstation, c.interval) in
+      let r = from_filter as_interval items y (subst (λ ys. Contains ys y) (sym made.items_are.heads.interval) (contains_head y [])) in
+      subst items_of.IsItem (kinds.intervals.is r.0 y r.2) (All-contains items_of.IsItem items r.0 legal r.1)
+
+  occurrence_legal : (k : OccKey) (x : Occurrence) → get P.occurrences k ≡ Some x → IsOccurrence k x
+  occurrence_legal k x e =
+      let r = from_filter as_occurrence items (k, x) (occurrence_from items c made k x e) in
+      let is : items_of.IsItem (item.Occurrence k x.priority x.deadline) = subst items_of.IsItem (kinds.occurrences.is r.0 (k, x) r.2) (All-contains items_of.IsItem items r.0 legal r.1) in
+      record { key = is.0; priority = (omega arith, omega arith); deadline = is.2 }
+
+  said_legal : (said : OperationItem) → Contains Said said → IsOperationItem said
+  said_legal said has =
+      let r = from_filter as_operation items said has in
+      subst items_of.IsItem (kinds.operations.is r.0 said r.2) (All-contains items_of.IsItem items r.0 legal r.1)
+
+  operation_legal : (said : OperationItem) → Contains Said said → IsOperation said.key (made_of c said)
+  operation_legal said has =
+      let is = said_legal said has in
+      let none : len (fin.empty {X = Usage} {R = name_cmp}) ≡ 0 = len-empty name_cmp Usage in
+      record {
+        key = is.key;
+        workstation = is.workstation;
+        duration = (omega arith, omega arith);
+        fixed = (omega arith, omega arith);
+        not_before = is.not_before;
+        deadline = due said.deadline is.deadline;
+        needs = λ r usage e. absurd (no_some usage (sym (get-empty name_cmp r) ∙ e));
+        few_needs = omega arith;
+        code = λ code e. absurd (cc);
+      }
+    where
+      due : (d : Option ℕ) → MatchOption d (Unit {0}) IsMoment → IsMoment (unwrap_or d (terms_in c said).deadline)
+      due None h = (occurrence_legal said.key.occurrence (terms_in c said) (terms_at items c made said has)).deadline
+      due (Some m) h = h
+
+  -- ---- the plan is a draft that can be loaded
+  occurrences_are : AreOccurrences P.occurrences P.operations
+  occurrences_are = record {
+    each_occurrence = occurrence_legal;
+    each_operation = each_row items c made (λ o op. IsOperation o op × (contains_key P.occurrences o.occurrence ≡ true)) (λ said has. (operation_legal said has, some_is (get P.occurrences said.key.occurrence) (terms_in c said) (terms_at items c made said has)));
+    not_empty = λ k e.
+        let found = is_found (get P.occurrences k) e in
+        let of : Contains (map occurrence_of (keys_said Said)) k = All-contains (λ (row : OccKey × Occurrence). Contains (map occurrence_of (keys_said Said)) row.0) Occurrences (k, found.0) made.items_are.operations.not_empty (occurrence_from items c made k found.0 found.1) in
+        let o = from_map occurrence_of (keys_said Said) k of in
+        (o.0, o.2, end_there items c made o.0 o.1);
+  }
+
+  workstation_is : IsWorkstation (workstation_of c)
+  workstation_is = record {
+    intervals = each_interval items c made (λ m x. (m ≡ x.from) × IsInterval x) (refl, workstation_legal.1);
+    disjoint = λ a b m x y e f open_a open_b.
+        (one_entry nat_cmp_total nat_cmp-IsAntisymmetric c.interval.from a c.interval x e).0 ∙ sym (one_entry nat_cmp_total nat_cmp-IsAntisymmetric c.interval.from b c.interval y f).0;
+    few = let one : len (workstation_of c).intervals ≡ 1 = len_one nat_cmp_total nat_cmp-IsAntisymmetric c.interval.from c.interval in omega arith;
+  }
+
+  ascends : (a b : OpKey) → LeadsBy (IsPairOf P.pairs) a b → operation_cmp a b ≡ Less
+  ascends a b (by_edge e) = (pair_in items c made a b e).ascending
+  ascends a b (by_more {b = m} e rest) = operation_cmp_total.trans a m b (pair_in items c made a m e).ascending (ascends m b rest)
+
+  occurrences_count : len P.occurrences ≡ length Occurrences
+  occurrences_count =
+      len_rows occurrence_cmp_total occurrence_cmp-IsAntisymmetric c.occurrences.items (occurrences_apart items c made)
+      ∙ length_permutation Occurrences c.occurrences.items made.occurrences
+
+  limits : IsWithinLimits P
+  limits = record {
+    workstations = let one : len P.workstations ≡ 1 = len_one name_cmp_total name_cmp-IsAntisymmetric c.workstation (workstation_of c) in omega arith;
+    resources = let none : len P.resources ≡ 0 = len-empty name_cmp _ in omega arith;
+    occurrences = let few : length Occurrences ≤ 5000 = made.items_are.occurrences.few in omega (arith, occurrences_count);
+    operations =
+        let rows : len P.operations ≡ length c.operations.items = len_rows operation_cmp_total operation_cmp-IsAntisymmetric c.operations.items (apart items c made) in
+        let same : length c.operations.items ≡ length Said = length_permutation (map (row_of c.occurrences.items) Said) c.operations.items made.operations ∙ length_map (row_of c.occurrences.items) Said in
+        let few : length Said ≤ 20000 = made.items_are.operations.few in
+        omega arith;
+    pairs =
+        let all : set.len P.pairs ≡ length c.pairs.items = len_set pair_cmp_total pair_cmp-IsAntisymmetric c.pairs.items (sorted_apart pair_cmp_total pair_cmp-IsAntisymmetric c.pairs.items made.in_order.pairs) in
+        let same : length c.pairs.items ≡ length Pairs = length_permutation Pairs c.pairs.items made.pairs in
+        let few : length Pairs ≤ 100000 = made.items_are.pairs.few in
+        omega arith;
+  }
+
+  valid : IsValid P
+  valid = record {
+    clock = omega arith;
+    workstations = each_workstation items c made (λ w ws. IsName 4 w × IsWorkstation ws) (workstation_legal.0, workstation_is);
+    resources = λ r e. absurd (no_key name_cmp Bool r e);
+    occurrences = occurrences_are;
+    have_workstations = each_row items c made (λ o op. contains_key P.workstations op.workstation ≡ true) (λ said has. subst (λ w. contains_key P.workstations w ≡ true) (sym (fits items c made said has).workstation) (some_is (get P.workstations c.workstation) (workstation_of c) (workstation_there items c made)));
+    have_resources = each_row items c made (λ o op. (r : Name) (usage : Usage) → get op.needs r ≡ Some usage → contains_key P.resources r ≡ true) (λ said has r usage e. absurd (no_some usage (sym (get-empty name_cmp r) ∙ e)));
+    pairs = λ p o e. (end_there items c made p (pair_in items c made p o e).first, end_there items c made o (pair_in items c made p o e).second);
+    acyclic = λ a leads. let less = ascends a a leads in let tied : operation_cmp a a ≡ Equal = tied_itself operation_cmp_total a in cc;
+    limits = limits;
+  }
+
+  pub some_occurrence : 0 < len P.occurrences
+  some_occurrence = let some : 0 < length Occurrences = made.items_are.occurrences.some in omega (arith, occurrences_count)
+
+  pub is_draft : IsDraft P
+  is_draft = record { valid = valid; loaded = refl; untouched = each_row items c made (λ o op. IsUntouched op) (λ said has. (refl, refl, refl)) }
+
+  pub is_loadable : IsLoadable P
+  is_loadable = record {
+    one_workstation = len_one name_cmp_total name_cmp-IsAntisymmetric c.workstation (workstation_of c);
+    automatic = each_workstation items c made (λ w ws. (ws.attribute ≡ Automatic) × (len ws.intervals ≡ 1)) (refl, len_one nat_cmp_total nat_cmp-IsAntisymmetric c.interval.from c.interval);
+    no_resources = len-empty name_cmp _;
+    without_needs = each_row items c made (λ o op. (op.r1 ≡ 0) × (op.r2 ≡ 0) × (len op.needs ≡ 0)) (λ said has. ((fits items c made said has).r1, (fits items c made said has).r2, len-empty name_cmp Usage));
+    ascending = λ p o e. (pair_in items c made p o e).ascending;
+  }

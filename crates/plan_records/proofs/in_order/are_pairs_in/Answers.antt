@@ -1,0 +1,12 @@
+use Rattle.std.proofs.Common.{refl, arith}
+use Rattle.std.proofs.lemmas.List.Elements.{AllWithin-more, at_read}
+use Rattle.plan_records.specs.Loading.{IsPairIn}
+use Rattle.plan_records.proofs.in_order.are_pairs_in.Goals as goal
+
+pub loop-pair-preserved : goal.loop-pair-preserved
+loop-pair-preserved c =
+    AllWithin-more (IsPairIn c.args.keys.now) c.args.pairs.now 0 c.loop-pair.pair-index c.loop-pair.invariant
+    (at_read c.args.pairs.now (IsPairIn c.args.keys.now) c.loop-pair.pair-index c.pair-item.result (omega arith) c.pair-item.is (c.if-not-is_pair_in.ensures.0 refl))
+
+pub returns : goal.returns
+returns c = (λ _ k d lt. c.loop-pair.invariant k d (omega arith) (omega arith), λ _. refl)

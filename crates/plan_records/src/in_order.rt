@@ -1,0 +1,219 @@
+// Occurrences, operations and pairs of a plan, put in key order.
+ghost use Rattle.std.specs.Prelude.{◌≡◌, ◌↔◌, map, All, Contains, IsTrue, IfOk, MatchOption};
+ghost use Rattle.std.specs.FinMap.{get, from_entries};
+ghost use Rattle.std.specs.List.Sorted.{IsPermutation, IsSortedByKey, IsStrictlySortedBy};
+ghost use Rattle.std.specs.Map.{keys_of};
+ghost use Rattle.plan_basics.specs.Keys.{occurrence_cmp, operation_cmp};
+ghost use Rattle.plan_records.specs.Loading.{row_of, occurrence_of, Fits, AreOccurrenceRows, AreOccurrencesInOrder, AreOperations, EachHasOperation, AreRowsOf, IsPairIn, ArePairs, ArePairsInOrder};
+
+use super::places::occurrence_place;
+use plan_basics::{OccKey, OpKey, WsName};
+use plan_items::OperationItem;
+use plan_model::{Occurrence, OperationRecord};
+use status_rules::Mark;
+use std::alloc::{AllocError, Global};
+use std::cmp::Ordering;
+
+// The rows' keys.
+pub fn keys<K: Copy, V>(alloc: Global, rows: &[(K, V)]) -> Result<Vec<K>, AllocError>
+    ensures { IfOk result (λ v. v.items ≡ keys_of rows.now) }
+{
+    rows.iter().map(|row| row.0).collect(alloc)
+}
+
+// Whether each element is below the next.
+fn ascends<T: Ord>(items: &[T]) -> bool
+    ensures { IsTrue result ↔ IsStrictlySortedBy T.cmp items.now }
+{
+    items.is_sorted_by(|a, b| a.cmp(b) == Ordering::Less)
+}
+
+// The occurrences in key order, where there is one at least, and none stands twice.
+pub fn occurrences_in_order(
+    alloc: Global,
+    mut said: Vec<(OccKey, Occurrence)>,
+) -> Result<Option<Vec<(OccKey, Occurrence)>>, AllocError>
+    ensures { IfOk result (λ found. MatchOption found (¬ AreOccurrenceRows said.items) (λ v. AreOccurrencesInOrder said.items v.items)) }
+{
+    if said.is_empty() || said.len() > 5_000 {
+        return Ok(None);
+    }
+    said.sort_by_key(|row| row.0)?;
+    let sorted = keys(alloc, &said)?;
+    if !ascends(&sorted) {
+        return Ok(None);
+    }
+    Ok(Some(said))
+}
+
+// The priority and deadline of the occurrence of a key, if it is one of these.
+fn terms_of(occurrences: &[(OccKey, Occurrence)], key: &OccKey) -> Option<Occurrence>
+    requires { IsStrictlySortedBy occurrence_cmp (keys_of occurrences.now) }
+    ensures { result ≡ get {R = occurrence_cmp} (from_entries occurrences.now) key.now }
+{
+    let place = occurrence_place(occurrences, key)?;
+    Some(occurrences[place].1)
+}
+
+// The row of an operation of that workstation and of one of these occurrences, without fixed resources: nothing is
+// reported of it, and its flags are clear.
+fn row(
+    workstation: &WsName,
+    occurrences: &[(OccKey, Occurrence)],
+    said: &OperationItem,
+) -> Option<(OpKey, OperationRecord)>
+    requires { IsStrictlySortedBy occurrence_cmp (keys_of occurrences.now) }
+    ensures { MatchOption result (¬ Fits workstation.now occurrences.now said.now) (λ row. Fits workstation.now occurrences.now said.now × (row ≡ row_of occurrences.now said.now)) }
+{
+    let terms = terms_of(occurrences, &said.key.occurrence)?;
+    if said.workstation != *workstation || said.r1 != 0 || said.r2 != 0 {
+        return None;
+    }
+    let operation = OperationRecord {
+        workstation: said.workstation,
+        duration: said.duration,
+        r1: said.r1,
+        r2: said.r2,
+        not_before: said.not_before,
+        deadline: said.deadline.unwrap_or(terms.deadline),
+        mark: Mark::Unmarked,
+        held: false,
+        nop: false,
+    };
+    Some((said.key, operation))
+}
+
+// The operations' rows, where each fits.
+fn rows(
+    alloc: Global,
+    workstation: &WsName,
+    occurrences: &[(OccKey, Occurrence)],
+    said: &[OperationItem],
+) -> Result<Option<Vec<(OpKey, OperationRecord)>>, AllocError>
+    requires { IsStrictlySortedBy occurrence_cmp (keys_of occurrences.now) }
+    ensures { IfOk result (λ found. MatchOption found (¬ All (Fits workstation.now occurrences.now) said.now) (λ v. All (Fits workstation.now occurrences.now) said.now × (v.items ≡ map (row_of occurrences.now) said.now))) }
+{
+    let mut rows = Vec::new(alloc);
+    for said in said {
+        let Some(row) = row(workstation, occurrences, said) else {
+            return Ok(None);
+        };
+        rows.push(row)?;
+    }
+    Ok(Some(rows))
+}
+
+// The operations' rows sorted by key, where each fits.
+fn sorted_rows(
+    alloc: Global,
+    workstation: &WsName,
+    occurrences: &[(OccKey, Occurrence)],
+    said: &[OperationItem],
+) -> Result<Option<Vec<(OpKey, OperationRecord)>>, AllocError>
+    requires { IsStrictlySortedBy occurrence_cmp (keys_of occurrences.now) }
+    ensures { IfOk result (λ found. MatchOption found (¬ All (Fits workstation.now occurrences.now) said.now) (λ v. All (Fits workstation.now occurrences.now) said.now × IsPermutation (map (row_of occurrences.now) said.now) v.items × IsSortedByKey (λ row. row.0) operation_cmp v.items)) }
+{
+    let Some(mut rows) = rows(alloc, workstation, occurrences, said)? else {
+        return Ok(None);
+    };
+    rows.sort_by_key(|row| row.0)?;
+    Ok(Some(rows))
+}
+
+// Whether one of these operations is of an occurrence.
+fn has_operation(keys: &[OpKey], occurrence: &OccKey) -> bool
+    requires { IsStrictlySortedBy operation_cmp keys.now }
+    ensures { IsTrue result ↔ Contains (map occurrence_of keys.now) occurrence.now }
+{
+    keys.binary_search_by_key(occurrence, |key| key.occurrence)
+        .is_ok()
+}
+
+// Whether each occurrence has one.
+fn each_has_operation(keys: &[OpKey], occurrences: &[(OccKey, Occurrence)]) -> bool
+    requires { IsStrictlySortedBy operation_cmp keys.now }
+    ensures { IsTrue result ↔ EachHasOperation keys.now occurrences.now }
+{
+    for row in occurrences {
+        if !has_operation(keys, &row.0) {
+            return false;
+        }
+    }
+    true
+}
+
+// The operations' rows in key order, where each fits, none stands twice and each occurrence has one.
+pub fn operations_in_order(
+    alloc: Global,
+    workstation: &WsName,
+    occurrences: &[(OccKey, Occurrence)],
+    said: &[OperationItem],
+) -> Result<Option<Vec<(OpKey, OperationRecord)>>, AllocError>
+    requires { IsStrictlySortedBy occurrence_cmp (keys_of occurrences.now) }
+    ensures { IfOk result (λ found. MatchOption found (¬ AreOperations workstation.now occurrences.now said.now) (λ v. AreRowsOf workstation.now occurrences.now said.now v.items)) }
+{
+    if said.len() > 20_000 {
+        return Ok(None);
+    }
+    let Some(rows) = sorted_rows(alloc, workstation, occurrences, said)? else {
+        return Ok(None);
+    };
+    let keys = keys(alloc, &rows)?;
+    if !ascends(&keys) {
+        return Ok(None);
+    }
+    if !each_has_operation(&keys, occurrences) {
+        return Ok(None);
+    }
+    Ok(Some(rows))
+}
+
+// Whether a key is among keys in order.
+fn is_among(keys: &[OpKey], key: &OpKey) -> bool
+    requires { IsStrictlySortedBy operation_cmp keys.now }
+    ensures { IsTrue result ↔ Contains keys.now key.now }
+{
+    keys.binary_search(key).is_ok()
+}
+
+// Whether a pair ascends, and both its ends are among keys in order.
+fn is_pair_in(keys: &[OpKey], pair: &(OpKey, OpKey)) -> bool
+    requires { IsStrictlySortedBy operation_cmp keys.now }
+    ensures { IsTrue result ↔ IsPairIn keys.now pair.now }
+{
+    pair.0.order(&pair.1) == Ordering::Less && is_among(keys, &pair.0) && is_among(keys, &pair.1)
+}
+
+// Whether all pairs do.
+fn are_pairs_in(keys: &[OpKey], pairs: &[(OpKey, OpKey)]) -> bool
+    requires { IsStrictlySortedBy operation_cmp keys.now }
+    ensures { IsTrue result ↔ All (IsPairIn keys.now) pairs.now }
+{
+    for pair in pairs {
+        if !is_pair_in(keys, pair) {
+            return false;
+        }
+    }
+    true
+}
+
+// The pairs by predecessor and then successor, where each ascends between these keys and none stands twice.
+pub fn pairs_in_order(
+    keys: &[OpKey],
+    mut pairs: Vec<(OpKey, OpKey)>,
+) -> Result<Option<Vec<(OpKey, OpKey)>>, AllocError>
+    requires { IsStrictlySortedBy operation_cmp keys.now }
+    ensures { IfOk result (λ found. MatchOption found (¬ ArePairs keys.now pairs.items) (λ v. ArePairsInOrder keys.now pairs.items v.items)) }
+{
+    if pairs.len() > 100_000 {
+        return Ok(None);
+    }
+    if !are_pairs_in(keys, &pairs) {
+        return Ok(None);
+    }
+    pairs.sort()?;
+    if !ascends(&pairs) {
+        return Ok(None);
+    }
+    Ok(Some(pairs))
+}

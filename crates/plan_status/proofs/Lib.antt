@@ -1,0 +1,15 @@
+pub mod Alike
+pub mod Ascending
+pub mod ByStanding
+pub mod CountOneMore
+pub mod Counting
+pub mod InTurn
+pub mod Incoming
+pub mod LoadedRows
+pub mod Naming
+pub mod OfOccurrences
+pub mod RowStandings
+pub mod Satisfied
+pub mod SoFar
+pub mod SoMany
+pub mod Tallying

@@ -1,0 +1,137 @@
+-- The standings of rows, as pair after pair comes in.
+use Rattle.std.proofs.Common.{◌≡◌, ◌≢◌, ◌⊎◌, inl, inr, refl, sym, ◌∙◌, ap, subst, true≢false, arith, ℕ, zero, suc, ◌+◌, ◌≤◌, true, false, List, [], ◌∷◌, ◌++◌, get_or, length, replicate, set, Option, Some, slice_get}
+use Rattle.std.specs.FinMap.{from_entries, get}
+use Rattle.std.specs.List.Sorted.{IsStrictlySortedBy}
+use Rattle.std.specs.declared.cmp.Ordering.TheVariants.{Less}
+use Rattle.std.specs.Map.{keys_of}
+use Rattle.std.proofs.lemmas.List.{length-replicate, length-set}
+use Rattle.std.proofs.lemmas.Map.Keys.{sorted_head, sorted_tail}
+use Rattle.std.proofs.lemmas.Option.{get_or_from_slice_get, slice_get-get_or, slice_get_within}
+use Rattle.plan_basics.specs.Keys.{operation_cmp, operation_cmp_total, operation_cmp-IsAntisymmetric}
+use Rattle.plan_basics.specs.declared.keys.OpKey.{OpKey}
+use Rattle.plan_model.specs.Plan.{Plan, Operation}
+use Rattle.plan_records.specs.Contents.{plan_of}
+use Rattle.plan_records.specs.declared.contents.PlanContents.{PlanContents}
+use Rattle.plan_records.proofs.Pairs.{no_pair, pair_pushed}
+use Rattle.plan_records.proofs.RowPlaces.{get_at, later_key}
+use Rattle.plan_laws.proofs.Looks.{same_some}
+use Rattle.plan_laws.proofs.Sorted.{contains_none, not_itself}
+use Rattle.plan_status.specs.Incoming.{ComesAfter, with_pairs}
+use Rattle.plan_status.specs.Standings.{AreStandings, IsStanding}
+use Rattle.plan_status.specs.declared.standings.Standing.{Standing}
+use Rattle.plan_status.proofs.Incoming.{stands_as_before}
+
+set_cases : {X : Type 0} (xs : List X) (i k : ℕ) (z u : X) → slice_get (set xs i z) k ≡ Some u → ((k ≡ i) × (u ≡ z)) ⊎ ((k ≢ i) × (slice_get xs k ≡ Some u))
+set_cases [] i k z u e = cc
+set_cases (x ∷ xs) zero zero z u e = let same : u ≡ z = cc in inl (refl, same)
+set_cases (x ∷ xs) zero (suc k) z u e = inr (λ h. omega (arith, h), e)
+set_cases (x ∷ xs) (suc i) zero z u e = inr (λ h. omega (arith, h), e)
+set_cases (x ∷ xs) (suc i) (suc k) z u e = elim (set_cases xs i k z u e) [
+  | inl at ↦ inl (ap suc at.0, at.1)
+  | inr other ↦ inr (λ h. other.0 (let h' : k ≡ i = omega (arith, h) in h'), other.1)
+]
+
+all_alike : {X : Type 0} (n i : ℕ) (x y : X) → slice_get (replicate n x) i ≡ Some y → y ≡ x
+all_alike zero i x y e = cc
+all_alike {X} (suc n) zero x y e = let same : ◌≡◌ {A = Option X} (Some x) (Some y) = e in cc
+all_alike (suc n) (suc i) x y e = all_alike n i x y e
+
+-- a key stands at one place
+same_place : {X : Type 0} (rows : List (OpKey × X)) → IsStrictlySortedBy operation_cmp (keys_of rows) → (i j : ℕ) (k : OpKey) (v w : X) → slice_get rows i ≡ Some (k, v) → slice_get rows j ≡ Some (k, w) → i ≡ j
+same_place [] sorted i j k v w e f = cc
+same_place (row ∷ rows) sorted zero zero k v w e f = refl
+same_place {X} (row ∷ rows) sorted zero (suc j) k v w e f =
+    let at : ◌≡◌ {A = OpKey × X} row (k, v) = cc in
+    absurd (not_itself operation_cmp_total k (subst (λ (z : OpKey × X). operation_cmp z.0 k ≡ Less) at (later_key operation_cmp row.0 rows j k w (sorted_head operation_cmp row.0 (keys_of rows) sorted) f)))
+same_place {X} (row ∷ rows) sorted (suc i) zero k v w e f =
+    let at : ◌≡◌ {A = OpKey × X} row (k, w) = cc in
+    absurd (not_itself operation_cmp_total k (subst (λ (z : OpKey × X). operation_cmp z.0 k ≡ Less) at (later_key operation_cmp row.0 rows i k v (sorted_head operation_cmp row.0 (keys_of rows) sorted) e)))
+same_place (row ∷ rows) sorted (suc i) (suc j) k v w e f = ap suc (same_place rows (sorted_tail operation_cmp row.0 (keys_of rows) sorted) i j k v w e f)
+
+-- rows that are shown as a slice
+pub row_of : {shown rows : List (OpKey × Operation)} → shown ≡ rows → (place : ℕ) (k : OpKey)
+    → (op : Operation) × (slice_get shown place ≡ Some (k, op)) → (op : Operation) × (slice_get rows place ≡ Some (k, op))
+row_of e place k at = (at.0, ap (λ rows. slice_get rows place) (sym e) ∙ at.1)
+
+-- what is read at a row's place
+pub row_known : (rows : List (OpKey × Operation)) → IsStrictlySortedBy operation_cmp (keys_of rows) → (place : ℕ) (k : OpKey) (op : Operation) → slice_get rows place ≡ Some (k, op)
+    → (row : OpKey × Operation) → row ≡ get_or rows place row → get {R = operation_cmp} (from_entries rows) k ≡ Some row.1
+row_known rows sorted place k op at row is =
+    get_at operation_cmp operation_cmp_total operation_cmp-IsAntisymmetric rows sorted place k op at
+    ∙ ap (λ (z : OpKey × Operation). Some z.1) (sym (is ∙ get_or_from_slice_get rows place (k, op) row at))
+
+pub standing_at : {X Y : Type 0} (rows : List X) (place : ℕ) (row : X) → slice_get rows place ≡ Some row → (xs : List Y) → length xs ≡ length rows → (x : Y) → x ≡ get_or xs place x → slice_get xs place ≡ Some x
+standing_at rows place row at xs size x is =
+    let within = slice_get_within rows place row at in
+    slice_get-get_or xs place x (omega (arith, within, size)) ∙ ap Some (sym is)
+
+-- what stands after no other
+abbrev pub first : Standing
+first = record { preds = record { live = false; satisfied = true; nonreporting = false }; waiting = 0 }
+
+stands_first : (P : Plan) (o : OpKey) → IsStanding (with_pairs [] P) o first
+unfolding IsStrictlySortedBy
+stands_first P o = record {
+  preds = record {
+    live = (λ e. absurd (true≢false (sym e)), λ h. absurd (no_pair h.0 o h.1.0));
+    satisfied = (λ _ p live. absurd (no_pair p o live.0), λ _. refl);
+    nonreporting = (λ e. absurd (true≢false (sym e)), λ h. absurd (no_pair h.0 o h.1.0));
+  };
+  waiting = ([], tt, λ p. (λ has. absurd (contains_none p has), λ h. absurd (no_pair p o h.0.0)), refl);
+}
+
+-- each operation waits for at most as many as pairs have come in
+abbrev pub AreAtMost : ℕ → List Standing → Type 0
+AreAtMost n standings = (i : ℕ) (s : Standing) → slice_get standings i ≡ Some s → s.waiting ≤ n
+
+pub at_most_first : (n : ℕ) (standings : List Standing) → standings ≡ replicate n first → AreAtMost 0 standings
+at_most_first n standings is i s e =
+    let same = ap (λ (x : Standing). x.waiting) (all_alike n i first s (ap (λ ss. slice_get ss i) (sym is) ∙ e)) in
+    omega (arith, same)
+
+pub at_most_more : (n : ℕ) (standings : List Standing) (place : ℕ) (w : ℕ) (t : Standing) → AreAtMost n standings → w ≤ n → t.waiting ≤ w + 1 → AreAtMost (n + 1) (set standings place t)
+at_most_more n standings place w t most le more i s e = elim (set_cases standings place i t s e) [
+  | inl here ↦ let same = ap (λ (x : Standing). x.waiting) here.1 in omega (arith, same, le, more)
+  | inr other ↦ let old = most i s other.1 in omega (arith, old)
+]
+
+module _ (P : Plan) (rows : List (OpKey × Operation)) where
+  -- before a pair comes in
+  pub standings_first : (n : ℕ) (standings : List Standing) → n ≡ length rows → standings ≡ replicate n first → AreStandings (with_pairs [] P) rows standings
+  standings_first n standings e is = record {
+    size = ap length is ∙ length-replicate n first ∙ e;
+    each = λ i o op s row here. subst (IsStanding (with_pairs [] P) o) (sym (all_alike n i first s (ap (λ ss. slice_get ss i) (sym is) ∙ here))) (stands_first P o);
+  }
+
+  module _ (sorted : IsStrictlySortedBy operation_cmp (keys_of rows)) (pairs : List (OpKey × OpKey)) (pair : OpKey × OpKey) (next : ComesAfter pairs pair)
+      (place : ℕ) (op : Operation) (at : slice_get rows place ≡ Some (pair.1, op))
+      (standings : List Standing) (so_far : AreStandings (with_pairs pairs P) rows standings) (t : Standing) (stands : IsStanding (with_pairs (pair ∷ pairs) P) pair.1 t) where
+    one_more : AreStandings (with_pairs (pair ∷ pairs) P) rows (set standings place t)
+    one_more = record {
+      size = length-set standings place t ∙ so_far.size;
+      each = λ i o x s row is. elim (set_cases standings place i t s is) [
+        | inl here ↦
+            let same : o ≡ pair.1 = ap (λ (z : OpKey × Operation). z.0) (same_some (o, x) (pair.1, op) (sym row ∙ ap (slice_get rows) here.0 ∙ at)) in
+            subst (λ k. IsStanding (with_pairs (pair ∷ pairs) P) k s) (sym same) (subst (IsStanding (with_pairs (pair ∷ pairs) P) pair.1) (sym here.1) stands)
+        | inr other ↦
+            stands_as_before P pairs pair next o (λ e. other.0 (same_place rows sorted i place o x op row (at ∙ ap (λ z. Some (z, op)) (sym e)))) s (so_far.each i o x s row other.1)
+      ];
+    }
+
+    -- one more pair comes in
+    pub standings_more : (more : List (OpKey × OpKey)) → more ≡ pairs ++ pair ∷ [] → AreStandings (with_pairs more P) rows (set standings place t)
+    standings_more more e =
+        subst (λ ps. AreStandings (with_pairs ps P) rows (set standings place t)) (sym e)
+        (subst (λ s. AreStandings (record P { pairs = s }) rows (set standings place t)) (sym (pair_pushed pairs pair)) one_more)
+
+-- all pairs have come in
+pub standings_all : (c : PlanContents) (clock : ℕ) (pairs : List (OpKey × OpKey)) (standings : List Standing) → pairs ≡ c.pairs.items
+    → AreStandings (with_pairs pairs (plan_of 0 c)) c.operations.items standings → AreStandings (plan_of clock c) c.operations.items standings
+standings_all c clock pairs standings e are =
+    let all : AreStandings (with_pairs c.pairs.items (plan_of 0 c)) c.operations.items standings = subst (λ ps. AreStandings (with_pairs ps (plan_of 0 c)) c.operations.items standings) e are in record {
+      size = all.size;
+      each = λ i o op s row here. let is = all.each i o op s row here in record {
+        preds = record { live = is.preds.live; satisfied = is.preds.satisfied; nonreporting = is.preds.nonreporting };
+        waiting = is.waiting;
+      };
+    }

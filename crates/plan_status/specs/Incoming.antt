@@ -1,0 +1,32 @@
+-- What standings are worked out from: operations on their workstations, and pairs that come in one after another.
+use Rattle.std.specs.Prelude.{◌≡◌, ℕ, List, ◌∷◌, take, Some, slice_get}
+use Rattle.std.specs.FinMap.{get}
+use Rattle.std.specs.FinSet.{from_list}
+use Rattle.plan_basics.specs.declared.Attr.{Attr}
+use Rattle.plan_basics.specs.declared.keys.OpKey.{OpKey}
+use Rattle.plan_model.specs.Plan.{Plan, Operation, HasAttribute, IsPairOf}
+use Rattle.plan_status.specs.Standings.{IsStanding}
+use Rattle.plan_status.specs.declared.standings.Standing.{Standing}
+
+-- o is this operation, on a workstation that reports so
+abbrev pub IsOperationOn : Plan → OpKey → Operation → Attr → Type 0
+IsOperationOn P o op a = (get P.operations o ≡ Some op) × HasAttribute P op.workstation a
+
+-- the plan with these pairs alone
+abbrev pub with_pairs : List (OpKey × OpKey) → Plan → Plan
+with_pairs pairs P = record P { pairs = from_list pairs }
+
+-- a pair that comes after these: none of them, and neither it nor any of them leads away from where it leads
+pub record ComesAfter (pairs : List (OpKey × OpKey)) (pair : OpKey × OpKey) : Type 0 where
+  pub is_new : ¬ IsPairOf (from_list pairs) pair.0 pair.1
+  pub leads_on : (o : OpKey) → ¬ IsPairOf (from_list (pair ∷ pairs)) pair.1 o
+
+-- each pair comes after those before it: all that leads to an operation stands before what leads away from it
+abbrev pub AreInTurn : List (OpKey × OpKey) → Type 0
+AreInTurn pairs = (i : ℕ) (pair : OpKey × OpKey) → slice_get pairs i ≡ Some pair → ComesAfter (take i pairs) pair
+
+-- where these are the standings of the pair's ends before it comes in, `next` is its successor's after that
+abbrev pub IsNextStanding : Plan → List (OpKey × OpKey) → OpKey × OpKey → Standing → Standing → Standing → Type 0
+IsNextStanding P pairs pair predecessors successors next =
+    ComesAfter pairs pair → IsStanding (with_pairs pairs P) pair.0 predecessors → IsStanding (with_pairs pairs P) pair.1 successors
+    → IsStanding (with_pairs (pair ∷ pairs) P) pair.1 next

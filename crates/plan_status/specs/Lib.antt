@@ -1,0 +1,3 @@
+pub mod Standings
+pub mod Incoming
+pub mod OneMore

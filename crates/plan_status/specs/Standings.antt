@@ -1,0 +1,45 @@
+-- What is known of an operation's predecessors, and of an occurrence's operations.
+use Rattle.std.specs.Prelude.{◌≡◌, ◌⊎◌, true, List}
+use Rattle.plan_basics.specs.declared.keys.OccKey.{OccKey}
+use Rattle.plan_basics.specs.declared.keys.OpKey.{OpKey}
+use Rattle.status_rules.specs.declared.Counts.{Counts}
+use Rattle.status_rules.specs.declared.Status.{Status}
+use Rattle.status_rules.specs.declared.Status.TheVariants as status
+use Rattle.ready_list.specs.Choice.{is_among}
+use Rattle.plan_model.specs.Plan.{Plan, Operation, IsInPlan}
+use Rattle.plan_model.specs.declared.Occurrence.{Occurrence}
+use Rattle.plan_model.specs.Ready.{named}
+use Rattle.plan_model.specs.Status.{ArePreds, HasStatus, IsReady}
+use Rattle.plan_records.specs.Places.{AreByPlace}
+use Rattle.plan_records.specs.Rows.{IsCount, IsWaitingFor}
+use Rattle.plan_status.specs.declared.standings.Standing.{Standing}
+
+-- the truth values of o's live predecessors, and how many of them aren't satisfied
+pub record IsStanding (P : Plan) (o : OpKey) (s : Standing) : Type 0 where
+  pub preds : ArePreds P o s.preds
+  pub waiting : IsWaitingFor P o s.waiting
+
+-- the standing of each row's operation
+abbrev pub AreStandings : Plan → List (OpKey × Operation) → List Standing → Type 0
+AreStandings P rows standings = AreByPlace rows standings (IsStanding P)
+
+-- the occurrence's operation o has the status
+abbrev pub HasOfIts : Plan → OccKey → Status → OpKey → Type 0
+HasOfIts P c s o = (o.occurrence ≡ c) × HasStatus P o s
+
+-- the numbers of the occurrence's operations: all, and those of a status
+pub record IsTally (P : Plan) (c : OccKey) (n : Counts) : Type 0 where
+  pub all : IsCount (λ o. (o.occurrence ≡ c) × IsInPlan P o) n.all
+  pub deleted : IsCount (HasOfIts P c status.Deleted) n.deleted
+  pub error : IsCount (HasOfIts P c status.Error) n.error
+  pub undecided : IsCount (HasOfIts P c status.Undecided) n.undecided
+  pub complete : IsCount (HasOfIts P c status.Complete) n.complete
+  pub started : IsCount (λ o. HasOfIts P c status.Started o ⊎ HasOfIts P c status.Interrupted o) n.started
+
+-- the numbers of each row's occurrence
+abbrev pub AreTallies : Plan → List (OccKey × Occurrence) → List Counts → Type 0
+AreTallies P rows tallies = AreByPlace rows tallies (IsTally P)
+
+-- to name operations that are ready changes nothing of what an operation waits for
+abbrev pub NamingKeepsStandings : Type 0
+NamingKeepsStandings = (P : Plan) (os : List OpKey) → ((k : OpKey) → is_among os k ≡ true → IsReady P k) → (o : OpKey) (s : Standing) → IsStanding P o s → IsStanding (named os P) o s

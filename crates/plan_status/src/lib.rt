@@ -1,0 +1,17 @@
+//! What is read off the plan for its operations and occurrences: which predecessors they wait for, and their statuses.
+#![tactic(auto)]
+
+ghost use Rattle.plan_status.specs.Standings.{NamingKeepsStandings};
+
+mod standings;
+mod statuses;
+mod tallies;
+
+pub use standings::{Standing, standings_of};
+pub use statuses::{status_with, statuses_of};
+pub use tallies::{occurrence_status_with, tallies_of};
+
+/// The law that to name operations that are ready changes nothing of what any operation waits for. It does nothing.
+pub fn naming_keeps_standings()
+    ensures { NamingKeepsStandings }
+{}

@@ -1,0 +1,119 @@
+// What is known of operations' predecessors.
+ghost use Rattle.std.specs.Prelude.{◌≡◌, ◌+◌, ◌<◌, ◌≤◌, ◌&&◌, ◌||◌, ℕ, true, cond, not, List, Some, IfOk, Decides};
+ghost use Rattle.std.specs.FinMap.{get};
+ghost use Rattle.plan_basics.specs.declared.keys.OpKey.{OpKey};
+ghost use Rattle.plan_model.specs.Plan.{Plan, HasAttribute};
+ghost use Rattle.plan_model.specs.Status.{IsSatisfied};
+ghost use Rattle.plan_records.specs.Contents.{plan_of, AreValidContents};
+ghost use Rattle.status_rules.specs.Table.{reports};
+ghost use Rattle.plan_status.specs.Incoming.{IsNextStanding, IsOperationOn};
+ghost use Rattle.plan_status.specs.Standings.{IsStanding, AreStandings};
+
+use plan_basics::Attr;
+use plan_model::OperationRecord;
+use plan_records::{PlanContents, known_place};
+use status_rules::{Mark, Preds};
+use std::alloc::{AllocError, Global};
+
+/// What is known of an operation's live predecessors.
+#[derive(Clone, Copy, Debug)]
+pub struct Standing {
+    pub preds: Preds,
+    /// How many of its live predecessors aren't satisfied.
+    pub waiting: u32,
+}
+
+// The standing of an operation that comes after no other.
+const FIRST: Standing = Standing {
+    preds: Preds {
+        live: false,
+        satisfied: true,
+        nonreporting: false,
+    },
+    waiting: 0,
+};
+
+// How the workstation of an operation reports: each is automatic so far.
+fn attribute_of(_contents: &PlanContents, _operation: &OperationRecord) -> Attr
+    requires contents { AreValidContents _contents.now }
+    requires operation { (o : OpKey) × (get (plan_of 0 _contents.now).operations o ≡ Some _operation.now) }
+    ensures { HasAttribute (plan_of 0 _contents.now) _operation.now.workstation result }
+{
+    Attr::Automatic
+}
+
+// Whether an operation without a mark completes by itself, once all its live predecessors are satisfied.
+fn passes_by_itself(operation: &OperationRecord, attr: Attr) -> bool
+    ensures { result ≡ (not operation.now.held && (operation.now.nop || not (reports attr))) }
+{
+    !operation.held && (operation.nop || matches!(attr, Attr::Nonreporting))
+}
+
+// Whether an operation is satisfied, by its standing.
+fn is_satisfied(operation: &OperationRecord, attr: Attr, standing: &Standing) -> bool
+    ensures { (P : Plan) (o : OpKey) → IsOperationOn P o operation.now attr → IsStanding P o standing.now → Decides result (IsSatisfied P o) }
+{
+    match operation.mark {
+        Mark::Done | Mark::Deleted => true,
+        Mark::Unmarked => passes_by_itself(operation, attr) && standing.preds.satisfied,
+        _ => false,
+    }
+}
+
+// The standing with one more live predecessor.
+fn with_one_more(standing: &Standing, satisfied: bool, nonreporting: bool) -> Standing
+    requires { standing.now.waiting < 4294967295 }
+    ensures live { result.preds.live ≡ true }
+    ensures satisfied { result.preds.satisfied ≡ (standing.now.preds.satisfied && satisfied) }
+    ensures nonreporting { result.preds.nonreporting ≡ (standing.now.preds.nonreporting || nonreporting) }
+    ensures waiting { result.waiting ≡ cond satisfied standing.now.waiting (standing.now.waiting + 1) }
+{
+    let preds = standing.preds;
+    Standing {
+        preds: Preds {
+            live: true,
+            satisfied: preds.satisfied && satisfied,
+            nonreporting: preds.nonreporting || nonreporting,
+        },
+        waiting: if satisfied {
+            standing.waiting
+        } else {
+            standing.waiting + 1
+        },
+    }
+}
+
+// The standing of an operation, once it comes after this predecessor too.
+fn standing_after(
+    standing: &Standing,
+    predecessor: &OperationRecord,
+    attr: Attr,
+    its: &Standing,
+) -> Standing
+    requires { standing.now.waiting < 4294967295 }
+    ensures standing { (P : Plan) (pairs : List (OpKey × OpKey)) (pair : OpKey × OpKey) → IsOperationOn P pair.0 predecessor.now attr → IsNextStanding P pairs pair its.now standing.now result }
+    ensures waiting { result.waiting ≤ standing.now.waiting + 1 }
+{
+    if matches!(predecessor.mark, Mark::Deleted) {
+        return *standing;
+    }
+    let satisfied = is_satisfied(predecessor, attr, its);
+    let nonreporting = matches!(attr, Attr::Nonreporting);
+    with_one_more(standing, satisfied, nonreporting)
+}
+
+/// The standing of each operation, at its row's place.
+pub fn standings_of(alloc: Global, contents: &PlanContents) -> Result<Vec<Standing>, AllocError>
+    requires { AreValidContents contents.now }
+    ensures { IfOk result (λ found. (clock : ℕ) → AreStandings (plan_of clock contents.now) contents.now.operations.items found.items) }
+{
+    let mut standings = vec![in alloc; FIRST; contents.operations.len()]?;
+    for pair in &contents.pairs {
+        let before = known_place(&contents.operations, &pair.0);
+        let after = known_place(&contents.operations, &pair.1);
+        let predecessor = &contents.operations[before].1;
+        let attr = attribute_of(contents, predecessor);
+        standings[after] = standing_after(&standings[after], predecessor, attr, &standings[before]);
+    }
+    Ok(standings)
+}

@@ -1,0 +1,66 @@
+// Numbers of an occurrence's operations by status.
+ghost use Rattle.std.specs.Prelude.{ℕ, IfOk};
+ghost use Rattle.plan_basics.specs.declared.keys.OccKey.{OccKey};
+ghost use Rattle.plan_model.specs.Plan.{Plan};
+ghost use Rattle.plan_model.specs.Status.{HasOccurrenceStatus};
+ghost use Rattle.plan_model.specs.Valid.{IsValid};
+ghost use Rattle.plan_records.specs.Contents.{plan_of, AreValidContents};
+ghost use Rattle.plan_records.specs.Places.{AreStatuses};
+ghost use Rattle.plan_status.specs.OneMore.{AreAtMost, CountsOneMore};
+ghost use Rattle.plan_status.specs.Standings.{IsTally, AreTallies};
+
+use plan_records::{PlanContents, known_occurrence};
+use status_rules::{Counts, OccStatus, Status, occurrence_status};
+use std::alloc::{AllocError, Global};
+
+/// The status of an occurrence, by the numbers of its operations.
+pub fn occurrence_status_with(counts: Counts) -> OccStatus
+    ensures { (P : Plan) → (c : OccKey) → IsValid P → IsTally P c counts → HasOccurrenceStatus P c result }
+{
+    occurrence_status(counts)
+}
+
+/// No operation is counted yet.
+const NONE_COUNTED: Counts = Counts {
+    all: 0,
+    deleted: 0,
+    error: 0,
+    undecided: 0,
+    complete: 0,
+    started: 0,
+};
+
+// One more operation of the occurrence is counted.
+fn count_one(counts: &mut Counts, status: Status)
+    requires { AreAtMost 20000 counts.old }
+    ensures { CountsOneMore status counts.old counts.new }
+{
+    counts.all += 1;
+    match status {
+        Status::Deleted => counts.deleted += 1,
+        Status::Error => counts.error += 1,
+        Status::Undecided => counts.undecided += 1,
+        Status::Complete => counts.complete += 1,
+        Status::Started | Status::Interrupted => counts.started += 1,
+        Status::Arriving | Status::ReadyAfterNonreporting | Status::Ready | Status::Waiting => {}
+    }
+}
+
+/// The numbers of each occurrence's operations, at its row's place.
+pub fn tallies_of(
+    alloc: Global,
+    contents: &PlanContents,
+    statuses: &[Status],
+) -> Result<Vec<Counts>, AllocError>
+    requires contents { AreValidContents contents.now }
+    requires statuses { AreStatuses (plan_of 0 contents.now) contents.now.operations.items statuses.now }
+    ensures { IfOk result (λ found. (clock : ℕ) → AreTallies (plan_of clock contents.now) contents.now.occurrences.items found.items) }
+{
+    let mut tallies = vec![in alloc; NONE_COUNTED; contents.occurrences.len()]?;
+    for (i, status) in statuses.iter().enumerate() {
+        let key = &contents.operations[i].0;
+        let place = known_occurrence(&contents.occurrences, &key.occurrence);
+        count_one(&mut tallies[place], *status);
+    }
+    Ok(tallies)
+}

@@ -1,0 +1,8 @@
+//! Worked nights: requests in a row, each with its answer, and what the plan shows afterwards. Tests alone; each night is
+//! run by `Plan::run`, and one by one by `prepare` and `apply`.
+#![tactic(auto)]
+
+#[cfg(test)]
+mod nights;
+#[cfg(test)]
+mod tests;
