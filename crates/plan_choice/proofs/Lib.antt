@@ -1,11 +1,14 @@
+pub mod StartLines
 pub mod Allowed
 pub mod ChoiceSteps
-pub mod Given
+pub mod Entries
+pub mod GivenSums
+pub mod GivenPlaces
+pub mod GivenRows
 pub mod KeyOrder
 pub mod LatestStarts
 pub mod Naming
+pub mod NamedGiven
 pub mod PairsBackwards
 pub mod Readied
 pub mod ReadyLists
-pub mod Station
-pub mod Tally

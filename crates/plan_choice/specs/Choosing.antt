@@ -1,20 +1,24 @@
 -- What is worked out on the way to what starts.
-use Rattle.std.specs.Prelude.{◌≡◌, ℕ, ◌<◌, ◌≤◌, Bool, true, false, List, ℤ, Contains}
+use Rattle.std.specs.Prelude.{◌≡◌, Bool, true, false, List, ℤ, Contains}
 use Rattle.std.specs.List.{IsDistinct}
 use Rattle.std.specs.Ordering.{eq_by_cmp}
-use Rattle.plan_basics.specs.Intervals.{OpenInterval, IsOpenAt}
+use Rattle.plan_basics.specs.declared.Refusal.{Refusal}
+use Rattle.plan_basics.specs.declared.Refusal.TheVariants as refusal
 use Rattle.plan_basics.specs.declared.keys.OpKey.{OpKey}
 use Rattle.status_rules.specs.declared.Status.{Status}
 use Rattle.status_rules.specs.declared.Status.TheVariants as status
-use Rattle.status_rules.specs.Table.{marked_status}
 use Rattle.ready_list.specs.Order.{ready_cmp}
 use Rattle.ready_list.specs.declared.ReadyKey.{ReadyKey}
-use Rattle.plan_model.specs.Holdings.{holds_server}
+use Rattle.plan_model.specs.Holdings.{given_out}
 use Rattle.plan_model.specs.Plan.{Plan, Operation}
 use Rattle.plan_model.specs.Ready.{IsEntry}
 use Rattle.plan_model.specs.Starting.{IsLatestStart}
 use Rattle.plan_model.specs.Status.{IsReady}
+use Rattle.plan_records.specs.Contents.{plan_of}
 use Rattle.plan_records.specs.Places.{AreByPlace}
+use Rattle.plan_records.specs.declared.contents.PlanContents.{PlanContents}
+use Rattle.workstations.specs.Timetables.{NamedWorkstation}
+use Rattle.workstations.specs.declared.Capacity.{Capacity}
 
 -- the latest start of each row's operation
 abbrev pub AreLatestStarts : Plan → List (OpKey × Operation) → List ℤ → Type 0
@@ -33,13 +37,17 @@ pub record AreReadyKeys (P : Plan) (keys : List ReadyKey) : Type 0 where
   pub every : (o : OpKey) → IsReady P o → (k : ReadyKey) × Contains keys k × (k.op ≡ o)
   pub once : IsDistinct (eq_by_cmp ready_cmp) keys
 
--- whether the operation takes a server of its workstation: it is started or undecided
-abbrev pub takes_server : OpKey × Operation → Bool
-takes_server row = holds_server (marked_status row.1.mark)
+-- what each row's workstation has given out
+abbrev pub AreGivenOut : Plan → List NamedWorkstation → List Capacity → Type 0
+AreGivenOut P rows taken = AreByPlace rows taken (λ w capacity. capacity ≡ given_out P w)
 
--- what is ready can start at m in this interval, with this many servers given out
-pub record CanStart (op : Operation) (x : OpenInterval) (m taken : ℕ) : Type 0 where
-  pub not_held : op.held ≡ false
-  pub not_before : op.not_before ≤ m
-  pub within : IsOpenAt x m
-  pub server : taken < x.servers
+-- the plan has these workstations, and this is given out at the operation's
+pub record HasGivenOut (P : Plan) (c : PlanContents) (op : Operation) (taken : Capacity) : Type 0 where
+  pub workstations : P.workstations ≡ (plan_of 0 c).workstations
+  pub given : given_out P op.workstation ≡ taken
+
+-- a line on what an operation needs to start, but for its status and for special resources
+abbrev pub IsStartLine : Refusal → Type 0
+IsStartLine refusal.WrongStatus = ⊥
+IsStartLine refusal.ResourceBusy = ⊥
+IsStartLine _ = Unit {0}

@@ -9,6 +9,7 @@ ghost use Rattle.plan_records.specs.Places.{AreStatuses};
 mod choice;
 mod latest;
 mod ready;
+mod taken;
 
 use choice::choose;
 use latest::latest_starts;
@@ -17,6 +18,7 @@ use plan_records::PlanContents;
 use ready::ready_list;
 use status_rules::Status;
 use std::alloc::{AllocError, Global};
+pub use taken::{check_start, given_out_of};
 
 /// What is named to start at a moment, in order: from the front of the ready list, each operation that is allowed to start
 /// once those before it are named; the others are passed over (IBM OPC/ESA, Planning and Scheduling the Workload; the

@@ -70,7 +70,7 @@ all_occs clock (Some h) loaded e held = subst (λ l. AreOccViews (plan_held cloc
 module _ (h : LoadedPlan) (held : IsHeldAtSome h) where
   pub no_ops_left : (i : ℕ) → length h.contents.operations.items ≤ i → drop i (op_views h) ≡ []
   no_ops_left i le =
-      let same = length_viewed (op_view_of (plan_of 0 h.contents).occurrences) h.contents.operations.items h.standings.items held.1.standings.size in
+      let same = length_viewed (op_view_of (plan_of 0 h.contents)) h.contents.operations.items h.standings.items held.1.standings.size in
       drop_all i (op_views h) (omega (arith, le, same))
 
   pub no_occs_left : (i : ℕ) → length h.contents.occurrences.items ≤ i → drop i (occ_views h) ≡ []

@@ -10,12 +10,10 @@ use Rattle.plan_records.specs.Drafts.{IsLoadable}
 use Rattle.plan_laws.proofs.Revising.{of_either, was}
 
 abbrev IsWithoutNeeds : Operation → Type 0
-IsWithoutNeeds op = (op.r1 ≡ 0) × (op.r2 ≡ 0) × (len op.needs ≡ 0)
+IsWithoutNeeds op = len op.needs ≡ 0
 
 pub marks_keep_loadable : (test : OpKey → Bool) (mark : Mark) (P : Plan) → IsLoadable P → IsLoadable (revised test (with_mark mark) P)
 marks_keep_loadable test mark P h = record {
-  one_workstation = h.one_workstation;
-  automatic = h.automatic;
   no_resources = h.no_resources;
   without_needs = λ o x e.
       let w = was test (with_mark mark) P o x e in

@@ -9,5 +9,6 @@ pub mod OpViews
 pub mod Permitting
 pub mod Preparing
 pub mod Refusing
+pub mod Reporting
 pub mod Settling
 pub mod SideBySide

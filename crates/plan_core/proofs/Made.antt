@@ -14,6 +14,7 @@ use Rattle.status_rules.specs.declared.Mark.{Mark}
 use Rattle.plan_core.specs.Requested.{AreMadeBy}
 use Rattle.plan_core.proofs.KeptLoadable.{marks_keep_loadable}
 use Rattle.plan_core.proofs.Marks.{one_marked}
+use Rattle.plan_core.proofs.Settling.{loadable_at}
 
 pub if_ok : {T E : Type 0} {A B : T → Type 0} → (r : Result T E) → ((x : T) → A x → B x) → IfOk r A → IfOk r B
 if_ok (Ok x) f h = f x h
@@ -22,10 +23,6 @@ if_ok (Err e) f h = h
 if_both_ok : {T E : Type 0} {A B C : T → Type 0} → (r : Result T E) → ((x : T) → A x → B x → C x) → IfOk r A → IfOk r B → IfOk r C
 if_both_ok (Ok x) f a b = f x a b
 if_both_ok (Err e) f a b = a
-
--- what can be loaded doesn't go by the clock
-loadable_at : (c : PlanContents) (m n : ℕ) → IsLoadable (plan_of m c) → IsLoadable (plan_of n c)
-loadable_at c m n h = record { one_workstation = h.one_workstation; automatic = h.automatic; no_resources = h.no_resources; without_needs = h.without_needs; ascending = h.ascending }
 
 -- where it changes nothing
 pub made_alike : (c new : PlanContents) → ((clock : ℕ) → plan_of clock new ≡ plan_of clock c) → AreContents new → IsLoadable (plan_of 0 c)

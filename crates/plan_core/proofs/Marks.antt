@@ -8,7 +8,7 @@ use Rattle.std.specs.List.Sorted.{IsStrictlySortedBy}
 use Rattle.std.specs.Map.{keys_of}
 use Rattle.std.specs.Ordering.{eq_by_cmp}
 use Rattle.std.proofs.lemmas.Map.Keys.{sorted_head, sorted_tail}
-use Rattle.plan_basics.specs.Keys.{occurrence_cmp, operation_cmp, operation_cmp_total, operation_cmp-IsAntisymmetric}
+use Rattle.plan_basics.specs.Keys.{name_cmp, occurrence_cmp, operation_cmp, operation_cmp_total, operation_cmp-IsAntisymmetric}
 use Rattle.plan_basics.specs.declared.keys.OpKey.{OpKey}
 use Rattle.status_rules.specs.declared.Mark.{Mark}
 use Rattle.ready_list.specs.Choice.{is_among}
@@ -37,7 +37,7 @@ made os mark o op = cond (is_among os o) (with_mark mark op) op
 -- contents that differ by their rows of operations alone, of which some have the mark
 module _
     (c new : PlanContents) (os : List OpKey) (mark : Mark)
-    (w : new.workstation ≡ c.workstation) (x : new.interval ≡ c.interval) (cs : new.occurrences.items ≡ c.occurrences.items)
+    (ws : new.workstations.items ≡ c.workstations.items) (cs : new.occurrences.items ≡ c.occurrences.items)
     (rows : new.operations.items ≡ marked_rows os mark c.operations.items)
     (ps : new.pairs.items ≡ c.pairs.items) where
   same_operations : from_entries {R = operation_cmp} new.operations.items ≡ revise (made os mark) (from_entries c.operations.items)
@@ -50,7 +50,7 @@ module _
   plan_marked clock = λ i. record {
     loaded = true;
     clock = clock;
-    workstations = (plan_of clock (record c { workstation = w i; interval = x i })).workstations;
+    workstations = from_entries (ws i);
     resources = (plan_of clock c).resources;
     occurrences = from_entries (cs i);
     operations = same_operations i;
@@ -59,6 +59,7 @@ module _
 
   order_kept : AreContents c → AreContents new
   order_kept h = record {
+    workstations = subst (λ zs. IsStrictlySortedBy name_cmp (keys_of zs)) (sym ws) h.workstations;
     occurrences = subst (λ zs. IsStrictlySortedBy occurrence_cmp (keys_of zs)) (sym cs) h.occurrences;
     operations = subst (IsStrictlySortedBy operation_cmp) (sym same_keys) h.operations;
     pairs = subst (IsStrictlySortedBy pair_cmp) (sym ps) h.pairs;

@@ -5,7 +5,7 @@ use Rattle.std.specs.FinMap.{get}
 use Rattle.std.specs.List.Sorted.{IsStrictlySortedBy}
 use Rattle.std.specs.Map.{keys_of}
 use Rattle.plan_basics.specs.Keys.{occurrence_cmp, occurrence_cmp_total, occurrence_cmp-IsAntisymmetric, operation_cmp, operation_cmp_total, operation_cmp-IsAntisymmetric}
-use Rattle.plan_basics.specs.declared.Attr.TheVariants.{Automatic}
+use Rattle.plan_basics.specs.declared.Attr.{Attr}
 use Rattle.plan_basics.specs.declared.keys.OpKey.{OpKey}
 use Rattle.plan_laws.proofs.Standing.{each_has_one_status}
 use Rattle.plan_model.specs.Plan.{HasAttribute, IsInPlan, Operation, Plan}
@@ -20,14 +20,15 @@ use Rattle.plan_status.specs.Standings.{IsStanding}
 use Rattle.plan_status.specs.declared.standings.Standing.{Standing}
 use Rattle.plan_core.proofs.SideBySide.{from_viewed, keys_viewed, place_of_member, viewed_at}
 use Rattle.plan_core.specs.Held.{AreHeld}
-use Rattle.plan_core.specs.Views.{AreOpViews, IsOpView, op_view_of, op_views, priority_of}
+use Rattle.plan_core.specs.Views.{AreOpViews, IsOpView, attribute_or_automatic, op_view_of, op_views, priority_of}
 use Rattle.plan_core.specs.declared.loaded.LoadedPlan.{LoadedPlan}
 use Rattle.plan_core.specs.declared.views.OpView.{OpView}
+use Rattle.status_rules.specs.Table.{status_by}
 use Rattle.status_rules.specs.declared.Status.{Status}
 
--- it follows from the row and from what is known of its predecessors, in any plan
-abbrev pub FollowsFrom : Operation → Standing → Status → Type 0
-FollowsFrom op s t = (Q : Plan) (o : OpKey) → get Q.operations o ≡ Some op → HasAttribute Q op.workstation Automatic → IsStanding Q o s → HasStatus Q o t
+-- it follows from the row, its workstation's attribute and what is known of its predecessors, in any plan
+abbrev pub FollowsFrom : Operation → Attr → Standing → Status → Type 0
+FollowsFrom op a s t = (Q : Plan) (o : OpKey) → get Q.operations o ≡ Some op → HasAttribute Q op.workstation a → IsStanding Q o s → HasStatus Q o t
 
 module _ (clock : ℕ) (h : LoadedPlan) (held : AreHeld clock h) where
   abbrev P : Plan
@@ -41,7 +42,7 @@ module _ (clock : ℕ) (h : LoadedPlan) (held : AreHeld clock h) where
 
   -- the view of a row with its standing
   abbrev seen : OpKey → Operation → Standing → OpView
-  seen o op s = op_view_of P.occurrences ((o, op), s)
+  seen o op s = op_view_of P ((o, op), s)
 
   pub row_in_plan : (i : ℕ) (o : OpKey) (op : Operation) → slice_get rows i ≡ Some (o, op) → get P.operations o ≡ Some op
   row_in_plan i o op at = get_at operation_cmp operation_cmp_total operation_cmp-IsAntisymmetric rows held.in_order.operations i o op at
@@ -50,13 +51,16 @@ module _ (clock : ℕ) (h : LoadedPlan) (held : AreHeld clock h) where
   pub its_occurrence : (o : OpKey) (op : Operation) → get P.operations o ≡ Some op → (c : Occurrence) × (get P.occurrences o.occurrence ≡ Some c)
   its_occurrence o op is = is_found (get P.occurrences o.occurrence) (held.sound.valid.occurrences.each_operation o op is).1
 
-  is_automatic : (o : OpKey) (op : Operation) → get P.operations o ≡ Some op → HasAttribute P op.workstation Automatic
-  is_automatic o op is =
+  -- so is its workstation, which reports somehow
+  its_attribute : (o : OpKey) (op : Operation) → get P.operations o ≡ Some op → (a : Attr) × HasAttribute P op.workstation a
+  its_attribute o op is =
       let ws = is_found (get P.workstations op.workstation) (held.sound.valid.have_workstations o op is) in
-      ap (option_map (λ w. w.attribute)) ws.1 ∙ ap Some (held.loadable.automatic op.workstation ws.0 ws.1).0
+      (ws.0.attribute, ap (option_map (λ w. w.attribute)) ws.1)
 
   by_standing : (o : OpKey) (op : Operation) (s : Standing) → get P.operations o ≡ Some op → IsStanding P o s → HasStatus P o (seen o op s).status
-  by_standing o op s is stands = status_on P o op Automatic s.preds is (is_automatic o op is) stands.preds
+  by_standing o op s is stands =
+      let on = its_attribute o op is in
+      subst (λ a. HasStatus P o (status_by op.mark op.held op.nop a s.preds)) (sym (ap attribute_or_automatic on.1)) (status_on P o op on.0 s.preds is on.1 stands.preds)
 
   is_op_view : (i : ℕ) (o : OpKey) (op : Operation) (s : Standing) → slice_get rows i ≡ Some (o, op) → slice_get standings i ≡ Some s → IsOpView P (seen o op s)
   is_op_view i o op s row at =
@@ -76,20 +80,21 @@ module _ (clock : ℕ) (h : LoadedPlan) (held : AreHeld clock h) where
   one_status : (o : OpKey) → IsInPlan P o → (s t : Status) → HasStatus P o s → HasStatus P o t → s ≡ t
   one_status o there s t x y = let one = each_has_one_status P held.sound.valid o there in one.2 s x ∙ sym (one.2 t y)
 
-  module _ (i k : ℕ) (o : OpKey) (op : Operation) (s : Standing) (c : Occurrence) (t : Status) where
+  module _ (i k : ℕ) (o : OpKey) (op : Operation) (a : Attr) (s : Standing) (c : Occurrence) (t : Status) where
     -- the view at a place, with the priority of its occurrence and the status that follows
-    pub op_view_at : slice_get rows i ≡ Some (o, op) → slice_get standings i ≡ Some s → slice_get h.contents.occurrences.items k ≡ Some (o.occurrence, c) → FollowsFrom op s t
+    pub op_view_at : slice_get rows i ≡ Some (o, op) → slice_get standings i ≡ Some s → slice_get h.contents.occurrences.items k ≡ Some (o.occurrence, c)
+        → HasAttribute P op.workstation a → FollowsFrom op a s t
         → slice_get (op_views h) i ≡ Some (record (seen o op s) { priority = c.priority; status = t })
-    op_view_at row at occurrence told =
+    op_view_at row at occurrence on told =
         let is = row_in_plan i o op row in
         let stands = held.standings.each i o op s row at in
         let terms = get_at occurrence_cmp occurrence_cmp_total occurrence_cmp-IsAntisymmetric h.contents.occurrences.items held.in_order.occurrences k o.occurrence c occurrence in
         let priority : (seen o op s).priority ≡ c.priority = ap priority_of terms in
-        let status = one_status o (op, is, tt) (seen o op s).status t (by_standing o op s is stands) (told P o is (is_automatic o op is) stands) in
-        viewed_at (op_view_of P.occurrences) rows standings i (o, op) s row at ∙ (λ j. Some (record (seen o op s) { priority = priority j; status = status j }))
+        let status = one_status o (op, is, tt) (seen o op s).status t (by_standing o op s is stands) (told P o is on stands) in
+        viewed_at (op_view_of P) rows standings i (o, op) s row at ∙ (λ j. Some (record (seen o op s) { priority = priority j; status = status j }))
 
   op_keys : map (λ v. v.key) (op_views h) ≡ keys_of rows
-  op_keys = keys_viewed (op_view_of P.occurrences) (λ v. v.key) (λ p. refl) rows standings held.standings.size
+  op_keys = keys_viewed (op_view_of P) (λ v. v.key) (λ p. refl) rows standings held.standings.size
 
   in_plan : (o : OpKey) → Contains (keys_of rows) o → IsInPlan P o
   in_plan o has =
@@ -104,7 +109,7 @@ module _ (clock : ℕ) (h : LoadedPlan) (held : AreHeld clock h) where
   are_op_views = record {
     in_order = subst (IsStrictlySortedBy operation_cmp) (sym op_keys) held.in_order.operations;
     every = λ o. subst (λ ks. Contains ks o ↔ IsInPlan P o) (sym op_keys) (in_plan o, among_keys o);
-    each = λ v has. let x = from_viewed (op_view_of P.occurrences) rows standings v has in subst (IsOpView P) x.5 (is_op_view x.0 x.1.0 x.1.1 x.2 x.3 x.4);
+    each = λ v has. let x = from_viewed (op_view_of P) rows standings v has in subst (IsOpView P) x.5 (is_op_view x.0 x.1.0 x.1.1 x.2 x.3 x.4);
   }
 
   standing_at : (i : ℕ) (o : OpKey) (op : Operation) → slice_get rows i ≡ Some (o, op) → (s : Standing) × (slice_get standings i ≡ Some s)
@@ -117,5 +122,5 @@ module _ (clock : ℕ) (h : LoadedPlan) (held : AreHeld clock h) where
   pub op_view_is : (i : ℕ) (o : OpKey) (op : Operation) (v : OpView) → slice_get rows i ≡ Some (o, op) → slice_get (op_views h) i ≡ Some v → (v.key ≡ o) × IsOpView P v
   op_view_is i o op v row at =
       let s = standing_at i o op row in
-      let e : seen o op s.0 ≡ v = same_view (sym (viewed_at (op_view_of P.occurrences) rows standings i (o, op) s.0 row s.1) ∙ at) in
+      let e : seen o op s.0 ≡ v = same_view (sym (viewed_at (op_view_of P) rows standings i (o, op) s.0 row s.1) ∙ at) in
       (sym (ap (λ w. w.key) e), subst (IsOpView P) e (is_op_view i o op s.0 row s.1))

@@ -1,120 +1,133 @@
--- What the rows say of a report of one operation.
-use Rattle.std.proofs.Common.{◌≡◌, ◌⊎◌, inl, inr, refl, sym, ap, subst, ◌∙◌, arith, ℕ, ◌<◌, Bool, true, false, cond, true≢false, Option, Some, None, option_map, is_some, MatchOption}
-use Rattle.std.specs.FinMap.{get, get-insert, get-empty}
-use Rattle.std.specs.FinMap as map
-use Rattle.std.specs.Ordering.{eq_by_cmp}
+-- What the status of a reported operation says of the lines that its report goes by.
+use Rattle.std.proofs.Common.{◌≡◌, ◌⊎◌, inl, inr, refl, sym, ap, subst, ◌∙◌, arith, ℕ, ◌<◌, true, false, true≢false, Some}
+use Rattle.std.specs.FinMap.{empty_of_len, get, get-empty}
 use Rattle.plan_basics.specs.declared.Attr.{Attr}
 use Rattle.plan_basics.specs.declared.Attr.TheVariants as attribute
 use Rattle.plan_basics.specs.declared.Refusal.{Refusal}
 use Rattle.plan_basics.specs.declared.Refusal.TheVariants as refusal
 use Rattle.plan_basics.specs.declared.keys.OpKey.{OpKey}
-use Rattle.plan_basics.specs.Keys.{name_cmp, name_cmp_total}
 use Rattle.plan_basics.specs.Refusals.{number_of}
-use Rattle.plan_laws.proofs.Looks.{same_some}
-use Rattle.plan_model.specs.Holdings.{holds_server}
-use Rattle.plan_model.specs.Plan.{Operation, Plan, attribute_at}
-use Rattle.plan_model.specs.Status.{HasStatus, UnmarkedStatus}
-use Rattle.plan_model.specs.Valid.{HaveWorkstations}
-use Rattle.plan_records.specs.Accepting.{MayBeEnded, MayBeStarted, OfOperation}
-use Rattle.plan_records.specs.Contents.{plan_of}
+use Rattle.plan_laws.proofs.Looks.{none_is_not_some}
+use Rattle.plan_model.specs.Holdings.{given_out, holds_server, takes}
+use Rattle.plan_model.specs.Plan.{HasAttribute, Operation, Plan}
+use Rattle.plan_model.specs.Starting.{MayStart}
+use Rattle.plan_model.specs.Status.{HasStatus, IsReady}
+use Rattle.plan_records.specs.Accepting.{MayBeEnded, MayBeInterrupted, MayBeUndecided}
+use Rattle.plan_records.specs.Contents.{AreValidContents, plan_of}
 use Rattle.plan_records.specs.declared.contents.PlanContents.{PlanContents}
-use Rattle.plan_records.specs.declared.What.TheVariants as what
-use Rattle.status_rules.specs.Table.{marked_status}
-use Rattle.status_rules.specs.declared.Mark.TheVariants as mark
 use Rattle.status_rules.specs.declared.Status.{Status}
 use Rattle.status_rules.specs.declared.Status.TheVariants as status
-use Rattle.workstations.specs.Workstations.{Workstation}
-use Rattle.plan_core.specs.Requested.{IsBarred, IsPermitted}
+use Rattle.workstations.specs.declared.Capacity.{Capacity}
+use Rattle.plan_choice.specs.Choosing.{HasGivenOut, IsStartLine, is_ready_status}
+use Rattle.plan_core.specs.Requested.{AllHold, FailsFirstAt, IsReported}
+use Rattle.plan_core.specs.declared.checks.Reported.{Reported}
 
-module _ (P : Plan) (o : OpKey) (rest : Operation → Refusal → Type 0) where
-  -- what is so of the operation is so of the request, but that it is there
-  of_found : (op : Operation) → get P.operations o ≡ Some op → (r : Refusal) → rest op r → OfOperation P o rest r
-  of_found op is refusal.UnknownOperation may = (op, is, tt)
-  of_found op is r may = λ x e. subst (λ z. rest z r) (same_some op x (sym is ∙ e)) may
-
--- ---- an operation on an automatic workstation
-
-start_may : (P : Plan) (m : ℕ) (o : OpKey) (op : Operation) (a : Option Attr) → a ≡ Some attribute.Automatic → (r : Refusal) → (r ≡ refusal.WrongStatus → op.mark ≡ mark.Named) → MayBeStarted P m o op a r
-start_may P m o op a e r named = subst (λ x. MayBeStarted P m o op x r) (sym e) (on_automatic r named)
-  where
-    on_automatic : (r : Refusal) → (r ≡ refusal.WrongStatus → op.mark ≡ mark.Named) → MayBeStarted P m o op (Some attribute.Automatic) r
-    on_automatic refusal.WrongStatus named = named refl
-    on_automatic r named = tt
-
-end_may : (P : Plan) (o : OpKey) (op : Operation) (a : Option Attr) → a ≡ Some attribute.Automatic → (r : Refusal) → (r ≡ refusal.WrongStatus → HasStatus P o status.Started ⊎ HasStatus P o status.Undecided) → MayBeEnded P o op a r
-end_may P o op a e r running = subst (λ x. MayBeEnded P o op x r) (sym e) (on_automatic r running)
-  where
-    on_automatic : (r : Refusal) → (r ≡ refusal.WrongStatus → HasStatus P o status.Started ⊎ HasStatus P o status.Undecided) → MayBeEnded P o op (Some attribute.Automatic) r
-    on_automatic refusal.WrongStatus running = running refl
-    on_automatic r running = tt
-
-below_status : {A : Type 0} (r : Refusal) → number_of r < 9 → r ≡ refusal.WrongStatus → A
-below_status r less e = let n : number_of r ≡ 9 = ap number_of e in absurd (omega (arith, less, n))
+-- the status is one of those that may be started where starts are reported
+abbrev pub IsStartable : Status → Type 0
+IsStartable s = (is_ready_status s ≡ true) ⊎ (s ≡ status.Interrupted)
 
 module _ (P : Plan) (o : OpKey) where
-  told_started : (x : Option Status) → MatchOption x (UnmarkedStatus P o status.Started) (λ t. status.Started ≡ t) → holds_server x ≡ true
-  told_started None h = absurd h
-  told_started (Some s) h = subst (λ t. holds_server (Some t) ≡ true) h refl
+  running_by : (s : Status) → HasStatus P o s → holds_server (Some s) ≡ true → HasStatus P o status.Started ⊎ HasStatus P o status.Undecided
+  running_by status.Started h e = inl h
+  running_by status.Undecided h e = inr h
+  running_by s h e = absurd (cc)
 
-  told_undecided : (x : Option Status) → MatchOption x (UnmarkedStatus P o status.Undecided) (λ t. status.Undecided ≡ t) → holds_server x ≡ true
-  told_undecided None h = absurd h
-  told_undecided (Some s) h = subst (λ t. holds_server (Some t) ≡ true) h refl
+  ready_by : (s : Status) → HasStatus P o s → is_ready_status s ≡ true → IsReady P o
+  ready_by status.Arriving h e = inl h
+  ready_by status.ReadyAfterNonreporting h e = inr (inl h)
+  ready_by status.Ready h e = inr (inr h)
+  ready_by s h e = absurd (cc)
 
-  -- its mark tells whether it is started or undecided
-  running_told : (op : Operation) → get P.operations o ≡ Some op → HasStatus P o status.Started ⊎ HasStatus P o status.Undecided → holds_server (marked_status op.mark) ≡ true
-  running_told op is (inl h) = subst (λ (x : Operation). holds_server (marked_status x.mark) ≡ true) (same_some h.0 op (sym h.1 ∙ is)) (told_started (marked_status h.0.mark) h.2)
-  running_told op is (inr h) = subst (λ (x : Operation). holds_server (marked_status x.mark) ≡ true) (same_some h.0 op (sym h.1 ∙ is)) (told_undecided (marked_status h.0.mark) h.2)
+  module _ (x : Reported) (is : IsReported P o x) where
+    pub is_running : holds_server (Some x.status) ≡ true → HasStatus P o status.Started ⊎ HasStatus P o status.Undecided
+    is_running = running_by x.status is.status
 
-  by_status : (op : Operation) → get P.operations o ≡ Some op → (x : Option Status) → marked_status op.mark ≡ x → holds_server x ≡ true → HasStatus P o status.Started ⊎ HasStatus P o status.Undecided
-  by_status op is (Some status.Started) e h = inl (op, is, subst (λ x. MatchOption x (UnmarkedStatus P o status.Started) (λ t. status.Started ≡ t)) (sym e) refl)
-  by_status op is (Some status.Undecided) e h = inr (op, is, subst (λ x. MatchOption x (UnmarkedStatus P o status.Undecided) (λ t. status.Undecided ≡ t)) (sym e) refl)
-  by_status op is x e h = absurd (cc)
+    pub not_running : holds_server (Some x.status) ≡ false → ¬ (HasStatus P o status.Started ⊎ HasStatus P o status.Undecided)
+    not_running e (inl h) = true≢false (subst (λ s. holds_server (Some s) ≡ false) (sym (is.alone status.Started h)) e)
+    not_running e (inr h) = true≢false (subst (λ s. holds_server (Some s) ≡ false) (sym (is.alone status.Undecided h)) e)
 
--- ---- contents
+    pub is_ready : is_ready_status x.status ≡ true → IsReady P o
+    is_ready = ready_by x.status is.status
 
-module _ (c : PlanContents) (clock : ℕ) (o : OpKey) where
-  abbrev plan : Plan
-  plan = plan_of clock c
+    ready_told : IsReady P o → is_ready_status x.status ≡ true
+    ready_told (inl h) = subst (λ s. is_ready_status s ≡ true) (is.alone status.Arriving h) refl
+    ready_told (inr (inl h)) = subst (λ s. is_ready_status s ≡ true) (is.alone status.ReadyAfterNonreporting h) refl
+    ready_told (inr (inr h)) = subst (λ s. is_ready_status s ≡ true) (is.alone status.Ready h) refl
 
-  abbrev of_start : ℕ → Operation → Refusal → Type 0
-  of_start m op = MayBeStarted plan m o op (attribute_at plan op.workstation)
+    pub not_ready : is_ready_status x.status ≡ false → ¬ IsReady P o
+    not_ready e h = true≢false (sym (ready_told h) ∙ e)
 
-  abbrev of_end : ℕ → Operation → Refusal → Type 0
-  of_end m op = MayBeEnded plan o op (attribute_at plan op.workstation)
+    -- what may be started where starts are reported
+    pub startable : (m : ℕ) → x.attribute ≡ attribute.StartAndCompletion → IsStartable x.status → MayStart P o x.operation m refusal.WrongStatus
+    startable m on (inl e) = inl (is_ready e)
+    startable m on (inr e) = inr (subst (HasStatus P o) e is.status, is.attribute ∙ ap Some on)
 
-  module _ (known : HaveWorkstations (plan_of 0 c).workstations (plan_of 0 c).operations) (op : Operation) (is : get plan.operations o ≡ Some op) where
-    found_by : (ws : Workstation) (b : Bool) (x : Option Workstation) → x ≡ cond b (Some ws) None → is_some x ≡ true → x ≡ Some ws
-    found_by ws true x e h = e
-    found_by ws false x e h = absurd (true≢false (sym h ∙ ap is_some e))
+    pub startable_told : (m : ℕ) → MayStart P o x.operation m refusal.WrongStatus → IsStartable x.status
+    startable_told m (inl h) = inl (ready_told h)
+    startable_told m (inr h) = inr (sym (is.alone status.Interrupted h.0))
 
-    -- it is on the automatic workstation
-    automatic : attribute_at plan op.workstation ≡ Some attribute.Automatic
-    automatic =
-        let ws : Workstation = record { attribute = attribute.Automatic; intervals = map.insert map.empty c.interval.from c.interval } in
-        let same = eq_by_cmp name_cmp op.workstation c.workstation in
-        let found : get plan.workstations op.workstation ≡ cond same (Some ws) None = get-insert name_cmp_total map.empty c.workstation ws op.workstation ∙ ap (cond same (Some ws)) (get-empty name_cmp op.workstation) in
-        ap (option_map (λ (x : Workstation). x.attribute)) (found_by ws same (get plan.workstations op.workstation) found (known o op is))
+  -- ---- an end or an error
 
-    pub start_permitted : op.mark ≡ mark.Named → IsPermitted plan (what.Started o)
-    start_permitted named m r = of_found plan o (of_start m) op is r (start_may plan m o op (attribute_at plan op.workstation) automatic r (λ _. named))
+  module _ (op : Operation) where
+    pub ended_after_start : (a : Attr) → takes (Some a) ≡ true → HasStatus P o status.Started ⊎ HasStatus P o status.Undecided → AllHold (MayBeEnded P o op (Some a))
+    ended_after_start attribute.Automatic t run refusal.WrongStatus = run
+    ended_after_start attribute.Automatic t run r = tt
+    ended_after_start attribute.StartAndCompletion t run refusal.WrongStatus = run
+    ended_after_start attribute.StartAndCompletion t run r = tt
+    ended_after_start a t run r = absurd (cc)
 
-    pub start_barred : (op.mark ≡ mark.Named → ⊥) → IsBarred plan (what.Started o) refusal.WrongStatus
-    start_barred other = (
-      omega arith,
-      λ m. (
-        λ h. other (subst (λ a. MayBeStarted plan m o op a refusal.WrongStatus) automatic (h op is)),
-        λ r less. of_found plan o (of_start m) op is r (start_may plan m o op (attribute_at plan op.workstation) automatic r (below_status r less)),
-      ),
-    )
+    pub ended_without_start : IsReady P o → op.held ≡ false → AllHold (MayBeEnded P o op (Some attribute.CompletionOnly))
+    ended_without_start ready free refusal.WrongStatus = ready
+    ended_without_start ready free refusal.Held = free
+    ended_without_start ready free r = tt
 
-    pub end_permitted : holds_server (marked_status op.mark) ≡ true → IsPermitted plan (what.Ended o)
-    end_permitted running m r = of_found plan o (of_end m) op is r (end_may plan o op (attribute_at plan op.workstation) automatic r (λ _. by_status plan o op is (marked_status op.mark) refl running))
+    before_held : IsReady P o → (lower : Refusal) → number_of lower < 11 → MayBeEnded P o op (Some attribute.CompletionOnly) lower
+    before_held ready refusal.WrongStatus less = ready
+    before_held ready refusal.Held less = absurd (omega (arith, less))
+    before_held ready r less = tt
 
-    pub end_barred : holds_server (marked_status op.mark) ≡ false → IsBarred plan (what.Ended o) refusal.WrongStatus
-    end_barred other = (
-      omega arith,
-      λ m. (
-        λ h. true≢false (sym (running_told plan o op is (subst (λ a. MayBeEnded plan o op a refusal.WrongStatus) automatic (h op is))) ∙ other),
-        λ r less. of_found plan o (of_end m) op is r (end_may plan o op (attribute_at plan op.workstation) automatic r (below_status r less)),
-      ),
-    )
+    pub held_at_end : IsReady P o → op.held ≡ true → FailsFirstAt (MayBeEnded P o op (Some attribute.CompletionOnly)) refusal.Held
+    held_at_end ready held = (λ free. true≢false (sym held ∙ free), before_held ready)
+
+  -- ---- an interruption or an unknown outcome
+
+  pub interrupted : (op : Operation) → HasStatus P o status.Started → HasAttribute P op.workstation attribute.StartAndCompletion → AllHold (MayBeInterrupted P o op)
+  interrupted op started on refusal.WrongStatus = started
+  interrupted op started on refusal.WrongWorkstation = on
+  interrupted op started on r = tt
+
+  before_workstation : (op : Operation) → HasStatus P o status.Started → (lower : Refusal) → number_of lower < 10 → MayBeInterrupted P o op lower
+  before_workstation op started refusal.WrongStatus less = started
+  before_workstation op started refusal.WrongWorkstation less = absurd (omega (arith, less))
+  before_workstation op started r less = tt
+
+  pub not_interrupted : (op : Operation) → HasStatus P o status.Started → ¬ HasAttribute P op.workstation attribute.StartAndCompletion → FailsFirstAt (MayBeInterrupted P o op) refusal.WrongWorkstation
+  not_interrupted op started other = (other, before_workstation op started)
+
+  pub undecided : HasStatus P o status.Started → AllHold (MayBeUndecided P o)
+  undecided started refusal.WrongStatus = started
+  undecided started r = tt
+
+  -- ---- a start where starts are reported
+
+  -- a line that fails has a number past that of an unknown operation
+  pub start_number : (op : Operation) (m : ℕ) (r : Refusal) → ¬ MayStart P o op m r → 5 < number_of r
+  start_number op m refusal.WrongStatus never = omega arith
+  start_number op m refusal.Held never = omega arith
+  start_number op m refusal.TooEarly never = omega arith
+  start_number op m refusal.Closed never = omega arith
+  start_number op m refusal.NoServer never = omega arith
+  start_number op m refusal.NoFixed never = omega arith
+  start_number op m refusal.ResourceBusy never = omega arith
+  start_number op m r never = absurd (never tt)
+
+pub has_given_out : (c : PlanContents) (clock : ℕ) (op : Operation) (taken : Capacity) → given_out (plan_of clock c) op.workstation ≡ taken → HasGivenOut (plan_of clock c) c op taken
+has_given_out c clock op taken e = record { workstations = refl; given = e }
+
+-- what its status and its workstation allow: it needs no special resources
+module _ (c : PlanContents) (h : AreValidContents c) (clock : ℕ) (o : OpKey) (op : Operation) (is : get (plan_of clock c).operations o ≡ Some op) (m : ℕ) where
+  pub line_by_line : (Q : Refusal → Type 0) → (Q refusal.WrongStatus → MayStart (plan_of clock c) o op m refusal.WrongStatus) → ((r : Refusal) → IsStartLine r → Q r → MayStart (plan_of clock c) o op m r)
+      → (r : Refusal) → Q r → MayStart (plan_of clock c) o op m r
+  line_by_line Q may lines refusal.WrongStatus q = may q
+  line_by_line Q may lines refusal.ResourceBusy q = λ r usage e. absurd (none_is_not_some usage (sym (get-empty _ r) ∙ ap (λ n. get n r) (sym (empty_of_len op.needs (h.loadable.without_needs o op is))) ∙ e))
+  line_by_line Q may lines r q = lines r tt q

@@ -1,11 +1,11 @@
 -- The answers to a request, by what stands in its way.
-use Rattle.std.proofs.Common.{◌≡◌, refl, sym, ◌∙◌, arith, ℕ, ◌<◌, true, false, true≢false, ℤ, pos, ◌≤ℤ◌, Option, Some, None, is_some, Result, Ok, Err, IfErr, OnOk}
+use Rattle.std.proofs.Common.{◌≡◌, ◌⊎◌, inl, inr, refl, sym, subst, ◌∙◌, arith, ℕ, ◌<◌, true, false, true≢false, pos, ◌≤ℤ◌, Option, Some, None, is_some, Result, Ok, Err, IfErr, OnOk}
 use Rattle.plan_basics.specs.Minutes.{IsMoment}
 use Rattle.plan_basics.specs.Refusals.{number_of}
 use Rattle.plan_basics.specs.declared.Refusal.{Refusal}
 use Rattle.plan_basics.specs.declared.Refusal.TheVariants as refusal
 use Rattle.plan_model.specs.Plan.{Plan}
-use Rattle.plan_records.specs.Accepting.{MayBeAccepted, MayBeDone, NeedsPlan, minute_of}
+use Rattle.plan_records.specs.Accepting.{MayBeAccepted, MayBeDone, NeedsPlan}
 use Rattle.plan_records.specs.Answer.{refused}
 use Rattle.plan_records.specs.Step.{Step}
 use Rattle.plan_records.specs.declared.Request.{Request}
@@ -14,48 +14,53 @@ use Rattle.plan_core.specs.Held.{plan_held}
 use Rattle.plan_core.specs.Requested.{IsBarred, IsFree, IsPermitted, IsStopped}
 use Rattle.plan_core.specs.declared.loaded.LoadedPlan.{LoadedPlan}
 
--- ---- whatever its moment
+-- ---- but for its moment
 
-module _ (P : Plan) (w : What) (loaded : NeedsPlan w → P.loaded ≡ true) where
-  by_plan : (at : ℤ) (r : Refusal) → 2 < number_of r → MayBeDone P (minute_of at) w r → MayBeAccepted P (record { at = at; what = w }) r
-  by_plan at refusal.Past past may = absurd (omega (arith, past))
-  by_plan at refusal.MomentRange past may = absurd (omega (arith, past))
-  by_plan at refusal.NotLoaded past may = loaded
-  by_plan at r past may = may
+module _ (P : Plan) (m : ℕ) (w : What) (loaded : NeedsPlan w → P.loaded ≡ true) where
+  abbrev request : Request
+  request = record { at = pos m; what = w }
 
-  not_by_plan : (at : ℤ) (r : Refusal) → 3 < number_of r → ¬ MayBeDone P (minute_of at) w r → ¬ MayBeAccepted P (record { at = at; what = w }) r
-  not_by_plan at refusal.Past past never = absurd (omega (arith, past))
-  not_by_plan at refusal.MomentRange past never = absurd (omega (arith, past))
-  not_by_plan at refusal.NotLoaded past never = absurd (omega (arith, past))
-  not_by_plan at r past never = never
+  by_plan : (r : Refusal) → 2 < number_of r → MayBeDone P m w r → MayBeAccepted P request r
+  by_plan refusal.Past past may = absurd (omega (arith, past))
+  by_plan refusal.MomentRange past may = absurd (omega (arith, past))
+  by_plan refusal.NotLoaded past may = loaded
+  by_plan r past may = may
+
+  not_by_plan : (r : Refusal) → 3 < number_of r → ¬ MayBeDone P m w r → ¬ MayBeAccepted P request r
+  not_by_plan refusal.Past past never = absurd (omega (arith, past))
+  not_by_plan refusal.MomentRange past never = absurd (omega (arith, past))
+  not_by_plan refusal.NotLoaded past never = absurd (omega (arith, past))
+  not_by_plan r past never = never
 
   -- where nothing of the plan stands in its way
-  pub is_free : IsPermitted P w → IsFree P w
-  is_free may at r past = by_plan at r past (may (minute_of at) r)
+  pub is_free : IsPermitted P m w → IsFree P m w
+  is_free may r past = by_plan r past (may r)
 
   -- where the plan does
-  pub is_stopped : (r : Refusal) → IsBarred P w r → IsStopped P w r
-  is_stopped r barred = let past = barred.0 in (omega (arith, past), λ at. let by = barred.1 (minute_of at) in (not_by_plan at r past by.0, λ lower past less. by_plan at lower past (by.1 lower less)))
+  pub is_stopped : (r : Refusal) → IsBarred P m w r → IsStopped P m w r
+  is_stopped r barred = let past = barred.0 in (omega (arith, past), not_by_plan r past barred.1.0, λ lower past less. by_plan lower past (barred.1.1 lower less))
 
 -- where there is no plan
-pub lacks_plan : (P : Plan) (w : What) → NeedsPlan w → P.loaded ≡ false → IsStopped P w refusal.NotLoaded
-lacks_plan P w needs none = (omega arith, λ at. (λ may. true≢false (sym (may needs) ∙ none), λ lower past less. absurd (omega (arith, past, less))))
+pub lacks_plan : (P : Plan) (m : ℕ) (w : What) → NeedsPlan w → P.loaded ≡ false → IsStopped P m w refusal.NotLoaded
+lacks_plan P m w needs none = (omega arith, λ may. true≢false (sym (may needs) ∙ none), λ lower past less. absurd (omega (arith, past, less)))
 
 -- ---- at its moment
 
-module _ (P : Plan) (q : Request) (onward : pos P.clock ≤ℤ q.at) (in_range : (m : ℕ) × (q.at ≡ pos m) × IsMoment m) where
-  by_moment : (r : Refusal) → (2 < number_of r → MayBeAccepted P q r) → MayBeAccepted P q r
+module _ (P : Plan) (q : Request) (m : ℕ) (at : q.at ≡ pos m) (onward : pos P.clock ≤ℤ q.at) (in_range : IsMoment m) where
+  by_moment : (r : Refusal) → (2 < number_of r → MayBeAccepted P (record { at = pos m; what = q.what }) r) → MayBeAccepted P q r
   by_moment refusal.Past may = onward
-  by_moment refusal.MomentRange may = in_range
-  by_moment r may = may (omega arith)
+  by_moment refusal.MomentRange may = (m, at, in_range)
+  by_moment r may = subst (λ z. MayBeAccepted P (record { at = z; what = q.what }) r) (sym at) (may (omega arith))
 
-  pub may_be_accepted : IsFree P q.what → (r : Refusal) → MayBeAccepted P q r
-  may_be_accepted may r = by_moment r (may q.at r)
+  pub may_be_accepted : IsFree P m q.what → (r : Refusal) → MayBeAccepted P q r
+  may_be_accepted may r = by_moment r (may r)
 
-  pub is_refused : (r : Refusal) → IsStopped P q.what r → Step P q (refused r) P
-  is_refused r stopped =
-      let at = stopped.1 q.at in
-      record { applies = at.0; is_least = λ lower less. by_moment lower (λ past. at.1 lower past less); is_after = refl }
+  pub is_refused : (r : Refusal) → IsStopped P m q.what r → Step P q (refused r) P
+  is_refused r stopped = record {
+    applies = λ may. stopped.1 (subst (λ z. MayBeAccepted P (record { at = z; what = q.what }) r) at may);
+    is_least = λ lower less. by_moment lower (λ past. stopped.2 lower past less);
+    is_after = refl;
+  }
 
 -- ---- the plan that is held
 
@@ -70,3 +75,13 @@ if_err (Err e) f h = f e h
 pub on_ok : {T E A B : Type 0} → (r : Result T E) → (A → B) → OnOk r A → OnOk r B
 on_ok (Ok x) f h = f h
 on_ok (Err e) f h = h
+
+-- a refusal for want of memory stays one
+pub if_refused : {T : Type 0} {A B : Refusal → Type 0} → (r : Result T Refusal) → ((x : Refusal) → A x → B x) → IfErr r (λ x. (x ≡ refusal.Memory) ⊎ A x) → IfErr r (λ x. (x ≡ refusal.Memory) ⊎ B x)
+if_refused (Ok x) f h = h
+if_refused (Err e) f (inl memory) = inl memory
+if_refused (Err e) f (inr h) = inr (f e h)
+
+pub or_memory : {T : Type 0} (A : Refusal → Type 0) (r : Result T Refusal) → IfErr r A → IfErr r (λ x. (x ≡ refusal.Memory) ⊎ A x)
+or_memory A (Ok x) h = h
+or_memory A (Err e) h = inr h

@@ -61,7 +61,7 @@ standings_kept P os rows standings ready known = record {
 -- ---- contents at another clock
 
 pub loadable_at : (c : PlanContents) (m clock : ℕ) → IsLoadable (plan_of m c) → IsLoadable (plan_of clock c)
-loadable_at c m clock l = record { one_workstation = l.one_workstation; automatic = l.automatic; no_resources = l.no_resources; without_needs = l.without_needs; ascending = l.ascending }
+loadable_at c m clock l = record { no_resources = l.no_resources; without_needs = l.without_needs; ascending = l.ascending }
 
 pub valid_contents : (c : PlanContents) (m : ℕ) → AreContents c → IsValid (plan_of m c) → IsLoadable (plan_of m c) → AreValidContents c
 valid_contents c m order v l = record {

@@ -33,6 +33,8 @@ IsServed what.Tick = Unit {0}
 IsServed (what.Started o) = Unit {0}
 IsServed (what.Ended o) = Unit {0}
 IsServed (what.Error o code) = Unit {0}
+IsServed (what.Interrupted o) = Unit {0}
+IsServed (what.Unknown o) = Unit {0}
 IsServed _ = ⊥
 
 -- the plan that a prepared request leads to

@@ -5,10 +5,11 @@ use Rattle.std.specs.List.{zip}
 use Rattle.std.specs.FinMap.{get, contains_key}
 use Rattle.std.specs.List.Sorted.{IsStrictlySortedBy}
 use Rattle.plan_basics.specs.Keys.{occurrence_cmp, operation_cmp}
+use Rattle.plan_basics.specs.declared.Attr.{Attr}
 use Rattle.plan_basics.specs.declared.Attr.TheVariants.{Automatic}
 use Rattle.plan_basics.specs.declared.keys.OccKey.{OccKey}
 use Rattle.plan_basics.specs.declared.keys.OpKey.{OpKey}
-use Rattle.plan_model.specs.Plan.{Plan, Operation, Occurrences, IsInPlan}
+use Rattle.plan_model.specs.Plan.{Plan, Operation, IsInPlan, attribute_at}
 use Rattle.plan_model.specs.Status.{HasStatus, HasOccurrenceStatus}
 use Rattle.plan_model.specs.declared.Occurrence.{Occurrence}
 use Rattle.plan_records.specs.Contents.{plan_of}
@@ -59,9 +60,14 @@ abbrev pub priority_of : Option Occurrence → ℕ
 priority_of None = 0
 priority_of (Some c) = c.priority
 
--- the view of an operation on an automatic workstation, by its row and its standing
-abbrev pub op_view_of : Occurrences → (OpKey × Operation) × Standing → OpView
-op_view_of occurrences x = record {
+-- how a workstation reports, automatic where there is none
+abbrev pub attribute_or_automatic : Option Attr → Attr
+attribute_or_automatic None = Automatic
+attribute_or_automatic (Some a) = a
+
+-- the view of an operation of a plan, by its row and its standing
+abbrev pub op_view_of : Plan → (OpKey × Operation) × Standing → OpView
+op_view_of P x = record {
   key = x.0.0;
   workstation = x.0.1.workstation;
   duration = x.0.1.duration;
@@ -72,8 +78,8 @@ op_view_of occurrences x = record {
   mark = x.0.1.mark;
   held = x.0.1.held;
   nop = x.0.1.nop;
-  priority = priority_of (get occurrences x.0.0.occurrence);
-  status = status_by x.0.1.mark x.0.1.held x.0.1.nop Automatic x.1.preds;
+  priority = priority_of (get P.occurrences x.0.0.occurrence);
+  status = status_by x.0.1.mark x.0.1.held x.0.1.nop (attribute_or_automatic (attribute_at P x.0.1.workstation)) x.1.preds;
   waiting = x.1.waiting;
 }
 
@@ -90,7 +96,7 @@ occ_view_of x = record {
 
 -- the views of all operations that are held, in the order of their rows
 abbrev pub op_views : LoadedPlan → List OpView
-op_views h = map (op_view_of (plan_of 0 h.contents).occurrences) (zip h.contents.operations.items h.standings.items)
+op_views h = map (op_view_of (plan_of 0 h.contents)) (zip h.contents.operations.items h.standings.items)
 
 -- so of all occurrences
 abbrev pub occ_views : LoadedPlan → List OccView

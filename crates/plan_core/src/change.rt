@@ -11,14 +11,25 @@ use plan_model::OperationRecord;
 use plan_records::PlanContents;
 use status_rules::Mark;
 use std::alloc::{AllocError, Global};
+use workstations::Workstation;
+
+// Copies of workstations.
+fn copies_of(alloc: Global, workstations: &[Workstation]) -> Result<Vec<Workstation>, AllocError>
+    ensures { IfOk result (λ new. new.items ≡ workstations.now) }
+{
+    let mut copies = Vec::with_capacity(alloc, workstations.len())?;
+    for workstation in workstations {
+        copies.push(workstation.try_clone()?)?;
+    }
+    Ok(copies)
+}
 
 /// A copy of the contents.
 pub fn copy_of(alloc: Global, contents: &PlanContents) -> Result<PlanContents, AllocError>
     ensures { IfOk result (λ new. (clock : ℕ) → (plan_of clock new ≡ plan_of clock contents.now) × (AreContents contents.now → AreContents new)) }
 {
     Ok(PlanContents {
-        workstation: contents.workstation,
-        interval: contents.interval,
+        workstations: copies_of(alloc, &contents.workstations)?,
         occurrences: Vec::from_slice(alloc, &contents.occurrences)?,
         operations: Vec::from_slice(alloc, &contents.operations)?,
         pairs: Vec::from_slice(alloc, &contents.pairs)?,
@@ -69,12 +80,12 @@ pub fn with_marks(
     ensures plan { IfOk result (λ new. (clock : ℕ) → plan_of clock new ≡ revised (is_among keys.now) (with_mark mark) (plan_of clock contents.now)) }
     ensures in_order { IfOk result (λ new. AreContents contents.now → AreContents new) }
 {
+    let workstations = copies_of(alloc, &contents.workstations)?;
     let occurrences = Vec::from_slice(alloc, &contents.occurrences)?;
     let operations = rows_with(alloc, &contents.operations, keys, &mark)?;
     let pairs = Vec::from_slice(alloc, &contents.pairs)?;
     Ok(PlanContents {
-        workstation: contents.workstation,
-        interval: contents.interval,
+        workstations,
         occurrences,
         operations,
         pairs,

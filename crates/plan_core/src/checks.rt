@@ -1,96 +1,241 @@
 // What stands in the way of a request.
-ghost use Rattle.std.specs.Prelude.{◌≡◌, ℕ, Some, None, IfOk, IfErr, OnOk, Decides};
+ghost use Rattle.std.specs.Prelude.{◌≡◌, ◌⊎◌, ℕ, true, Some, None, IfOk, IfErr, OnOk, Decides};
 ghost use Rattle.std.specs.FinMap.{get};
-ghost use Rattle.plan_model.specs.Holdings.{holds_server};
-ghost use Rattle.plan_model.specs.Plan.{Plan, Operation};
-ghost use Rattle.plan_model.specs.Valid.{HaveWorkstations};
-ghost use Rattle.plan_records.specs.Accepting.{NeedsPlan};
-ghost use Rattle.plan_records.specs.Contents.{plan_of, AreContents};
-ghost use Rattle.plan_records.specs.declared.What.{What};
-ghost use Rattle.plan_core.specs.Requested.{IsPermitted, IsBarred};
+ghost use Rattle.plan_basics.specs.declared.keys.OpKey.{OpKey};
+ghost use Rattle.plan_choice.specs.Choosing.{is_ready_status};
+ghost use Rattle.plan_core.specs.Requested.{FailsAt, FailsAtIn, IsBarred, IsPermitted, IsReported, MeetsAll, MeetsAllIn};
 ghost use Rattle.plan_core.specs.State.{IsServed};
-ghost use Rattle.status_rules.specs.Table.{marked_status};
+ghost use Rattle.plan_core.specs.Views.{IsHeldAtSome};
+ghost use Rattle.plan_model.specs.Holdings.{given_out, holds_server, takes};
+ghost use Rattle.plan_model.specs.Plan.{Plan};
+ghost use Rattle.plan_records.specs.Accepting.{MayBeEnded, MayBeInterrupted, MayBeStarted, MayBeUndecided, NeedsPlan};
+ghost use Rattle.plan_records.specs.Contents.{plan_of, AreValidContents};
+ghost use Rattle.plan_records.specs.declared.What.{What};
 
-use plan_basics::{OpKey, Refusal};
-use plan_records::{PlanContents, PlanDraft, What, place_of};
-use status_rules::Mark;
+use super::loaded::LoadedPlan;
+use plan_basics::{Attr, Moment, OpKey, Refusal};
+use plan_choice::{check_start, given_out_of};
+use plan_model::OperationRecord;
+use plan_records::{PlanContents, PlanDraft, What, known_workstation, place_of};
+use plan_status::{attribute_of, status_with};
+use status_rules::{Mark, Status};
+use std::alloc::{AllocError, Global};
+use workstations::Capacity;
 
-// The mark of an operation of the plan.
-fn mark_of(contents: &PlanContents, key: &OpKey) -> Result<Mark, Refusal>
-    requires { AreContents contents.now }
-    ensures found { IfOk result (λ mark. (op : Operation) × (get (plan_of 0 contents.now).operations key.now ≡ Some op) × (op.mark ≡ mark)) }
-    ensures unknown { IfErr result (λ r. (r ≡ Refusal.UnknownOperation) × (get (plan_of 0 contents.now).operations key.now ≡ None)) }
-{
-    let place = place_of(&contents.operations, key).ok_or(Refusal::UnknownOperation)?;
-    let operation = &contents.operations[place].1;
-    Ok(operation.mark)
+/// An operation of which something is reported, with what is read off the plan for it.
+#[derive(Clone, Copy)]
+pub struct Reported {
+    pub operation: OperationRecord,
+    /// How its workstation reports.
+    pub attribute: Attr,
+    pub status: Status,
 }
 
-// Whether an operation with this mark is named.
-fn is_named(mark: Mark) -> bool
-    ensures { Decides result (mark ≡ Mark.Named) }
+// The operation of a key, if it is in the plan.
+fn reported_of(loaded: &LoadedPlan, key: &OpKey) -> Result<Reported, Refusal>
+    requires { IsHeldAtSome loaded.now }
+    ensures found { IfOk result (λ x. (clock : ℕ) → IsReported (plan_of clock loaded.now.contents) key.now x) }
+    ensures unknown { IfErr result (λ r. (r ≡ Refusal.UnknownOperation) × (get (plan_of 0 loaded.now.contents).operations key.now ≡ None)) }
 {
-    matches!(mark, Mark::Named)
+    let place = place_of(&loaded.contents.operations, key).ok_or(Refusal::UnknownOperation)?;
+    let operation = loaded.contents.operations[place].1;
+    let attribute = attribute_of(&loaded.contents, &operation);
+    let status = status_with(&operation, attribute, &loaded.standings[place]);
+    Ok(Reported {
+        operation,
+        attribute,
+        status,
+    })
 }
 
-// Whether an operation with this mark is started or undecided.
-fn is_running(mark: Mark) -> bool
-    ensures { result ≡ holds_server (marked_status mark) }
+// Whether operations of this status are ready.
+fn is_ready(status: Status) -> bool
+    ensures { result ≡ is_ready_status status }
 {
-    matches!(mark, Mark::Named | Mark::Running | Mark::Undecided)
+    matches!(
+        status,
+        Status::Arriving | Status::ReadyAfterNonreporting | Status::Ready
+    )
 }
 
-// A start may be reported of an operation that is named.
-fn check_started(contents: &PlanContents, key: &OpKey) -> Result<(), Refusal>
-    requires in_order { AreContents contents.now }
-    requires known { HaveWorkstations (plan_of 0 contents.now).workstations (plan_of 0 contents.now).operations }
-    ensures ok { OnOk result ((clock : ℕ) → IsPermitted (plan_of clock contents.now) (What.Started key.now)) }
-    ensures refused { IfErr result (λ r. (clock : ℕ) → IsBarred (plan_of clock contents.now) (What.Started key.now) r) }
+// Whether operations of this status may be started where starts are reported: they are ready or interrupted.
+fn is_startable(status: Status) -> bool
+    ensures { Decides result ((is_ready_status status ≡ true) ⊎ (status ≡ Status.Interrupted)) }
 {
-    let mark = mark_of(contents, key)?;
-    if is_named(mark) {
+    is_ready(status) || status == Status::Interrupted
+}
+
+// Whether operations of this status are started or undecided.
+fn is_running(status: Status) -> bool
+    ensures { result ≡ holds_server (Some status) }
+{
+    matches!(status, Status::Started | Status::Undecided)
+}
+
+// What a workstation has given out.
+fn given_out_at(
+    alloc: Global,
+    contents: &PlanContents,
+    operation: &OperationRecord,
+) -> Result<Capacity, AllocError>
+    requires contents { AreValidContents contents.now }
+    requires operation { (o : OpKey) × (get (plan_of 0 contents.now).operations o ≡ Some operation.now) }
+    ensures { IfOk result (λ taken. (clock : ℕ) → given_out (plan_of clock contents.now) operation.now.workstation ≡ taken) }
+{
+    let given_out = given_out_of(alloc, contents)?;
+    let place = known_workstation(&contents.workstations, &operation.workstation);
+    Ok(given_out[place])
+}
+
+// On an automatic workstation a start may be reported of what is named.
+fn check_started_on_automatic(reported: &Reported) -> Result<(), Refusal>
+    requires { reported.now.attribute ≡ Attr.Automatic }
+    ensures ok { (m : ℕ) → OnOk result (MeetsAll reported.now (λ P o. MayBeStarted P m o reported.now.operation (Some reported.now.attribute))) }
+    ensures refused { (m : ℕ) → IfErr result (FailsAt reported.now (λ P o. MayBeStarted P m o reported.now.operation (Some reported.now.attribute))) }
+{
+    if reported.operation.mark == Mark::Named {
         Ok(())
     } else {
         Err(Refusal::WrongStatus)
     }
 }
 
-// An end or an error may be reported of an operation that is started or undecided.
-fn check_ended(contents: &PlanContents, key: &OpKey) -> Result<(), Refusal>
-    requires in_order { AreContents contents.now }
-    requires known { HaveWorkstations (plan_of 0 contents.now).workstations (plan_of 0 contents.now).operations }
-    ensures ok { OnOk result ((clock : ℕ) → IsPermitted (plan_of clock contents.now) (What.Ended key.now)) }
-    ensures refused { IfErr result (λ r. (clock : ℕ) → IsBarred (plan_of clock contents.now) (What.Ended key.now) r) }
+// Where starts are reported, a start may be reported of what is allowed to start: it is ready or interrupted, and its
+// workstation has all that it needs.
+fn check_started_where_reported(
+    alloc: Global,
+    contents: &PlanContents,
+    reported: &Reported,
+    at: Moment,
+) -> Result<(), Refusal>
+    requires contents { AreValidContents contents.now }
+    requires operation { (o : OpKey) × IsReported (plan_of 0 contents.now) o reported.now }
+    requires attribute { reported.now.attribute ≡ Attr.StartAndCompletion }
+    ensures ok { OnOk result (MeetsAllIn contents.now reported.now (λ P o. MayBeStarted P at o reported.now.operation (Some reported.now.attribute))) }
+    ensures refused { IfErr result (λ r. (r ≡ Refusal.Memory) ⊎ FailsAtIn contents.now reported.now (λ P o. MayBeStarted P at o reported.now.operation (Some reported.now.attribute)) r) }
 {
-    let mark = mark_of(contents, key)?;
-    if is_running(mark) {
+    if !is_startable(reported.status) {
+        return Err(Refusal::WrongStatus);
+    }
+    let taken = given_out_at(alloc, contents, &reported.operation)?;
+    check_start(contents, &reported.operation, &taken, at)
+}
+
+// What stands in the way of a start.
+fn check_started(
+    alloc: Global,
+    contents: &PlanContents,
+    reported: &Reported,
+    at: Moment,
+) -> Result<(), Refusal>
+    requires contents { AreValidContents contents.now }
+    requires operation { (o : OpKey) × IsReported (plan_of 0 contents.now) o reported.now }
+    ensures ok { OnOk result (MeetsAllIn contents.now reported.now (λ P o. MayBeStarted P at o reported.now.operation (Some reported.now.attribute))) }
+    ensures refused { IfErr result (λ r. (r ≡ Refusal.Memory) ⊎ FailsAtIn contents.now reported.now (λ P o. MayBeStarted P at o reported.now.operation (Some reported.now.attribute)) r) }
+{
+    match reported.attribute {
+        Attr::Automatic => check_started_on_automatic(reported),
+        Attr::StartAndCompletion => check_started_where_reported(alloc, contents, reported, at),
+        Attr::CompletionOnly | Attr::Nonreporting => Err(Refusal::WrongWorkstation),
+    }
+}
+
+// Where starts are reported, an end or an error may be reported of what is started or undecided.
+fn check_ended_after_start(reported: &Reported) -> Result<(), Refusal>
+    requires { takes (Some reported.now.attribute) ≡ true }
+    ensures ok { OnOk result (MeetsAll reported.now (λ P o. MayBeEnded P o reported.now.operation (Some reported.now.attribute))) }
+    ensures refused { IfErr result (FailsAt reported.now (λ P o. MayBeEnded P o reported.now.operation (Some reported.now.attribute))) }
+{
+    if is_running(reported.status) {
         Ok(())
     } else {
         Err(Refusal::WrongStatus)
     }
 }
 
-/// What stands in the way of a request other than a load, but for its moment.
-pub fn check_report(contents: &PlanContents, what: &What) -> Result<(), Refusal>
+// Where only ends are reported, an end or an error may be reported of what is ready and not held.
+fn check_ended_without_start(reported: &Reported) -> Result<(), Refusal>
+    requires { reported.now.attribute ≡ Attr.CompletionOnly }
+    ensures ok { OnOk result (MeetsAll reported.now (λ P o. MayBeEnded P o reported.now.operation (Some reported.now.attribute))) }
+    ensures refused { IfErr result (FailsAt reported.now (λ P o. MayBeEnded P o reported.now.operation (Some reported.now.attribute))) }
+{
+    if !is_ready(reported.status) {
+        Err(Refusal::WrongStatus)
+    } else if reported.operation.held {
+        Err(Refusal::Held)
+    } else {
+        Ok(())
+    }
+}
+
+// What stands in the way of an end or an error.
+fn check_ended(reported: &Reported) -> Result<(), Refusal>
+    ensures ok { OnOk result (MeetsAll reported.now (λ P o. MayBeEnded P o reported.now.operation (Some reported.now.attribute))) }
+    ensures refused { IfErr result (FailsAt reported.now (λ P o. MayBeEnded P o reported.now.operation (Some reported.now.attribute))) }
+{
+    match reported.attribute {
+        Attr::Automatic | Attr::StartAndCompletion => check_ended_after_start(reported),
+        Attr::CompletionOnly => check_ended_without_start(reported),
+        Attr::Nonreporting => Err(Refusal::WrongWorkstation),
+    }
+}
+
+// An interruption may be reported of what is started where starts are reported.
+fn check_interrupted(reported: &Reported) -> Result<(), Refusal>
+    ensures ok { OnOk result (MeetsAll reported.now (λ P o. MayBeInterrupted P o reported.now.operation)) }
+    ensures refused { IfErr result (FailsAt reported.now (λ P o. MayBeInterrupted P o reported.now.operation)) }
+{
+    if reported.status != Status::Started {
+        Err(Refusal::WrongStatus)
+    } else if reported.attribute != Attr::StartAndCompletion {
+        Err(Refusal::WrongWorkstation)
+    } else {
+        Ok(())
+    }
+}
+
+// An unknown outcome may be reported of what is started.
+fn check_undecided(reported: &Reported) -> Result<(), Refusal>
+    ensures ok { OnOk result (MeetsAll reported.now MayBeUndecided) }
+    ensures refused { IfErr result (FailsAt reported.now MayBeUndecided) }
+{
+    if reported.status == Status::Started {
+        Ok(())
+    } else {
+        Err(Refusal::WrongStatus)
+    }
+}
+
+/// What stands in the way of a request other than a load that is made at a moment, but for that moment; or no memory is
+/// found to tell.
+pub fn check_report(
+    alloc: Global,
+    loaded: &LoadedPlan,
+    what: &What,
+    at: Moment,
+) -> Result<(), Refusal>
     requires served { IsServed what.now }
     requires needs { NeedsPlan what.now }
-    requires in_order { AreContents contents.now }
-    requires known { HaveWorkstations (plan_of 0 contents.now).workstations (plan_of 0 contents.now).operations }
-    ensures ok { OnOk result ((clock : ℕ) → IsPermitted (plan_of clock contents.now) what.now) }
-    ensures refused { IfErr result (λ r. (clock : ℕ) → IsBarred (plan_of clock contents.now) what.now r) }
+    requires held { IsHeldAtSome loaded.now }
+    ensures ok { OnOk result ((clock : ℕ) → IsPermitted (plan_of clock loaded.now.contents) at what.now) }
+    ensures refused { IfErr result (λ r. (r ≡ Refusal.Memory) ⊎ ((clock : ℕ) → IsBarred (plan_of clock loaded.now.contents) at what.now r)) }
 {
     match what {
         What::Tick => Ok(()),
-        What::Started(key) => check_started(contents, key),
-        What::Ended(key) | What::Error(key, _) => check_ended(contents, key),
+        What::Started(key) => {
+            check_started(alloc, &loaded.contents, &reported_of(loaded, key)?, at)
+        }
+        What::Ended(key) | What::Error(key, _) => check_ended(&reported_of(loaded, key)?),
+        What::Interrupted(key) => check_interrupted(&reported_of(loaded, key)?),
+        What::Unknown(key) => check_undecided(&reported_of(loaded, key)?),
         _ => unreachable!(),
     }
 }
 
 /// What stands in the way of a load, but for its moment: a plan that is loaded, or a text that denotes none.
 pub fn check_load(loaded: bool, draft: &Option<PlanDraft>) -> Result<(), Refusal>
-    ensures ok { OnOk result ((P : Plan) → P.loaded ≡ loaded → IsPermitted P (What.Load draft.now)) }
-    ensures refused { IfErr result (λ r. (P : Plan) → P.loaded ≡ loaded → IsBarred P (What.Load draft.now) r) }
+    ensures ok { OnOk result ((P : Plan) → P.loaded ≡ loaded → (m : ℕ) → IsPermitted P m (What.Load draft.now)) }
+    ensures refused { IfErr result (λ r. (P : Plan) → P.loaded ≡ loaded → (m : ℕ) → IsBarred P m (What.Load draft.now) r) }
 {
     if loaded {
         Err(Refusal::Loaded)

@@ -60,32 +60,32 @@ impl Plan {
         self.clock
     }
 
-    // What stands in the way of a request, but for its moment.
-    fn check_what(&self, what: &What) -> Result<(), Refusal>
+    // What stands in the way of a request that is made at a moment, but for that moment.
+    fn check_what(&self, what: &What, at: Moment) -> Result<(), Refusal>
         requires { IsServed what.now }
-        ensures ok { OnOk result (IsFree self.now.plan what.now) }
-        ensures refused { IfErr result (IsStopped self.now.plan what.now) }
+        ensures ok { OnOk result (IsFree self.now.plan at what.now) }
+        ensures refused { IfErr result (λ r. (r ≡ Refusal.Memory) ⊎ IsStopped self.now.plan at what.now r) }
     {
         if let What::Load(draft) = what {
             check_load(self.loaded.is_some(), draft)
         } else {
             let loaded = self.loaded.as_ref().ok_or(Refusal::NotLoaded)?;
-            check_report(&loaded.contents, what)
+            check_report(self.alloc, loaded, what, at)
         }
     }
 
-    // The moment of a request that may be accepted; else the least refusal that applies.
+    // The moment of a request that may be accepted; else the least refusal that applies, or that no memory is found.
     fn check(&self, request: &Request) -> Result<Moment, Refusal>
         requires { IsServed request.now.what }
         ensures at { IfOk result (λ m. request.now.at ≡ pos m) }
         ensures ok { OnOk result ((r : Refusal) → MayBeAccepted self.now.plan request.now r) }
-        ensures refused { IfErr result (λ r. Step self.now.plan request.now (refused r) self.now.plan) }
+        ensures refused { IfErr result (λ r. (r ≡ Refusal.Memory) ⊎ Step self.now.plan request.now (refused r) self.now.plan) }
     {
         if request.at < self.clock.minute() {
             return Err(Refusal::Past);
         }
         let at = Moment::new(request.at).ok_or(Refusal::MomentRange)?;
-        self.check_what(&request.what)?;
+        self.check_what(&request.what, at)?;
         Ok(at)
     }
 

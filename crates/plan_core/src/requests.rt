@@ -41,6 +41,8 @@ pub fn changed(
         What::Started(key) => with_marks(alloc, contents, &[*key], Mark::Running),
         What::Ended(key) => with_marks(alloc, contents, &[*key], Mark::Done),
         What::Error(key, code) => with_marks(alloc, contents, &[*key], error_mark(code)),
+        What::Interrupted(key) => with_marks(alloc, contents, &[*key], Mark::Interrupted),
+        What::Unknown(key) => with_marks(alloc, contents, &[*key], Mark::Undecided),
         _ => unreachable!(),
     }
 }

@@ -5,7 +5,7 @@ ghost use Rattle.plan_core.specs.Views.{IsHeldAtSome, op_views, occ_views};
 use super::loaded::LoadedPlan;
 use plan_basics::{Moment, OccKey, OpKey, WsName};
 use plan_records::known_occurrence;
-use plan_status::{occurrence_status_with, status_with};
+use plan_status::{attribute_of, occurrence_status_with, status_with};
 use status_rules::{Mark, OccStatus, Status};
 
 /// An operation of the plan, with what is read off the plan for it.
@@ -57,6 +57,7 @@ pub(crate) fn op_view(loaded: &LoadedPlan, place: usize) -> OpView
     let (key, operation) = loaded.contents.operations[place];
     let standing = loaded.standings[place];
     let occurrence = known_occurrence(&loaded.contents.occurrences, &key.occurrence);
+    let attribute = attribute_of(&loaded.contents, &operation);
     OpView {
         key,
         workstation: operation.workstation,
@@ -69,7 +70,7 @@ pub(crate) fn op_view(loaded: &LoadedPlan, place: usize) -> OpView
         held: operation.held,
         nop: operation.nop,
         priority: loaded.contents.occurrences[occurrence].1.priority,
-        status: status_with(&operation, &standing),
+        status: status_with(&operation, attribute, &standing),
         waiting: standing.waiting,
     }
 }

@@ -1,6 +1,6 @@
 // Texts as the formats describe them, and readers that give them in pieces or fail.
 use super::{ImportFault, read_plan, read_records};
-use plan_basics::Watched;
+use plan_basics::{Attr, Watched};
 use plan_records::Record;
 use std::io;
 use std::io::Read;
@@ -23,6 +23,16 @@ O,BILLING,2024-03-01T23:00,7,2024-03-02T03:00,,,,,
 P,BILLING,2024-03-01T23:00,10,CPU1,15,0,0,,
 P,BILLING,2024-03-01T23:00,20,CPU1,45,0,0,,
 D,BILLING,2024-03-01T23:00,20,DAILY,2024-03-01T22:00,10,,,
+";
+
+// Two workstations, one of them open in two intervals that touch, and an operation on each.
+const STATIONS: &[u8] = b"W,SETP,S,,,,,,,
+W,CPU1,A,,,,,,,
+I,CPU1,2024-03-02T06:00,2024-03-03T06:00,4,0,0,,,
+I,CPU1,2024-03-01T22:00,2024-03-02T06:00,2,3,1,,,
+O,DAILY,2024-03-01T22:00,5,2024-03-02T05:00,,,,,
+P,DAILY,2024-03-01T22:00,10,SETP,30,0,0,,
+P,DAILY,2024-03-01T22:00,20,CPU1,60,2,1,,
 ";
 
 /// Gives at most `step` bytes a call, and fails at the call `fault`; the calls are counted from 1.
@@ -154,6 +164,24 @@ fn several_occurrences(rt: HostRuntime) -> Result<(), Fail> {
     assert!(rt; first.deadline == due.deadline && second.deadline == due.deadline);
     assert!(rt; third.deadline == late.deadline);
     assert!(rt; contents.pairs.as_slice() == [(*last, *other)].as_slice());
+    Ok(())
+}
+
+#[test]
+fn several_workstations(rt: HostRuntime) -> Result<(), Fail> {
+    let mut reader = Watched::new(STATIONS);
+    let draft = read_plan(rt.alloc(), &mut reader)?.ok_or("no draft")?;
+    let contents = draft.contents();
+    let [cpu, setup] = contents.workstations.as_slice() else {
+        return Err("two workstations")?;
+    };
+    assert!(rt; cpu.attribute() == Attr::Automatic);
+    assert!(rt; setup.attribute() == Attr::StartAndCompletion);
+    let [(_, first), (_, second)] = contents.operations.as_slice() else {
+        return Err("two operations")?;
+    };
+    assert!(rt; first.workstation == setup.name() && second.workstation == cpu.name());
+    assert_eq!(rt; (first.r1, first.r2, second.r1, second.r2), (0, 0, 2, 1));
     Ok(())
 }
 

@@ -2,23 +2,19 @@
 use Rattle.std.proofs.Common.{◌≡◌, refl, sym, subst, ap₂, arith, ℕ, zero, suc, ◌+◌, ◌<◌, List, [], ◌∷◌, ◌++◌, length, get_or, take, All, Vec}
 use Rattle.std.specs.List.{AllZip}
 use Rattle.std.specs.declared.alloc.Global.{Global}
-use Rattle.std.specs.FinMap.{len}
 use Rattle.std.proofs.lemmas.List.Elements.{All-nil, All-cons}
-use Rattle.plan_basics.specs.Keys.{name_cmp_total, name_cmp-IsAntisymmetric}
 use Rattle.plan_model.specs.Plan.{Plan}
 use Rattle.plan_items.specs.declared.Item.{Item}
 use Rattle.plan_items.specs.Items.{Fields, fields_of, IsItem, Says}
 use Rattle.plan_items.proofs.ItemLaws.{one_item}
-use Rattle.plan_records.specs.declared.building.Heads.{Heads}
 use Rattle.plan_records.specs.declared.contents.PlanContents.{PlanContents}
 use Rattle.plan_records.specs.Contents.{plan_of, AreDraftContents}
 use Rattle.plan_records.specs.Drafts.{IsLoadable}
 use Rattle.plan_records.specs.Loading.{CanBeLoaded, AreContentsOf}
 use Rattle.plan_records.specs.Records.{records_of, StandsIn, IsItemOfPlan, AreItems, Denotes}
-use Rattle.plan_records.proofs.Tables.{len_one}
 use Rattle.plan_records.proofs.Needed.{needed}
 use Rattle.plan_records.proofs.Made.{are_items}
-use Rattle.plan_records.proofs.MadeDrafts.{some_occurrence, is_draft, is_loadable}
+use Rattle.plan_records.proofs.MadeDrafts.{some_workstation, some_occurrence, is_draft, is_loadable}
 
 -- ---- one record after another
 abbrev Records : Type 0
@@ -69,24 +65,21 @@ module _ (records : List Fields) (items : List Item) (said : AllZip Says records
 
   pub are_denoted : (c : PlanContents) → AreContentsOf items c → Denotes records (plan_of 0 c) × IsLoadable (plan_of 0 c)
   are_denoted c made =
-      let P : Plan = plan_of 0 c in
-      let workstations : len P.workstations ≡ 1 = len_one name_cmp_total name_cmp-IsAntisymmetric _ _ in
       let legal = items_legal records items said in (
         record {
           draft = is_draft items c legal made;
           clock = refl;
-          some_workstation = omega arith;
+          some_workstation = some_workstation items c legal made;
           some_occurrence = some_occurrence items c legal made;
-          described = record { items = items; said = said; are = are_items items c made };
+          described = record { items = items; said = said; are = are_items items c legal made };
         },
         is_loadable items c legal made,
       )
 
-  pub none_denoted : ((h : Heads) → ¬ CanBeLoaded h items) → (P : Plan) → IsLoadable P → ¬ Denotes records P
+  pub none_denoted : ¬ CanBeLoaded items → (P : Plan) → IsLoadable P → ¬ Denotes records P
   none_denoted none P loadable d =
       let same = same_items records d.described.items items d.described.said said in
-      let can = needed P d.draft.valid d.some_occurrence loadable items (subst (AreItems (StandsIn P) (IsItemOfPlan P)) same d.described.are) in
-      none can.0 can.1
+      none (needed P d.draft.valid d.some_workstation d.some_occurrence loadable items (subst (AreItems (StandsIn P) (IsItemOfPlan P)) same d.described.are))
 
 -- where a record says nothing
 pub none_said : (records : List Fields) → ((items : List Item) → ¬ AllZip Says records items) → (P : Plan) → IsLoadable P → ¬ Denotes records P

@@ -6,6 +6,8 @@ pub mod Made
 pub mod MadeDrafts
 pub mod Orders
 pub mod Terms
+pub mod Openings
+pub mod OwnTimes
 pub mod Assembling
 pub mod Denoting
 pub mod Unique

@@ -19,9 +19,6 @@ module _ {X : Type 0} where
   pub contains_none : (y : X) → Contains [] y → ⊥
   contains_none y (i, h, e) = omega arith
 
-  pub contains_one : (x y : X) → Contains (x ∷ []) y → x ≡ y
-  contains_one x y has = elim (contains_cases x [] y has) [ inl e ↦ e | inr none ↦ absurd (contains_none y none) ]
-
   pub all_by_members : (P : X → Type 0) (xs : List X) → ((x : X) → Contains xs x → P x) → All P xs
   all_by_members P xs h = λ k d lt. h _ (Contains-get_or xs k d lt)
 
@@ -54,11 +51,6 @@ module _ {X : Type 0} where
   pub some_from_test : (xs : List X) → false ≡ eqb (length xs) 0 → 0 < length xs
   some_from_test [] e = absurd (true≢false (sym e))
   some_from_test (x ∷ xs) e = omega arith
-
-  pub one_member : (xs : List X) → length xs ≡ 1 → (x : X) × (xs ≡ x ∷ [])
-  one_member [] e = absurd (omega arith)
-  one_member (x ∷ []) e = (x, refl)
-  one_member (x ∷ y ∷ xs) e = absurd (omega arith)
 
   pub at_member : (P : X → Type 0) (xs : List X) (x : X) → AllByRecursion P xs → Contains xs x → P x
   at_member P [] x all has = absurd (contains_none x has)

@@ -1,18 +1,17 @@
 -- Contents of items that can be loaded are a draft that can be loaded.
-use Rattle.std.proofs.Common.{◌≡◌, Bool, refl, sym, subst, ◌∙◌, arith, ℕ, ◌<◌, ◌≤◌, true, List, [], map, length, All, Contains, Option, Some, None, unwrap_or, MatchOption}
+use Rattle.std.proofs.Common.{◌≡◌, Bool, refl, sym, subst, ◌∙◌, arith, ℕ, ◌<◌, ◌≤◌, true, List, map, length, All, Contains, Option, Some, None, unwrap_or, MatchOption}
 use Rattle.std.specs.List.{filter_map}
 use Rattle.std.specs.declared.cmp.Ordering.TheVariants.{Less, Equal}
-use Rattle.std.specs.Cmp.{nat_cmp_total, tied_itself}
-use Rattle.std.specs.FinMap.{get, contains_key, len, get-empty, len-empty, nat_cmp-IsAntisymmetric}
+use Rattle.std.specs.Cmp.{tied_itself}
+use Rattle.std.specs.FinMap.{get, contains_key, len, get-empty, len-empty}
 use Rattle.std.specs.FinMap as fin
 use Rattle.std.specs.FinSet as set
 use Rattle.std.proofs.lemmas.List.Elements.{All-contains}
 use Rattle.std.proofs.lemmas.List.Sorted.{length_permutation}
-use Rattle.plan_basics.specs.declared.Attr.TheVariants.{Automatic}
+use Rattle.plan_basics.specs.declared.Attr.{Attr}
 use Rattle.plan_basics.specs.declared.keys.OccKey.{OccKey}
 use Rattle.plan_basics.specs.declared.keys.OpKey.{OpKey}
 use Rattle.plan_basics.specs.Keys.{Name, name_cmp, name_cmp_total, name_cmp-IsAntisymmetric, occurrence_cmp_total, occurrence_cmp-IsAntisymmetric, operation_cmp, operation_cmp_total, operation_cmp-IsAntisymmetric}
-use Rattle.plan_basics.specs.Intervals.{OpenInterval, IsInterval}
 use Rattle.plan_basics.specs.Minutes.{IsMoment}
 use Rattle.plan_basics.specs.Names.{IsName}
 use Rattle.workstations.specs.Workstations.{IsWorkstation}
@@ -29,13 +28,12 @@ use Rattle.plan_items.specs.Items as items_of
 use Rattle.plan_records.specs.declared.contents.PlanContents.{PlanContents}
 use Rattle.plan_records.specs.Contents.{plan_of}
 use Rattle.plan_records.specs.Drafts.{IsDraft, IsLoadable}
-use Rattle.plan_records.specs.Loading.{AreContentsOf, as_interval, as_occurrence, as_operation, as_pair, keys_said, occurrence_of, row_of}
-use Rattle.plan_records.proofs.Lists.{from_map, from_filter, contains_head, length_map}
-use Rattle.plan_records.proofs.Tables.{some_is, is_found, no_some, one_entry, len_one, sorted_apart, len_rows, len_set}
+use Rattle.plan_records.specs.Loading.{AreContentsOf, opened_in, as_workstation, as_interval, as_occurrence, as_operation, as_pair, keys_said, occurrence_of, row_of}
+use Rattle.plan_records.proofs.Lists.{from_map, from_filter, length_map}
+use Rattle.plan_records.proofs.Tables.{some_is, is_found, no_some, sorted_apart, len_rows, len_set}
 use Rattle.plan_records.proofs.Pairs.{pair_cmp_total, pair_cmp-IsAntisymmetric}
 use Rattle.plan_records.proofs.ItemKinds as kinds
-use Rattle.plan_records.proofs.ItemKinds.{key_out}
-use Rattle.plan_records.proofs.Made.{each_row, pair_in, end_there, fits, each_workstation, workstation_there, each_interval, terms_at, occurrence_from, occurrences_apart, apart, made_of, no_key, terms_in, workstation_of}
+use Rattle.plan_records.proofs.Made.{each_row, pair_in, end_there, fits, each_workstation, workstation_there, workstations_apart, workstation_is, terms_at, occurrence_from, occurrences_apart, apart, made_of, no_key, terms_in}
 
 module _ (items : List Item) (c : PlanContents) (legal : All items_of.IsItem items) (made : AreContentsOf items c) where
   abbrev P : Plan
@@ -50,16 +48,18 @@ module _ (items : List Item) (c : PlanContents) (legal : All items_of.IsItem ite
   abbrev Pairs : List (OpKey × OpKey)
   Pairs = filter_map as_pair items
 
+  abbrev Stations : List (Name × Attr)
+  Stations = filter_map as_workstation items
+
   -- ---- the parts are in range
-  workstation_legal : IsName 4 c.workstation × IsInterval c.interval
-  workstation_legal =
-      let y : Name × OpenInterval = (c.workstation, c.interval) in
-      let r = from_filter as_interval items y (subst (λ ys. Contains ys y) (sym made.items_are.heads.interval) (contains_head y [])) in
-      subst items_of.IsItem (kinds.intervals.is r.0 y r.2) (All-contains items_of.IsItem items r.0 legal r.1)
+  name_legal : (row : Name × Attr) → Contains Stations row → IsName 4 row.0
+  name_legal row has =
+      let r = from_filter as_workstation items row has in
+      subst items_of.IsItem (kinds.workstations.is r.0 row r.2) (All-contains items_of.IsItem items r.0 legal r.1)
 
   occurrence_legal : (k : OccKey) (x : Occurrence) → get P.occurrences k ≡ Some x → IsOccurrence k x
   occurrence_legal k x e =
-      let r = from_filter as_occurrence items (k, x) (occurrence_from items c made k x e) in
+      let r = from_filter as_occurrence items (k, x) (occurrence_from items c legal made k x e) in
       let is : items_of.IsItem (item.Occurrence k x.priority x.deadline) = subst items_of.IsItem (kinds.occurrences.is r.0 (k, x) r.2) (All-contains items_of.IsItem items r.0 legal r.1) in
       record { key = is.0; priority = (omega arith, omega arith); deadline = is.2 }
 
@@ -85,45 +85,43 @@ module _ (items : List Item) (c : PlanContents) (legal : All items_of.IsItem ite
       }
     where
       due : (d : Option ℕ) → MatchOption d (Unit {0}) IsMoment → IsMoment (unwrap_or d (terms_in c said).deadline)
-      due None h = (occurrence_legal said.key.occurrence (terms_in c said) (terms_at items c made said has)).deadline
+      due None h = (occurrence_legal said.key.occurrence (terms_in c said) (terms_at items c legal made said has)).deadline
       due (Some m) h = h
 
   -- ---- the plan is a draft that can be loaded
   occurrences_are : AreOccurrences P.occurrences P.operations
   occurrences_are = record {
     each_occurrence = occurrence_legal;
-    each_operation = each_row items c made (λ o op. IsOperation o op × (contains_key P.occurrences o.occurrence ≡ true)) (λ said has. (operation_legal said has, some_is (get P.occurrences said.key.occurrence) (terms_in c said) (terms_at items c made said has)));
+    each_operation = each_row items c legal made (λ o op. IsOperation o op × (contains_key P.occurrences o.occurrence ≡ true)) (λ said has. (operation_legal said has, some_is (get P.occurrences said.key.occurrence) (terms_in c said) (terms_at items c legal made said has)));
     not_empty = λ k e.
         let found = is_found (get P.occurrences k) e in
-        let of : Contains (map occurrence_of (keys_said Said)) k = All-contains (λ (row : OccKey × Occurrence). Contains (map occurrence_of (keys_said Said)) row.0) Occurrences (k, found.0) made.items_are.operations.not_empty (occurrence_from items c made k found.0 found.1) in
+        let of : Contains (map occurrence_of (keys_said Said)) k = All-contains (λ (row : OccKey × Occurrence). Contains (map occurrence_of (keys_said Said)) row.0) Occurrences (k, found.0) made.items_are.operations.not_empty (occurrence_from items c legal made k found.0 found.1) in
         let o = from_map occurrence_of (keys_said Said) k of in
-        (o.0, o.2, end_there items c made o.0 o.1);
-  }
-
-  workstation_is : IsWorkstation (workstation_of c)
-  workstation_is = record {
-    intervals = each_interval items c made (λ m x. (m ≡ x.from) × IsInterval x) (refl, workstation_legal.1);
-    disjoint = λ a b m x y e f open_a open_b.
-        (one_entry nat_cmp_total nat_cmp-IsAntisymmetric c.interval.from a c.interval x e).0 ∙ sym (one_entry nat_cmp_total nat_cmp-IsAntisymmetric c.interval.from b c.interval y f).0;
-    few = let one : len (workstation_of c).intervals ≡ 1 = len_one nat_cmp_total nat_cmp-IsAntisymmetric c.interval.from c.interval in omega arith;
+        (o.0, o.2, end_there items c legal made o.0 o.1);
   }
 
   ascends : (a b : OpKey) → LeadsBy (IsPairOf P.pairs) a b → operation_cmp a b ≡ Less
-  ascends a b (by_edge e) = (pair_in items c made a b e).ascending
-  ascends a b (by_more {b = m} e rest) = operation_cmp_total.trans a m b (pair_in items c made a m e).ascending (ascends m b rest)
+  ascends a b (by_edge e) = (pair_in items c legal made a b e).ascending
+  ascends a b (by_more {b = m} e rest) = operation_cmp_total.trans a m b (pair_in items c legal made a m e).ascending (ascends m b rest)
 
   occurrences_count : len P.occurrences ≡ length Occurrences
   occurrences_count =
-      len_rows occurrence_cmp_total occurrence_cmp-IsAntisymmetric c.occurrences.items (occurrences_apart items c made)
+      len_rows occurrence_cmp_total occurrence_cmp-IsAntisymmetric c.occurrences.items (occurrences_apart items c legal made)
       ∙ length_permutation Occurrences c.occurrences.items made.occurrences
+
+  workstations_count : len P.workstations ≡ length Stations
+  workstations_count =
+      len_rows name_cmp_total name_cmp-IsAntisymmetric c.workstations.items (workstations_apart items c legal made)
+      ∙ length_permutation (map (opened_in (filter_map as_interval items)) Stations) c.workstations.items made.workstations
+      ∙ length_map (opened_in (filter_map as_interval items)) Stations
 
   limits : IsWithinLimits P
   limits = record {
-    workstations = let one : len P.workstations ≡ 1 = len_one name_cmp_total name_cmp-IsAntisymmetric c.workstation (workstation_of c) in omega arith;
+    workstations = let few : length Stations ≤ 99 = made.items_are.workstations.few in omega (arith, workstations_count);
     resources = let none : len P.resources ≡ 0 = len-empty name_cmp _ in omega arith;
     occurrences = let few : length Occurrences ≤ 5000 = made.items_are.occurrences.few in omega (arith, occurrences_count);
     operations =
-        let rows : len P.operations ≡ length c.operations.items = len_rows operation_cmp_total operation_cmp-IsAntisymmetric c.operations.items (apart items c made) in
+        let rows : len P.operations ≡ length c.operations.items = len_rows operation_cmp_total operation_cmp-IsAntisymmetric c.operations.items (apart items c legal made) in
         let same : length c.operations.items ≡ length Said = length_permutation (map (row_of c.occurrences.items) Said) c.operations.items made.operations ∙ length_map (row_of c.occurrences.items) Said in
         let few : length Said ≤ 20000 = made.items_are.operations.few in
         omega arith;
@@ -137,27 +135,28 @@ module _ (items : List Item) (c : PlanContents) (legal : All items_of.IsItem ite
   valid : IsValid P
   valid = record {
     clock = omega arith;
-    workstations = each_workstation items c made (λ w ws. IsName 4 w × IsWorkstation ws) (workstation_legal.0, workstation_is);
+    workstations = each_workstation items c legal made (λ w ws. IsName 4 w × IsWorkstation ws) (λ row has. (name_legal row has, workstation_is items c legal made row has));
     resources = λ r e. absurd (no_key name_cmp Bool r e);
     occurrences = occurrences_are;
-    have_workstations = each_row items c made (λ o op. contains_key P.workstations op.workstation ≡ true) (λ said has. subst (λ w. contains_key P.workstations w ≡ true) (sym (fits items c made said has).workstation) (some_is (get P.workstations c.workstation) (workstation_of c) (workstation_there items c made)));
-    have_resources = each_row items c made (λ o op. (r : Name) (usage : Usage) → get op.needs r ≡ Some usage → contains_key P.resources r ≡ true) (λ said has r usage e. absurd (no_some usage (sym (get-empty name_cmp r) ∙ e)));
-    pairs = λ p o e. (end_there items c made p (pair_in items c made p o e).first, end_there items c made o (pair_in items c made p o e).second);
+    have_workstations = each_row items c legal made (λ o op. contains_key P.workstations op.workstation ≡ true) (λ said has. let there = workstation_there items c legal made said.workstation (fits items c legal made said has).workstation in some_is (get P.workstations said.workstation) _ there.3);
+    have_resources = each_row items c legal made (λ o op. (r : Name) (usage : Usage) → get op.needs r ≡ Some usage → contains_key P.resources r ≡ true) (λ said has r usage e. absurd (no_some usage (sym (get-empty name_cmp r) ∙ e)));
+    pairs = λ p o e. (end_there items c legal made p (pair_in items c legal made p o e).first, end_there items c legal made o (pair_in items c legal made p o e).second);
     acyclic = λ a leads. let less = ascends a a leads in let tied : operation_cmp a a ≡ Equal = tied_itself operation_cmp_total a in cc;
     limits = limits;
   }
+
+  pub some_workstation : 0 < len P.workstations
+  some_workstation = let some : 0 < length Stations = made.items_are.workstations.some in omega (arith, workstations_count)
 
   pub some_occurrence : 0 < len P.occurrences
   some_occurrence = let some : 0 < length Occurrences = made.items_are.occurrences.some in omega (arith, occurrences_count)
 
   pub is_draft : IsDraft P
-  is_draft = record { valid = valid; loaded = refl; untouched = each_row items c made (λ o op. IsUntouched op) (λ said has. (refl, refl, refl)) }
+  is_draft = record { valid = valid; loaded = refl; untouched = each_row items c legal made (λ o op. IsUntouched op) (λ said has. (refl, refl, refl)) }
 
   pub is_loadable : IsLoadable P
   is_loadable = record {
-    one_workstation = len_one name_cmp_total name_cmp-IsAntisymmetric c.workstation (workstation_of c);
-    automatic = each_workstation items c made (λ w ws. (ws.attribute ≡ Automatic) × (len ws.intervals ≡ 1)) (refl, len_one nat_cmp_total nat_cmp-IsAntisymmetric c.interval.from c.interval);
     no_resources = len-empty name_cmp _;
-    without_needs = each_row items c made (λ o op. (op.r1 ≡ 0) × (op.r2 ≡ 0) × (len op.needs ≡ 0)) (λ said has. ((fits items c made said has).r1, (fits items c made said has).r2, len-empty name_cmp Usage));
-    ascending = λ p o e. (pair_in items c made p o e).ascending;
+    without_needs = each_row items c legal made (λ o op. len op.needs ≡ 0) (λ said has. len-empty name_cmp Usage);
+    ascending = λ p o e. (pair_in items c legal made p o e).ascending;
   }

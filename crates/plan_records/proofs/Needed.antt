@@ -1,5 +1,5 @@
 -- Where items are those of a plan that can be loaded, they can be loaded, kind by kind.
-use Rattle.std.proofs.Common.{◌≡◌, ◌≢◌, refl, sym, subst, ap, ◌∙◌, arith, ℕ, ◌<◌, ◌≤◌, true, List, [], ◌∷◌, map, length, Contains, Option, Some, None, option_map}
+use Rattle.std.proofs.Common.{◌≡◌, ◌≢◌, refl, sym, subst, ap, ◌∙◌, arith, ℕ, ◌<◌, ◌≤◌, true, List, map, length, Contains, Option, Some, None, option_map}
 use Rattle.std.specs.List.{filter_map}
 use Rattle.std.specs.Cmp.{nat_cmp_total}
 use Rattle.std.specs.FinMap.{get, contains_key, len, empty_of_len, get-empty, nat_cmp-IsAntisymmetric}
@@ -7,12 +7,11 @@ use Rattle.std.specs.FinSet as set
 use Rattle.std.proofs.lemmas.List.Elements.{All-contains}
 use Rattle.std.proofs.lemmas.Map.Entries.{length-keys_of}
 use Rattle.plan_basics.specs.declared.Attr.{Attr}
-use Rattle.plan_basics.specs.declared.Attr.TheVariants.{Automatic}
 use Rattle.plan_basics.specs.declared.keys.OccKey.{OccKey}
 use Rattle.plan_basics.specs.declared.keys.OpKey.{OpKey}
 use Rattle.plan_basics.specs.Keys.{Name, name_cmp, name_cmp_total, name_cmp-IsAntisymmetric, occurrence_cmp_total, occurrence_cmp-IsAntisymmetric, operation_cmp_total, operation_cmp-IsAntisymmetric}
 use Rattle.plan_basics.specs.Intervals.{OpenInterval}
-use Rattle.workstations.specs.Workstations.{Workstation}
+use Rattle.workstations.specs.Workstations.{Workstation, IsWorkstation}
 use Rattle.plan_model.specs.Plan.{Plan, Operation, IsPairOf}
 use Rattle.plan_model.specs.Valid.{IsValid}
 use Rattle.plan_model.specs.declared.Occurrence.{Occurrence}
@@ -21,12 +20,13 @@ use Rattle.plan_items.specs.declared.Item.TheVariants as item
 use Rattle.plan_items.specs.declared.OperationItem.{OperationItem}
 use Rattle.plan_records.specs.declared.RowKey.TheVariants as key
 use Rattle.plan_records.specs.Drafts.{IsLoadable}
-use Rattle.plan_records.specs.declared.building.Heads.{Heads}
 use Rattle.plan_records.specs.Records.{key_of, StandsIn, IsItemOfPlan, AreItems, IsAsSaid}
-use Rattle.plan_records.specs.Loading.{HaveHeads, Fits, AreOccurrenceRows, AreOperations, occurrence_of, IsPairIn, ArePairs, CanBeLoaded, as_workstation, as_interval, as_occurrence, as_operation, as_pair, as_resource}
-use Rattle.plan_records.proofs.Lists.{Differ, differ_from_pairs, pairs_from_differ, differ_weaken, differ_map, length_map, in_map, from_map, from_filter, contains_head, contains_one, all_by_members, no_members, one_member}
+use Rattle.plan_records.specs.Loading.{own_interval, intervals_of, IsOpening, CanOpen, AreWorkstations, Fits, AreOccurrenceRows, AreOperations, occurrence_of, IsPairIn, ArePairs, CanBeLoaded, as_workstation, as_interval, as_occurrence, as_operation, as_pair, as_resource}
+use Rattle.plan_records.proofs.Lists.{Differ, differ_from_pairs, pairs_from_differ, differ_filter, differ_map, length_map, in_map, from_map, from_filter, all_by_members, no_members}
 use Rattle.plan_records.proofs.Tables.{some_is, same_some, no_some, map_count, set_count}
 use Rattle.plan_records.proofs.Pairs.{pair_cmp_total, pair_cmp-IsAntisymmetric}
+use Rattle.plan_records.proofs.Openings.{in_own, from_own, own_from}
+use Rattle.plan_records.proofs.OwnTimes.{opening_by}
 use Rattle.plan_records.proofs.ItemKinds as kinds
 use Rattle.plan_records.proofs.ItemKinds.{read_apart, keys_apart, read_stands, key_in, key_out}
 
@@ -35,9 +35,15 @@ pub found_attribute : (o : Option Workstation) (a : Attr) → option_map (λ ws.
 found_attribute None a e = absurd (no_some a e)
 found_attribute (Some ws) a e = (ws, refl, same_some ws.attribute a e)
 
-module _ (P : Plan) (valid : IsValid P) (some : 0 < len P.occurrences) (loadable : IsLoadable P) (items : List Item) (are : AreItems (StandsIn P) (IsItemOfPlan P) items) where
+module _ (P : Plan) (valid : IsValid P) (some_station : 0 < len P.workstations) (some : 0 < len P.occurrences) (loadable : IsLoadable P) (items : List Item) (are : AreItems (StandsIn P) (IsItemOfPlan P) items) where
   apart : Differ (λ a b. key_of a ≢ key_of b) items
   apart = differ_from_pairs (λ a b. key_of a ≢ key_of b) items are.distinct
+
+  abbrev Stations : List (Name × Attr)
+  Stations = filter_map as_workstation items
+
+  abbrev Intervals : List (Name × OpenInterval)
+  Intervals = filter_map as_interval items
 
   abbrev Names : List Name
   Names = map (λ (y : Name × Attr). y.0) (filter_map as_workstation items)
@@ -60,10 +66,10 @@ module _ (P : Plan) (valid : IsValid P) (some : 0 < len P.occurrences) (loadable
       let ws = workstation_is m.0 m.1 in
       subst (λ z. contains_key P.workstations z ≡ true) m.2 (some_is (get P.workstations m.0.0) ws.0 ws.1)
 
-  one_workstation : (y : Name × Attr) × (filter_map as_workstation items ≡ y ∷ [])
-  one_workstation =
-      let count : length Names ≡ len P.workstations = map_count name_cmp_total name_cmp-IsAntisymmetric Names P.workstations (keys_apart as_workstation (λ y. item.Workstation y.0 y.1) (λ y. y.0) (λ q. key.Workstation q) kinds.workstations items apart) name_there name_in in
-      one_member (filter_map as_workstation items) (sym (length-keys_of (filter_map as_workstation items)) ∙ count ∙ loadable.one_workstation)
+  workstations_count : length Stations ≡ len P.workstations
+  workstations_count =
+      sym (length-keys_of Stations)
+      ∙ map_count name_cmp_total name_cmp-IsAntisymmetric Names P.workstations (keys_apart as_workstation (λ y. item.Workstation y.0 y.1) (λ y. y.0) (λ q. key.Workstation q) kinds.workstations items apart) name_there name_in
 
   occurrence_is : (y : OccKey × Occurrence) → Contains (filter_map as_occurrence items) y → get P.occurrences y.0 ≡ Some y.1
   occurrence_is y has = read_stands as_occurrence (λ y. item.Occurrence y.0 y.1.priority y.1.deadline) (λ y. y.0) (λ q. key.Occurrence q) kinds.occurrences (StandsIn P) items are.stand y has
@@ -117,75 +123,71 @@ module _ (P : Plan) (valid : IsValid P) (some : 0 < len P.occurrences) (loadable
       stands : (i : Item) → StandsIn P i → as_resource i ≡ Some r → ⊥
       stands (item.Resource n a) s e = no_some a (sym (get-empty name_cmp n) ∙ ap (λ m. get m n) (sym (empty_of_len P.resources loadable.no_resources)) ∙ s)
       stands (item.Need o need) (op, there, s) e =
-          no_some _ (sym (get-empty name_cmp need.name) ∙ ap (λ m. get m need.name) (sym (empty_of_len op.needs (loadable.without_needs o op there).2)) ∙ s)
+          no_some _ (sym (get-empty name_cmp need.name) ∙ ap (λ m. get m need.name) (sym (empty_of_len op.needs (loadable.without_needs o op there))) ∙ s)
       stands _ s e = no_some r e
 
-  abbrev name : Name
-  name = one_workstation.0.0
+  -- ---- the intervals of each workstation
+  interval_is : (y : Name × OpenInterval) → Contains Intervals y → (ws : Workstation) × (get P.workstations y.0 ≡ Some ws) × (get ws.intervals y.1.from ≡ Some y.1)
+  interval_is y has = read_stands as_interval (λ y. item.Interval y.0 y.1) kinds.interval_key (λ q. key.Interval q.0 q.1) kinds.intervals (StandsIn P) items are.stand y has
 
-  here : Contains (filter_map as_workstation items) one_workstation.0
-  here = subst (λ ys. Contains ys one_workstation.0) (sym one_workstation.1) (contains_head one_workstation.0 [])
+  module _ (w : Name) (ws : Workstation) (there : get P.workstations w ≡ Some ws) where
+    abbrev Own : List OpenInterval
+    Own = intervals_of w Intervals
 
-  found : (ws : Workstation) × (get P.workstations name ≡ Some ws) × (ws.attribute ≡ one_workstation.0.1)
-  found = workstation_is one_workstation.0 here
+    abbrev Firsts : List ℕ
+    Firsts = map (λ (x : OpenInterval). x.from) Own
 
-  is_automatic : one_workstation.0.1 ≡ Automatic
-  is_automatic = sym found.2 ∙ (loadable.automatic name found.0 found.1).0
+    own_there : (x : OpenInterval) → Contains Own x → get ws.intervals x.from ≡ Some x
+    own_there x has =
+        let s = interval_is (w, x) (from_own Intervals w x has) in
+        let one : s.0 ≡ ws = same_some s.0 ws (sym s.1 ∙ there) in
+        subst (λ (v : Workstation). get v.intervals x.from ≡ Some x) one s.2
 
-  is_name : (w : Name) → contains_key P.workstations w ≡ true → w ≡ name
-  is_name w e = sym (contains_one name w (subst (λ ys. Contains (map (λ (y : Name × Attr). y.0) ys) w) one_workstation.1 (name_in w e)))
+    own_apart : Differ (λ x y. x.from ≢ y.from) Own
+    own_apart = differ_filter (own_interval w) (λ a b. kinds.interval_key a ≢ kinds.interval_key b) (λ x y. x.from ≢ y.from)
+        (λ a b y z e f differ same.
+        let p = own_from w a y e in
+        let q = own_from w b z f in
+        let names : a.0 ≡ b.0 = p.0 ∙ sym q.0 in
+        let firsts : a.1.from ≡ b.1.from = ap (λ (x : OpenInterval). x.from) p.1 ∙ same ∙ sym (ap (λ (x : OpenInterval). x.from) q.1) in
+        differ (λ i. (names i, firsts i)))
+        Intervals (read_apart as_interval (λ y. item.Interval y.0 y.1) kinds.interval_key (λ q. key.Interval q.0 q.1) kinds.intervals items apart)
 
-  interval_is : (y : Name × OpenInterval) → Contains (filter_map as_interval items) y → (y.0 ≡ name) × (get found.0.intervals y.1.from ≡ Some y.1)
-  interval_is y has =
-      let stands = read_stands as_interval (λ y. item.Interval y.0 y.1) kinds.interval_key (λ q. key.Interval q.0 q.1) kinds.intervals (StandsIn P) items are.stand y has in
-      let same : y.0 ≡ name = is_name y.0 (some_is (get P.workstations y.0) stands.0 stands.1) in
-      let one : stands.0 ≡ found.0 = same_some stands.0 found.0 (sym stands.1 ∙ ap (get P.workstations) same ∙ found.1) in
-      (same, subst (λ (ws : Workstation). get ws.intervals y.1.from ≡ Some y.1) one stands.2)
+    first_there : (m : ℕ) → Contains Firsts m → contains_key ws.intervals m ≡ true
+    first_there m has =
+        let r = from_map (λ (x : OpenInterval). x.from) Own m has in
+        subst (λ z. contains_key ws.intervals z ≡ true) r.2 (some_is (get ws.intervals r.0.from) r.0 (own_there r.0 r.1))
 
-  abbrev Firsts : List ℕ
-  Firsts = map (λ (y : Name × OpenInterval). y.1.from) (filter_map as_interval items)
+    first_in : (m : ℕ) → contains_key ws.intervals m ≡ true → Contains Firsts m
+    first_in m e =
+        let k = key_in as_interval (λ y. item.Interval y.0 y.1) kinds.interval_key (λ q. key.Interval q.0 q.1) kinds.intervals items (w, m) (are.all (key.Interval w m) (ws, there, e)) in
+        let r = from_map kinds.interval_key Intervals (w, m) k in
+        let has : Contains Intervals (w, r.0.1) = subst (λ n. Contains Intervals (n, r.0.1)) (ap (λ q. q.0) r.2) r.1 in
+        subst (Contains Firsts) (ap (λ q. q.1) r.2) (in_map (λ (x : OpenInterval). x.from) Own r.0.1 (in_own Intervals w r.0.1 has))
 
-  firsts_apart : Differ (λ a b. a ≢ b) Firsts
-  firsts_apart = differ_map (λ (y : Name × OpenInterval). y.1.from) (λ a b. a ≢ b) (filter_map as_interval items)
-      (differ_weaken (λ a b. kinds.interval_key a ≢ kinds.interval_key b) (λ a b. a.1.from ≢ b.1.from) (filter_map as_interval items)
-      (λ a b in_a in_b differ same. differ (λ i. (((interval_is a in_a).0 ∙ sym (interval_is b in_b).0) i, same i)))
-      (read_apart as_interval (λ y. item.Interval y.0 y.1) kinds.interval_key (λ q. key.Interval q.0 q.1) kinds.intervals items apart))
+    is_opening : IsOpening Own
+    is_opening =
+        let is : IsWorkstation ws = (valid.workstations w ws there).1 in
+        let count : length Firsts ≡ len ws.intervals = map_count nat_cmp_total nat_cmp-IsAntisymmetric Firsts ws.intervals (differ_map (λ (x : OpenInterval). x.from) (λ a b. a ≢ b) Own own_apart) first_there first_in in
+        let same : length Firsts ≡ length Own = length_map (λ (x : OpenInterval). x.from) Own in
+        let most = is.few in
+        opening_by ws is Own own_apart own_there (omega (arith, count, same, most))
 
-  first_there : (m : ℕ) → Contains Firsts m → contains_key found.0.intervals m ≡ true
-  first_there m has =
-      let r = from_map (λ (y : Name × OpenInterval). y.1.from) (filter_map as_interval items) m has in
-      subst (λ z. contains_key found.0.intervals z ≡ true) r.2 (some_is (get found.0.intervals r.0.1.from) r.0.1 (interval_is r.0 r.1).1)
-
-  first_in : (m : ℕ) → contains_key found.0.intervals m ≡ true → Contains Firsts m
-  first_in m e =
-      let k = key_in as_interval (λ y. item.Interval y.0 y.1) kinds.interval_key (λ q. key.Interval q.0 q.1) kinds.intervals items (name, m) (are.all (key.Interval name m) (found.0, found.1, e)) in
-      let r = from_map kinds.interval_key (filter_map as_interval items) (name, m) k in
-      subst (Contains Firsts) (ap (λ q. q.1) r.2) (in_map (λ (y : Name × OpenInterval). y.1.from) (filter_map as_interval items) r.0 r.1)
-
-  one_interval : (y : Name × OpenInterval) × (filter_map as_interval items ≡ y ∷ [])
-  one_interval =
-      let count : length Firsts ≡ len found.0.intervals = map_count nat_cmp_total nat_cmp-IsAntisymmetric Firsts found.0.intervals firsts_apart first_there first_in in
-      one_member (filter_map as_interval items) (sym (length_map (λ (y : Name × OpenInterval). y.1.from) (filter_map as_interval items)) ∙ count ∙ (loadable.automatic name found.0 found.1).1)
-
-  heads : Heads
-  heads = record { workstation = name; interval = one_interval.0.1 }
-
-  have_heads : HaveHeads heads items
-  unfolding heads
-  have_heads = record {
-    workstation = one_workstation.1 ∙ ap (λ a. (name, a) ∷ []) is_automatic;
-    interval = one_interval.1 ∙ ap (λ n. (n, one_interval.0.1) ∷ []) (interval_is one_interval.0 (subst (λ ys. Contains ys one_interval.0) (sym one_interval.1) (contains_head one_interval.0 []))).0;
-    no_resources = no_members (filter_map as_resource items) resource_none;
+  are_workstations : AreWorkstations Stations Intervals
+  are_workstations = record {
+    some = omega (arith, some_station, workstations_count);
+    few = let most : len P.workstations ≤ 99 = valid.limits.workstations in omega (arith, workstations_count);
+    distinct = pairs_from_differ (λ a b. a.0 ≢ b.0) Stations (read_apart as_workstation (λ y. item.Workstation y.0 y.1) (λ y. y.0) (λ q. key.Workstation q) kinds.workstations items apart);
+    opening = all_by_members (CanOpen Intervals) Stations (λ y has. let ws = workstation_is y has in is_opening y.0 ws.0 ws.1);
+    no_others = all_by_members (λ y. Contains Names y.0) Intervals (λ y has. let s = interval_is y has in name_in y.0 (some_is (get P.workstations y.0) s.0 s.1));
   }
 
-  fits : (y : OperationItem) → Contains (filter_map as_operation items) y → Fits name (filter_map as_occurrence items) y
+  fits : (y : OperationItem) → Contains (filter_map as_operation items) y → Fits Names (filter_map as_occurrence items) y
   fits y has =
       let is = operation_is y has in
       record {
-        workstation = sym is.4.workstation ∙ is_name is.0.workstation (valid.have_workstations y.key is.0 is.2);
+        workstation = subst (Contains Names) is.4.workstation (name_in is.0.workstation (valid.have_workstations y.key is.0 is.2));
         occurrence = occurrence_in y.key.occurrence (some_is (get P.occurrences y.key.occurrence) is.1 is.3);
-        r1 = sym is.4.fixed.0 ∙ (loadable.without_needs y.key is.0 is.2).0;
-        r2 = sym is.4.fixed.1 ∙ (loadable.without_needs y.key is.0 is.2).1;
       }
 
   has_operation : (y : OccKey × Occurrence) → Contains (filter_map as_occurrence items) y → Contains (map occurrence_of OperationKeys) y.0
@@ -193,10 +195,10 @@ module _ (P : Plan) (valid : IsValid P) (some : 0 < len P.occurrences) (loadable
       let o = valid.occurrences.not_empty y.0 (some_is (get P.occurrences y.0) y.1 (occurrence_is y has)) in
       subst (Contains (map occurrence_of OperationKeys)) o.1 (in_map occurrence_of OperationKeys o.0 (operation_in o.0 o.2))
 
-  are_operations : AreOperations name (filter_map as_occurrence items) (filter_map as_operation items)
+  are_operations : AreOperations Names (filter_map as_occurrence items) (filter_map as_operation items)
   are_operations = record {
     few = let most : len P.operations ≤ 20000 = valid.limits.operations in omega (arith, operations_count);
-    fit = all_by_members (Fits name (filter_map as_occurrence items)) (filter_map as_operation items) fits;
+    fit = all_by_members (Fits Names (filter_map as_occurrence items)) (filter_map as_operation items) fits;
     distinct = pairs_from_differ (λ a b. a.key ≢ b.key) (filter_map as_operation items) (read_apart as_operation (λ y. item.Operation y) (λ y. y.key) (λ q. key.Operation q) kinds.operations items apart);
     not_empty = all_by_members (λ y. Contains (map occurrence_of OperationKeys) y.0) (filter_map as_occurrence items) has_operation;
   }
@@ -216,6 +218,5 @@ module _ (P : Plan) (valid : IsValid P) (some : 0 < len P.occurrences) (loadable
     distinct = pairs_from_differ (λ a b. a ≢ b) (filter_map as_pair items) pairs_apart;
   }
 
-  pub needed : (h : Heads) × CanBeLoaded h items
-  unfolding heads
-  needed = (heads, record { heads = have_heads; occurrences = are_occurrences; operations = are_operations; pairs = are_pairs })
+  pub needed : CanBeLoaded items
+  needed = record { no_resources = no_members (filter_map as_resource items) resource_none; workstations = are_workstations; occurrences = are_occurrences; operations = are_operations; pairs = are_pairs }

@@ -7,7 +7,7 @@ use Rattle.std.specs.declared.cmp.Ordering.{Ordering}
 use Rattle.std.specs.declared.cmp.Ordering.TheVariants.{Less, Equal}
 use Rattle.std.specs.Ordering.{eq_by_cmp, is_eq}
 use Rattle.std.specs.Cmp.{IsTotalOrder, tied_itself, Equal-is}
-use Rattle.std.specs.FinMap.{FinMap, IsAntisymmetric, find, get, contains_key, len, insert, remove, from_entries, empty, get-empty, len-empty, empty_of_len, get-insert, get-remove, len-insert, len-remove, get-from_entries, same_map}
+use Rattle.std.specs.FinMap.{FinMap, IsAntisymmetric, find, get, contains_key, len, remove, from_entries, empty, get-empty, len-empty, empty_of_len, get-remove, len-remove, get-from_entries, same_map}
 use Rattle.std.specs.FinSet as set
 use Rattle.plan_records.proofs.Lists.{contains_head, contains_later, contains_cases, contains_none, all_by_members, at_member, Differ, in_map, from_map, differ_map, differ_unmap}
 use Rattle.std.proofs.lemmas.List.Elements.{All-contains}
@@ -98,22 +98,6 @@ module _ {K : Type 0} {R : K → K → Ordering} (total : IsTotalOrder R) (exact
     -- a map that has just the keys of a list has as many
     pub map_count : (ks : List K) (m : FinMap R X) → Differ (λ a b. a ≢ b) ks → ((k : K) → Contains ks k → contains_key m k ≡ true) → ((k : K) → contains_key m k ≡ true → Contains ks k) → length ks ≡ len m
     map_count = same_count contains_key len remove has-remove len-without len-none
-
-    -- the map of one entry
-    pub one_entry : (k q : K) (v x : X) → get (insert {R = R} empty k v) q ≡ Some x → (q ≡ k) × (v ≡ x)
-    one_entry k q v x e = elim (eq_by_cmp R q k) as (λ t. eq_by_cmp R q k ≡ t → cond t (Some v) (get {R = R} empty q) ≡ Some x → (q ≡ k) × (v ≡ x)) [
-      | true ↦ λ t f. (same_key q k t, same_some v x f)
-      | false ↦ λ t f. absurd (no_some x (sym (get-empty R q) ∙ f))
-    ] refl (sym (get-insert total empty k v q) ∙ e)
-
-    pub one_key : (k q : K) (v : X) → contains_key (insert {R = R} empty k v) q ≡ true → q ≡ k
-    one_key k q v e = let found = is_found (get (insert {R = R} empty k v) q) e in (one_entry k q v found.0 found.1).0
-
-    pub get_one : (k : K) (v : X) → get (insert {R = R} empty k v) k ≡ Some v
-    get_one k v = get-insert total empty k v k ∙ ap (λ t. cond t (Some v) (get {R = R} empty k)) (itself k)
-
-    pub len_one : (k : K) (v : X) → len (insert {R = R} empty k v) ≡ 1
-    len_one k v = len-insert total empty k v ∙ ap (λ o. cond (is_some o) (len (empty {X = X} {R = R})) (len (empty {X = X} {R = R}) + 1)) (get-empty {X = X} R k) ∙ ap (λ n. n + 1) (len-empty R X)
 
     pub rows_apart : (rows : List (K × X)) → IsStrictlySortedBy R (keys_of rows) → AreApart rows
     rows_apart rows up = differ_unmap (λ (p : K × X). p.0) (λ a b. a ≢ b) rows (sorted_apart (keys_of rows) up)

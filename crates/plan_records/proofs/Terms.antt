@@ -46,8 +46,8 @@ module _ (occurrences : List (OccKey × Occurrence)) where
     terms_there k has = let r = row_there k has in r.1 ∙ ap (λ t. Some t) (sym (terms_found k r.0 r.1))
 
     -- an operation of no occurrence doesn't fit
-    pub unknown : (w : Name) (said : OperationItem) → None ≡ get {R = occurrence_cmp} (from_entries occurrences) said.key.occurrence → ¬ Fits w occurrences said
-    unknown w said e fits = let r = row_there said.key.occurrence fits.occurrence in no_some r.0 (e ∙ r.1)
+    pub unknown : (names : List Name) (said : OperationItem) → None ≡ get {R = occurrence_cmp} (from_entries occurrences) said.key.occurrence → ¬ Fits names occurrences said
+    unknown names said e fits = let r = row_there said.key.occurrence fits.occurrence in no_some r.0 (e ∙ r.1)
 
 -- ---- the order of operations
 not_later : (r s : Ordering) → ordering_then r s ≡ Less → is_lt (ordering_reverse r) ≡ false

@@ -4,10 +4,9 @@ use Rattle.std.specs.List.Sorted.{IsStrictlySortedBy}
 use Rattle.std.specs.Map.{keys_of}
 use Rattle.std.specs.FinMap as map
 use Rattle.std.specs.FinSet as set
-use Rattle.plan_basics.specs.declared.Attr.TheVariants.{Automatic}
 use Rattle.plan_basics.specs.declared.keys.OccKey.{OccKey}
 use Rattle.plan_basics.specs.declared.keys.OpKey.{OpKey}
-use Rattle.plan_basics.specs.Keys.{occurrence_cmp, operation_cmp}
+use Rattle.plan_basics.specs.Keys.{name_cmp, occurrence_cmp, operation_cmp}
 use Rattle.plan_model.specs.declared.Occurrence.{Occurrence}
 use Rattle.plan_model.specs.Plan.{Plan, Operation, Supplement, pair_cmp}
 use Rattle.plan_model.specs.Valid.{IsValid}
@@ -23,15 +22,16 @@ abbrev pub plan_of : ℕ → PlanContents → Plan
 plan_of clock c = record {
   loaded = true;
   clock = clock;
-  workstations = map.insert map.empty c.workstation (record { attribute = Automatic; intervals = map.insert map.empty c.interval.from c.interval });
+  workstations = map.from_entries c.workstations.items;
   resources = map.empty;
   occurrences = map.from_entries c.occurrences.items;
   operations = map.from_entries c.operations.items;
   pairs = set.from_list c.pairs.items;
 }
 
--- occurrences and operations by key, pairs by predecessor and then successor, and each of them once
+-- workstations by name, occurrences and operations by key, pairs by predecessor and then successor, and each of them once
 pub record AreContents (c : PlanContents) : Type 0 where
+  pub workstations : IsStrictlySortedBy name_cmp (keys_of c.workstations.items)
   pub occurrences : IsStrictlySortedBy occurrence_cmp (keys_of c.occurrences.items)
   pub operations : IsStrictlySortedBy operation_cmp (keys_of c.operations.items)
   pub pairs : IsStrictlySortedBy pair_cmp c.pairs.items

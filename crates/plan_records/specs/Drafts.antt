@@ -2,10 +2,8 @@
 use Rattle.std.specs.Prelude.{◌≡◌, ◌⊎◌, true, Some}
 use Rattle.std.specs.declared.cmp.Ordering.TheVariants.{Less}
 use Rattle.std.specs.FinMap.{get, len, contains_key}
-use Rattle.plan_basics.specs.declared.Attr.TheVariants.{Automatic}
 use Rattle.plan_basics.specs.declared.keys.OpKey.{OpKey}
-use Rattle.plan_basics.specs.Keys.{Name, IsOperationKey, operation_cmp}
-use Rattle.workstations.specs.Workstations.{Workstation}
+use Rattle.plan_basics.specs.Keys.{IsOperationKey, operation_cmp}
 use Rattle.plan_model.specs.Plan.{Plan, Operation, Supplement, IsPairOf}
 use Rattle.plan_model.specs.Valid.{IsValid, AreOccurrences, AreUntouched}
 
@@ -15,12 +13,10 @@ pub record IsDraft (P : Plan) : Type 0 where
   pub loaded : P.loaded ≡ true
   pub untouched : AreUntouched P.operations
 
--- what can be loaded so far: one automatic workstation with one open interval, no special resources and no needs of any resource, and each predecessor has the smaller key
+-- what can be loaded so far: no special resources and no needs of any, and each predecessor has the smaller key
 pub record IsLoadable (P : Plan) : Type 0 where
-  pub one_workstation : len P.workstations ≡ 1
-  pub automatic : (w : Name) (ws : Workstation) → get P.workstations w ≡ Some ws → (ws.attribute ≡ Automatic) × (len ws.intervals ≡ 1)
   pub no_resources : len P.resources ≡ 0
-  pub without_needs : (o : OpKey) (op : Operation) → get P.operations o ≡ Some op → (op.r1 ≡ 0) × (op.r2 ≡ 0) × (len op.needs ≡ 0)
+  pub without_needs : (o : OpKey) (op : Operation) → get P.operations o ≡ Some op → len op.needs ≡ 0
   pub ascending : (p o : OpKey) → IsPairOf P.pairs p o → operation_cmp p o ≡ Less
 
 -- the operation is of an occurrence that comes in

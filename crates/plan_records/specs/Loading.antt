@@ -1,21 +1,21 @@
 -- What lists of items say of a plan that can be loaded so far, kind by kind.
-use Rattle.std.specs.Prelude.{◌≡◌, ◌≢◌, ◌<◌, ◌≤◌, List, [], ◌∷◌, length, map, All, Contains, Option, Some, None, unwrap_or, false}
+use Rattle.std.specs.Prelude.{◌≡◌, ◌≢◌, ◌<◌, ◌≤◌, List, [], length, map, All, Contains, Option, Some, None, cond, unwrap_or, false}
 use Rattle.std.specs.List.{AllPairs, filter_map}
 use Rattle.std.specs.declared.cmp.Ordering.TheVariants.{Less}
 use Rattle.std.specs.FinMap as fin
+use Rattle.std.specs.Ordering.{eq_by_cmp}
 use Rattle.plan_basics.specs.declared.Attr.{Attr}
-use Rattle.plan_basics.specs.declared.Attr.TheVariants.{Automatic}
 use Rattle.plan_basics.specs.declared.keys.OccKey.{OccKey}
 use Rattle.plan_basics.specs.declared.keys.OpKey.{OpKey}
-use Rattle.plan_basics.specs.Keys.{Name, occurrence_cmp, operation_cmp}
-use Rattle.plan_basics.specs.Intervals.{OpenInterval}
+use Rattle.plan_basics.specs.Keys.{Name, name_cmp, occurrence_cmp, operation_cmp}
+use Rattle.plan_basics.specs.Intervals.{OpenInterval, AreApart}
+use Rattle.workstations.specs.Timetables.{NamedWorkstation, workstation_by}
 use Rattle.status_rules.specs.declared.Mark.TheVariants.{Unmarked}
 use Rattle.plan_model.specs.Plan.{Operation, pair_cmp}
 use Rattle.plan_model.specs.declared.Occurrence.{Occurrence}
 use Rattle.plan_items.specs.declared.Item.{Item}
 use Rattle.std.specs.List.Sorted.{IsPermutation, IsStrictlySortedBy}
 use Rattle.std.specs.Map.{keys_of}
-use Rattle.plan_records.specs.declared.building.Heads.{Heads}
 use Rattle.plan_records.specs.declared.contents.PlanContents.{PlanContents}
 use Rattle.plan_records.specs.Contents.{AreContents}
 use Rattle.plan_items.specs.declared.Item.TheVariants as item
@@ -68,22 +68,49 @@ row_of occurrences said = (said.key, operation_of (terms_of occurrences said.key
 abbrev pub occurrence_of : OpKey → OccKey
 occurrence_of o = o.occurrence
 
--- an operation of that workstation and of one of these occurrences, without fixed resources
-pub record Fits (w : Name) (occurrences : List (OccKey × Occurrence)) (said : OperationItem) : Type 0 where
-  pub workstation : said.workstation ≡ w
+-- an operation of one of these workstations and of one of these occurrences
+pub record Fits (names : List Name) (occurrences : List (OccKey × Occurrence)) (said : OperationItem) : Type 0 where
+  pub workstation : Contains names said.workstation
   pub occurrence : Contains (keys_of occurrences) said.key.occurrence
-  pub r1 : said.r1 ≡ 0
-  pub r2 : said.r2 ≡ 0
 
--- one automatic workstation, one interval of it, and no resources
-pub record AreHeads (h : Heads) (workstations : List (Name × Attr)) (intervals : List (Name × OpenInterval)) (resources : List Name) : Type 0 where
-  pub workstation : workstations ≡ (h.workstation, Automatic) ∷ []
-  pub interval : intervals ≡ (h.workstation, h.interval) ∷ []
-  pub no_resources : resources ≡ []
+-- the interval, if it is of the workstation of that name
+abbrev pub own_interval : Name → Name × OpenInterval → Option OpenInterval
+own_interval name said = cond (eq_by_cmp name_cmp said.0 name) (Some said.1) None
 
--- the items name these, and no others
-abbrev pub HaveHeads : Heads → List Item → Type 0
-HaveHeads h items = AreHeads h (filter_map as_workstation items) (filter_map as_interval items) (filter_map as_resource items)
+-- the intervals of the workstation of that name
+abbrev pub intervals_of : Name → List (Name × OpenInterval) → List OpenInterval
+intervals_of name intervals = filter_map (own_interval name) intervals
+
+-- 400 intervals at most, and no two overlap
+pub record IsOpening (intervals : List OpenInterval) : Type 0 where
+  pub few : length intervals ≤ 400
+  pub apart : AllPairs AreApart intervals
+
+-- a workstation can be open in those of these intervals that are its own
+abbrev pub CanOpen : List (Name × OpenInterval) → Name × Attr → Type 0
+CanOpen intervals said = IsOpening (intervals_of said.0 intervals)
+
+-- the workstation, open in them
+abbrev pub opened_in : List (Name × OpenInterval) → Name × Attr → NamedWorkstation
+opened_in intervals said = workstation_by said.0 said.1 (intervals_of said.0 intervals)
+
+-- each interval is of one of these workstations
+abbrev pub AreOfThese : List Name → List (Name × OpenInterval) → Type 0
+AreOfThese names intervals = All (λ said. Contains names said.0) intervals
+
+-- at least one workstation, 99 at most, no two have one name, and each can be open in its intervals; there are no others
+pub record AreWorkstations (said : List (Name × Attr)) (intervals : List (Name × OpenInterval)) : Type 0 where
+  pub some : 0 < length said
+  pub few : length said ≤ 99
+  pub distinct : AllPairs (λ a b. a.0 ≢ b.0) said
+  pub opening : All (CanOpen intervals) said
+  pub no_others : AreOfThese (keys_of said) intervals
+
+-- the workstations by name, each open in its intervals
+pub record AreWorkstationsInOrder (said : List (Name × Attr)) (intervals : List (Name × OpenInterval)) (ordered : List NamedWorkstation) : Type 0 where
+  pub are : AreWorkstations said intervals
+  pub same : IsPermutation (map (opened_in intervals) said) ordered
+  pub in_order : IsStrictlySortedBy name_cmp (keys_of ordered)
 
 -- at least one occurrence, 5,000 at most, and no two have one key
 pub record AreOccurrenceRows (said : List (OccKey × Occurrence)) : Type 0 where
@@ -100,9 +127,9 @@ abbrev pub EachHasOperation : List OpKey → List (OccKey × Occurrence) → Typ
 EachHasOperation keys occurrences = All (λ row. Contains (map occurrence_of keys) row.0) occurrences
 
 -- 20,000 operations at most: each fits, no two have one key, and each occurrence has one
-pub record AreOperations (w : Name) (occurrences : List (OccKey × Occurrence)) (said : List OperationItem) : Type 0 where
+pub record AreOperations (names : List Name) (occurrences : List (OccKey × Occurrence)) (said : List OperationItem) : Type 0 where
   pub few : length said ≤ 20000
-  pub fit : All (Fits w occurrences) said
+  pub fit : All (Fits names occurrences) said
   pub distinct : AllPairs (λ a b. a.key ≢ b.key) said
   pub not_empty : EachHasOperation (keys_said said) occurrences
 
@@ -125,8 +152,8 @@ pub record AreOccurrencesInOrder (said : List (OccKey × Occurrence)) (ordered :
   pub in_order : IsStrictlySortedBy occurrence_cmp (keys_of ordered)
 
 -- the operations' rows in key order
-pub record AreRowsOf (w : Name) (occurrences : List (OccKey × Occurrence)) (said : List OperationItem) (rows : List (OpKey × Operation)) : Type 0 where
-  pub operations : AreOperations w occurrences said
+pub record AreRowsOf (names : List Name) (occurrences : List (OccKey × Occurrence)) (said : List OperationItem) (rows : List (OpKey × Operation)) : Type 0 where
+  pub operations : AreOperations names occurrences said
   pub same : IsPermutation (map (row_of occurrences) said) rows
   pub in_order : IsStrictlySortedBy operation_cmp (keys_of rows)
 
@@ -137,19 +164,17 @@ pub record ArePairsInOrder (keys : List OpKey) (pairs : List (OpKey × OpKey)) (
   pub in_order : IsStrictlySortedBy pair_cmp ordered
 
 -- the items are those of a plan that can be loaded so far
-pub record CanBeLoaded (h : Heads) (items : List Item) : Type 0 where
-  pub heads : HaveHeads h items
+pub record CanBeLoaded (items : List Item) : Type 0 where
+  pub no_resources : filter_map as_resource items ≡ []
+  pub workstations : AreWorkstations (filter_map as_workstation items) (filter_map as_interval items)
   pub occurrences : AreOccurrenceRows (filter_map as_occurrence items)
-  pub operations : AreOperations h.workstation (filter_map as_occurrence items) (filter_map as_operation items)
+  pub operations : AreOperations (keys_of (filter_map as_workstation items)) (filter_map as_occurrence items) (filter_map as_operation items)
   pub pairs : ArePairs (keys_said (filter_map as_operation items)) (filter_map as_pair items)
 
--- the workstation and interval of contents
-abbrev pub heads_of : PlanContents → Heads
-heads_of c = record { workstation = c.workstation; interval = c.interval }
-
--- contents in key order of what the items say
+-- contents in order of what the items say
 pub record AreContentsOf (items : List Item) (c : PlanContents) : Type 0 where
-  pub items_are : CanBeLoaded (heads_of c) items
+  pub items_are : CanBeLoaded items
+  pub workstations : IsPermutation (map (opened_in (filter_map as_interval items)) (filter_map as_workstation items)) c.workstations.items
   pub occurrences : IsPermutation (filter_map as_occurrence items) c.occurrences.items
   pub operations : IsPermutation (map (row_of c.occurrences.items) (filter_map as_operation items)) c.operations.items
   pub pairs : IsPermutation (filter_map as_pair items) c.pairs.items

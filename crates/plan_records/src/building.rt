@@ -1,25 +1,18 @@
 // From what a list of records says, the contents of the plan that it denotes.
-ghost use Rattle.std.specs.Prelude.{◌≡◌, ◌≢◌, List, [], ◌∷◌, IfOk, MatchOption};
+ghost use Rattle.std.specs.Prelude.{◌≡◌, List, IfOk, MatchOption};
 ghost use Rattle.std.specs.List.{AllZip, filter_map};
 ghost use Rattle.plan_items.specs.declared.Item.{Item};
 ghost use Rattle.plan_items.specs.Items.{Says};
-ghost use Rattle.plan_records.specs.declared.building.Heads.{Heads};
 ghost use Rattle.plan_records.specs.Records.{records_of};
-ghost use Rattle.plan_records.specs.Loading.{as_workstation, as_interval, as_occurrence, as_operation, as_pair, as_resource, AreHeads, HaveHeads, CanBeLoaded, AreContentsOf};
+ghost use Rattle.plan_records.specs.Loading.{as_workstation, as_interval, as_occurrence, as_operation, as_pair, as_resource, CanBeLoaded, AreContentsOf};
 
 use super::contents::PlanContents;
 use super::in_order::{keys, occurrences_in_order, operations_in_order, pairs_in_order};
+use super::opening::workstations_in_order;
 use plan_basics::{Attr, Interval, OccKey, OpKey, ResName, WsName};
 use plan_items::{Item, OperationItem, read_item};
 use plan_model::Occurrence;
 use std::alloc::{AllocError, Global};
-
-// The one workstation of a plan, and its interval.
-#[derive(Clone, Copy, Debug)]
-pub struct Heads {
-    pub workstation: WsName,
-    pub interval: Interval,
-}
 
 /// The ten fields of one record of a plan's text.
 pub type Record = [Vec<u8>; 10];
@@ -139,58 +132,23 @@ fn resources(alloc: Global, items: &[Item]) -> Result<Vec<ResName>, AllocError>
     items.iter().filter_map(resource_of).collect(alloc)
 }
 
-// The element of a list of one.
-fn only<T: Copy>(found: &[T]) -> Option<T>
-    ensures { MatchOption result ((x : T) → found.now ≢ x ∷ []) (λ x. found.now ≡ x ∷ []) }
-{
-    match found {
-        [one] => Some(*one),
-        _ => None,
-    }
-}
-
-// The one automatic workstation with its one interval, where there are no resources.
-fn heads_of(
-    workstations: &[(WsName, Attr)],
-    intervals: &[(WsName, Interval)],
-    resources: &[ResName],
-) -> Option<Heads>
-    ensures { MatchOption result ((h : Heads) → ¬ AreHeads h workstations.now intervals.now resources.now) (λ h. AreHeads h workstations.now intervals.now resources.now) }
-{
-    let (workstation, attribute) = only(workstations)?;
-    let (of, interval) = only(intervals)?;
-    if attribute != Attr::Automatic || of != workstation || !resources.is_empty() {
-        return None;
-    }
-    Some(Heads {
-        workstation,
-        interval,
-    })
-}
-
-// The heads that items name.
-fn read_heads(alloc: Global, items: &[Item]) -> Result<Option<Heads>, AllocError>
-    ensures { IfOk result (λ found. MatchOption found ((h : Heads) → ¬ HaveHeads h items.now) (λ h. HaveHeads h items.now)) }
-{
-    let workstations = workstations(alloc, items)?;
-    let intervals = intervals(alloc, items)?;
-    let resources = resources(alloc, items)?;
-    Ok(heads_of(&workstations, &intervals, &resources))
-}
-
 /// The contents of the plan that can be loaded whose items these are; `None` where they are those of no such plan.
 pub fn contents_of(alloc: Global, items: &[Item]) -> Result<Option<PlanContents>, AllocError>
-    ensures { IfOk result (λ found. MatchOption found ((h : Heads) → ¬ CanBeLoaded h items.now) (λ c. AreContentsOf items.now c)) }
+    ensures { IfOk result (λ found. MatchOption found (¬ CanBeLoaded items.now) (λ c. AreContentsOf items.now c)) }
 {
-    let Some(heads) = read_heads(alloc, items)? else {
+    if !resources(alloc, items)?.is_empty() {
+        return Ok(None);
+    }
+    let intervals = intervals(alloc, items)?;
+    let Some(workstations) = workstations_in_order(alloc, workstations(alloc, items)?, &intervals)?
+    else {
         return Ok(None);
     };
     let Some(occurrences) = occurrences_in_order(alloc, occurrences(alloc, items)?)? else {
         return Ok(None);
     };
     let said = operations(alloc, items)?;
-    let Some(operations) = operations_in_order(alloc, &heads.workstation, &occurrences, &said)?
-    else {
+    let Some(operations) = operations_in_order(alloc, &workstations, &occurrences, &said)? else {
         return Ok(None);
     };
     let keys = keys(alloc, &operations)?;
@@ -198,8 +156,7 @@ pub fn contents_of(alloc: Global, items: &[Item]) -> Result<Option<PlanContents>
         return Ok(None);
     };
     Ok(Some(PlanContents {
-        workstation: heads.workstation,
-        interval: heads.interval,
+        workstations,
         occurrences,
         operations,
         pairs,

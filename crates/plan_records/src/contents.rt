@@ -1,13 +1,13 @@
 // What a loaded plan holds.
-use plan_basics::{Interval, OccKey, OpKey, WsName};
+use plan_basics::{OccKey, OpKey};
 use plan_model::{Occurrence, OperationRecord};
+use workstations::Workstation;
 
-/// What a loaded plan holds: one automatic workstation with one open interval, its occurrences and their operations, in
-/// key order, and the pairs of predecessor and successor, by predecessor and then successor.
+/// What a loaded plan holds: its workstations, by name; its occurrences and their operations, in key order; and the pairs of
+/// predecessor and successor, by predecessor and then successor.
 #[derive(Debug, Drop)]
 pub struct PlanContents {
-    pub workstation: WsName,
-    pub interval: Interval,
+    pub workstations: Vec<Workstation>,
     /// Each with its priority and deadline.
     pub occurrences: Vec<(OccKey, Occurrence)>,
     pub operations: Vec<(OpKey, OperationRecord)>,

@@ -32,10 +32,11 @@ impl Model for PlanDraft {
 }
 
 impl PlanDraft {
-    /// The draft that the records of a text denote; `None` where they denote none that can be loaded so far: none with one
-    /// automatic workstation that has one open interval, no special resources, no needs of any resource,
-    /// and pairs that each lead from a smaller to a greater key. There may be several occurrences, each with its operations,
-    /// and pairs from one to another; the records may come in any order. The error is always `Memory`.
+    /// The draft that the records of a text denote; `None` where they denote none that can be loaded so far: none without
+    /// special resources, whose pairs each lead from a smaller to a greater key. There are one to 99 workstations, of any
+    /// attribute, each with up to 400 intervals, or with none; intervals of one workstation may touch, but not overlap.
+    /// There is at least one occurrence, each with its operations, and an operation may need R1 and R2; pairs may lead from
+    /// one occurrence to another. The records may come in any order. The error is always `Memory`.
     pub fn build(records: Vec<Record>) -> Result<Option<PlanDraft>, Refusal>
         ensures denoted { IfOk result (λ found. MatchOption found ((P : Plan) → IsLoadable P → ¬ Denotes (records_of records.items) P) (λ draft. Denotes (records_of records.items) draft × IsLoadable draft)) }
         ensures memory { IfErr result (λ r. r ≡ Refusal.Memory) }

@@ -3,16 +3,18 @@ ghost use Rattle.std.specs.Prelude.{◌≡◌, ◌↔◌, map, All, Contains, Is
 ghost use Rattle.std.specs.FinMap.{get, from_entries};
 ghost use Rattle.std.specs.List.Sorted.{IsPermutation, IsSortedByKey, IsStrictlySortedBy};
 ghost use Rattle.std.specs.Map.{keys_of};
-ghost use Rattle.plan_basics.specs.Keys.{occurrence_cmp, operation_cmp};
+ghost use Rattle.plan_basics.specs.Keys.{name_cmp, occurrence_cmp, operation_cmp};
 ghost use Rattle.plan_records.specs.Loading.{row_of, occurrence_of, Fits, AreOccurrenceRows, AreOccurrencesInOrder, AreOperations, EachHasOperation, AreRowsOf, IsPairIn, ArePairs, ArePairsInOrder};
 
+use super::opening::is_named;
 use super::places::occurrence_place;
-use plan_basics::{OccKey, OpKey, WsName};
+use plan_basics::{OccKey, OpKey};
 use plan_items::OperationItem;
 use plan_model::{Occurrence, OperationRecord};
 use status_rules::Mark;
 use std::alloc::{AllocError, Global};
 use std::cmp::Ordering;
+use workstations::Workstation;
 
 // The rows' keys.
 pub fn keys<K: Copy, V>(alloc: Global, rows: &[(K, V)]) -> Result<Vec<K>, AllocError>
@@ -22,7 +24,7 @@ pub fn keys<K: Copy, V>(alloc: Global, rows: &[(K, V)]) -> Result<Vec<K>, AllocE
 }
 
 // Whether each element is below the next.
-fn ascends<T: Ord>(items: &[T]) -> bool
+pub fn ascends<T: Ord>(items: &[T]) -> bool
     ensures { IsTrue result ↔ IsStrictlySortedBy T.cmp items.now }
 {
     items.is_sorted_by(|a, b| a.cmp(b) == Ordering::Less)
@@ -55,18 +57,19 @@ fn terms_of(occurrences: &[(OccKey, Occurrence)], key: &OccKey) -> Option<Occurr
     Some(occurrences[place].1)
 }
 
-// The row of an operation of that workstation and of one of these occurrences, without fixed resources: nothing is
-// reported of it, and its flags are clear.
+// The row of an operation of one of these workstations and of one of these occurrences: nothing is reported of it, and
+// its flags are clear.
 fn row(
-    workstation: &WsName,
+    workstations: &[Workstation],
     occurrences: &[(OccKey, Occurrence)],
     said: &OperationItem,
 ) -> Option<(OpKey, OperationRecord)>
-    requires { IsStrictlySortedBy occurrence_cmp (keys_of occurrences.now) }
-    ensures { MatchOption result (¬ Fits workstation.now occurrences.now said.now) (λ row. Fits workstation.now occurrences.now said.now × (row ≡ row_of occurrences.now said.now)) }
+    requires named { IsStrictlySortedBy name_cmp (keys_of workstations.now) }
+    requires in_order { IsStrictlySortedBy occurrence_cmp (keys_of occurrences.now) }
+    ensures { MatchOption result (¬ Fits (keys_of workstations.now) occurrences.now said.now) (λ row. Fits (keys_of workstations.now) occurrences.now said.now × (row ≡ row_of occurrences.now said.now)) }
 {
     let terms = terms_of(occurrences, &said.key.occurrence)?;
-    if said.workstation != *workstation || said.r1 != 0 || said.r2 != 0 {
+    if !is_named(workstations, &said.workstation) {
         return None;
     }
     let operation = OperationRecord {
@@ -86,16 +89,17 @@ fn row(
 // The operations' rows, where each fits.
 fn rows(
     alloc: Global,
-    workstation: &WsName,
+    workstations: &[Workstation],
     occurrences: &[(OccKey, Occurrence)],
     said: &[OperationItem],
 ) -> Result<Option<Vec<(OpKey, OperationRecord)>>, AllocError>
-    requires { IsStrictlySortedBy occurrence_cmp (keys_of occurrences.now) }
-    ensures { IfOk result (λ found. MatchOption found (¬ All (Fits workstation.now occurrences.now) said.now) (λ v. All (Fits workstation.now occurrences.now) said.now × (v.items ≡ map (row_of occurrences.now) said.now))) }
+    requires named { IsStrictlySortedBy name_cmp (keys_of workstations.now) }
+    requires in_order { IsStrictlySortedBy occurrence_cmp (keys_of occurrences.now) }
+    ensures { IfOk result (λ found. MatchOption found (¬ All (Fits (keys_of workstations.now) occurrences.now) said.now) (λ v. All (Fits (keys_of workstations.now) occurrences.now) said.now × (v.items ≡ map (row_of occurrences.now) said.now))) }
 {
     let mut rows = Vec::new(alloc);
     for said in said {
-        let Some(row) = row(workstation, occurrences, said) else {
+        let Some(row) = row(workstations, occurrences, said) else {
             return Ok(None);
         };
         rows.push(row)?;
@@ -106,14 +110,15 @@ fn rows(
 // The operations' rows sorted by key, where each fits.
 fn sorted_rows(
     alloc: Global,
-    workstation: &WsName,
+    workstations: &[Workstation],
     occurrences: &[(OccKey, Occurrence)],
     said: &[OperationItem],
 ) -> Result<Option<Vec<(OpKey, OperationRecord)>>, AllocError>
-    requires { IsStrictlySortedBy occurrence_cmp (keys_of occurrences.now) }
-    ensures { IfOk result (λ found. MatchOption found (¬ All (Fits workstation.now occurrences.now) said.now) (λ v. All (Fits workstation.now occurrences.now) said.now × IsPermutation (map (row_of occurrences.now) said.now) v.items × IsSortedByKey (λ row. row.0) operation_cmp v.items)) }
+    requires named { IsStrictlySortedBy name_cmp (keys_of workstations.now) }
+    requires in_order { IsStrictlySortedBy occurrence_cmp (keys_of occurrences.now) }
+    ensures { IfOk result (λ found. MatchOption found (¬ All (Fits (keys_of workstations.now) occurrences.now) said.now) (λ v. All (Fits (keys_of workstations.now) occurrences.now) said.now × IsPermutation (map (row_of occurrences.now) said.now) v.items × IsSortedByKey (λ row. row.0) operation_cmp v.items)) }
 {
-    let Some(mut rows) = rows(alloc, workstation, occurrences, said)? else {
+    let Some(mut rows) = rows(alloc, workstations, occurrences, said)? else {
         return Ok(None);
     };
     rows.sort_by_key(|row| row.0)?;
@@ -145,17 +150,18 @@ fn each_has_operation(keys: &[OpKey], occurrences: &[(OccKey, Occurrence)]) -> b
 // The operations' rows in key order, where each fits, none stands twice and each occurrence has one.
 pub fn operations_in_order(
     alloc: Global,
-    workstation: &WsName,
+    workstations: &[Workstation],
     occurrences: &[(OccKey, Occurrence)],
     said: &[OperationItem],
 ) -> Result<Option<Vec<(OpKey, OperationRecord)>>, AllocError>
-    requires { IsStrictlySortedBy occurrence_cmp (keys_of occurrences.now) }
-    ensures { IfOk result (λ found. MatchOption found (¬ AreOperations workstation.now occurrences.now said.now) (λ v. AreRowsOf workstation.now occurrences.now said.now v.items)) }
+    requires named { IsStrictlySortedBy name_cmp (keys_of workstations.now) }
+    requires in_order { IsStrictlySortedBy occurrence_cmp (keys_of occurrences.now) }
+    ensures { IfOk result (λ found. MatchOption found (¬ AreOperations (keys_of workstations.now) occurrences.now said.now) (λ v. AreRowsOf (keys_of workstations.now) occurrences.now said.now v.items)) }
 {
     if said.len() > 20_000 {
         return Ok(None);
     }
-    let Some(rows) = sorted_rows(alloc, workstation, occurrences, said)? else {
+    let Some(rows) = sorted_rows(alloc, workstations, occurrences, said)? else {
         return Ok(None);
     };
     let keys = keys(alloc, &rows)?;

@@ -7,14 +7,19 @@ mod building;
 mod contents;
 mod drafts;
 mod in_order;
+mod opening;
 mod places;
 #[cfg(test)]
 mod tests;
+#[cfg(test)]
+mod workstation_tests;
 
 pub use building::Record;
 pub use contents::PlanContents;
 pub use drafts::{Addition, PlanDraft};
-pub use places::{known_occurrence, known_place, occurrence_place, place_of};
+pub use places::{
+    known_occurrence, known_place, known_workstation, occurrence_place, place_of, workstation_place,
+};
 use plan_basics::{Attr, ErrCode, Interval, Moment, OccKey, OpKey, Refusal, ResName, WsName};
 use special_resources::Need;
 use status_rules::{Mark, OccStatus, Status};

@@ -3,12 +3,14 @@ ghost use Rattle.std.specs.Prelude.{◌≡◌, ◌<◌, Some, None, IfSome, IsNo
 ghost use Rattle.std.specs.FinMap.{get, from_entries};
 ghost use Rattle.std.specs.List.Sorted.{IsStrictlySortedBy};
 ghost use Rattle.std.specs.Map.{keys_of};
-ghost use Rattle.plan_basics.specs.Keys.{occurrence_cmp, operation_cmp};
+ghost use Rattle.plan_basics.specs.Keys.{name_cmp, occurrence_cmp, operation_cmp};
 ghost use Rattle.plan_model.specs.Plan.{Operation};
 ghost use Rattle.plan_model.specs.declared.Occurrence.{Occurrence};
+ghost use Rattle.workstations.specs.Workstations.{Workstation as WorkstationValue};
 
-use plan_basics::{OccKey, OpKey};
+use plan_basics::{OccKey, OpKey, WsName};
 use plan_model::{Occurrence, OperationRecord};
+use workstations::Workstation;
 
 /// Where the operation of a key stands, if there is one.
 pub fn place_of(rows: &[(OpKey, OperationRecord)], key: &OpKey) -> Option<usize>
@@ -46,4 +48,23 @@ pub fn known_occurrence(rows: &[(OccKey, Occurrence)], key: &OccKey) -> usize
     ensures at { (terms : Occurrence) × (slice_get rows.now result ≡ Some (key.now, terms)) }
 {
     occurrence_place(rows, key).unwrap()
+}
+
+/// Where the workstation of a name stands, if there is one.
+pub fn workstation_place(rows: &[Workstation], name: &WsName) -> Option<usize>
+    requires { IsStrictlySortedBy name_cmp (keys_of rows.now) }
+    ensures found { IfSome result (λ i. (ws : WorkstationValue) × (slice_get rows.now i ≡ Some (name.now, ws))) }
+    ensures absent { IsNone result → get {R = name_cmp} (from_entries rows.now) name.now ≡ None }
+{
+    rows.binary_search_by_key(name, |row| row.name()).ok()
+}
+
+/// Where the workstation of a name stands that is among them.
+pub fn known_workstation(rows: &[Workstation], name: &WsName) -> usize
+    requires sorted { IsStrictlySortedBy name_cmp (keys_of rows.now) }
+    requires known { IsSome (get {R = name_cmp} (from_entries rows.now) name.now) }
+    ensures within { result < length rows.now }
+    ensures at { (ws : WorkstationValue) × (slice_get rows.now result ≡ Some (name.now, ws)) }
+{
+    workstation_place(rows, name).unwrap()
 }

@@ -2,7 +2,7 @@
 ghost use Rattle.std.specs.Prelude.{◌<◌};
 
 use super::{PlanDraft, Record};
-use plan_basics::{AppId, Attr, Interval, Moment, OccKey, OpKey, WsName};
+use plan_basics::{AppId, Moment, OccKey, OpKey, WsName};
 use plan_model::Occurrence;
 use status_rules::Mark;
 use std::alloc::{AllocError, Global};
@@ -34,7 +34,7 @@ const NIGHT: [&str; 8] = [
 ];
 
 // The fields of a line without quotes.
-fn record(rt: &impl Abort, alloc: Global, line: &str) -> Result<Record, AllocError> {
+pub fn record(rt: &impl Abort, alloc: Global, line: &str) -> Result<Record, AllocError> {
     assert_eq!(rt; line.split(',').count(), 10, "fields of {line}");
     array::try_from_fn(|place| line
         .split(',')
@@ -45,7 +45,7 @@ fn record(rt: &impl Abort, alloc: Global, line: &str) -> Result<Record, AllocErr
 }
 
 // The records of lines, without the line `left_out`, and with another at the end.
-fn records(
+pub fn records(
     rt: &impl Abort,
     alloc: Global,
     lines: &[&str],
@@ -97,7 +97,10 @@ fn builds_the_day(rt: HostRuntime) -> Result<(), Fail> {
     };
     let deadline = Moment::from_text(b"2024-03-02T05:00").ok_or("deadline")?;
     let cpu = WsName::from_text(b"CPU1").ok_or("workstation")?;
-    assert!(rt; contents.workstation == cpu);
+    let [workstation] = contents.workstations.as_slice() else {
+        return Err("one workstation")?;
+    };
+    assert!(rt; workstation.name() == cpu);
     let terms = Occurrence {
         priority: 5,
         deadline,
@@ -208,12 +211,6 @@ fn refuses_what_is_no_such_plan(rt: HostRuntime) -> Result<(), Fail> {
         ("", DAY[1], "a pair twice"),
         ("", DAY[2], "a workstation twice"),
         ("", DAY[4], "an occurrence twice"),
-        ("", "W,SETP,A,,,,,,,", "a second workstation"),
-        (
-            "",
-            "I,CPU1,2024-03-02T22:00,2024-03-03T06:00,2,3,0,,,",
-            "a second interval",
-        ),
         (
             "",
             "O,BILLING,2024-03-01T22:00,5,2024-03-02T03:00,,,,,",
@@ -267,23 +264,12 @@ fn refuses_what_is_no_such_plan(rt: HostRuntime) -> Result<(), Fail> {
         ),
         (
             "",
-            "P,PAYROLL,2024-03-01T22:00,30,CPU1,60,1,0,,",
-            "an operation that takes R1",
-        ),
-        (
-            "",
-            "P,PAYROLL,2024-03-01T22:00,30,CPU1,60,0,1,,",
-            "an operation that takes R2",
+            "P,PAYROLL,2024-03-01T22:00,30,CPU1,60,100,0,,",
+            "an operation that takes 100 of R1",
         ),
         ("", "Q,PAYROLL,,,,,,,,", "a record of no kind"),
         (DAY[2], "", "no workstation"),
-        (
-            DAY[2],
-            "W,CPU1,S,,,,,,,",
-            "a workstation that reports starts",
-        ),
         (DAY[4], "", "no occurrence"),
-        (DAY[5], "", "no interval"),
         (
             DAY[5],
             "I,SETP,2024-03-01T22:00,2024-03-02T06:00,2,3,0,,,",

@@ -7,7 +7,7 @@ mod standings;
 mod statuses;
 mod tallies;
 
-pub use standings::{Standing, standings_of};
+pub use standings::{Standing, attribute_of, standings_of};
 pub use statuses::{status_with, statuses_of};
 pub use tallies::{occurrence_status_with, tallies_of};
 

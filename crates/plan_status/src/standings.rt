@@ -11,7 +11,7 @@ ghost use Rattle.plan_status.specs.Standings.{IsStanding, AreStandings};
 
 use plan_basics::Attr;
 use plan_model::OperationRecord;
-use plan_records::{PlanContents, known_place};
+use plan_records::{PlanContents, known_place, known_workstation};
 use status_rules::{Mark, Preds};
 use std::alloc::{AllocError, Global};
 
@@ -33,13 +33,14 @@ const FIRST: Standing = Standing {
     waiting: 0,
 };
 
-// How the workstation of an operation reports: each is automatic so far.
-fn attribute_of(_contents: &PlanContents, _operation: &OperationRecord) -> Attr
-    requires contents { AreValidContents _contents.now }
-    requires operation { (o : OpKey) × (get (plan_of 0 _contents.now).operations o ≡ Some _operation.now) }
-    ensures { HasAttribute (plan_of 0 _contents.now) _operation.now.workstation result }
+/// How the workstation of an operation of the plan reports.
+pub fn attribute_of(contents: &PlanContents, operation: &OperationRecord) -> Attr
+    requires contents { AreValidContents contents.now }
+    requires operation { (o : OpKey) × (get (plan_of 0 contents.now).operations o ≡ Some operation.now) }
+    ensures { HasAttribute (plan_of 0 contents.now) operation.now.workstation result }
 {
-    Attr::Automatic
+    let place = known_workstation(&contents.workstations, &operation.workstation);
+    contents.workstations[place].attribute()
 }
 
 // Whether an operation without a mark completes by itself, once all its live predecessors are satisfied.

@@ -24,7 +24,7 @@ use Rattle.plan_records.specs.Records.{Denotes, IsItemOfPlan, StandsIn, key_of}
 use Rattle.plan_laws.proofs.Looks.{found_key}
 use Rattle.worked_rows.specs.Day.{always_open, cpu1, daily, day, evening, first, lasting, morning, occurrence, second}
 use Rattle.worked_rows.specs.DayText.{arrival_text, day_records, deadline_text, first_minute, last_minute}
-use Rattle.worked_rows.proofs.DayLoad.{cpu1_name, daily_key, day_is_draft, day_is_loadable, occurrence_cases, of_both, one_occurrence, only_pair, open_interval, station_cases}
+use Rattle.worked_rows.proofs.DayLoad.{cpu1_name, daily_key, day_is_draft, occurrence_cases, of_both, one_occurrence, one_workstation, only_pair, open_interval, station_cases}
 use Rattle.worked_rows.proofs.Literal.{entry_of}
 use Rattle.worked_rows.proofs.Moments.{first_of_march, second_of_march}
 use Rattle.worked_rows.proofs.Small.{first_is, first_precedes, second_is}
@@ -217,7 +217,7 @@ pub day_is_denoted : Denotes day_records day
 day_is_denoted = record {
   draft = day_is_draft;
   clock = refl;
-  some_workstation = let e = day_is_loadable.one_workstation in omega arith;
+  some_workstation = let e = one_workstation in omega arith;
   some_occurrence = let e = one_occurrence in omega arith;
   described = record { items = day_items; said = all_said; are = record { distinct = no_key_twice; stand = all_stand; all = all_held } };
 }

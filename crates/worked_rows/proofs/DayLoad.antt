@@ -1,7 +1,6 @@
 -- The small plan is a draft that can be loaded so far.
 use Rattle.std.proofs.Common.{rules, arith, pos, cond, option_map, ◌≡◌, inl, inr, refl, sym, ◌∙◌, ap, subst, Bool, true≢false, ℕ, ◌<◌, true, List, [], ◌∷◌, Some, Less, is_some, length}
-use Rattle.std.specs.Cmp.{nat_cmp_total}
-use Rattle.std.specs.FinMap.{contains_key, get, get-empty, get-from_entries, len, len-empty, len-entries, nat_cmp-IsAntisymmetric}
+use Rattle.std.specs.FinMap.{contains_key, get, get-empty, get-from_entries, len, len-empty, len-entries}
 use Rattle.plan_basics.specs.declared.Attr.TheVariants.{Automatic}
 use Rattle.plan_basics.specs.declared.keys.OccKey.{OccKey}
 use Rattle.plan_basics.specs.declared.keys.OpKey.{OpKey}
@@ -135,15 +134,13 @@ one_occurrence = len-entries day.occurrences ∙ ap length (entries-from_entries
 
 pub day_is_loadable : IsLoadable day
 day_is_loadable = record {
-  one_workstation = len-entries day.workstations ∙ ap length (entries-from_entries name_cmp_total name_cmp-IsAntisymmetric ((cpu1, always_open) ∷ []) tt);
-  automatic = λ w ws is. elim (station_cases w ws is) [
-    | inl e ↦ subst (λ z. (z.attribute ≡ Automatic) × (len z.intervals ≡ 1)) (sym e.1) (refl, len-entries always_open.intervals ∙ ap length (entries-from_entries nat_cmp_total nat_cmp-IsAntisymmetric ((0, interval_by 0 52595999 2 0 0) ∷ []) tt))
-    | inr never ↦ absurd never
-  ];
   no_resources = len-empty name_cmp _;
-  without_needs = of_both (λ o op. (op.r1 ≡ 0) × (op.r2 ≡ 0) × (len op.needs ≡ 0)) (refl, refl, len-empty name_cmp _) (refl, refl, len-empty name_cmp _);
+  without_needs = of_both (λ o op. len op.needs ≡ 0) (len-empty name_cmp _) (len-empty name_cmp _);
   ascending = only_pair (λ p o. operation_cmp p o ≡ Less) refl;
 }
+
+pub one_workstation : len day.workstations ≡ 1
+one_workstation = len-entries day.workstations ∙ ap length (entries-from_entries name_cmp_total name_cmp-IsAntisymmetric ((cpu1, always_open) ∷ []) tt)
 
 -- ---- the step
 

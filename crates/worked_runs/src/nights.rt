@@ -20,6 +20,8 @@ pub enum Ask {
     Ended(&'static [u8]),
     /// The operation of this key ended with this code.
     Error(&'static [u8], &'static [u8]),
+    Interrupted(&'static [u8]),
+    Unknown(&'static [u8]),
 }
 
 /// What it is answered: the keys that are named, or the number of the refusal.
@@ -59,6 +61,8 @@ fn what(alloc: Global, ask: &Ask) -> Result<What, Fail>
             operation(key)?,
             ErrCode::from_text(code).ok_or("no error code")?,
         ),
+        Ask::Interrupted(key) => What::Interrupted(operation(key)?),
+        Ask::Unknown(key) => What::Unknown(operation(key)?),
     })
 }
 

@@ -200,3 +200,232 @@ fn the_order_of_the_ready_list(rt: HostRuntime) -> Result<(), Fail> {
     names(&rt, rt.alloc(), LONGER, &[CCC, AAA], [b'S', b'A', b'S'])?;
     names(&rt, rt.alloc(), EQUAL, &[CCC, AAA], [b'S', b'A', b'S'])
 }
+
+/// A night's production on workstations of all four attributes: a set-up that is reported, two automatic runs, a check that
+/// isn't reported, and printing, of which the completion is reported; one after the other.
+const NIGHT: &[u8] = b"W,CPU1,A,,,,,,,
+W,SETP,S,,,,,,,
+W,PRT1,C,,,,,,,
+W,DUMM,N,,,,,,,
+I,CPU1,2024-03-01T22:00,2024-03-02T06:00,2,3,0,,,
+I,SETP,2024-03-01T22:00,2024-03-02T02:00,1,0,0,,,
+O,PAYROLL,2024-03-01T22:00,5,2024-03-02T05:00,,,,,
+P,PAYROLL,2024-03-01T22:00,5,SETP,10,0,0,,
+P,PAYROLL,2024-03-01T22:00,10,CPU1,30,0,0,,
+P,PAYROLL,2024-03-01T22:00,20,CPU1,60,0,0,,
+P,PAYROLL,2024-03-01T22:00,30,DUMM,1,0,0,,
+P,PAYROLL,2024-03-01T22:00,40,PRT1,20,0,0,,
+D,PAYROLL,2024-03-01T22:00,5,PAYROLL,2024-03-01T22:00,10,,,
+D,PAYROLL,2024-03-01T22:00,10,PAYROLL,2024-03-01T22:00,20,,,
+D,PAYROLL,2024-03-01T22:00,20,PAYROLL,2024-03-01T22:00,30,,,
+D,PAYROLL,2024-03-01T22:00,30,PAYROLL,2024-03-01T22:00,40,,,
+";
+
+const PAYROLL: &[u8] = b"PAYROLL/2024-03-01T22:00";
+
+const OP5: &[u8] = b"PAYROLL/2024-03-01T22:00/005";
+
+const OP10: &[u8] = b"PAYROLL/2024-03-01T22:00/010";
+
+const OP20: &[u8] = b"PAYROLL/2024-03-01T22:00/020";
+
+const OP30: &[u8] = b"PAYROLL/2024-03-01T22:00/030";
+
+const OP40: &[u8] = b"PAYROLL/2024-03-01T22:00/040";
+
+/// The turns of a night, after which its operations and its occurrence have these statuses.
+fn payroll(
+    rt: &impl Abort,
+    alloc: Global,
+    turns: &[Turn],
+    letters: [u8; 5],
+    occurrence: u8,
+) -> Result<(), Fail> {
+    let shown: [Shown; 5] = [
+        (OP5, letters[0]),
+        (OP10, letters[1]),
+        (OP20, letters[2]),
+        (OP30, letters[3]),
+        (OP40, letters[4]),
+    ];
+    night(rt, alloc, turns, &shown, &[(PAYROLL, occurrence)])
+}
+
+#[test]
+fn a_set_up_that_is_reported(rt: HostRuntime) -> Result<(), Fail> {
+    let turns = [
+        turn(b"2024-03-01T21:00", Ask::Load(NIGHT), Told::Named(&[])),
+        turn(b"2024-03-01T21:59", Ask::Started(OP5), Told::Refused(13)),
+        turn(b"2024-03-01T22:00", Ask::Started(OP5), Told::Named(&[])),
+        turn(b"2024-03-01T22:05", Ask::Interrupted(OP5), Told::Named(&[])),
+        turn(b"2024-03-01T22:05", Ask::Ended(OP5), Told::Refused(9)),
+        turn(b"2024-03-01T22:06", Ask::Started(OP5), Told::Named(&[])),
+    ];
+    let alloc = rt.alloc();
+    payroll(
+        &rt,
+        alloc,
+        &turns[..1],
+        [b'A', b'W', b'W', b'W', b'W'],
+        b'W',
+    )?;
+    payroll(
+        &rt,
+        alloc,
+        &turns[..2],
+        [b'A', b'W', b'W', b'W', b'W'],
+        b'W',
+    )?;
+    payroll(
+        &rt,
+        alloc,
+        &turns[..3],
+        [b'S', b'W', b'W', b'W', b'W'],
+        b'S',
+    )?;
+    payroll(
+        &rt,
+        alloc,
+        &turns[..5],
+        [b'I', b'W', b'W', b'W', b'W'],
+        b'S',
+    )?;
+    payroll(&rt, alloc, &turns, [b'S', b'W', b'W', b'W', b'W'], b'S')
+}
+
+#[test]
+fn an_end_of_an_interval_is_outside(rt: HostRuntime) -> Result<(), Fail> {
+    let turns = [
+        turn(b"2024-03-01T21:00", Ask::Load(NIGHT), Told::Named(&[])),
+        turn(b"2024-03-02T02:00", Ask::Started(OP5), Told::Refused(13)),
+        turn(b"2024-03-02T01:59", Ask::Started(OP5), Told::Named(&[])),
+    ];
+    payroll(
+        &rt,
+        rt.alloc(),
+        &turns,
+        [b'S', b'W', b'W', b'W', b'W'],
+        b'S',
+    )
+}
+
+#[test]
+fn a_night_from_its_set_up_to_its_printing(rt: HostRuntime) -> Result<(), Fail> {
+    let turns = [
+        turn(b"2024-03-01T21:00", Ask::Load(NIGHT), Told::Named(&[])),
+        turn(b"2024-03-01T22:00", Ask::Started(OP5), Told::Named(&[])),
+        turn(b"2024-03-01T22:10", Ask::Ended(OP5), Told::Named(&[OP10])),
+        turn(
+            b"2024-03-01T22:20",
+            Ask::Interrupted(OP10),
+            Told::Refused(10),
+        ),
+        turn(b"2024-03-01T22:20", Ask::Started(OP40), Told::Refused(10)),
+        turn(b"2024-03-01T22:20", Ask::Ended(OP30), Told::Refused(10)),
+        turn(b"2024-03-01T22:20", Ask::Ended(OP40), Told::Refused(9)),
+        turn(b"2024-03-01T22:40", Ask::Ended(OP10), Told::Named(&[OP20])),
+        turn(b"2024-03-01T23:40", Ask::Ended(OP20), Told::Named(&[])),
+        turn(b"2024-03-01T23:50", Ask::Ended(OP40), Told::Named(&[])),
+    ];
+    let alloc = rt.alloc();
+    payroll(
+        &rt,
+        alloc,
+        &turns[..7],
+        [b'C', b'S', b'W', b'W', b'W'],
+        b'S',
+    )?;
+    payroll(
+        &rt,
+        alloc,
+        &turns[..9],
+        [b'C', b'C', b'C', b'C', b'*'],
+        b'S',
+    )?;
+    payroll(&rt, alloc, &turns, [b'C', b'C', b'C', b'C', b'C'], b'C')
+}
+
+#[test]
+fn an_outcome_that_is_unknown(rt: HostRuntime) -> Result<(), Fail> {
+    let turns = [
+        turn(b"2024-03-01T21:00", Ask::Load(NIGHT), Told::Named(&[])),
+        turn(b"2024-03-01T22:00", Ask::Started(OP5), Told::Named(&[])),
+        turn(b"2024-03-01T22:10", Ask::Ended(OP5), Told::Named(&[OP10])),
+        turn(b"2024-03-01T22:20", Ask::Unknown(OP20), Told::Refused(9)),
+        turn(b"2024-03-01T22:20", Ask::Unknown(OP10), Told::Named(&[])),
+        turn(b"2024-03-01T22:30", Ask::Ended(OP10), Told::Named(&[OP20])),
+    ];
+    let alloc = rt.alloc();
+    payroll(
+        &rt,
+        alloc,
+        &turns[..5],
+        [b'C', b'U', b'W', b'W', b'W'],
+        b'U',
+    )?;
+    payroll(&rt, alloc, &turns, [b'C', b'C', b'S', b'W', b'W'], b'S')
+}
+
+/// One server for two operations.
+const ONE_SERVER: &[u8] = b"W,CPU1,A,,,,,,,
+I,CPU1,2024-03-01T22:00,2024-03-02T06:00,1,0,0,,,
+O,AAA,2024-03-01T22:00,5,2024-03-02T03:00,,,,,
+O,BBB,2024-03-01T22:00,5,2024-03-02T04:00,,,,,
+P,AAA,2024-03-01T22:00,10,CPU1,30,0,0,,
+P,BBB,2024-03-01T22:00,10,CPU1,30,0,0,,
+";
+
+#[test]
+fn an_undecided_operation_keeps_its_server(rt: HostRuntime) -> Result<(), Fail> {
+    let turns = [
+        turn(
+            b"2024-03-01T22:00",
+            Ask::Load(ONE_SERVER),
+            Told::Named(&[AAA]),
+        ),
+        turn(b"2024-03-01T22:10", Ask::Unknown(AAA), Told::Named(&[])),
+        turn(
+            b"2024-03-01T22:20",
+            Ask::Error(AAA, b"S0C7"),
+            Told::Named(&[BBB]),
+        ),
+    ];
+    let occurrences: [Shown; 2] = [
+        (b"AAA/2024-03-01T22:00", b'U'),
+        (b"BBB/2024-03-01T22:00", b'W'),
+    ];
+    night(
+        &rt,
+        rt.alloc(),
+        &turns[..2],
+        &[(AAA, b'U'), (BBB, b'A')],
+        &occurrences,
+    )?;
+    let occurrences: [Shown; 2] = [
+        (b"AAA/2024-03-01T22:00", b'E'),
+        (b"BBB/2024-03-01T22:00", b'S'),
+    ];
+    night(
+        &rt,
+        rt.alloc(),
+        &turns,
+        &[(AAA, b'E'), (BBB, b'S')],
+        &occurrences,
+    )
+}
+
+/// The second needs all three of R1, of which the first takes one.
+const FIXED: &[u8] = b"W,CPU1,A,,,,,,,
+I,CPU1,2024-03-01T22:00,2024-03-02T06:00,2,3,0,,,
+O,AAA,2024-03-01T22:00,5,2024-03-02T03:00,,,,,
+O,BBB,2024-03-01T22:00,5,2024-03-02T04:00,,,,,
+O,CCC,2024-03-01T22:00,5,2024-03-02T05:00,,,,,
+P,AAA,2024-03-01T22:00,10,CPU1,30,1,0,,
+P,BBB,2024-03-01T22:00,10,CPU1,30,3,0,,
+P,CCC,2024-03-01T22:00,10,CPU1,30,1,0,,
+";
+
+#[test]
+fn what_does_not_fit_is_passed_over(rt: HostRuntime) -> Result<(), Fail> {
+    names(&rt, rt.alloc(), FIXED, &[AAA, CCC], [b'S', b'A', b'S'])
+}

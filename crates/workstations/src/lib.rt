@@ -1,13 +1,13 @@
 //! Workstations: their open intervals, and what they offer at a moment.
 #![tactic(auto)]
 
-ghost use Rattle.std.specs.Prelude.{◌≡◌, ◌↔◌, ◌+◌, ◌≤◌, [], IsTrue, OnOk, OnErr, IfErr};
+ghost use Rattle.std.specs.Prelude.{◌≡◌, ◌↔◌, ◌+◌, ◌≤◌, [], IsTrue, OnOk, OnErr, IfErr, IfOk};
 ghost use Rattle.workstations.specs.Workstations.{capacity_of};
 
 mod timetable;
 
 use plan_basics::{Attr, Interval, Moment, Refusal, WsName};
-use std::alloc::Global;
+use std::alloc::{AllocError, Global};
 use std::marker::Model;
 use timetable::{are_apart, interval_at, put_in_order};
 
@@ -23,7 +23,7 @@ pub struct Capacity {
 }
 
 /// A workstation with its open intervals, which are kept in order of time.
-#[derive(Drop)]
+#[derive(Debug, Drop)]
 pub struct Workstation {
     name: WsName,
     attribute: Attr,
@@ -55,6 +55,18 @@ impl Workstation {
             attribute,
             intervals: Vec::new(alloc),
         }
+    }
+
+    /// An equal one.
+    pub fn try_clone(&self) -> Result<Workstation, AllocError>
+        ensures { IfOk result (λ new. new ≡ self.now) }
+    {
+        let alloc = *self.intervals.allocator();
+        Ok(Workstation {
+            name: self.name,
+            attribute: self.attribute,
+            intervals: Vec::from_slice(alloc, &self.intervals)?,
+        })
     }
 
     /// Its name.

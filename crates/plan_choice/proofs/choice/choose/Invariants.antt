@@ -1,8 +1,7 @@
-use Rattle.std.proofs.Common.{◌≡◌, ◌+◌, count_by, length, take}
-use Rattle.plan_choice.specs.Choosing.{takes_server}
-use Rattle.plan_choice.proofs.ChoiceSteps.{IsChoiceFrom}
+use Rattle.std.proofs.Common.{take}
+use Rattle.plan_choice.proofs.ChoiceSteps.{IsChosenSoFar}
 use Rattle.plan_choice.proofs.choice.choose.Given as goal
 
--- the ready list so far is gone through, and each that is named took one server more
+-- the ready list so far is gone through
 abbrev pub invariant-loop-key : goal.invariant-loop-key
-invariant-loop-key l = IsChoiceFrom l.contents l.at (take l.key-index l.ready) l.named.items × (l.taken ≡ count_by takes_server l.contents.operations.items + length l.named.items)
+invariant-loop-key l = IsChosenSoFar l.contents l.at (take l.key-index l.ready) l.named.items l.given.items

@@ -1,4 +1,4 @@
-use Rattle.std.proofs.Common.{ap, ◌∙◌, refl}
+use Rattle.std.proofs.Common.{ap, ◌∙◌}
 use Rattle.plan_core.specs.Marking.{marked_rows}
 use Rattle.plan_core.proofs.Marks.{contents_marked}
 use Rattle.plan_core.proofs.change.with_marks.Goals as goal
@@ -7,14 +7,14 @@ pub returns : goal.returns
 returns c =
     let old = c.args.contents.now in
     let both = contents_marked old (record {
-      workstation = old.workstation;
-      interval = old.interval;
+      workstations = c.in_ok-workstations.workstations;
       occurrences = c.in_ok-occurrences.occurrences;
       operations = c.in_ok-operations.operations;
       pairs = c.in_ok-pairs.pairs;
     })
-    c.args.keys.now c.args.mark refl refl
-    (c.in_ok-occurrences.ensures.items ∙ c.deref.ensures.value)
-    (c.in_ok-operations.ensures ∙ ap (marked_rows c.args.keys.now c.args.mark) c.deref-2.ensures.value)
-    (c.in_ok-pairs.ensures.items ∙ c.deref-3.ensures.value) in
+    c.args.keys.now c.args.mark
+    (c.in_ok-workstations.ensures ∙ c.deref.ensures.value)
+    (c.in_ok-occurrences.ensures.items ∙ c.deref-2.ensures.value)
+    (c.in_ok-operations.ensures ∙ ap (marked_rows c.args.keys.now c.args.mark) c.deref-3.ensures.value)
+    (c.in_ok-pairs.ensures.items ∙ c.deref-4.ensures.value) in
     record { plan = both.0; in_order = both.1 }

@@ -1,13 +1,14 @@
-use Rattle.std.proofs.Common.{sym, ◌∙◌, true≢false}
-use Rattle.plan_core.proofs.Permitting.{start_barred, start_permitted}
+use Rattle.std.proofs.Common.{Some}
+use Rattle.plan_records.specs.Accepting.{MayBeStarted}
+use Rattle.plan_core.proofs.Reporting.{all_in, fails_in}
 use Rattle.plan_core.proofs.checks.check_started.Goals as goal
 
-pub returns-then-is_named-clause-ok : goal.returns-then-is_named-clause-ok
-returns-then-is_named-clause-ok c clock =
-    let f = c.in_ok-mark.ensures.found in
-    start_permitted c.args.contents.now clock c.args.key.now c.requires.known f.0 f.1 (f.2 ∙ c.is_named.ensures.0 c.if-is_named.true)
+pub returns-in-Automatic-clause-ok : goal.returns-in-Automatic-clause-ok
+returns-in-Automatic-clause-ok c =
+    let x = c.args.reported.now in
+    all_in c.args.contents.now x (λ P o. MayBeStarted P c.args.at o x.operation (Some x.attribute)) c.check_started_on_automatic.result (c.check_started_on_automatic.ensures.ok c.args.at)
 
-pub returns-else-is_named-clause-refused : goal.returns-else-is_named-clause-refused
-returns-else-is_named-clause-refused c clock =
-    let f = c.in_ok-mark.ensures.found in
-    start_barred c.args.contents.now clock c.args.key.now c.requires.known f.0 f.1 (λ e. true≢false (sym (c.is_named.ensures.1 (sym f.2 ∙ e)) ∙ c.if-is_named.false))
+pub returns-in-Automatic-clause-refused : goal.returns-in-Automatic-clause-refused
+returns-in-Automatic-clause-refused c =
+    let x = c.args.reported.now in
+    fails_in c.args.contents.now x (λ P o. MayBeStarted P c.args.at o x.operation (Some x.attribute)) c.check_started_on_automatic.result (c.check_started_on_automatic.ensures.refused c.args.at)

@@ -2,6 +2,8 @@ use Rattle.std.proofs.Common.{◌≡◌, ◌<◌, Some, IsSome, sym, ap, subst, 
 use Rattle.std.specs.FinMap.{get, from_entries}
 use Rattle.std.proofs.lemmas.Option.{get_or_from_slice_get, slice_get_read}
 use Rattle.plan_basics.specs.Keys.{occurrence_cmp}
+use Rattle.plan_model.specs.Plan.{HasAttribute}
+use Rattle.plan_records.specs.Contents.{plan_of}
 use Rattle.plan_core.proofs.OpViews.{FollowsFrom, its_occurrence, op_view_at, row_in_plan}
 use Rattle.plan_core.proofs.views.op_view.Goals as goal
 
@@ -13,6 +15,13 @@ known_occurrence-occurrence-requires-clause-known c =
     let row = slice_get_read h.contents.operations.items _ c.args.place c.index.result.now refl c.requires.within c.index.ensures in
     let known = its_occurrence held.0 h held.1 key c.index.result.now.1 (row_in_plan held.0 h held.1 c.args.place key c.index.result.now.1 row) in
     subst (λ rows. IsSome (get {R = occurrence_cmp} (from_entries rows) key.occurrence)) (sym c.deref.ensures.value) (subst IsSome (sym known.1) refl)
+
+pub attribute_of-attribute-requires-clause-operation : goal.attribute_of-attribute-requires-clause-operation
+attribute_of-attribute-requires-clause-operation c =
+    let h = c.args.loaded.now in
+    let key = c.index.result.now.0 in
+    let row = slice_get_read h.contents.operations.items _ c.args.place c.index.result.now refl c.requires.within c.index.ensures in
+    (key, row_in_plan c.requires.held.0 h c.requires.held.1 c.args.place key c.index.result.now.1 row)
 
 pub returns : goal.returns
 returns c =
@@ -28,8 +37,9 @@ returns c =
     let terms = c.known_occurrence-occurrence.ensures.at.0 in
     let at = subst (λ rows. slice_get rows k ≡ Some (key.occurrence, terms)) c.deref.ensures.value c.known_occurrence-occurrence.ensures.at.1 in
     let e = c.index-3.ensures ∙ get_or_from_slice_get occurrences k (key.occurrence, terms) c.index-3.result.now at in
-    op_view_at held.0 h held.1 c.args.place k key _ c.index-2.result.now c.index-3.result.now.1 c.status_with.result
+    op_view_at held.0 h held.1 c.args.place k key _ c.attribute_of-attribute.result c.index-2.result.now c.index-3.result.now.1 c.status_with.result
     (row ∙ ap (λ z. Some (key, z)) (sym view_is))
     standing
     (at ∙ ap (λ z. Some (key.occurrence, z)) (sym (ap (λ p. p.1) e)))
-    (subst (λ op. FollowsFrom op c.index-2.result.now c.status_with.result) (sym view_is) c.status_with.ensures)
+    (subst (λ op. HasAttribute (plan_of 0 h.contents) op.workstation c.attribute_of-attribute.result) (sym view_is) c.attribute_of-attribute.ensures)
+    (subst (λ op. FollowsFrom op c.attribute_of-attribute.result c.index-2.result.now c.status_with.result) (sym view_is) c.status_with.ensures)

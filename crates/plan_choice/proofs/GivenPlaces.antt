@@ -1,0 +1,63 @@
+-- What workstations have given out, at their rows' places.
+use Rattle.std.proofs.Common.{◌≡◌, ◌≢◌, inl, inr, refl, sym, ap, subst, ◌∙◌, arith, ℕ, zero, suc, ◌<◌, List, get_or, length, replicate, set, slice_get, Some}
+use Rattle.std.proofs.lemmas.List.{length-replicate, length-set}
+use Rattle.std.proofs.lemmas.Option.{slice_get_read, some_pair_parts}
+use Rattle.std.specs.List.Sorted.{IsStrictlySortedBy}
+use Rattle.std.specs.Map.{keys_of}
+use Rattle.plan_basics.specs.Keys.{Name, name_cmp, name_cmp_total}
+use Rattle.plan_model.specs.Plan.{Operation}
+use Rattle.plan_records.specs.Places.{AreByPlace}
+use Rattle.plan_status.proofs.Ascending.{one_place, set_cases}
+use Rattle.workstations.specs.Timetables.{NamedWorkstation}
+use Rattle.workstations.specs.Workstations.{Workstation}
+use Rattle.workstations.specs.declared.Capacity.{Capacity}
+use Rattle.plan_choice.specs.Taking.{with_one_more}
+
+-- at each workstation's place, what the function has at its name
+abbrev pub AreAt : List NamedWorkstation → List Capacity → (Name → Capacity) → Type 0
+AreAt rows given at = AreByPlace rows given (λ w capacity. capacity ≡ at w)
+
+abbrev pub nothing : Capacity
+nothing = record { servers = 0; r1 = 0; r2 = 0 }
+
+all_alike : {X : Type 0} (n i : ℕ) (x y : X) → slice_get (replicate n x) i ≡ Some y → y ≡ x
+all_alike zero i x y e = cc
+all_alike (suc n) zero x y e = cc
+all_alike (suc n) (suc i) x y e = all_alike n i x y e
+
+pub begins_at : (rows : List NamedWorkstation) (n : ℕ) (given : List Capacity) (at : Name → Capacity) → n ≡ length rows → given ≡ replicate n nothing
+    → ((w : Name) → at w ≡ nothing) → AreAt rows given at
+begins_at rows n given at e is none = record {
+  size = ap length is ∙ length-replicate n nothing ∙ e;
+  each = λ i w ws x row found. all_alike n i nothing x (ap (λ xs. slice_get xs i) (sym is) ∙ found) ∙ sym (none w);
+}
+
+pub same_at : (rows : List NamedWorkstation) (given : List Capacity) (old new : Name → Capacity) → ((w : Name) → new w ≡ old w) → AreAt rows given old → AreAt rows given new
+same_at rows given old new same are = record { size = are.size; each = λ i w ws x row found. are.each i w ws x row found ∙ sym (same w) }
+
+-- the place of a name, in the same rows and under the same name
+pub own_place : (xs ys : List NamedWorkstation) → xs ≡ ys → (place : ℕ) (a b : Name) → a ≡ b → (ws : Workstation) × (slice_get xs place ≡ Some (a, ws))
+    → (ws : Workstation) × (slice_get ys place ≡ Some (b, ws))
+own_place xs ys same place a b e at = (at.0, ap (λ rows. slice_get rows place) (sym same) ∙ at.1 ∙ ap (λ n. Some (n, at.0)) e)
+
+-- what is given out at a place of theirs
+pub read_at : (rows : List NamedWorkstation) (given : List Capacity) (f : Name → Capacity) → AreAt rows given f → (place : ℕ) (read : Capacity) → place < length rows
+    → read ≡ get_or given place read → slice_get given place ≡ Some read
+read_at rows given f are place read lt e = slice_get_read given (length given) place read refl (omega (arith, lt, are.size)) e
+
+module _ (rows : List NamedWorkstation) (sorted : IsStrictlySortedBy name_cmp (keys_of rows)) (place : ℕ) (name : Name) (ws : Workstation)
+    (at : slice_get rows place ≡ Some (name, ws)) (op : Operation) where
+  -- one operation more at one place
+  pub more_at : (given : List Capacity) (old new : Name → Capacity) → new name ≡ with_one_more (old name) op → ((w : Name) → name ≢ w → new w ≡ old w)
+      → (was : Capacity) → slice_get given place ≡ Some was → AreAt rows given old → AreAt rows (set given place (with_one_more was op)) new
+  more_at given old new more same was there are = record {
+    size = length-set given place (with_one_more was op) ∙ are.size;
+    each = λ j w v x here is. elim (set_cases given place j (with_one_more was op) x is) [
+      | inl this ↦
+          let name_is : name ≡ w = (some_pair_parts name w ws v (sym at ∙ ap (slice_get rows) (sym this.0) ∙ here)).0 in
+          this.1 ∙ ap (λ c. with_one_more c op) (are.each place name ws was at there) ∙ sym more ∙ ap new name_is
+      | inr other ↦
+          let apart : name ≢ w = λ e. other.0 (one_place name_cmp_total rows sorted j place w v ws here (subst (λ z. slice_get rows place ≡ Some (z, ws)) e at)) in
+          are.each j w v x here other.1 ∙ sym (same w apart)
+    ];
+  }
