@@ -97,44 +97,12 @@ fn a_run_without_memory_changes_nothing(rt: HostRuntime) -> Result<(), Fail> {
     Ok(())
 }
 
-/// What an empty plan answers to the load of the day's text: the keys that it names, or the refusal.
-fn answer(alloc: Global) -> Result<Vec<OpKey>, Refusal> {
-    let draft = match day(alloc) {
-        Ok(draft) => draft,
-        Err(ImportFault::Memory) => return Err(Refusal::Memory),
-        Err(ImportFault::Reader) => return Err(Refusal::Damaged),
-    };
-    let mut plan = Plan::empty(alloc);
-    let request = load(draft);
-    let prepared = plan.prepare(&request)?;
-    Ok(plan.apply(prepared))
-}
-
-/// How the load of the day's text came out.
-#[derive(Clone, Copy, Debug, PartialEq, Eq)]
-enum Outcome {
-    /// As with ample memory: the first operation is named.
-    Named,
-    /// Memory lacked.
-    NoMemory,
-    /// Any other answer.
-    Wrong,
-}
-
-fn outcome_of(alloc: Global, first: &OpKey) -> Outcome {
-    match answer(alloc) {
-        Ok(named) if named.as_slice() == [*first].as_slice() => Outcome::Named,
-        Ok(_) => Outcome::Wrong,
-        Err(Refusal::Memory) => Outcome::NoMemory,
-        Err(_) => Outcome::Wrong,
-    }
-}
-
 /// Blocks that are given back one by one while all other memory is taken, so that the room grows step by step.
-const SPARES: usize = 64;
+const SPARES: usize = 400;
 
-/// Bytes of a spare block: more than the allocator keeps aside by size, so that neighbours that are given back become one.
-const SPARE: usize = 1_040;
+/// Bytes of a spare block: more than the allocator keeps aside for quick use, so that neighbours that are given back become
+/// one.
+const SPARE: usize = 144;
 
 fn spare_blocks(alloc: Global) -> Result<Vec<Vec<u8>>, AllocError> {
     let mut spares = Vec::with_capacity(alloc, SPARES)?;
@@ -144,25 +112,73 @@ fn spare_blocks(alloc: Global) -> Result<Vec<Vec<u8>>, AllocError> {
     Ok(spares)
 }
 
-/// Room for ever more bytes: growths of the import and of the load are in turn the first one refused, and the answer is the
-/// one with memory or want of memory, never another.
+/// Whether the day's text is read; or it is answered want of memory.
+fn is_read(alloc: Global) -> Result<bool, &'static str> {
+    match day(alloc) {
+        Ok(Some(_)) => Ok(true),
+        Ok(None) => Err("the text denotes no plan"),
+        Err(ImportFault::Memory) => Ok(false),
+        Err(ImportFault::Reader) => Err("the reader failed"),
+    }
+}
+
+/// Whether an empty plan takes the load and names the first operation; or it answers want of memory, and stays empty.
+fn is_loaded(plan: &mut Plan, request: &Request, first: &OpKey) -> Result<bool, &'static str>
+    requires { IsServed request.now.what }
+{
+    let answer = plan.prepare(request);
+    if plan.is_loaded() || plan.clock().minute() != 0 {
+        return Err("a request that was only prepared changed the plan");
+    }
+    match answer {
+        Ok(prepared) if prepared.named() == [*first].as_slice() => Ok(true),
+        Ok(_) => Err("other operations are named"),
+        Err(Refusal::Memory) => Ok(false),
+        Err(_) => Err("another refusal"),
+    }
+}
+
+/// Room for ever more bytes: later and later growths of the import are the first one refused.
 #[test]
-fn growths_are_refused_in_turn(rt: HostRuntime) -> Result<(), Fail> {
-    let first = key(b"DAILY/2024-03-01T22:00/010")?;
+fn imports_are_refused_growth_by_growth(rt: HostRuntime) -> Result<(), Fail> {
+    let mut read = 0u64;
     let mut refused = 0u64;
-    let mut accepted = 0u64;
     let mut spares = spare_blocks(rt.alloc())?;
     let held = take_all(rt.alloc())?;
     for _ in 0..SPARES {
         drop(spares.pop());
-        match outcome_of(rt.alloc(), &first) {
-            Outcome::Named => accepted = accepted.saturating_add(1),
-            Outcome::NoMemory => refused = refused.saturating_add(1),
-            Outcome::Wrong => return Err("neither the answer nor want of memory")?,
+        if is_read(rt.alloc())? {
+            read = read.saturating_add(1);
+        } else {
+            refused = refused.saturating_add(1);
         }
     }
     drop(held);
-    assert!(rt; refused > 5, "refused {refused}, accepted {accepted}");
-    assert!(rt; accepted > 5, "refused {refused}, accepted {accepted}");
+    assert!(rt; refused > 5, "read {read}, refused {refused}");
+    assert!(rt; read > 5, "read {read}, refused {refused}");
+    Ok(())
+}
+
+/// The same of a load's growths.
+#[test]
+fn loads_are_refused_growth_by_growth(rt: HostRuntime) -> Result<(), Fail> {
+    let first = key(b"DAILY/2024-03-01T22:00/010")?;
+    let request = load(day(rt.alloc()).ok().ok_or("no memory")?);
+    let mut plan = Plan::empty(rt.alloc());
+    let mut loaded = 0u64;
+    let mut refused = 0u64;
+    let mut spares = spare_blocks(rt.alloc())?;
+    let held = take_all(rt.alloc())?;
+    for _ in 0..SPARES {
+        drop(spares.pop());
+        if is_loaded(&mut plan, &request, &first)? {
+            loaded = loaded.saturating_add(1);
+        } else {
+            refused = refused.saturating_add(1);
+        }
+    }
+    drop(held);
+    assert!(rt; refused > 5, "loaded {loaded}, refused {refused}");
+    assert!(rt; loaded > 5, "loaded {loaded}, refused {refused}");
     Ok(())
 }

@@ -3,6 +3,7 @@ pub mod ByTally
 pub mod FromPlace
 pub mod KeptLoadable
 pub mod Made
+pub mod MarkedRows
 pub mod Marks
 pub mod OccViews
 pub mod OpViews

@@ -37,7 +37,7 @@ made_alike c new plan in_order loadable clock = record {
 }
 
 -- where it marks one operation
-module _ (c : PlanContents) (o : OpKey) (mark : Mark) (w : What) (legal : IsRequest w) (changes : (P Q : Plan) → Q ≡ marked o mark P → Changes P w Q) (in_order : AreContents c) (loadable : IsLoadable (plan_of 0 c)) where
+module _ (c : PlanContents) (o : OpKey) (mark : Mark) (w : What) (legal : IsRequest w) (changes : (P Q : Plan) → Q ≡ marked o mark P → Changes P w Q) (loadable : IsLoadable (plan_of 0 c)) where
   made_marked : (new : PlanContents) → ((clock : ℕ) → plan_of clock new ≡ revised (is_among (o ∷ [])) (with_mark mark) (plan_of clock c)) → AreContents new → (clock : ℕ) → AreMadeBy (plan_of clock c) w new
   made_marked new plan sorted clock = record {
     is_request = legal;
@@ -49,9 +49,9 @@ module _ (c : PlanContents) (o : OpKey) (mark : Mark) (w : What) (legal : IsRequ
   }
 
   pub if_marked : {E : Type 0} (v : What) → v ≡ w → (r : Result PlanContents E)
-      → IfOk r (λ new. (clock : ℕ) → plan_of clock new ≡ revised (is_among (o ∷ [])) (with_mark mark) (plan_of clock c)) → IfOk r (λ new. AreContents c → AreContents new)
+      → IfOk r (λ new. (clock : ℕ) → plan_of clock new ≡ revised (is_among (o ∷ [])) (with_mark mark) (plan_of clock c)) → IfOk r (λ new. AreContents new)
       → IfOk r (λ new. (clock : ℕ) → AreMadeBy (plan_of clock c) v new)
-  if_marked v is r plan sorted = subst (λ v. IfOk r (λ new. (clock : ℕ) → AreMadeBy (plan_of clock c) v new)) (sym is) (if_both_ok r (λ new p s. made_marked new p (s in_order)) plan sorted)
+  if_marked v is r plan sorted = subst (λ v. IfOk r (λ new. (clock : ℕ) → AreMadeBy (plan_of clock c) v new)) (sym is) (if_both_ok r made_marked plan sorted)
 
 -- where it loads a draft
 pub made_drafted : (c new : PlanContents) (d : Plan) → d ≡ plan_of 0 c → IsDraft d → IsLoadable d → plan_of 0 new ≡ plan_of 0 c → AreContents new

@@ -1,5 +1,8 @@
 // What a request changes of what the plan holds.
-ghost use Rattle.std.specs.Prelude.{◌≡◌, ℕ, IfOk, cond};
+ghost use Rattle.std.specs.Prelude.{◌≡◌, ℕ, IfOk};
+ghost use Rattle.std.specs.List.Sorted.{IsStrictlySortedBy};
+ghost use Rattle.std.specs.Map.{keys_of};
+ghost use Rattle.plan_basics.specs.Keys.{operation_cmp};
 ghost use Rattle.ready_list.specs.Choice.{is_among};
 ghost use Rattle.plan_model.specs.Ready.{with_mark};
 ghost use Rattle.plan_records.specs.Changes.{revised};
@@ -8,7 +11,7 @@ ghost use Rattle.plan_core.specs.Marking.{marked_rows};
 
 use plan_basics::OpKey;
 use plan_model::OperationRecord;
-use plan_records::PlanContents;
+use plan_records::{PlanContents, place_of};
 use status_rules::Mark;
 use std::alloc::{AllocError, Global};
 use workstations::Workstation;
@@ -36,36 +39,31 @@ pub fn copy_of(alloc: Global, contents: &PlanContents) -> Result<PlanContents, A
     })
 }
 
-// Whether a key is one of these.
-fn is_one_of(keys: &[OpKey], key: &OpKey) -> bool
-    ensures { result ≡ is_among keys.now key.now }
+// The operation with this mark.
+fn marked(operation: &OperationRecord, mark: &Mark) -> OperationRecord
+    ensures { result ≡ with_mark mark.now operation.now }
 {
-    keys.contains(key)
-}
-
-// The operation, with the mark where it is to have it.
-fn marked_if(takes_it: bool, operation: &OperationRecord, mark: &Mark) -> OperationRecord
-    ensures { result ≡ cond takes_it (with_mark mark.now operation.now) operation.now }
-{
-    let mut marked = *operation;
-    if takes_it {
-        marked.mark = *mark;
+    OperationRecord {
+        mark: *mark,
+        ..*operation
     }
-    marked
 }
 
-// The rows with this mark on these operations.
+// The rows with this mark on these operations. A key that has no row is passed over.
 fn rows_with(
     alloc: Global,
     rows: &[(OpKey, OperationRecord)],
     keys: &[OpKey],
     mark: &Mark,
 ) -> Result<Vec<(OpKey, OperationRecord)>, AllocError>
+    requires { IsStrictlySortedBy operation_cmp (keys_of rows.now) }
     ensures { IfOk result (λ new. new.items ≡ marked_rows keys.now mark.now rows.now) }
 {
-    let mut new = Vec::with_capacity(alloc, rows.len())?;
-    for (key, operation) in rows {
-        new.push((*key, marked_if(is_one_of(keys, key), operation, mark)))?;
+    let mut new = Vec::from_slice(alloc, rows)?;
+    for key in keys {
+        if let Some(place) = place_of(rows, key) {
+            new[place] = (*key, marked(&rows[place].1, mark));
+        }
     }
     Ok(new)
 }
@@ -77,8 +75,9 @@ pub fn with_marks(
     keys: &[OpKey],
     mark: Mark,
 ) -> Result<PlanContents, AllocError>
+    requires { AreContents contents.now }
     ensures plan { IfOk result (λ new. (clock : ℕ) → plan_of clock new ≡ revised (is_among keys.now) (with_mark mark) (plan_of clock contents.now)) }
-    ensures in_order { IfOk result (λ new. AreContents contents.now → AreContents new) }
+    ensures in_order { IfOk result (λ new. AreContents new) }
 {
     let workstations = copies_of(alloc, &contents.workstations)?;
     let occurrences = Vec::from_slice(alloc, &contents.occurrences)?;

@@ -2,6 +2,7 @@
 ghost use Rattle.std.specs.Prelude.{◌≡◌, ◌≢◌, ◌⊎◌, pos, true, map, All, Some, None, IfOk, IfErr, OnOk};
 ghost use Rattle.plan_basics.specs.declared.Refusal.{Refusal};
 ghost use Rattle.plan_model.specs.Plan.{no_plan};
+ghost use Rattle.plan_model.specs.Valid.{IsSound};
 ghost use Rattle.plan_records.specs.declared.What.{What};
 ghost use Rattle.plan_records.specs.declared.Request.{Request};
 ghost use Rattle.plan_records.specs.Answer.{accepted, refused, answer_of};
@@ -53,9 +54,10 @@ impl Plan {
         }
     }
 
-    /// The moment of the last accepted request.
+    /// The moment of the last accepted request. Its second clause says that whatever plan a caller holds is sound.
     pub fn clock(&self) -> Moment
-        ensures { result ≡ self.now.plan.clock }
+        ensures value { result ≡ self.now.plan.clock }
+        ensures sound { IsSound self.now.plan }
     {
         self.clock
     }

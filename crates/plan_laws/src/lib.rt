@@ -87,7 +87,7 @@ pub fn runs_keep_sound()
     ensures empty { IsSound no_plan }
 {}
 
-/// After any run from the empty plan, no operation becomes started by the next call, numbered or not, unless its
+/// After any run from a sound plan, no operation becomes started by the next call, numbered or not, unless its
 /// predecessors are satisfied, its workstation is open, and servers, fixed and special resources suffice at that moment.
 pub fn reached_starts_are_provided_for()
     ensures { ReachedStartsAreProvidedFor }

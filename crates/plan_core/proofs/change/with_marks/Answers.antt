@@ -1,7 +1,15 @@
-use Rattle.std.proofs.Common.{ap, ◌∙◌}
+use Rattle.std.proofs.Common.{◌∙◌, List, ap, subst, sym}
+use Rattle.std.specs.List.Sorted.{IsStrictlySortedBy}
+use Rattle.std.specs.Map.{keys_of}
+use Rattle.plan_basics.specs.Keys.{operation_cmp}
+use Rattle.plan_basics.specs.declared.keys.OpKey.{OpKey}
+use Rattle.plan_model.specs.Plan.{Operation}
 use Rattle.plan_core.specs.Marking.{marked_rows}
 use Rattle.plan_core.proofs.Marks.{contents_marked}
 use Rattle.plan_core.proofs.change.with_marks.Goals as goal
+
+pub rows_with-requires : goal.rows_with-requires
+rows_with-requires c = subst (λ (rows : List (OpKey × Operation)). IsStrictlySortedBy operation_cmp (keys_of rows)) (sym c.deref-3.ensures.value) c.requires.operations
 
 pub returns : goal.returns
 returns c =
@@ -17,4 +25,4 @@ returns c =
     (c.in_ok-occurrences.ensures.items ∙ c.deref-2.ensures.value)
     (c.in_ok-operations.ensures ∙ ap (marked_rows c.args.keys.now c.args.mark) c.deref-3.ensures.value)
     (c.in_ok-pairs.ensures.items ∙ c.deref-4.ensures.value) in
-    record { plan = both.0; in_order = both.1 }
+    record { plan = both.0; in_order = both.1 c.requires }

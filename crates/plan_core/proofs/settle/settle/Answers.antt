@@ -13,7 +13,7 @@ plan_named c clock = c.in_ok-contents.ensures.plan clock ∙ ap (λ os. named os
 are_settled : (c : In_ok-contents) → AreSettled c.args.at c.in_ok-contents.contents c.in_ok-standings.standings.items
 are_settled c =
     settled c.args.contents.now c.in_ok-contents.contents c.in_ok-named.named.items c.args.at c.in_ok-standings.standings.items
-    c.requires.in_order (c.in_ok-contents.ensures.in_order c.requires.in_order) c.requires.loadable c.requires.sound
+    c.requires.in_order c.in_ok-contents.ensures.in_order c.requires.loadable c.requires.sound
     c.in_ok-standings.ensures c.in_ok-named.ensures (plan_named c)
 
 pub named_at-requires-clause-standings : goal.named_at-requires-clause-standings
