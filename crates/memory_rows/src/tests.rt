@@ -5,8 +5,9 @@ use super::taking::take_all;
 use plan_basics::{Moment, OpKey, Refusal, Watched};
 use plan_core::Plan;
 use plan_import::{ImportFault, read_plan};
-use plan_records::{PlanDraft, Reply, Request, What};
+use plan_records::{PlanDraft, Record, Reply, Request, What};
 use std::alloc::{AllocError, Global};
+use std::array;
 use std::test::Fail;
 
 const DAY: &[u8] = b"W,CPU1,A,,,,,,,
@@ -47,6 +48,46 @@ fn an_import_without_memory_answers_so(rt: HostRuntime) -> Result<(), Fail> {
     assert!(rt; refused);
     assert!(rt; matches!(without, Err(ImportFault::Memory)));
     assert!(rt; matches!(day(rt.alloc()), Ok(Some(_))));
+    Ok(())
+}
+
+/// The records of the day's text.
+const LINES: [&str; 6] = [
+    "W,CPU1,A,,,,,,,",
+    "I,CPU1,1972-01-01T00:00,2071-12-31T23:59,2,0,0,,,",
+    "O,DAILY,2024-03-01T22:00,5,2024-03-02T05:00,,,,,",
+    "P,DAILY,2024-03-01T22:00,10,CPU1,30,0,0,,",
+    "P,DAILY,2024-03-01T22:00,20,CPU1,60,0,0,,",
+    "D,DAILY,2024-03-01T22:00,10,DAILY,2024-03-01T22:00,20,,,",
+];
+
+/// The fields of a line without quotes.
+fn record(alloc: Global, line: &str) -> Result<Record, AllocError> {
+    array::try_from_fn(|place| line
+        .split(',')
+        .nth(place)
+        .unwrap_or("")
+        .as_bytes()
+        .to_vec(alloc))
+}
+
+fn records(alloc: Global) -> Result<Vec<Record>, AllocError> {
+    let mut all = Vec::new(alloc);
+    for line in LINES {
+        all.push(record(alloc, line)?)?;
+    }
+    Ok(all)
+}
+
+#[test]
+fn a_draft_without_memory_is_refused(rt: HostRuntime) -> Result<(), Fail> {
+    let first = records(rt.alloc())?;
+    let second = records(rt.alloc())?;
+    let held = take_all(rt.alloc())?;
+    let without = PlanDraft::build(first).err();
+    drop(held);
+    assert_eq!(rt; without, Some(Refusal::Memory));
+    assert!(rt; matches!(PlanDraft::build(second), Ok(Some(_))));
     Ok(())
 }
 
