@@ -1,19 +1,24 @@
--- The choice from a ready list, one operation on, with what workstations have given out.
-use Rattle.std.proofs.Common.{◌≡◌, ◌⊎◌, inl, inr, refl, sym, ap, subst, ◌∙◌, true≢false, arith, ℕ, ◌+◌, ◌<◌, Bool, true, false, ◌||◌, List, [], ◌∷◌, ◌++◌, length, set, slice_get, take, drop, get_or, Some, Contains, take-append-drop}
+-- The choice from a ready list by the gate that counts what is given out and held.
+use Rattle.std.proofs.Common.{◌≡◌, ◌⊎◌, inl, inr, refl, sym, ap, subst, ◌∙◌, true≢false, arith, ℕ, Bool, true, false, ◌||◌, List, [], ◌∷◌, ◌++◌, slice_get, Some, Contains}
 use Rattle.std.specs.FinMap.{get}
 use Rattle.std.specs.Ordering.{eq_by_cmp}
-use Rattle.std.proofs.lemmas.List.{map-append, take_more}
-use Rattle.std.proofs.lemmas.List.Elements.{Contains-append_left, Contains-get_or}
-use Rattle.std.proofs.lemmas.Option.{get_or_from_slice_get}
-use Rattle.plan_basics.specs.Keys.{operation_cmp}
-use Rattle.plan_basics.specs.declared.Attr.TheVariants.{Automatic}
+use Rattle.std.proofs.lemmas.List.{map-append}
+use Rattle.std.proofs.lemmas.List.Elements.{Contains-append_left, Contains-append_right}
+use Rattle.plan_basics.specs.Keys.{Name, operation_cmp}
+use Rattle.plan_basics.specs.declared.Attr.{Attr}
+use Rattle.plan_basics.specs.declared.Attr.TheVariants.{Automatic, StartAndCompletion, CompletionOnly, Nonreporting}
+use Rattle.plan_basics.specs.declared.Refusal.{Refusal}
 use Rattle.plan_basics.specs.declared.keys.OpKey.{OpKey}
-use Rattle.ready_list.specs.Choice.{IsChoice, is_among, operations_of}
+use Rattle.ready_list.specs.Choice.{is_among, operations_of}
+use Rattle.ready_list.specs.Entries.{is_automatic, keys_of, on_automatic}
+use Rattle.ready_list.specs.Gates.{AnswersInTurn, IsAsked, RefusesInTurn, TellAttributes, TellsAllowed, ready_operations}
 use Rattle.ready_list.specs.declared.ReadyKey.{ReadyKey}
-use Rattle.ready_list.proofs.Steps.{AreDistinctKeys, chosen_among, chosen_named, chosen_none, chosen_passed, not_before}
+use Rattle.ready_list.specs.declared.entry.ReadyEntry.{ReadyEntry}
+use Rattle.ready_list.proofs.ByAnswers.{choice_by_answers}
+use Rattle.ready_list.proofs.Steps.{AreDistinctKeys, chosen_among, not_before}
 use Rattle.plan_model.specs.Holdings.{given_out}
 use Rattle.plan_model.specs.Plan.{HasAttribute, Operation, Plan}
-use Rattle.plan_model.specs.Ready.{IsChosen, IsOnAutomatic, IsReadyList, named}
+use Rattle.plan_model.specs.Ready.{IsChosen, IsOnAutomatic, named}
 use Rattle.plan_model.specs.Starting.{IsAllowedToStart}
 use Rattle.plan_model.specs.Status.{IsReady}
 use Rattle.plan_records.specs.Contents.{AreValidContents, plan_of}
@@ -21,27 +26,21 @@ use Rattle.plan_records.specs.declared.contents.PlanContents.{PlanContents}
 use Rattle.plan_laws.proofs.Kept.{ready_unmarked}
 use Rattle.plan_laws.proofs.Looks.{same_key, same_some}
 use Rattle.plan_laws.proofs.Sorted.{contains_head, contains_later}
-use Rattle.workstations.specs.Workstations.{Workstation}
-use Rattle.workstations.specs.declared.Capacity.{Capacity}
-use Rattle.plan_choice.specs.Choosing.{AreGivenOut}
-use Rattle.plan_choice.specs.Taking.{CanStart, IsAtMost, with_one_more}
+use Rattle.plan_choice.specs.Choosing.{AreGivenOut, AreHeldIn, AreReadyEntries}
+use Rattle.plan_choice.specs.StartGates.{Allows, Answers, Counted, IsCountedIn, PassesOver}
+use Rattle.plan_choice.specs.Taking.{CanStart, IsAtMost}
 use Rattle.plan_choice.proofs.Allowed.{can_start, may_start}
 use Rattle.plan_choice.proofs.GivenPlaces.{AreAt, more_at, same_at}
 use Rattle.plan_choice.proofs.NamedGiven.{named_at_most, named_gives, named_gives_none, none_named_gives}
-use Rattle.plan_choice.proofs.Readied.{ready_in_plan, row_found}
-use Rattle.plan_choice.proofs.ReadyLists.{front_distinct}
+use Rattle.plan_choice.proofs.NamedHolders.{named_held, none_named_held}
+use Rattle.plan_choice.proofs.ReadyLists.{ready_distinct}
 
--- it is on an automatic workstation, and allowed to start at m once these are named
-abbrev pub MayBeNamed : PlanContents → ℕ → List OpKey → OpKey → Type 0
-MayBeNamed c m before o = IsOnAutomatic (plan_of m c) o × IsAllowedToStart (named before (plan_of m c)) o m
-
-abbrev pub IsChoiceFrom : PlanContents → ℕ → List ReadyKey → List OpKey → Type 0
-IsChoiceFrom c m done os = IsChoice (IsOnAutomatic (plan_of m c)) (MayBeNamed c m) (operations_of done) os
-
--- these are chosen from what is gone through, and workstations have given this out with them
-pub record IsChosenSoFar (c : PlanContents) (m : ℕ) (done : List ReadyKey) (os : List OpKey) (given : List Capacity) : Type 0 where
-  pub choice : IsChoiceFrom c m done os
-  pub given_out : AreAt c.workstations.items given (given_out (named os (plan_of m c)))
+-- the gate goes through these contents at m, and counts what the plan with these named has given out and holds
+pub record Stands (c : PlanContents) (m : ℕ) (os : List OpKey) (g : Counted) : Type 0 where
+  pub contents : g.contents ≡ c
+  pub at : g.at ≡ m
+  pub given : AreAt c.workstations.items g.given (given_out (named os (plan_of m c)))
+  pub holders : AreHeldIn (named os (plan_of m c)) g.held
 
 either : (a b : Bool) → (a || b) ≡ true → (a ≡ true) ⊎ (b ≡ true)
 either true b e = inl refl
@@ -51,106 +50,144 @@ true_or_false : (b : Bool) → (b ≡ true) ⊎ (b ≡ false)
 true_or_false true = inl refl
 true_or_false false = inr refl
 
-pub choice_begins : (c : PlanContents) (m : ℕ) (given : List Capacity) → AreGivenOut (plan_of m c) c.workstations.items given → IsChosenSoFar c m [] [] given
-choice_begins c m given are = record {
-  choice = chosen_none (IsOnAutomatic (plan_of m c)) (MayBeNamed c m);
-  given_out = same_at c.workstations.items given (given_out (plan_of m c)) (given_out (named [] (plan_of m c))) (none_named_gives (plan_of m c)) are;
+automatic_alone : (a : Attr) → is_automatic a ≡ true → a ≡ Automatic
+automatic_alone Automatic e = refl
+automatic_alone StartAndCompletion e = absurd (true≢false (sym e))
+automatic_alone CompletionOnly e = absurd (true≢false (sym e))
+automatic_alone Nonreporting e = absurd (true≢false (sym e))
+
+-- a gate with nothing named yet
+pub stands_first : (c : PlanContents) (m : ℕ) (g : Counted) → g.contents ≡ c → g.at ≡ m
+    → AreGivenOut (plan_of m c) c.workstations.items g.given → AreHeldIn (plan_of m c) g.held → Stands c m [] g
+stands_first c m g contents at given held = record {
+  contents = contents;
+  at = at;
+  given = same_at c.workstations.items g.given (given_out (plan_of m c)) (given_out (named [] (plan_of m c))) (none_named_gives (plan_of m c)) given;
+  holders = none_named_held (plan_of m c) g.held held;
 }
 
-module _ (c : PlanContents) (h : AreValidContents c) (m : ℕ) (ready : List ReadyKey) (lists : (clock : ℕ) → IsReadyList (plan_of clock c) ready) where
+-- what the gate counts is given out and held with these named
+counted_in : (c : PlanContents) (m : ℕ) (os : List OpKey) (g : Counted) → Stands c m os g → IsCountedIn g (named os (plan_of m c))
+counted_in c m os g stands = record {
+  workstations = ap (λ d. (plan_of 0 d).workstations) (sym stands.contents);
+  resources = ap (λ d. (plan_of 0 d).resources) (sym stands.contents);
+  given = subst (λ d. AreGivenOut (named os (plan_of m c)) d.workstations.items g.given) (sym stands.contents) stands.given;
+  holders = stands.holders;
+}
+
+-- what is among these keys is ready, where they all are
+ready_among : (P : Plan) (keys : List ReadyKey) → ((k : ReadyKey) → Contains keys k → IsReady P k.op) → (o : OpKey) → is_among (operations_of keys) o ≡ true → IsReady P o
+ready_among P [] all o e = absurd (true≢false (sym e))
+ready_among P (k ∷ keys) all o e = elim (either (eq_by_cmp operation_cmp o k.op) (is_among (operations_of keys) o) e) [
+  | inl here ↦ subst (IsReady P) (sym (same_key o k.op here)) (all k (contains_head k keys))
+  | inr later ↦ ready_among P keys (λ q has. all q (contains_later k keys q has)) o later
+]
+
+module _ (c : PlanContents) (h : AreValidContents c) (m : ℕ) (es : List ReadyEntry) (are : (clock : ℕ) → AreReadyEntries (plan_of clock c) es) where
   abbrev P : Plan
   P = plan_of m c
 
-  all_ready : (k : ReadyKey) → Contains ready k → IsReady P k.op
-  all_ready k has = (((lists m).has_all k).0 has).0
+  abbrev automatic : OpKey → Type 0
+  automatic = IsOnAutomatic P
 
-  -- what is among the first of the list is ready
-  ready_among : (keys : List ReadyKey) → ((k : ReadyKey) → Contains keys k → Contains ready k) → (o : OpKey) → is_among (operations_of keys) o ≡ true → IsReady P o
-  ready_among [] all o e = absurd (true≢false (sym e))
-  ready_among (k ∷ keys) all o e = elim (either (eq_by_cmp operation_cmp o k.op) (is_among (operations_of keys) o) e) [
-    | inl here ↦ subst (IsReady P) (sym (same_key o k.op here)) (all_ready k (all k (contains_head k keys)))
-    | inr later ↦ ready_among keys (λ q has. all q (contains_later k keys q has)) o later
-  ]
+  abbrev allowed : List OpKey → OpKey → Type 0
+  allowed os o = IsAllowedToStart (named os P) o m
 
   -- what any workstation has given out, whatever is named
-  pub at_most : (os : List OpKey) (given : List Capacity) (place : ℕ) (w : Workstation) (name : List ℕ) (taken : Capacity) → AreAt c.workstations.items given (given_out (named os P))
-      → slice_get c.workstations.items place ≡ Some (name, w) → slice_get given place ≡ Some taken → IsAtMost 1980000 taken
-  at_most os given place w name taken are at there =
-      subst (IsAtMost 1980000) (sym (are.each place name w taken at there))
-      (named_at_most P os h.valid.limits.operations (λ o op is. let fixed = (h.valid.occurrences.each_operation o op is).0.fixed in (omega (arith, fixed.0), omega (arith, fixed.1))) name)
+  at_most : (os : List OpKey) (name : Name) → IsAtMost 1980000 (given_out (named os P) name)
+  at_most os = named_at_most P os h.valid.limits.operations (λ o op is. let fixed = (h.valid.occurrences.each_operation o op is).0.fixed in (omega (arith, fixed.0), omega (arith, fixed.1)))
 
-  -- the row that is read at a key's place
-  pub read_found : (rows : List (OpKey × Operation)) → rows ≡ c.operations.items → (place : ℕ) (o : OpKey) → (op : Operation) × (slice_get rows place ≡ Some (o, op))
-      → (read : OpKey × Operation) → read ≡ get_or c.operations.items place read → get P.operations o ≡ Some read.1
-  read_found rows same place o at read e =
-      let here : slice_get c.operations.items place ≡ Some (o, at.0) = ap (λ rs. slice_get rs place) (sym same) ∙ at.1 in
-      row_found c h place o at.0 here ∙ ap (λ (z : OpKey × Operation). Some z.1) (sym (e ∙ get_or_from_slice_get c.operations.items place (o, at.0) read here))
+  distinct : AreDistinctKeys (ready_operations es)
+  distinct = ready_distinct (plan_of 0 c) h.valid (keys_of es) (are 0).list
 
-  module _ (i : ℕ) (lt : i < length ready) (k : ReadyKey) (is : k ≡ get_or ready i k) where
-    stands : Contains ready k
-    stands = subst (Contains ready) (sym is) (Contains-get_or ready i k lt)
+  all_ready : (k : ReadyKey) → Contains (keys_of es) k → IsReady P k.op
+  all_ready k has = ((((are m).list.has_all k).0) has).0
 
-    -- it is in the plan
-    pub in_plan : (op : Operation) × (get P.operations k.op ≡ Some op)
-    in_plan = ready_in_plan P k.op (all_ready k stands)
+  attributes : TellAttributes automatic es
+  attributes e has =
+      let row = (are m).workstations e has in (
+        λ on. (row.0, row.1, row.2.1 ∙ ap Some (automatic_alone e.attr on)),
+        λ on.
+            let same = same_some row.0 on.0 (sym row.1 ∙ on.1) in
+            let is : Some e.attr ≡ Some Automatic = sym row.2.1 ∙ subst (λ (op : Operation). HasAttribute P op.workstation Automatic) (sym same) on.2 in
+            ap is_automatic (same_some e.attr Automatic is),
+      )
 
-    done_more : operations_of (take (i + 1) ready) ≡ operations_of (take i ready) ++ k.op ∷ []
-    done_more = ap operations_of (take_more ready i k lt ∙ ap (λ z. take i ready ++ z ∷ []) (sym is)) ∙ map-append (λ (z : ReadyKey). z.op) (take i ready) (k ∷ [])
+  module _ (e : ReadyEntry) (os : List OpKey) (g : Counted) (asked : IsAsked (Stands c m) automatic allowed es e os g) where
+    keys_split : keys_of es ≡ keys_of asked.before ++ e.key ∷ keys_of asked.after
+    keys_split = ap keys_of asked.split ∙ map-append (λ (x : ReadyEntry). x.key) asked.before (e ∷ asked.after)
 
-    apart_before : (j : ℕ) → AreDistinctKeys (operations_of (take j ready))
-    apart_before j = front_distinct (plan_of 0 c) h.valid ready j (lists 0)
+    operations_split : ready_operations es ≡ ready_operations asked.before ++ e.key.op ∷ ready_operations asked.after
+    operations_split = ap operations_of keys_split ∙ map-append (λ (k : ReadyKey). k.op) (keys_of asked.before) (e.key ∷ keys_of asked.after)
 
-    new : is_among (operations_of (take i ready)) k.op ≡ false
-    new = not_before (operations_of (take i ready)) [] k.op (subst AreDistinctKeys done_more (apart_before (i + 1)))
+    ready : IsReady P e.key.op
+    ready = all_ready e.key (subst (λ ks. Contains ks e.key) (sym keys_split) (Contains-append_right (keys_of asked.before) (e.key ∷ keys_of asked.after) e.key (contains_head e.key (keys_of asked.after))))
 
-    module _ (os : List OpKey) (given : List Capacity) (so_far : IsChosenSoFar c m (take i ready) os given) (op : Operation) (found : get P.operations k.op ≡ Some op) where
-      abbrev automatic : OpKey → Type 0
-      automatic = IsOnAutomatic P
+    each_ready : (o : OpKey) → is_among os o ≡ true → IsReady P o
+    each_ready o among = elim (true_or_false (is_among (ready_operations asked.before) o)) [
+      | inl here ↦
+          ready_among P (keys_of asked.before)
+          (λ k has. all_ready k (subst (λ ks. Contains ks k) (sym keys_split) (Contains-append_left (keys_of asked.before) (e.key ∷ keys_of asked.after) k has))) o here
+      | inr none ↦ absurd (true≢false (sym among ∙ chosen_among automatic allowed (ready_operations asked.before) os asked.so_far o none))
+    ]
 
-      each_ready : (o : OpKey) → is_among os o ≡ true → IsReady P o
-      each_ready o e = elim (true_or_false (is_among (operations_of (take i ready)) o)) [
-        | inl among ↦ ready_among (take i ready) (λ q has. subst (λ zs. Contains zs q) (take-append-drop i ready) (Contains-append_left (take i ready) (drop i ready) q has)) o among
-        | inr none ↦ absurd (true≢false (sym e ∙ chosen_among automatic (MayBeNamed c m) (operations_of (take i ready)) os so_far.choice o none))
-      ]
+    out : is_among os e.key.op ≡ false
+    out =
+        chosen_among automatic allowed (ready_operations asked.before) os asked.so_far e.key.op
+        (not_before (ready_operations asked.before) (ready_operations asked.after) e.key.op (subst AreDistinctKeys operations_split distinct))
 
-      out : is_among os k.op ≡ false
-      out = chosen_among automatic (MayBeNamed c m) (operations_of (take i ready)) os so_far.choice k.op new
+    here : (row : Operation) → get (plan_of 0 g.contents).operations e.key.op ≡ Some row → get P.operations e.key.op ≡ Some row
+    here row is = ap (λ d. get (plan_of 0 d).operations e.key.op) (sym asked.counted.contents) ∙ is
 
-      -- it is on an automatic workstation and can start, so it is named and takes of its workstation
-      pub names_one : HasAttribute (named os P) op.workstation Automatic → CanStart (named os P) k.op op m
-          → (place : ℕ) (ws : Workstation) → slice_get c.workstations.items place ≡ Some (op.workstation, ws) → (was : Capacity) → slice_get given place ≡ Some was
-          → IsChosenSoFar c m (take (i + 1) ready) (os ++ k.op ∷ []) (set given place (with_one_more was op))
-      names_one on can place ws at was there =
-          let unmarked = ready_unmarked P k.op op found (all_ready k stands) in
-          record {
-            choice =
-                subst (λ ks. IsChoice automatic (MayBeNamed c m) ks (os ++ k.op ∷ [])) (sym done_more)
-                (chosen_named automatic (MayBeNamed c m) (operations_of (take i ready)) os so_far.choice k.op new (op, found, on)
-                ((op, found, on), may_start c h m os each_ready k.op op found out (all_ready k stands) can));
-            given_out =
-                more_at c.workstations.items h.in_order.workstations place op.workstation ws at op given (given_out (named os P)) (given_out (named (os ++ k.op ∷ []) P))
-                (named_gives P os k.op op found out unmarked on)
-                (named_gives_none P os k.op op found out unmarked on) was there so_far.given_out;
-          }
+    counted : IsCountedIn g (named os P)
+    counted = counted_in c m os g asked.counted
 
-      -- it isn't or can't, and is passed over
-      pub passes_one : ¬ (HasAttribute (named os P) op.workstation Automatic × CanStart (named os P) k.op op m) → IsChosenSoFar c m (take (i + 1) ready) os given
-      passes_one cannot = record {
-        choice =
-            subst (λ ks. IsChoice automatic (MayBeNamed c m) ks os) (sym done_more)
-            (chosen_passed automatic (MayBeNamed c m) (operations_of (take i ready)) os so_far.choice k.op new
-            (λ may. cannot (subst (λ (z : Operation). HasAttribute P z.workstation Automatic) (same_some may.0.0 op (sym may.0.1 ∙ found)) may.0.2, can_start c h m os each_ready k.op op found out may.1)));
-        given_out = so_far.given_out;
-      }
+    module _ (k : Counted) where
+      yes : Allows g e.key.op k → allowed os e.key.op × Stands c m (os ++ e.key.op ∷ []) k
+      yes a =
+          let is = here a.row a.in_plan in
+          let can = subst (λ at. CanStart (named os P) e.key.op a.row at) asked.counted.at (a.can (named os P) counted) in
+          let unmarked = ready_unmarked P e.key.op a.row is ready in
+          let on = subst (λ (op : Operation). HasAttribute P op.workstation Automatic) (same_some asked.on_automatic.0 a.row (sym asked.on_automatic.1 ∙ is)) asked.on_automatic.2 in
+          let place = a.given.place.0 in
+          let at = ap (λ d. slice_get d.workstations.items place) (sym asked.counted.contents) ∙ a.given.place.2 in
+          let was = a.given.before.0 in
+          let small = subst (IsAtMost 1980000) (sym (asked.counted.given.each place a.row.workstation a.given.place.1 was at a.given.before.1)) (at_most os a.row.workstation) in (
+            may_start P m os each_ready e.key.op a.row is out ready can,
+            record {
+              contents = a.same.0 ∙ asked.counted.contents;
+              at = a.same.1 ∙ asked.counted.at;
+              given =
+                  subst (λ given. AreAt c.workstations.items given (given_out (named (os ++ e.key.op ∷ []) P))) (sym (a.given.after small))
+                  (more_at c.workstations.items h.in_order.workstations place a.row.workstation a.given.place.1 at a.row g.given (given_out (named os P)) (given_out (named (os ++ e.key.op ∷ []) P))
+                  (named_gives P os e.key.op a.row is out unmarked on)
+                  (named_gives_none P os e.key.op a.row is out unmarked on) was a.given.before.1 asked.counted.given);
+              holders = named_held P os e.key.op a.row is out unmarked on g.held k.held asked.counted.holders a.held;
+            },
+          )
 
-  -- past the last of the list
-  pub choice_ends : (os : List OpKey) (given : List Capacity) (n : ℕ) → take n ready ≡ ready → IsChosenSoFar c m (take n ready) os given → IsChosen P m os
-  choice_ends os given n all so_far = record { ready = ready; is_ready_list = lists m; choice = allowed_alone (subst (λ ks. IsChoiceFrom c m ks os) all so_far.choice) }
-    where
-      allowed_alone : IsChoiceFrom c m ready os → IsChoice (IsOnAutomatic P) (λ before o. IsAllowedToStart (named before P) o m) (operations_of ready) os
-      allowed_alone choice = record {
-        in_order = choice.in_order;
-        on_automatic = choice.on_automatic;
-        members = λ before after o split. (choice.members before after o split).1;
-        others = λ before after o split on left may. choice.others before after o split on left (on, may);
-      }
+      no : PassesOver g e.key.op k → ¬ allowed os e.key.op × Stands c m os k
+      no a =
+          let row = asked.on_automatic in
+          let there = ap (λ d. get (plan_of 0 d).operations e.key.op) asked.counted.contents ∙ row.1 in (
+            λ may. a.cannot row.0 there (named os P) counted
+                (subst (λ at. CanStart (named os P) e.key.op row.0 at) (sym asked.counted.at) (can_start P m os each_ready e.key.op row.0 row.1 out may)),
+            subst (Stands c m os) (sym a.same) asked.counted,
+          )
+
+  tells : TellsAllowed Answers (Stands c m) automatic allowed es
+  tells = record { if_yes = λ e os g k asked a. yes e os g asked k a; if_no = λ e os g k asked a. no e os g asked k a }
+
+  -- what the gate says yes to is chosen
+  pub chosen_by_gate : (g : Counted) → Stands c m [] g → (os : List OpKey) (last : Counted) → AnswersInTurn Answers (on_automatic es) g os last → IsChosen P m os
+  chosen_by_gate g stands os last run = record {
+    ready = keys_of es;
+    is_ready_list = (are m).list;
+    choice = (choice_by_answers Answers (Stands c m) automatic allowed es distinct attributes tells g stands os last run).0;
+  }
+
+-- a gate that refuses with one refusal alone refuses with it in turn
+pub refuses_alone : (only r : Refusal) (os : List OpKey) (g : Counted) → RefusesInTurn Answers (λ _ _ s. s ≡ only) os g r → r ≡ only
+refuses_alone only r [] g h = absurd h
+refuses_alone only r (o ∷ os) g (inl is) = is
+refuses_alone only r (o ∷ os) g (inr (yes, k, a, later)) = refuses_alone only r os k later

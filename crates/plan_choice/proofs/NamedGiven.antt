@@ -69,7 +69,7 @@ same_number number same true op = same op
 same_number number same false op = refl
 
 module _ (os : List OpKey) (k : OpKey) where
-  among_more : (o : OpKey) → is_among (os ++ k ∷ []) o ≡ (is_among os o || eq_by_cmp operation_cmp o k)
+  pub among_more : (o : OpKey) → is_among (os ++ k ∷ []) o ≡ (is_among os o || eq_by_cmp operation_cmp o k)
   among_more o = any_more os
     where
       or_assoc : (a b c : Bool) → (a || (b || c)) ≡ ((a || b) || c)

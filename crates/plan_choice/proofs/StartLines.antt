@@ -1,9 +1,11 @@
--- The lines on what an operation needs to start, by what its workstation has left.
-use Rattle.std.proofs.Common.{◌≡◌, sym, ap, subst, ◌∙◌, ℕ, ◌≤◌, false, Some}
+-- The lines on what an operation needs to start, by what its workstation has left and what is held.
+use Rattle.std.proofs.Common.{◌≡◌, refl, sym, ap, subst, ◌∙◌, arith, ℕ, ◌<◌, ◌≤◌, false, Some}
 use Rattle.std.specs.FinMap.{get}
+use Rattle.plan_basics.specs.Refusals.{number_of}
 use Rattle.plan_basics.specs.declared.Refusal.{Refusal}
 use Rattle.plan_basics.specs.declared.Refusal.TheVariants as refusal
 use Rattle.plan_basics.specs.declared.keys.OpKey.{OpKey}
+use Rattle.special_resources.specs.Holdings.{Held}
 use Rattle.plan_laws.proofs.Looks.{same_some}
 use Rattle.plan_model.specs.Holdings.{given_out}
 use Rattle.plan_model.specs.Plan.{Operation, Plan}
@@ -12,15 +14,24 @@ use Rattle.plan_records.specs.Contents.{plan_of}
 use Rattle.plan_records.specs.declared.contents.PlanContents.{PlanContents}
 use Rattle.workstations.specs.Workstations.{HasRoom, Workstation}
 use Rattle.workstations.specs.declared.Capacity.{Capacity}
-use Rattle.plan_choice.specs.Choosing.{HasGivenOut, IsStartLine}
+use Rattle.plan_choice.specs.Choosing.{HasTaken, IsStartLine}
+use Rattle.plan_choice.specs.Taking.{AreFree}
+use Rattle.plan_choice.proofs.FreeResources.{may_start_by_free}
 
 -- what refuses for want of room is one of these lines
 pub line_of : (ws : Workstation) (m : ℕ) (taken : Capacity) (a b : ℕ) (r : Refusal) → ¬ HasRoom ws m taken a b r → IsStartLine r
 line_of ws m taken a b refusal.WrongStatus none = none tt
-line_of ws m taken a b refusal.ResourceBusy none = none tt
 line_of ws m taken a b r none = tt
 
-module _ (c : PlanContents) (op : Operation) (ws : Workstation) (found : get (plan_of 0 c).workstations op.workstation ≡ Some ws) (m : ℕ) (taken : Capacity) (P : Plan) (has : HasGivenOut P c op taken) where
+-- and comes before that on special resources
+pub before_busy : (ws : Workstation) (m : ℕ) (taken : Capacity) (a b : ℕ) (r lower : Refusal) → ¬ HasRoom ws m taken a b r → number_of lower < number_of r → lower ≡ refusal.ResourceBusy → ⊥
+before_busy ws m taken a b refusal.Closed lower none less is = omega (arith, less, ap number_of is)
+before_busy ws m taken a b refusal.NoServer lower none less is = omega (arith, less, ap number_of is)
+before_busy ws m taken a b refusal.NoFixed lower none less is = omega (arith, less, ap number_of is)
+before_busy ws m taken a b r lower none less is = none tt
+
+module _ (c : PlanContents) (op : Operation) (ws : Workstation) (found : get (plan_of 0 c).workstations op.workstation ≡ Some ws) (m : ℕ) (taken : Capacity) (held : Held)
+    (P : Plan) (has : HasTaken P c op taken held) where
   its : get P.workstations op.workstation ≡ Some ws
   its = ap (λ all. get all op.workstation) has.workstations ∙ found
 
@@ -39,14 +50,32 @@ module _ (c : PlanContents) (op : Operation) (ws : Workstation) (found : get (pl
   no_room o refusal.NoFixed none may = none (room_at refusal.NoFixed may)
   no_room o r none may = none tt
 
+  -- nor may what can't use all that it needs
+  pub not_free : (o : OpKey) → ¬ AreFree (plan_of 0 c).resources held o op.needs → ¬ MayStart P o op m refusal.ResourceBusy
+  not_free o busy may = busy (subst (λ all. AreFree all held o op.needs) has.resources ((may_start_by_free P held has.holders o op m).1 may))
+
+  free_at : (o : OpKey) → AreFree (plan_of 0 c).resources held o op.needs → MayStart P o op m refusal.ResourceBusy
+  free_at o free = (may_start_by_free P held has.holders o op m).0 (subst (λ all. AreFree all held o op.needs) (sym has.resources) free)
+
   module _ (free : op.held ≡ false) (after : op.not_before ≤ m) where
-    -- a line that is met by what is left is met
-    pub line_met : (o : OpKey) (r : Refusal) → IsStartLine r → HasRoom ws m taken op.r1 op.r2 r → MayStart P o op m r
-    line_met o refusal.WrongStatus line room = absurd line
-    line_met o refusal.ResourceBusy line room = absurd line
-    line_met o refusal.Held line room = free
-    line_met o refusal.TooEarly line room = after
-    line_met o refusal.Closed line room = fits_at refusal.Closed room
-    line_met o refusal.NoServer line room = fits_at refusal.NoServer room
-    line_met o refusal.NoFixed line room = fits_at refusal.NoFixed room
-    line_met o r line room = tt
+    -- a line before that on special resources, which is met by what is left
+    pub lower_met : (o : OpKey) (r : Refusal) → IsStartLine r → (r ≡ refusal.ResourceBusy → ⊥) → HasRoom ws m taken op.r1 op.r2 r → MayStart P o op m r
+    lower_met o refusal.WrongStatus line lower room = absurd line
+    lower_met o refusal.ResourceBusy line lower room = absurd (lower refl)
+    lower_met o refusal.Held line lower room = free
+    lower_met o refusal.TooEarly line lower room = after
+    lower_met o refusal.Closed line lower room = fits_at refusal.Closed room
+    lower_met o refusal.NoServer line lower room = fits_at refusal.NoServer room
+    lower_met o refusal.NoFixed line lower room = fits_at refusal.NoFixed room
+    lower_met o r line lower room = tt
+
+    -- each line is met by what is left and by what is held
+    pub line_met : (o : OpKey) (r : Refusal) → IsStartLine r → HasRoom ws m taken op.r1 op.r2 r → AreFree (plan_of 0 c).resources held o op.needs → MayStart P o op m r
+    line_met o refusal.WrongStatus line room usable = absurd line
+    line_met o refusal.ResourceBusy line room usable = free_at o usable
+    line_met o refusal.Held line room usable = free
+    line_met o refusal.TooEarly line room usable = after
+    line_met o refusal.Closed line room usable = fits_at refusal.Closed room
+    line_met o refusal.NoServer line room usable = fits_at refusal.NoServer room
+    line_met o refusal.NoFixed line room usable = fits_at refusal.NoFixed room
+    line_met o r line room usable = tt

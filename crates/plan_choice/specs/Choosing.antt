@@ -1,19 +1,20 @@
 -- What is worked out on the way to what starts.
-use Rattle.std.specs.Prelude.{◌≡◌, Bool, true, false, List, ℤ, Contains}
-use Rattle.std.specs.List.{IsDistinct}
-use Rattle.std.specs.Ordering.{eq_by_cmp}
+use Rattle.std.specs.Prelude.{◌≡◌, ◌↔◌, Bool, true, false, List, ℤ, Contains, Some}
+use Rattle.std.specs.FinMap.{get}
+use Rattle.plan_basics.specs.Keys.{Name}
+use Rattle.special_resources.specs.declared.Mode.{Mode}
+use Rattle.special_resources.specs.Holdings.{Held}
 use Rattle.plan_basics.specs.declared.Refusal.{Refusal}
 use Rattle.plan_basics.specs.declared.Refusal.TheVariants as refusal
 use Rattle.plan_basics.specs.declared.keys.OpKey.{OpKey}
 use Rattle.status_rules.specs.declared.Status.{Status}
 use Rattle.status_rules.specs.declared.Status.TheVariants as status
-use Rattle.ready_list.specs.Order.{ready_cmp}
-use Rattle.ready_list.specs.declared.ReadyKey.{ReadyKey}
-use Rattle.plan_model.specs.Holdings.{given_out}
-use Rattle.plan_model.specs.Plan.{Plan, Operation}
-use Rattle.plan_model.specs.Ready.{IsEntry}
+use Rattle.ready_list.specs.Entries.{keys_of}
+use Rattle.ready_list.specs.declared.entry.ReadyEntry.{ReadyEntry}
+use Rattle.plan_model.specs.Holdings.{given_out, Holds}
+use Rattle.plan_model.specs.Plan.{Plan, Operation, Has, HasAttribute}
+use Rattle.plan_model.specs.Ready.{IsReadyList}
 use Rattle.plan_model.specs.Starting.{IsLatestStart}
-use Rattle.plan_model.specs.Status.{IsReady}
 use Rattle.plan_records.specs.Contents.{plan_of}
 use Rattle.plan_records.specs.Places.{AreByPlace}
 use Rattle.plan_records.specs.declared.contents.PlanContents.{PlanContents}
@@ -31,23 +32,27 @@ is_ready_status status.ReadyAfterNonreporting = true
 is_ready_status status.Ready = true
 is_ready_status _ = false
 
--- what is ready, each once, with what its place in the ready list goes by
-pub record AreReadyKeys (P : Plan) (keys : List ReadyKey) : Type 0 where
-  pub entries : (k : ReadyKey) → Contains keys k → IsEntry P k
-  pub every : (o : OpKey) → IsReady P o → (k : ReadyKey) × Contains keys k × (k.op ≡ o)
-  pub once : IsDistinct (eq_by_cmp ready_cmp) keys
+-- what is ready, in order, each with its workstation and how that reports
+pub record AreReadyEntries (P : Plan) (entries : List ReadyEntry) : Type 0 where
+  pub list : IsReadyList P (keys_of entries)
+  pub workstations : (e : ReadyEntry) → Contains entries e → Has P e.key.op (λ op. (e.ws ≡ op.workstation) × HasAttribute P op.workstation e.attr)
 
 -- what each row's workstation has given out
 abbrev pub AreGivenOut : Plan → List NamedWorkstation → List Capacity → Type 0
 AreGivenOut P rows taken = AreByPlace rows taken (λ w capacity. capacity ≡ given_out P w)
 
--- the plan has these workstations, and this is given out at the operation's
-pub record HasGivenOut (P : Plan) (c : PlanContents) (op : Operation) (taken : Capacity) : Type 0 where
-  pub workstations : P.workstations ≡ (plan_of 0 c).workstations
-  pub given : given_out P op.workstation ≡ taken
+-- these are the holders of special resources, each in its mode
+abbrev pub AreHeldIn : Plan → Held → Type 0
+AreHeldIn P held = (o : OpKey) (r : Name) (mode : Mode) → (get held (r, o) ≡ Some mode) ↔ ((keep : Bool) × Holds P o r (record { mode = mode; keep = keep }))
 
--- a line on what an operation needs to start, but for its status and for special resources
+-- the plan has these workstations and special resources, this is given out at the operation's workstation, and this is held
+pub record HasTaken (P : Plan) (c : PlanContents) (op : Operation) (taken : Capacity) (held : Held) : Type 0 where
+  pub workstations : P.workstations ≡ (plan_of 0 c).workstations
+  pub resources : P.resources ≡ (plan_of 0 c).resources
+  pub given : given_out P op.workstation ≡ taken
+  pub holders : AreHeldIn P held
+
+-- a line on what an operation needs to start, but for its status
 abbrev pub IsStartLine : Refusal → Type 0
 IsStartLine refusal.WrongStatus = ⊥
-IsStartLine refusal.ResourceBusy = ⊥
 IsStartLine _ = Unit {0}

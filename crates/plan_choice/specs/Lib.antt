@@ -1,3 +1,5 @@
 pub mod Choosing
-pub mod OwnStarts
+pub mod Readying
+pub mod StartGates
+pub mod StartItems
 pub mod Taking

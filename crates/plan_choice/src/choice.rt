@@ -1,60 +1,87 @@
 // What is named to start.
-ghost use Rattle.std.specs.Prelude.{◌≡◌, ◌↔◌, ℕ, Some, IsTrue, IfOk};
-ghost use Rattle.std.specs.FinMap.{get};
-ghost use Rattle.plan_basics.specs.declared.Attr.TheVariants.{Automatic};
-ghost use Rattle.plan_basics.specs.declared.keys.OpKey.{OpKey};
-ghost use Rattle.plan_model.specs.Plan.{Plan, HasAttribute};
-ghost use Rattle.plan_model.specs.Ready.{IsChosen, IsReadyList};
+ghost use Rattle.std.specs.Prelude.{◌≡◌, ℕ, IfOk, IfErr};
+ghost use Rattle.plan_basics.specs.declared.Refusal.{Refusal};
+ghost use Rattle.plan_model.specs.Ready.{IsChosen};
 ghost use Rattle.plan_records.specs.Contents.{plan_of, AreValidContents};
-ghost use Rattle.plan_choice.specs.Choosing.{HasGivenOut};
-ghost use Rattle.plan_choice.specs.Taking.{CanStart};
+ghost use Rattle.plan_choice.specs.Choosing.{AreReadyEntries};
 
+use super::holders::{holdings_of, take_needs};
 use super::taken::{check_start, given_out_of, with_operation};
-use plan_basics::{Attr, Moment, OpKey};
-use plan_model::OperationRecord;
-use plan_records::{PlanContents, known_place, known_workstation};
-use plan_status::attribute_of;
-use ready_list::ReadyKey;
-use std::alloc::{AllocError, Global};
+use plan_basics::{Moment, OpKey, Refusal};
+use plan_records::{PlanContents, known_workstation, place_of};
+use ready_list::{Gate, ReadyList};
+use special_resources::Holdings;
+use std::alloc::Global;
+use std::marker::Model;
 use workstations::Capacity;
 
-// Whether what is ready is named, where `taken` is given out at its workstation.
-fn is_named(
-    contents: &PlanContents,
-    operation: &OperationRecord,
-    taken: &Capacity,
+/// Allows operations of a plan to start at a moment, one after the other, and counts those as started that it allowed.
+#[derive(Drop)]
+struct StartGate<'a> {
+    contents: &'a PlanContents,
     at: Moment,
-) -> bool
-    requires contents { AreValidContents contents.now }
-    requires operation { (o : OpKey) × (get (plan_of 0 contents.now).operations o ≡ Some operation.now) }
-    ensures { (P : Plan) → (o : OpKey) → HasGivenOut P contents.now operation.now taken.now → IsTrue result ↔ (HasAttribute P operation.now.workstation Automatic × CanStart P o operation.now at) }
-{
-    matches!(attribute_of(contents, operation), Attr::Automatic)
-        && check_start(contents, operation, taken, at).is_ok()
+    /// What each workstation has given out, at its row's place.
+    given: Vec<Capacity>,
+    holdings: Holdings,
 }
 
-/// What is named to start at a moment: from the front of the ready list, each operation on an automatic workstation that is
-/// allowed to start once those before it are named; the others are passed over.
-pub fn choose(
+impl<'a> Model for StartGate<'a> {
+    ghost use Rattle.plan_choice.specs.StartGates.{Counted, CountsValidly, counted_code};
+
+    ghost Value = { Counted };
+
+    ghost coded = { counted_code };
+
+    ghost view = { λ a. record { contents = a.contents.now; at = a.at; given = a.given.items; held = a.holdings.held } };
+
+    ghost invariant = { λ a. CountsValidly a.contents.now a.given.items };
+}
+
+impl<'a> Gate for StartGate<'a> {
+    ghost use Rattle.std.specs.Prelude.{◌≡◌};
+    ghost use Rattle.plan_basics.specs.declared.Refusal.{Refusal};
+    ghost use Rattle.plan_choice.specs.StartGates.{Answers};
+
+    ghost answers = { Answers };
+
+    ghost refuses = { λ _ _ r. r ≡ Refusal.Memory };
+
+    fn name(&mut self, op: &OpKey) -> Result<bool, Refusal> {
+        let contents = self.contents;
+        let Some(place) = place_of(&contents.operations, op) else {
+            return Ok(false);
+        };
+        let operation = &contents.operations[place].1;
+        let place = known_workstation(&contents.workstations, &operation.workstation);
+        let taken = self.given[place];
+        if check_start(contents, op, operation, &taken, &self.holdings, self.at).is_err() {
+            return Ok(false);
+        }
+        take_needs(&mut self.holdings, op, operation)?;
+        self.given[place] = with_operation(&taken, operation);
+        Ok(true)
+    }
+}
+
+/// What is named to start at a moment, in order: from the front of the ready list, each operation on an automatic
+/// workstation that is allowed to start once those before it are named; the others are passed over (IBM OPC/ESA, Planning
+/// and Scheduling the Workload). The error is always `Memory`.
+pub fn chosen(
     alloc: Global,
     contents: &PlanContents,
-    ready: &[ReadyKey],
+    ready: &ReadyList,
     at: Moment,
-) -> Result<Vec<OpKey>, AllocError>
+) -> Result<Vec<OpKey>, Refusal>
     requires contents { AreValidContents contents.now }
-    requires ready { (clock : ℕ) → IsReadyList (plan_of clock contents.now) ready.now }
-    ensures { IfOk result (λ named. IsChosen (plan_of at contents.now) at named.items) }
+    requires ready { (clock : ℕ) → AreReadyEntries (plan_of clock contents.now) ready.now.entries }
+    ensures chosen { IfOk result (λ named. IsChosen (plan_of at contents.now) at named.items) }
+    ensures refused { IfErr result (λ r. r ≡ Refusal.Memory) }
 {
-    let mut given = given_out_of(alloc, contents)?;
-    let mut named = Vec::new(alloc);
-    for key in ready {
-        let place = known_place(&contents.operations, &key.op);
-        let operation = &contents.operations[place].1;
-        let workstation = known_workstation(&contents.workstations, &operation.workstation);
-        if is_named(contents, operation, &given[workstation], at) {
-            named.push(key.op)?;
-            given[workstation] = with_operation(&given[workstation], operation);
-        }
-    }
-    Ok(named)
+    let mut gate = StartGate {
+        contents,
+        at,
+        given: given_out_of(alloc, contents)?,
+        holdings: holdings_of(alloc, contents)?,
+    };
+    ready.choose(&mut gate)
 }

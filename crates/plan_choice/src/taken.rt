@@ -1,21 +1,22 @@
 // What workstations have given out, and whether one more operation fits.
-ghost use Rattle.std.specs.Prelude.{◌≡◌, ◌+◌, ◌<◌, ◌≤◌, ℕ, Some, IfOk, IfErr, OnOk};
+ghost use Rattle.std.specs.Prelude.{◌≡◌, ◌↔◌, ◌+◌, ◌<◌, ◌≤◌, ℕ, true, Some, IfOk, IfErr, OnOk, IsTrue};
 ghost use Rattle.std.specs.FinMap.{get};
 ghost use Rattle.plan_basics.specs.declared.Refusal.{Refusal};
 ghost use Rattle.plan_basics.specs.declared.keys.OpKey.{OpKey};
 ghost use Rattle.plan_basics.specs.Refusals.{number_of};
-ghost use Rattle.plan_model.specs.Plan.{Plan};
+ghost use Rattle.plan_model.specs.Plan.{Plan, attribute_at};
 ghost use Rattle.plan_model.specs.Starting.{MayStart};
 ghost use Rattle.plan_records.specs.Contents.{plan_of, AreValidContents};
-ghost use Rattle.plan_model.specs.Holdings.{holds_server};
+ghost use Rattle.plan_model.specs.Holdings.{holds_server, takes};
 ghost use Rattle.status_rules.specs.Table.{marked_status};
-ghost use Rattle.plan_choice.specs.Choosing.{AreGivenOut, HasGivenOut, IsStartLine};
-ghost use Rattle.plan_choice.specs.Taking.{IsAtMost, takes_server, with_one_more};
+ghost use Rattle.plan_choice.specs.Choosing.{AreGivenOut, HasTaken, IsStartLine};
+ghost use Rattle.plan_choice.specs.Taking.{AreFree, IsAtMost, IsFree, takes_server, with_one_more};
 
-use plan_basics::{Attr, Moment, Refusal};
+use plan_basics::{Attr, Moment, OpKey, Refusal, ResName};
 use plan_model::OperationRecord;
-use plan_records::{PlanContents, known_workstation};
+use plan_records::{PlanContents, known_workstation, resource_place};
 use plan_status::attribute_of;
+use special_resources::{Holdings, Need};
 use status_rules::Mark;
 use std::alloc::{AllocError, Global};
 use workstations::Capacity;
@@ -34,33 +35,41 @@ fn holds(mark: Mark) -> bool
     matches!(mark, Mark::Named | Mark::Running | Mark::Undecided)
 }
 
+/// Whether starts are known on the workstation of an operation of the plan: there it takes servers and special resources.
+pub fn starts_are_known(contents: &PlanContents, operation: &OperationRecord) -> bool
+    requires contents { AreValidContents contents.now }
+    requires operation { (o : OpKey) × (get (plan_of 0 contents.now).operations o ≡ Some operation.now) }
+    ensures { result ≡ takes (attribute_at (plan_of 0 contents.now) operation.now.workstation) }
+{
+    match attribute_of(contents, operation) {
+        Attr::Automatic | Attr::StartAndCompletion => true,
+        Attr::CompletionOnly | Attr::Nonreporting => false,
+    }
+}
+
 // Whether an operation of the plan holds a server of its workstation.
 fn holds_a_server(contents: &PlanContents, operation: &OperationRecord) -> bool
     requires contents { AreValidContents contents.now }
     requires operation { (o : OpKey) × (get (plan_of 0 contents.now).operations o ≡ Some operation.now) }
     ensures { result ≡ takes_server (plan_of 0 contents.now) operation.now }
 {
-    match attribute_of(contents, operation) {
-        Attr::Automatic | Attr::StartAndCompletion => holds(operation.mark),
-        Attr::CompletionOnly | Attr::Nonreporting => false,
-    }
+    starts_are_known(contents, operation) && holds(operation.mark)
 }
 
-// What is given out, with this much more. A plan has at most 20,000 operations, and each takes at most 99.
+// What is given out, with this much more.
 fn with_more(taken: u32, more: u8) -> u32
-    requires { taken ≤ 1980000 }
-    ensures { result ≡ taken + more }
+    ensures { taken ≤ 1980000 → result ≡ taken + more }
 {
-    taken + u32::from(more)
+    taken.saturating_add(u32::from(more))
 }
 
-/// What is given out, with a server more, and the operation's R1 and R2.
+/// What is given out, with a server more, and the operation's R1 and R2. A plan has at most 20,000 operations, and each takes
+/// at most 99.
 pub fn with_operation(taken: &Capacity, operation: &OperationRecord) -> Capacity
-    requires { IsAtMost 1980000 taken.now }
-    ensures { result ≡ with_one_more taken.now operation.now }
+    ensures { IsAtMost 1980000 taken.now → result ≡ with_one_more taken.now operation.now }
 {
     Capacity {
-        servers: taken.servers + 1,
+        servers: with_more(taken.servers, 1),
         r1: with_more(taken.r1, operation.r1),
         r2: with_more(taken.r2, operation.r2),
     }
@@ -82,21 +91,62 @@ pub fn given_out_of(alloc: Global, contents: &PlanContents) -> Result<Vec<Capaci
     Ok(given)
 }
 
-/// Why an operation of the plan may not start at a moment, but for its status and for special resources, where `taken` is
-/// given out at its workstation. The first that applies refuses it: `Held` (it is held), `TooEarly` (before its
-/// not-before), `Closed` (no interval contains the moment), `NoServer` (all servers are taken), `NoFixed` (R1 or R2 lacks).
+// Whether a special resource is available.
+fn is_available(contents: &PlanContents, name: &ResName) -> bool
+    requires { AreValidContents contents.now }
+    ensures { IsTrue result ↔ (get (plan_of 0 contents.now).resources name.now ≡ Some true) }
+{
+    match resource_place(&contents.resources, name) {
+        Some(place) => contents.resources[place].1,
+        None => false,
+    }
+}
+
+// Whether the resource of a need is available, and no holding of another operation stands in the way.
+fn has_resource(contents: &PlanContents, key: &OpKey, need: &Need, holdings: &Holdings) -> bool
+    requires { AreValidContents contents.now }
+    ensures { IsTrue result ↔ IsFree (plan_of 0 contents.now).resources holdings.now.held key.now need.now }
+{
+    is_available(contents, &need.name) && holdings.fits(need, *key)
+}
+
+// Whether each special resource that an operation needs is available, and no holding of another operation stands in the way.
+fn has_resources(
+    contents: &PlanContents,
+    key: &OpKey,
+    operation: &OperationRecord,
+    holdings: &Holdings,
+) -> bool
+    requires { AreValidContents contents.now }
+    ensures { IsTrue result ↔ AreFree (plan_of 0 contents.now).resources holdings.now.held key.now operation.now.needs }
+{
+    for need in operation.needs.as_slice() {
+        if !has_resource(contents, key, need, holdings) {
+            return false;
+        }
+    }
+    true
+}
+
+/// Why an operation of the plan may not start at a moment, but for its status, where `taken` is given out at its workstation
+/// and `holdings` are held. The first that applies refuses it: `Held` (it is held), `TooEarly` (before its not-before),
+/// `Closed` (no interval contains the moment), `NoServer` (all servers are taken), `NoFixed` (R1 or R2 lacks),
+/// `ResourceBusy` (a special resource isn't available, another operation holds it exclusively, or another holds it at all
+/// and the need is exclusive).
 pub fn check_start(
     contents: &PlanContents,
+    key: &OpKey,
     operation: &OperationRecord,
     taken: &Capacity,
+    holdings: &Holdings,
     at: Moment,
 ) -> Result<(), Refusal>
     requires contents { AreValidContents contents.now }
-    requires operation { (o : OpKey) × (get (plan_of 0 contents.now).operations o ≡ Some operation.now) }
-    ensures ok { OnOk result ((P : Plan) → HasGivenOut P contents.now operation.now taken.now → (o : OpKey) → (r : Refusal) → IsStartLine r → MayStart P o operation.now at r) }
+    requires operation { get (plan_of 0 contents.now).operations key.now ≡ Some operation.now }
+    ensures ok { OnOk result ((P : Plan) → HasTaken P contents.now operation.now taken.now holdings.now.held → (r : Refusal) → IsStartLine r → MayStart P key.now operation.now at r) }
     ensures line { IfErr result IsStartLine }
-    ensures refused { IfErr result (λ r. (P : Plan) → HasGivenOut P contents.now operation.now taken.now → (o : OpKey) → ¬ MayStart P o operation.now at r) }
-    ensures least { IfErr result (λ r. (P : Plan) → HasGivenOut P contents.now operation.now taken.now → (o : OpKey) → (lower : Refusal) → IsStartLine lower → number_of lower < number_of r → MayStart P o operation.now at lower) }
+    ensures refused { IfErr result (λ r. (P : Plan) → HasTaken P contents.now operation.now taken.now holdings.now.held → ¬ MayStart P key.now operation.now at r) }
+    ensures least { IfErr result (λ r. (P : Plan) → HasTaken P contents.now operation.now taken.now holdings.now.held → (lower : Refusal) → IsStartLine lower → number_of lower < number_of r → MayStart P key.now operation.now at lower) }
 {
     if operation.held {
         return Err(Refusal::Held);
@@ -106,5 +156,10 @@ pub fn check_start(
     }
     let place = known_workstation(&contents.workstations, &operation.workstation);
     let workstation = &contents.workstations[place];
-    workstation.fits(at, taken, u32::from(operation.r1), u32::from(operation.r2))
+    workstation.fits(at, taken, u32::from(operation.r1), u32::from(operation.r2))?;
+    if has_resources(contents, key, operation, holdings) {
+        Ok(())
+    } else {
+        Err(Refusal::ResourceBusy)
+    }
 }

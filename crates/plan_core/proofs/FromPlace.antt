@@ -14,9 +14,9 @@ use Rattle.plan_records.proofs.Lists.{contains_none}
 use Rattle.plan_records.specs.Contents.{plan_of}
 use Rattle.plan_core.proofs.OccViews.{are_occ_views}
 use Rattle.plan_core.proofs.OpViews.{are_op_views}
-use Rattle.plan_core.proofs.SideBySide.{left_from, length_viewed}
+use Rattle.plan_core.proofs.SideBySide.{left_from, length_viewed, length_zipped}
 use Rattle.plan_core.specs.Held.{IsHeld, plan_held}
-use Rattle.plan_core.specs.Views.{AreOccViews, AreOpViews, IsHeldAtSome, IsHeldIfLoaded, occ_view_of, occ_views, occs_from, op_view_of, op_views, ops_from}
+use Rattle.plan_core.specs.Views.{AreOccViews, AreOpViews, IsHeldAtSome, IsHeldIfLoaded, known_of, occ_view_of, occ_views, occs_from, op_view_of, op_views, ops_from}
 use Rattle.plan_core.specs.declared.loaded.LoadedPlan.{LoadedPlan}
 
 -- ---- where nothing is loaded
@@ -70,7 +70,8 @@ all_occs clock (Some h) loaded e held = subst (λ l. AreOccViews (plan_held cloc
 module _ (h : LoadedPlan) (held : IsHeldAtSome h) where
   pub no_ops_left : (i : ℕ) → length h.contents.operations.items ≤ i → drop i (op_views h) ≡ []
   no_ops_left i le =
-      let same = length_viewed (op_view_of (plan_of 0 h.contents)) h.contents.operations.items h.standings.items held.1.standings.size in
+      let size = length_zipped h.standings.items h.latest.starts (held.1.latest.size ∙ sym held.1.standings.size) ∙ held.1.standings.size in
+      let same = length_viewed (op_view_of (plan_of 0 h.contents)) h.contents.operations.items (known_of h) size in
       drop_all i (op_views h) (omega (arith, le, same))
 
   pub no_occs_left : (i : ℕ) → length h.contents.occurrences.items ≤ i → drop i (occ_views h) ≡ []

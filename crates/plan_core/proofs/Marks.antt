@@ -37,7 +37,7 @@ made os mark o op = cond (is_among os o) (with_mark mark op) op
 -- contents that differ by their rows of operations alone, of which some have the mark
 module _
     (c new : PlanContents) (os : List OpKey) (mark : Mark)
-    (ws : new.workstations.items ≡ c.workstations.items) (cs : new.occurrences.items ≡ c.occurrences.items)
+    (ws : new.workstations.items ≡ c.workstations.items) (rs : new.resources.items ≡ c.resources.items) (cs : new.occurrences.items ≡ c.occurrences.items)
     (rows : new.operations.items ≡ marked_rows os mark c.operations.items)
     (ps : new.pairs.items ≡ c.pairs.items) where
   same_operations : from_entries {R = operation_cmp} new.operations.items ≡ revise (made os mark) (from_entries c.operations.items)
@@ -51,7 +51,7 @@ module _
     loaded = true;
     clock = clock;
     workstations = from_entries (ws i);
-    resources = (plan_of clock c).resources;
+    resources = from_entries (rs i);
     occurrences = from_entries (cs i);
     operations = same_operations i;
     pairs = from_list (ps i);
@@ -60,14 +60,18 @@ module _
   order_kept : AreContents c → AreContents new
   order_kept h = record {
     workstations = subst (λ zs. IsStrictlySortedBy name_cmp (keys_of zs)) (sym ws) h.workstations;
+    resources = subst (λ zs. IsStrictlySortedBy name_cmp (keys_of zs)) (sym rs) h.resources;
     occurrences = subst (λ zs. IsStrictlySortedBy occurrence_cmp (keys_of zs)) (sym cs) h.occurrences;
     operations = subst (IsStrictlySortedBy operation_cmp) (sym same_keys) h.operations;
     pairs = subst (IsStrictlySortedBy pair_cmp) (sym ps) h.pairs;
   }
 
-  -- they are of the plan with the marks, and in order
-  pub contents_marked : ((clock : ℕ) → plan_of clock new ≡ revised (is_among os) (with_mark mark) (plan_of clock c)) × (AreContents c → AreContents new)
-  contents_marked = (plan_marked, order_kept)
+  -- they are of the plan with the marks, in order, and have the same keys
+  pub contents_marked :
+      ((clock : ℕ) → plan_of clock new ≡ revised (is_among os) (with_mark mark) (plan_of clock c))
+      × (AreContents c → AreContents new)
+      × (keys_of new.operations.items ≡ keys_of c.operations.items)
+  contents_marked = (plan_marked, order_kept, same_keys)
 
 -- ---- the rows that the operations of a plan are
 

@@ -1,5 +1,5 @@
 -- The views of what is held are those of the plan's operations.
-use Rattle.std.proofs.Common.{◌≡◌, ◌↔◌, refl, sym, ap, subst, ◌∙◌, arith, ℕ, List, map, Contains, slice_get, Some, option_map}
+use Rattle.std.proofs.Common.{◌≡◌, ◌↔◌, refl, sym, ap, subst, ◌∙◌, arith, ℕ, ℤ, length, List, map, Contains, slice_get, Some, option_map}
 use Rattle.std.proofs.lemmas.Option.{slice_get_within}
 use Rattle.std.specs.FinMap.{get}
 use Rattle.std.specs.List.Sorted.{IsStrictlySortedBy}
@@ -18,9 +18,9 @@ use Rattle.plan_records.specs.Contents.{plan_of}
 use Rattle.plan_status.proofs.ByStanding.{status_on}
 use Rattle.plan_status.specs.Standings.{IsStanding}
 use Rattle.plan_status.specs.declared.standings.Standing.{Standing}
-use Rattle.plan_core.proofs.SideBySide.{from_viewed, keys_viewed, place_of_member, viewed_at}
+use Rattle.plan_core.proofs.SideBySide.{from_viewed, from_zipped, keys_viewed, length_zipped, place_of_member, viewed_at, zipped_at}
 use Rattle.plan_core.specs.Held.{AreHeld}
-use Rattle.plan_core.specs.Views.{AreOpViews, IsOpView, attribute_or_automatic, op_view_of, op_views, priority_of}
+use Rattle.plan_core.specs.Views.{AreOpViews, IsOpView, attribute_or_automatic, known_of, op_view_of, op_views, priority_of}
 use Rattle.plan_core.specs.declared.loaded.LoadedPlan.{LoadedPlan}
 use Rattle.plan_core.specs.declared.views.OpView.{OpView}
 use Rattle.status_rules.specs.Table.{status_by}
@@ -37,12 +37,15 @@ module _ (clock : ℕ) (h : LoadedPlan) (held : AreHeld clock h) where
   abbrev rows : List (OpKey × Operation)
   rows = h.contents.operations.items
 
-  abbrev standings : List Standing
-  standings = h.standings.items
+  abbrev known : List (Standing × ℤ)
+  known = known_of h
 
-  -- the view of a row with its standing
-  abbrev seen : OpKey → Operation → Standing → OpView
-  seen o op s = op_view_of P ((o, op), s)
+  size : length known ≡ length rows
+  size = length_zipped h.standings.items h.latest.starts (held.latest.size ∙ sym held.standings.size) ∙ held.standings.size
+
+  -- the view of a row with its standing and its latest start
+  abbrev seen : OpKey → Operation → Standing → ℤ → OpView
+  seen o op s v = op_view_of P ((o, op), (s, v))
 
   pub row_in_plan : (i : ℕ) (o : OpKey) (op : Operation) → slice_get rows i ≡ Some (o, op) → get P.operations o ≡ Some op
   row_in_plan i o op at = get_at operation_cmp operation_cmp_total operation_cmp-IsAntisymmetric rows held.in_order.operations i o op at
@@ -57,22 +60,24 @@ module _ (clock : ℕ) (h : LoadedPlan) (held : AreHeld clock h) where
       let ws = is_found (get P.workstations op.workstation) (held.sound.valid.have_workstations o op is) in
       (ws.0.attribute, ap (option_map (λ w. w.attribute)) ws.1)
 
-  by_standing : (o : OpKey) (op : Operation) (s : Standing) → get P.operations o ≡ Some op → IsStanding P o s → HasStatus P o (seen o op s).status
-  by_standing o op s is stands =
+  by_standing : (o : OpKey) (op : Operation) (s : Standing) (v : ℤ) → get P.operations o ≡ Some op → IsStanding P o s → HasStatus P o (seen o op s v).status
+  by_standing o op s v is stands =
       let on = its_attribute o op is in
       subst (λ a. HasStatus P o (status_by op.mark op.held op.nop a s.preds)) (sym (ap attribute_or_automatic on.1)) (status_on P o op on.0 s.preds is on.1 stands.preds)
 
-  is_op_view : (i : ℕ) (o : OpKey) (op : Operation) (s : Standing) → slice_get rows i ≡ Some (o, op) → slice_get standings i ≡ Some s → IsOpView P (seen o op s)
-  is_op_view i o op s row at =
+  is_op_view : (i : ℕ) (o : OpKey) (op : Operation) (s : Standing) (v : ℤ) → slice_get rows i ≡ Some (o, op) → slice_get known i ≡ Some (s, v) → IsOpView P (seen o op s v)
+  is_op_view i o op s v row at =
       let is = row_in_plan i o op row in
-      let stands = held.standings.each i o op s row at in
+      let both = from_zipped h.standings.items h.latest.starts i (s, v) at in
+      let stands = held.standings.each i o op s row both.0 in
       let c = its_occurrence o op is in
       record {
         op = op;
         is_in_plan = is;
         columns = (refl, refl, refl, refl, refl, refl, refl, refl, refl);
         priority = (c.0, c.1, ap priority_of c.1);
-        status = by_standing o op s is stands;
+        status = by_standing o op s v is stands;
+        latest = held.latest.each i o op v row both.1;
         waiting = stands.waiting;
       }
 
@@ -80,21 +85,21 @@ module _ (clock : ℕ) (h : LoadedPlan) (held : AreHeld clock h) where
   one_status : (o : OpKey) → IsInPlan P o → (s t : Status) → HasStatus P o s → HasStatus P o t → s ≡ t
   one_status o there s t x y = let one = each_has_one_status P held.sound.valid o there in one.2 s x ∙ sym (one.2 t y)
 
-  module _ (i k : ℕ) (o : OpKey) (op : Operation) (a : Attr) (s : Standing) (c : Occurrence) (t : Status) where
+  module _ (i k : ℕ) (o : OpKey) (op : Operation) (a : Attr) (s : Standing) (v : ℤ) (c : Occurrence) (t : Status) where
     -- the view at a place, with the priority of its occurrence and the status that follows
-    pub op_view_at : slice_get rows i ≡ Some (o, op) → slice_get standings i ≡ Some s → slice_get h.contents.occurrences.items k ≡ Some (o.occurrence, c)
+    pub op_view_at : slice_get rows i ≡ Some (o, op) → slice_get h.standings.items i ≡ Some s → slice_get h.latest.starts i ≡ Some v → slice_get h.contents.occurrences.items k ≡ Some (o.occurrence, c)
         → HasAttribute P op.workstation a → FollowsFrom op a s t
-        → slice_get (op_views h) i ≡ Some (record (seen o op s) { priority = c.priority; status = t })
-    op_view_at row at occurrence on told =
+        → slice_get (op_views h) i ≡ Some (record (seen o op s v) { priority = c.priority; status = t })
+    op_view_at row at start occurrence on told =
         let is = row_in_plan i o op row in
         let stands = held.standings.each i o op s row at in
         let terms = get_at occurrence_cmp occurrence_cmp_total occurrence_cmp-IsAntisymmetric h.contents.occurrences.items held.in_order.occurrences k o.occurrence c occurrence in
-        let priority : (seen o op s).priority ≡ c.priority = ap priority_of terms in
-        let status = one_status o (op, is, tt) (seen o op s).status t (by_standing o op s is stands) (told P o is on stands) in
-        viewed_at (op_view_of P) rows standings i (o, op) s row at ∙ (λ j. Some (record (seen o op s) { priority = priority j; status = status j }))
+        let priority : (seen o op s v).priority ≡ c.priority = ap priority_of terms in
+        let status = one_status o (op, is, tt) (seen o op s v).status t (by_standing o op s v is stands) (told P o is on stands) in
+        viewed_at (op_view_of P) rows known i (o, op) (s, v) row (zipped_at h.standings.items h.latest.starts i s v at start) ∙ (λ j. Some (record (seen o op s v) { priority = priority j; status = status j }))
 
   op_keys : map (λ v. v.key) (op_views h) ≡ keys_of rows
-  op_keys = keys_viewed (op_view_of P) (λ v. v.key) (λ p. refl) rows standings held.standings.size
+  op_keys = keys_viewed (op_view_of P) (λ v. v.key) (λ p. refl) rows known size
 
   in_plan : (o : OpKey) → Contains (keys_of rows) o → IsInPlan P o
   in_plan o has =
@@ -109,11 +114,11 @@ module _ (clock : ℕ) (h : LoadedPlan) (held : AreHeld clock h) where
   are_op_views = record {
     in_order = subst (IsStrictlySortedBy operation_cmp) (sym op_keys) held.in_order.operations;
     every = λ o. subst (λ ks. Contains ks o ↔ IsInPlan P o) (sym op_keys) (in_plan o, among_keys o);
-    each = λ v has. let x = from_viewed (op_view_of P) rows standings v has in subst (IsOpView P) x.5 (is_op_view x.0 x.1.0 x.1.1 x.2 x.3 x.4);
+    each = λ v has. let x = from_viewed (op_view_of P) rows known v has in subst (IsOpView P) x.5 (is_op_view x.0 x.1.0 x.1.1 x.2.0 x.2.1 x.3 x.4);
   }
 
-  standing_at : (i : ℕ) (o : OpKey) (op : Operation) → slice_get rows i ≡ Some (o, op) → (s : Standing) × (slice_get standings i ≡ Some s)
-  standing_at i o op row = row_at standings i (let lt = slice_get_within rows i (o, op) row in omega (arith, lt, held.standings.size))
+  known_at : (i : ℕ) (o : OpKey) (op : Operation) → slice_get rows i ≡ Some (o, op) → (x : Standing × ℤ) × (slice_get known i ≡ Some x)
+  known_at i o op row = row_at known i (let lt = slice_get_within rows i (o, op) row in omega (arith, lt, size))
 
   same_view : {a b : OpView} → Some a ≡ Some b → a ≡ b
   same_view e = cc
@@ -121,6 +126,10 @@ module _ (clock : ℕ) (h : LoadedPlan) (held : AreHeld clock h) where
   -- the view at the place of a row
   pub op_view_is : (i : ℕ) (o : OpKey) (op : Operation) (v : OpView) → slice_get rows i ≡ Some (o, op) → slice_get (op_views h) i ≡ Some v → (v.key ≡ o) × IsOpView P v
   op_view_is i o op v row at =
-      let s = standing_at i o op row in
-      let e : seen o op s.0 ≡ v = same_view (sym (viewed_at (op_view_of P) rows standings i (o, op) s.0 row s.1) ∙ at) in
-      (sym (ap (λ w. w.key) e), subst (IsOpView P) e (is_op_view i o op s.0 row s.1))
+      let x = known_at i o op row in
+      let e : seen o op x.0.0 x.0.1 ≡ v = same_view (sym (viewed_at (op_view_of P) rows known i (o, op) x.0 row x.1) ∙ at) in
+      (sym (ap (λ w. w.key) e), subst (IsOpView P) e (is_op_view i o op x.0.0 x.0.1 row x.1))
+
+  -- and there is one
+  pub op_view_there : (i : ℕ) (o : OpKey) (op : Operation) → slice_get rows i ≡ Some (o, op) → (v : OpView) × (slice_get (op_views h) i ≡ Some v)
+  op_view_there i o op row = let x = known_at i o op row in (seen o op x.0.0 x.0.1, viewed_at (op_view_of P) rows known i (o, op) x.0 row x.1)

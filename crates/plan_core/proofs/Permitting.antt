@@ -1,24 +1,23 @@
 -- What the status of a reported operation says of the lines that its report goes by.
 use Rattle.std.proofs.Common.{◌≡◌, ◌⊎◌, inl, inr, refl, sym, ap, subst, ◌∙◌, arith, ℕ, ◌<◌, true, false, true≢false, Some}
-use Rattle.std.specs.FinMap.{empty_of_len, get, get-empty}
 use Rattle.plan_basics.specs.declared.Attr.{Attr}
 use Rattle.plan_basics.specs.declared.Attr.TheVariants as attribute
 use Rattle.plan_basics.specs.declared.Refusal.{Refusal}
 use Rattle.plan_basics.specs.declared.Refusal.TheVariants as refusal
 use Rattle.plan_basics.specs.declared.keys.OpKey.{OpKey}
 use Rattle.plan_basics.specs.Refusals.{number_of}
-use Rattle.plan_laws.proofs.Looks.{none_is_not_some}
 use Rattle.plan_model.specs.Holdings.{given_out, holds_server, takes}
 use Rattle.plan_model.specs.Plan.{HasAttribute, Operation, Plan}
 use Rattle.plan_model.specs.Starting.{MayStart}
 use Rattle.plan_model.specs.Status.{HasStatus, IsReady}
 use Rattle.plan_records.specs.Accepting.{MayBeEnded, MayBeInterrupted, MayBeUndecided}
-use Rattle.plan_records.specs.Contents.{AreValidContents, plan_of}
+use Rattle.plan_records.specs.Contents.{plan_of}
 use Rattle.plan_records.specs.declared.contents.PlanContents.{PlanContents}
+use Rattle.special_resources.specs.Holdings.{Held}
 use Rattle.status_rules.specs.declared.Status.{Status}
 use Rattle.status_rules.specs.declared.Status.TheVariants as status
 use Rattle.workstations.specs.declared.Capacity.{Capacity}
-use Rattle.plan_choice.specs.Choosing.{HasGivenOut, IsStartLine, is_ready_status}
+use Rattle.plan_choice.specs.Choosing.{AreHeldIn, HasTaken, IsStartLine, is_ready_status}
 use Rattle.plan_core.specs.Requested.{AllHold, FailsFirstAt, IsReported}
 use Rattle.plan_core.specs.declared.checks.Reported.{Reported}
 
@@ -121,13 +120,28 @@ module _ (P : Plan) (o : OpKey) where
   start_number op m refusal.ResourceBusy never = omega arith
   start_number op m r never = absurd (never tt)
 
-pub has_given_out : (c : PlanContents) (clock : ℕ) (op : Operation) (taken : Capacity) → given_out (plan_of clock c) op.workstation ≡ taken → HasGivenOut (plan_of clock c) c op taken
-has_given_out c clock op taken e = record { workstations = refl; given = e }
+-- what is given out at its workstation, and what is held, as its plan stands
+pub has_taken : (c : PlanContents) (clock : ℕ) (op : Operation) (taken : Capacity) (held : Held) → given_out (plan_of clock c) op.workstation ≡ taken → AreHeldIn (plan_of clock c) held
+    → HasTaken (plan_of clock c) c op taken held
+has_taken c clock op taken held given holders = record { workstations = refl; resources = refl; given = given; holders = holders }
 
--- what its status and its workstation allow: it needs no special resources
-module _ (c : PlanContents) (h : AreValidContents c) (clock : ℕ) (o : OpKey) (op : Operation) (is : get (plan_of clock c).operations o ≡ Some op) (m : ℕ) where
-  pub line_by_line : (Q : Refusal → Type 0) → (Q refusal.WrongStatus → MayStart (plan_of clock c) o op m refusal.WrongStatus) → ((r : Refusal) → IsStartLine r → Q r → MayStart (plan_of clock c) o op m r)
-      → (r : Refusal) → Q r → MayStart (plan_of clock c) o op m r
-  line_by_line Q may lines refusal.WrongStatus q = may q
-  line_by_line Q may lines refusal.ResourceBusy q = λ r usage e. absurd (none_is_not_some usage (sym (get-empty _ r) ∙ ap (λ n. get n r) (sym (empty_of_len op.needs (h.loadable.without_needs o op is))) ∙ e))
-  line_by_line Q may lines r q = lines r tt q
+-- what its status allows, and all other lines
+pub line_by_line : (P : Plan) (o : OpKey) (op : Operation) (m : ℕ) (Q : Refusal → Type 0) → MayStart P o op m refusal.WrongStatus → ((r : Refusal) → IsStartLine r → Q r → MayStart P o op m r)
+    → (r : Refusal) → Q r → MayStart P o op m r
+line_by_line P o op m Q may lines refusal.WrongStatus q = may
+line_by_line P o op m Q may lines r q = lines r tt q
+
+-- before its workstation is looked at
+pub before_line : (P : Plan) (o : OpKey) (op : Operation) (m : ℕ) (lower : Refusal) → number_of lower < 9 → MayStart P o op m lower
+before_line P o op m refusal.WrongStatus less = absurd (omega (arith, less))
+before_line P o op m refusal.Held less = absurd (omega (arith, less))
+before_line P o op m refusal.TooEarly less = absurd (omega (arith, less))
+before_line P o op m refusal.Closed less = absurd (omega (arith, less))
+before_line P o op m refusal.NoServer less = absurd (omega (arith, less))
+before_line P o op m refusal.NoFixed less = absurd (omega (arith, less))
+before_line P o op m refusal.ResourceBusy less = absurd (omega (arith, less))
+before_line P o op m r less = tt
+
+-- what is reported of an operation at one clock is so at each
+pub reported_at : (c : PlanContents) (o : OpKey) (x : Reported) → IsReported (plan_of 0 c) o x → (clock : ℕ) → IsReported (plan_of clock c) o x
+reported_at c o x is clock = record { operation = is.operation; attribute = is.attribute; status = is.status; alone = is.alone }

@@ -1,5 +1,5 @@
 -- What a request that may be accepted leads to.
-use Rattle.std.proofs.Common.{◌≡◌, sym, ap, subst, ◌∙◌, true≢false, ℕ, true, pos, List, Option, Some, None}
+use Rattle.std.proofs.Common.{◌≡◌, sym, ap, subst, ◌∙◌, arith, ℕ, true, pos, List, Option, Some, None, is_some, Result, Ok, Err, IfOk}
 use Rattle.plan_basics.specs.Minutes.{IsMoment}
 use Rattle.plan_basics.specs.declared.Refusal.{Refusal}
 use Rattle.plan_basics.specs.declared.Refusal.TheVariants as refusal
@@ -14,10 +14,12 @@ use Rattle.plan_records.specs.Answer.{accepted}
 use Rattle.plan_records.specs.Contents.{plan_of}
 use Rattle.plan_records.specs.Step.{Step}
 use Rattle.plan_records.specs.declared.Request.{Request}
+use Rattle.plan_records.specs.declared.What.{What}
 use Rattle.plan_records.specs.declared.What.TheVariants as what
 use Rattle.plan_records.specs.declared.contents.PlanContents.{PlanContents}
 use Rattle.plan_core.specs.Held.{IsHeld, plan_held}
-use Rattle.plan_core.specs.Requested.{AreMadeBy}
+use Rattle.plan_core.specs.Requested.{AreMadeBy, IsClear, IsFree}
+use Rattle.plan_core.specs.State.{IsServed, PreparedState}
 use Rattle.plan_core.specs.declared.loaded.LoadedPlan.{LoadedPlan}
 
 -- what is held is sound
@@ -25,12 +27,50 @@ pub held_sound : (clock : ℕ) (x : Option LoadedPlan) → IsHeld clock x → Is
 held_sound clock None e = subst (λ n. IsSound (record no_plan { clock = n })) (sym e) no_plan_is_sound
 held_sound clock (Some h) held = held.sound
 
+-- ---- what is free to be made
+
+module _ (P : Plan) (m : ℕ) (w : What) (free : IsFree P m w) where
+  pub has_plan : NeedsPlan w → P.loaded ≡ true
+  has_plan = free refusal.NotLoaded (omega arith)
+
+  pub has_draft : (draft : Option Plan) → w ≡ what.Load draft → is_some draft ≡ true
+  has_draft draft is = subst (λ v. MayBeDone P m v refusal.BadPlan) is (free refusal.BadPlan (omega arith))
+
+  -- past the number of a plan that lacks, nothing of the plan stands in its way
+  pub is_clear : IsClear P m w
+  is_clear refusal.Past past = absurd (omega (arith, past))
+  is_clear refusal.MomentRange past = absurd (omega (arith, past))
+  is_clear refusal.NotLoaded past = absurd (omega (arith, past))
+  is_clear r past = free r (omega (arith, past))
+
+-- what a request that is served asks of a plan doesn't go by the plan's clock
+pub clear_at : (c : PlanContents) (k clock m : ℕ) (w : What) → IsServed w → IsClear (plan_of k c) m w → IsClear (plan_of clock c) m w
+clear_at c k clock m (what.Load draft) served h = h
+clear_at c k clock m what.Tick served h = h
+clear_at c k clock m (what.Started o) served h = h
+clear_at c k clock m (what.Ended o) served h = h
+clear_at c k clock m (what.Error o code) served h = h
+clear_at c k clock m (what.Interrupted o) served h = h
+clear_at c k clock m (what.Unknown o) served h = h
+clear_at c k clock m (what.Hold o) served h = h
+clear_at c k clock m (what.Release o) served h = h
+clear_at c k clock m (what.Nop o) served h = h
+clear_at c k clock m (what.Unnop o) served h = h
+clear_at c k clock m (what.Rerun o) served h = h
+clear_at c k clock m (what.Complete o) served h = h
+clear_at c k clock m (what.DeleteOccurrence o) served h = h
+clear_at c k clock m (what.SetAvailable r available) served h = h
+clear_at c k clock m (what.ReplaceIntervals v items) served h = h
+clear_at c k clock m w served h = absurd served
+
+-- ---- what is made
+
 module _ (P : Plan) (q : Request) (allows : (r : Refusal) → MayBeAccepted P q r) where
-  pub needs_loaded : NeedsPlan q.what → P.loaded ≡ true
+  needs_loaded : NeedsPlan q.what → P.loaded ≡ true
   needs_loaded = allows refusal.NotLoaded
 
-  pub denotes : q.what ≡ what.Load None → ⊥
-  denotes e = true≢false (sym (subst (λ w. MayBeDone P (minute_of q.at) w refusal.BadPlan) e (allows refusal.BadPlan)))
+  pub freed : (at : ℕ) → q.at ≡ pos at → IsFree P at q.what
+  freed at is r past = subst (λ z. MayBeAccepted P (record { at = z; what = q.what }) r) is (allows r)
 
   module _ (at : ℕ) (is : q.at ≡ pos at) (new : PlanContents) (made : AreMadeBy P q.what new) where
     in_range : IsMoment at
@@ -42,7 +82,7 @@ module _ (P : Plan) (q : Request) (allows : (r : Refusal) → MayBeAccepted P q 
         (clock_keeps_sound made.changed at in_range (changed_loaded P made.changed q.what needs_loaded made.is_request made.changes)
         (every_change_keeps_sound q.what P made.changed q.at sound allows made.is_request made.changes))
 
-    pub accepted_step : (after : Plan) (os : List OpKey) → IsChosen (plan_of at new) at os → after ≡ named os (plan_of at new) → Step P q (accepted os) after
+    accepted_step : (after : Plan) (os : List OpKey) → IsChosen (plan_of at new) at os → after ≡ named os (plan_of at new) → Step P q (accepted os) after
     accepted_step after os chosen after_is = record {
       none_refuses = allows;
       is_request = made.is_request;
@@ -51,3 +91,9 @@ module _ (P : Plan) (q : Request) (allows : (r : Refusal) → MayBeAccepted P q 
       is_chosen = subst (λ z. IsChosen (record made.changed { clock = minute_of z }) (minute_of z) os) (sym is) (subst (λ (Q : Plan). IsChosen Q at os) (made.plan at) chosen);
       is_after = after_is ∙ ap (named os) (made.plan at) ∙ ap (λ z. named os (record made.changed { clock = minute_of z })) (sym is);
     }
+
+    -- so of what is settled, if it is
+    pub if_settled : {A : PreparedState → Type 0} → ((p : PreparedState) → Step P q (accepted p.named) p.plan → A p) → (answer : Result PreparedState Refusal)
+        → IfOk answer (λ p. IsChosen (plan_of at new) at p.named) → IfOk answer (λ p. p.plan ≡ named p.named (plan_of at new)) → IfOk answer A
+    if_settled f (Ok p) chosen is_named = f p (accepted_step p.plan p.named chosen is_named)
+    if_settled f (Err e) chosen is_named = chosen

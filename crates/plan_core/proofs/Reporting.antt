@@ -12,7 +12,7 @@ use Rattle.plan_records.specs.Accepting.{MayBeDone, OfOperation}
 use Rattle.plan_records.specs.Contents.{plan_of}
 use Rattle.plan_records.specs.declared.What.{What}
 use Rattle.plan_records.specs.declared.contents.PlanContents.{PlanContents}
-use Rattle.plan_core.specs.Requested.{AllHold, FailsAt, FailsAtIn, FailsFirstAt, IsBarred, IsPermitted, IsReported, MeetsAll, MeetsAllIn}
+use Rattle.plan_core.specs.Requested.{AllHold, FailsAt, FailsFirstAt, FailsPastKeys, IsBarred, IsPermitted, IsReported, MeetsAll}
 use Rattle.plan_core.specs.declared.checks.Reported.{Reported}
 
 -- ---- one operation's lines
@@ -27,14 +27,15 @@ module _ (P : Plan) (o : OpKey) (rest : Operation → Refusal → Type 0) where
   not_of_found op is refusal.UnknownOperation past never may = absurd (omega (arith, past))
   not_of_found op is r past never may = never (may op is)
 
--- what all plans say, these contents' plan says
-pub all_in : {T E : Type 0} (c : PlanContents) (x : Reported) (lines : Plan → OpKey → Refusal → Type 0) (r : Result T E) → OnOk r (MeetsAll x lines) → OnOk r (MeetsAllIn c x lines)
-all_in c x lines (Ok t) h = λ clock o. h (plan_of clock c) o
-all_in c x lines (Err e) h = tt
+-- what all plans say, these contents' plan says of the operation, at each clock
+module _ (c : PlanContents) (o : OpKey) (x : Reported) (lines : Plan → OpKey → Refusal → Type 0) (known : (clock : ℕ) → IsReported (plan_of clock c) o x) where
+  pub met_at : {T E : Type 0} (r : Result T E) → OnOk r (MeetsAll x lines) → OnOk r ((clock : ℕ) → AllHold (lines (plan_of clock c) o))
+  met_at (Ok t) h = λ clock. h (plan_of clock c) o (known clock)
+  met_at (Err e) h = tt
 
-pub fails_in : {T : Type 0} (c : PlanContents) (x : Reported) (lines : Plan → OpKey → Refusal → Type 0) (r : Result T Refusal) → IfErr r (FailsAt x lines) → IfErr r (λ e. (e ≡ refusal.Memory) ⊎ FailsAtIn c x lines e)
-fails_in c x lines (Ok t) h = tt
-fails_in c x lines (Err e) h = inr (h.0, λ clock o. h.1 (plan_of clock c) o)
+  pub failed_at : {T : Type 0} (r : Result T Refusal) → IfErr r (FailsAt x lines) → IfErr r (λ e. (e ≡ refusal.Memory) ⊎ ((clock : ℕ) → FailsPastKeys (lines (plan_of clock c) o) e))
+  failed_at (Ok t) h = tt
+  failed_at (Err e) h = inr (λ clock. (h.0, h.1 (plan_of clock c) o (known clock)))
 
 -- ---- the request
 
@@ -67,11 +68,32 @@ module _ (c : PlanContents) (m : ℕ) (w : What) (o : OpKey) (lines : Plan → O
             ),
           )
 
-      pub if_met : {T : Type 0} (answer : Result T Refusal) → OnOk answer (MeetsAllIn c x its) → OnOk answer ((clock : ℕ) → IsPermitted (plan_of clock c) m v)
-      if_met (Ok t) all = λ clock. permitted clock (all clock o (known clock))
+      pub if_met : {T : Type 0} (answer : Result T Refusal) → OnOk answer ((clock : ℕ) → AllHold (its (plan_of clock c) o)) → OnOk answer ((clock : ℕ) → IsPermitted (plan_of clock c) m v)
+      if_met (Ok t) all = λ clock. permitted clock (all clock)
       if_met (Err e) all = tt
 
-      pub if_failed : {T : Type 0} (answer : Result T Refusal) → IfErr answer (λ r. (r ≡ refusal.Memory) ⊎ FailsAtIn c x its r) → IfErr answer (λ r. (r ≡ refusal.Memory) ⊎ ((clock : ℕ) → IsBarred (plan_of clock c) m v r))
+      pub if_failed : {T : Type 0} (answer : Result T Refusal) → IfErr answer (λ r. (r ≡ refusal.Memory) ⊎ ((clock : ℕ) → FailsPastKeys (its (plan_of clock c) o) r))
+          → IfErr answer (λ r. (r ≡ refusal.Memory) ⊎ ((clock : ℕ) → IsBarred (plan_of clock c) m v r))
       if_failed (Ok t) h = tt
       if_failed (Err e) (inl memory) = inl memory
-      if_failed (Err e) (inr h) = inr (λ clock. barred clock e h.0 (h.1 clock o (known clock)))
+      if_failed (Err e) (inr h) = inr (λ clock. barred clock e (h clock).0 (h clock).1)
+
+      -- what all plans say
+      pub report_met : {T : Type 0} (answer : Result T Refusal) → OnOk answer (MeetsAll x its) → OnOk answer ((clock : ℕ) → IsPermitted (plan_of clock c) m v)
+      report_met answer h = if_met answer (met_at c o x its known answer h)
+
+      pub report_failed : {T : Type 0} (answer : Result T Refusal) → IfErr answer (FailsAt x its) → IfErr answer (λ r. (r ≡ refusal.Memory) ⊎ ((clock : ℕ) → IsBarred (plan_of clock c) m v r))
+      report_failed answer h = if_failed answer (failed_at c o x its known answer h)
+
+-- ---- a request that asks these lines of the plan
+
+module _ (c : PlanContents) (m : ℕ) (w : What) (v : What) (is : v ≡ w) where
+  pub if_all_hold : {T : Type 0} (answer : Result T Refusal) → OnOk answer ((clock : ℕ) → AllHold (MayBeDone (plan_of clock c) m w)) → OnOk answer ((clock : ℕ) → IsPermitted (plan_of clock c) m v)
+  if_all_hold (Ok t) all = λ clock. subst (IsPermitted (plan_of clock c) m) (sym is) (all clock)
+  if_all_hold (Err e) all = tt
+
+  pub if_one_fails : {T : Type 0} (answer : Result T Refusal) → IfErr answer (λ r. (r ≡ refusal.Memory) ⊎ ((clock : ℕ) → FailsPastKeys (MayBeDone (plan_of clock c) m w) r))
+      → IfErr answer (λ r. (r ≡ refusal.Memory) ⊎ ((clock : ℕ) → IsBarred (plan_of clock c) m v r))
+  if_one_fails (Ok t) h = tt
+  if_one_fails (Err e) (inl memory) = inl memory
+  if_one_fails (Err e) (inr h) = inr (λ clock. subst (λ z. IsBarred (plan_of clock c) m z e) (sym is) (let past = (h clock).0 in omega (arith, past), (h clock).1))

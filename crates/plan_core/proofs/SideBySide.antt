@@ -24,6 +24,26 @@ module _ {X : Type 0} where
   left_from (y ∷ xs) zero x e = let same : y ≡ x = cc in ap (λ z. z ∷ xs) same
   left_from (y ∷ xs) (suc i) x e = left_from xs i x e
 
+module _ {X Y : Type 0} where
+  -- what stands at a place in both lists stands there side by side
+  pub zipped_at : (xs : List X) (ys : List Y) (i : ℕ) (x : X) (y : Y) → slice_get xs i ≡ Some x → slice_get ys i ≡ Some y → slice_get (zip xs ys) i ≡ Some (x, y)
+  zipped_at [] ys i x y e f = cc
+  zipped_at (a ∷ xs) [] i x y e f = cc
+  zipped_at (a ∷ xs) (b ∷ ys) zero x y e f = let p : a ≡ x = cc in let q : b ≡ y = cc in λ j. Some (p j, q j)
+  zipped_at (a ∷ xs) (b ∷ ys) (suc i) x y e f = zipped_at xs ys i x y e f
+
+  -- and comes from there
+  pub from_zipped : (xs : List X) (ys : List Y) (i : ℕ) (z : X × Y) → slice_get (zip xs ys) i ≡ Some z → (slice_get xs i ≡ Some z.0) × (slice_get ys i ≡ Some z.1)
+  from_zipped [] ys i z e = cc
+  from_zipped (a ∷ xs) [] i z e = cc
+  from_zipped (a ∷ xs) (b ∷ ys) zero z e = let p : ◌≡◌ {A = X × Y} (a, b) z = cc in (λ j. Some (p j).0, λ j. Some (p j).1)
+  from_zipped (a ∷ xs) (b ∷ ys) (suc i) z e = from_zipped xs ys i z e
+
+  pub length_zipped : (xs : List X) (ys : List Y) → length ys ≡ length xs → length (zip xs ys) ≡ length xs
+  length_zipped [] ys e = refl
+  length_zipped (a ∷ xs) [] e = absurd (omega (arith, e))
+  length_zipped (a ∷ xs) (b ∷ ys) e = ap suc (length_zipped xs ys (omega (arith, e)))
+
 module _ {K V X W : Type 0} (view : (K × V) × X → W) where
   abbrev pub viewed : List (K × V) → List X → List W
   viewed rows xs = map view (zip rows xs)

@@ -11,7 +11,6 @@ use Rattle.plan_records.specs.Accepting.{MayBeAccepted, MayBeDone}
 use Rattle.plan_records.specs.Answer.{Answer}
 use Rattle.plan_records.specs.Changes.{Changes, IsRequest}
 use Rattle.plan_records.specs.Contents.{plan_of, AreContents}
-use Rattle.plan_records.specs.Drafts.{IsLoadable}
 use Rattle.plan_records.specs.Run.{Answers, plain, usable}
 use Rattle.plan_records.specs.Step.{Receipts}
 use Rattle.plan_records.specs.declared.Request.{Request}
@@ -70,14 +69,21 @@ MeetsAllIn c x lines = (clock : ℕ) (o : OpKey) → IsReported (plan_of clock c
 abbrev pub FailsAtIn : PlanContents → Reported → (Plan → OpKey → Refusal → Type 0) → Refusal → Type 0
 FailsAtIn c x lines r = (5 < number_of r) × ((clock : ℕ) (o : OpKey) → IsReported (plan_of clock c) o x → FailsFirstAt (lines (plan_of clock c) o) r)
 
--- contents in order, of the plan to which the request changes P, at whatever clock, and it can be loaded
+-- nothing that the request asks of the plan at minute m is wanting, past the numbers of moments and of a plan that lacks
+abbrev pub IsClear : Plan → ℕ → What → Type 0
+IsClear P m w = (r : Refusal) → 3 < number_of r → MayBeDone P m w r
+
+-- of these lines, r's has the least number that refuses, past that of an unknown operation
+abbrev pub FailsPastKeys : (Refusal → Type 0) → Refusal → Type 0
+FailsPastKeys lines r = (5 < number_of r) × FailsFirstAt lines r
+
+-- contents in order, of the plan to which the request changes P, at whatever clock
 pub record AreMadeBy (P : Plan) (w : What) (new : PlanContents) : Type 0 where
   pub is_request : IsRequest w
   pub changed : Plan
   pub changes : Changes P w changed
   pub plan : (at : ℕ) → plan_of at new ≡ record changed { clock = at }
   pub in_order : AreContents new
-  pub loadable : (at : ℕ) → IsLoadable (plan_of at new)
 
 -- what a request is answered, and the plan that it leaves: a step, or want of memory, whatever receipts stand beside the plan
 abbrev pub IsAnswered : Plan → Request → Answer → Plan → Type 0

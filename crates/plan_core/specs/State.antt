@@ -35,6 +35,15 @@ IsServed (what.Ended o) = Unit {0}
 IsServed (what.Error o code) = Unit {0}
 IsServed (what.Interrupted o) = Unit {0}
 IsServed (what.Unknown o) = Unit {0}
+IsServed (what.Hold o) = Unit {0}
+IsServed (what.Release o) = Unit {0}
+IsServed (what.Nop o) = Unit {0}
+IsServed (what.Unnop o) = Unit {0}
+IsServed (what.Rerun o) = Unit {0}
+IsServed (what.Complete o) = Unit {0}
+IsServed (what.DeleteOccurrence c) = Unit {0}
+IsServed (what.SetAvailable r available) = Unit {0}
+IsServed (what.ReplaceIntervals w items) = Unit {0}
 IsServed _ = ⊥
 
 -- the plan that a prepared request leads to

@@ -1,10 +1,16 @@
 -- What is read off the plan for one operation or one occurrence, and for all of them.
-use Rattle.std.specs.Prelude.{◌≡◌, ◌↔◌, ℕ, true, List, [], map, drop, Contains, Option, Some, None}
+use Rattle.std.specs.Prelude.{◌≡◌, ◌↔◌, ℕ, ℤ, Bool, true, false, filter, List, [], map, drop, All, Contains, Option, Some, None}
 use Rattle.std.specs.Borrow.{Bor}
-use Rattle.std.specs.List.{zip}
-use Rattle.std.specs.FinMap.{get, contains_key}
+use Rattle.std.specs.List.{zip, filter_map}
+use Rattle.std.specs.FinMap.{get, contains_key, from_entries}
 use Rattle.std.specs.List.Sorted.{IsStrictlySortedBy}
-use Rattle.plan_basics.specs.Keys.{occurrence_cmp, operation_cmp}
+use Rattle.plan_basics.specs.Keys.{Name, name_cmp, occurrence_cmp, operation_cmp}
+use Rattle.std.specs.Ordering.{eq_by_cmp}
+use Rattle.ready_list.specs.Choice.{operations_of}
+use Rattle.ready_list.specs.declared.ReadyKey.{ReadyKey}
+use Rattle.ready_list.specs.declared.entry.ReadyEntry.{ReadyEntry}
+use Rattle.plan_model.specs.Ready.{IsReadyList}
+use Rattle.plan_model.specs.Starting.{IsLatestStart}
 use Rattle.plan_basics.specs.declared.Attr.{Attr}
 use Rattle.plan_basics.specs.declared.Attr.TheVariants.{Automatic}
 use Rattle.plan_basics.specs.declared.keys.OccKey.{OccKey}
@@ -30,6 +36,7 @@ pub record IsOpView (P : Plan) (v : OpView) : Type 0 where
   pub columns : (v.workstation ≡ op.workstation) × (v.duration ≡ op.duration) × (v.r1 ≡ op.r1) × (v.r2 ≡ op.r2) × (v.not_before ≡ op.not_before) × (v.deadline ≡ op.deadline) × (v.mark ≡ op.mark) × (v.held ≡ op.held) × (v.nop ≡ op.nop)
   pub priority : (c : Occurrence) × (get P.occurrences v.key.occurrence ≡ Some c) × (v.priority ≡ c.priority)
   pub status : HasStatus P v.key v.status
+  pub latest : IsLatestStart P v.key v.latest
   pub waiting : IsWaitingFor P v.key v.waiting
 
 -- the occurrence's own columns, its status, and the numbers of its operations and of those complete
@@ -43,6 +50,22 @@ pub record IsOccView (P : Plan) (v : OccView) : Type 0 where
 pub record AreOpViews (P : Plan) (views : List OpView) : Type 0 where
   pub in_order : IsStrictlySortedBy operation_cmp (map (λ v. v.key) views)
   pub every : (o : OpKey) → Contains (map (λ v. v.key) views) o ↔ IsInPlan P o
+  pub each : (v : OpView) → Contains views v → IsOpView P v
+
+-- whether an operation is on this workstation; not where there is none
+abbrev pub is_at_workstation : Name → Option Operation → Bool
+is_at_workstation w None = false
+is_at_workstation w (Some op) = eq_by_cmp name_cmp op.workstation w
+
+-- whether o is an operation on this workstation
+abbrev pub is_on : Plan → Name → OpKey → Bool
+is_on P w o = is_at_workstation w (get P.operations o)
+
+-- what is ready on this workstation, in the order of the ready list
+pub record AreReadyViews (P : Plan) (w : Name) (views : List OpView) : Type 0 where
+  pub keys : List ReadyKey
+  pub is_ready_list : IsReadyList P keys
+  pub in_order : map (λ v. v.key) views ≡ filter (is_on P w) (operations_of keys)
   pub each : (v : OpView) → Contains views v → IsOpView P v
 
 -- all occurrences of the plan, in key order
@@ -65,8 +88,8 @@ abbrev pub attribute_or_automatic : Option Attr → Attr
 attribute_or_automatic None = Automatic
 attribute_or_automatic (Some a) = a
 
--- the view of an operation of a plan, by its row and its standing
-abbrev pub op_view_of : Plan → (OpKey × Operation) × Standing → OpView
+-- the view of an operation of a plan, by its row, its standing and its latest start
+abbrev pub op_view_of : Plan → (OpKey × Operation) × (Standing × ℤ) → OpView
 op_view_of P x = record {
   key = x.0.0;
   workstation = x.0.1.workstation;
@@ -79,8 +102,9 @@ op_view_of P x = record {
   held = x.0.1.held;
   nop = x.0.1.nop;
   priority = priority_of (get P.occurrences x.0.0.occurrence);
-  status = status_by x.0.1.mark x.0.1.held x.0.1.nop (attribute_or_automatic (attribute_at P x.0.1.workstation)) x.1.preds;
-  waiting = x.1.waiting;
+  status = status_by x.0.1.mark x.0.1.held x.0.1.nop (attribute_or_automatic (attribute_at P x.0.1.workstation)) x.1.0.preds;
+  latest = x.1.1;
+  waiting = x.1.0.waiting;
 }
 
 -- the view of an occurrence, by its row and the numbers of its operations
@@ -94,9 +118,13 @@ occ_view_of x = record {
   complete = x.1.complete;
 }
 
+-- the standing and the latest start of each operation
+abbrev pub known_of : LoadedPlan → List (Standing × ℤ)
+known_of h = zip h.standings.items h.latest.starts
+
 -- the views of all operations that are held, in the order of their rows
 abbrev pub op_views : LoadedPlan → List OpView
-op_views h = map (op_view_of (plan_of 0 h.contents)) (zip h.contents.operations.items h.standings.items)
+op_views h = map (op_view_of (plan_of 0 h.contents)) (zip h.contents.operations.items (known_of h))
 
 -- so of all occurrences
 abbrev pub occ_views : LoadedPlan → List OccView
@@ -106,6 +134,22 @@ occ_views h = map occ_view_of (zip h.contents.occurrences.items h.tallies.items)
 abbrev pub ops_from : Option (Bor LoadedPlan) → ℕ → List OpView
 ops_from None place = []
 ops_from (Some h) place = drop place (op_views h.now)
+
+-- the view of an operation, if it is held
+abbrev pub view_at : LoadedPlan → OpKey → Option OpView
+view_at h o = get {R = operation_cmp} (from_entries (map (λ v. (v.key, v)) (op_views h))) o
+
+-- the views of these entries' operations, in their order
+abbrev pub ready_views : LoadedPlan → List ReadyEntry → List OpView
+ready_views h es = filter_map (λ e. view_at h e.key.op) es
+
+-- those from a place on
+abbrev pub ready_from : LoadedPlan → List ReadyEntry → ℕ → List OpView
+ready_from h es place = ready_views h (drop place es)
+
+-- a plan is held, and has the operations of these entries
+abbrev pub AreEntriesOf : LoadedPlan → List ReadyEntry → Type 0
+AreEntriesOf h es = IsHeldAtSome h × All (λ e. IsInPlan (plan_of 0 h.contents) e.key.op) es
 
 -- so of the occurrences
 abbrev pub occs_from : Option (Bor LoadedPlan) → ℕ → List OccView

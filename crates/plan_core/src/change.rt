@@ -33,6 +33,7 @@ pub fn copy_of(alloc: Global, contents: &PlanContents) -> Result<PlanContents, A
 {
     Ok(PlanContents {
         workstations: copies_of(alloc, &contents.workstations)?,
+        resources: Vec::from_slice(alloc, &contents.resources)?,
         occurrences: Vec::from_slice(alloc, &contents.occurrences)?,
         operations: Vec::from_slice(alloc, &contents.operations)?,
         pairs: Vec::from_slice(alloc, &contents.pairs)?,
@@ -78,13 +79,17 @@ pub fn with_marks(
     requires { AreContents contents.now }
     ensures plan { IfOk result (λ new. (clock : ℕ) → plan_of clock new ≡ revised (is_among keys.now) (with_mark mark) (plan_of clock contents.now)) }
     ensures in_order { IfOk result (λ new. AreContents new) }
+    ensures keys { IfOk result (λ new. keys_of new.operations.items ≡ keys_of contents.now.operations.items) }
+    ensures pairs { IfOk result (λ new. new.pairs.items ≡ contents.now.pairs.items) }
 {
     let workstations = copies_of(alloc, &contents.workstations)?;
+    let resources = Vec::from_slice(alloc, &contents.resources)?;
     let occurrences = Vec::from_slice(alloc, &contents.occurrences)?;
     let operations = rows_with(alloc, &contents.operations, keys, &mark)?;
     let pairs = Vec::from_slice(alloc, &contents.pairs)?;
     Ok(PlanContents {
         workstations,
+        resources,
         occurrences,
         operations,
         pairs,

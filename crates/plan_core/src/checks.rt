@@ -3,7 +3,7 @@ ghost use Rattle.std.specs.Prelude.{◌≡◌, ◌⊎◌, ℕ, true, Some, None,
 ghost use Rattle.std.specs.FinMap.{get};
 ghost use Rattle.plan_basics.specs.declared.keys.OpKey.{OpKey};
 ghost use Rattle.plan_choice.specs.Choosing.{is_ready_status};
-ghost use Rattle.plan_core.specs.Requested.{FailsAt, FailsAtIn, IsBarred, IsPermitted, IsReported, MeetsAll, MeetsAllIn};
+ghost use Rattle.plan_core.specs.Requested.{AllHold, FailsAt, FailsPastKeys, IsBarred, IsPermitted, IsReported, MeetsAll};
 ghost use Rattle.plan_core.specs.State.{IsServed};
 ghost use Rattle.plan_core.specs.Views.{IsHeldAtSome};
 ghost use Rattle.plan_model.specs.Holdings.{given_out, holds_server, takes};
@@ -12,9 +12,12 @@ ghost use Rattle.plan_records.specs.Accepting.{MayBeEnded, MayBeInterrupted, May
 ghost use Rattle.plan_records.specs.Contents.{plan_of, AreValidContents};
 ghost use Rattle.plan_records.specs.declared.What.{What};
 
+use super::commands::{
+    check_available, check_completed, check_deleted, check_flagged, check_open_by, check_rerun,
+};
 use super::loaded::LoadedPlan;
 use plan_basics::{Attr, Moment, OpKey, Refusal};
-use plan_choice::{check_start, given_out_of};
+use plan_choice::{check_start, given_out_of, holdings_of};
 use plan_model::OperationRecord;
 use plan_records::{PlanContents, PlanDraft, What, known_workstation, place_of};
 use plan_status::{attribute_of, status_with};
@@ -101,41 +104,46 @@ fn check_started_on_automatic(reported: &Reported) -> Result<(), Refusal>
 }
 
 // Where starts are reported, a start may be reported of what is allowed to start: it is ready or interrupted, and its
-// workstation has all that it needs.
+// workstation and the special resources that it needs are free for it.
 fn check_started_where_reported(
     alloc: Global,
     contents: &PlanContents,
+    key: &OpKey,
     reported: &Reported,
     at: Moment,
 ) -> Result<(), Refusal>
     requires contents { AreValidContents contents.now }
-    requires operation { (o : OpKey) × IsReported (plan_of 0 contents.now) o reported.now }
+    requires operation { IsReported (plan_of 0 contents.now) key.now reported.now }
     requires attribute { reported.now.attribute ≡ Attr.StartAndCompletion }
-    ensures ok { OnOk result (MeetsAllIn contents.now reported.now (λ P o. MayBeStarted P at o reported.now.operation (Some reported.now.attribute))) }
-    ensures refused { IfErr result (λ r. (r ≡ Refusal.Memory) ⊎ FailsAtIn contents.now reported.now (λ P o. MayBeStarted P at o reported.now.operation (Some reported.now.attribute)) r) }
+    ensures ok { OnOk result ((clock : ℕ) → AllHold (MayBeStarted (plan_of clock contents.now) at key.now reported.now.operation (Some reported.now.attribute))) }
+    ensures refused { IfErr result (λ r. (r ≡ Refusal.Memory) ⊎ ((clock : ℕ) → FailsPastKeys (MayBeStarted (plan_of clock contents.now) at key.now reported.now.operation (Some reported.now.attribute)) r)) }
 {
     if !is_startable(reported.status) {
         return Err(Refusal::WrongStatus);
     }
     let taken = given_out_at(alloc, contents, &reported.operation)?;
-    check_start(contents, &reported.operation, &taken, at)
+    let holdings = holdings_of(alloc, contents)?;
+    check_start(contents, key, &reported.operation, &taken, &holdings, at)
 }
 
 // What stands in the way of a start.
 fn check_started(
     alloc: Global,
     contents: &PlanContents,
+    key: &OpKey,
     reported: &Reported,
     at: Moment,
 ) -> Result<(), Refusal>
     requires contents { AreValidContents contents.now }
-    requires operation { (o : OpKey) × IsReported (plan_of 0 contents.now) o reported.now }
-    ensures ok { OnOk result (MeetsAllIn contents.now reported.now (λ P o. MayBeStarted P at o reported.now.operation (Some reported.now.attribute))) }
-    ensures refused { IfErr result (λ r. (r ≡ Refusal.Memory) ⊎ FailsAtIn contents.now reported.now (λ P o. MayBeStarted P at o reported.now.operation (Some reported.now.attribute)) r) }
+    requires operation { IsReported (plan_of 0 contents.now) key.now reported.now }
+    ensures ok { OnOk result ((clock : ℕ) → AllHold (MayBeStarted (plan_of clock contents.now) at key.now reported.now.operation (Some reported.now.attribute))) }
+    ensures refused { IfErr result (λ r. (r ≡ Refusal.Memory) ⊎ ((clock : ℕ) → FailsPastKeys (MayBeStarted (plan_of clock contents.now) at key.now reported.now.operation (Some reported.now.attribute)) r)) }
 {
     match reported.attribute {
         Attr::Automatic => check_started_on_automatic(reported),
-        Attr::StartAndCompletion => check_started_where_reported(alloc, contents, reported, at),
+        Attr::StartAndCompletion => check_started_where_reported(
+            alloc, contents, key, reported, at,
+        ),
         Attr::CompletionOnly | Attr::Nonreporting => Err(Refusal::WrongWorkstation),
     }
 }
@@ -220,14 +228,23 @@ pub fn check_report(
     ensures ok { OnOk result ((clock : ℕ) → IsPermitted (plan_of clock loaded.now.contents) at what.now) }
     ensures refused { IfErr result (λ r. (r ≡ Refusal.Memory) ⊎ ((clock : ℕ) → IsBarred (plan_of clock loaded.now.contents) at what.now r)) }
 {
+    let contents = &loaded.contents;
     match what {
         What::Tick => Ok(()),
         What::Started(key) => {
-            check_started(alloc, &loaded.contents, &reported_of(loaded, key)?, at)
+            check_started(alloc, contents, key, &reported_of(loaded, key)?, at)
         }
         What::Ended(key) | What::Error(key, _) => check_ended(&reported_of(loaded, key)?),
         What::Interrupted(key) => check_interrupted(&reported_of(loaded, key)?),
         What::Unknown(key) => check_undecided(&reported_of(loaded, key)?),
+        What::Hold(key) | What::Release(key) | What::Nop(key) | What::Unnop(key) => {
+            check_flagged(&reported_of(loaded, key)?)
+        }
+        What::Rerun(key) => check_rerun(alloc, loaded, key, &reported_of(loaded, key)?),
+        What::Complete(key) => check_completed(&reported_of(loaded, key)?),
+        What::DeleteOccurrence(key) => check_deleted(loaded, key),
+        What::SetAvailable(name, _) => check_available(contents, name),
+        What::ReplaceIntervals(name, intervals) => check_open_by(alloc, contents, name, intervals),
         _ => unreachable!(),
     }
 }

@@ -8,7 +8,7 @@ use super::views::{OccView, OpView, occ_view, op_view};
 use std::marker::Model;
 
 /// The operations of the plan from a place on, in key order. Contracts see the list of those that are left.
-#[derive(Debug, Drop)]
+#[derive(Drop)]
 pub struct Ops<'a> {
     loaded: Option<&'a LoadedPlan>,
     place: usize,
@@ -55,7 +55,7 @@ impl<'a> Iterator for Ops<'a> {
 }
 
 /// The occurrences of the plan from a place on, in key order. Contracts see the list of those that are left.
-#[derive(Debug, Drop)]
+#[derive(Drop)]
 pub struct Occs<'a> {
     loaded: Option<&'a LoadedPlan>,
     place: usize,

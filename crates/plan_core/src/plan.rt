@@ -1,12 +1,12 @@
 // The plan in memory, and the steps that requests take in it.
-ghost use Rattle.std.specs.Prelude.{◌≡◌, ◌≢◌, ◌⊎◌, pos, true, map, All, Some, None, IfOk, IfErr, OnOk};
+ghost use Rattle.std.specs.Prelude.{◌≡◌, ◌⊎◌, ℕ, pos, map, All, Some, None, IfOk, IfErr, OnOk};
 ghost use Rattle.plan_basics.specs.declared.Refusal.{Refusal};
 ghost use Rattle.plan_model.specs.Plan.{no_plan};
 ghost use Rattle.plan_model.specs.Valid.{IsSound};
 ghost use Rattle.plan_records.specs.declared.What.{What};
 ghost use Rattle.plan_records.specs.declared.Request.{Request};
 ghost use Rattle.plan_records.specs.Answer.{accepted, refused, answer_of};
-ghost use Rattle.plan_records.specs.Accepting.{MayBeAccepted, NeedsPlan};
+ghost use Rattle.plan_records.specs.Accepting.{MayBeAccepted};
 ghost use Rattle.plan_records.specs.Step.{Step};
 ghost use Rattle.plan_core.specs.Requested.{AreMadeBy, IsAnswered, IsFree, IsStopped};
 ghost use Rattle.plan_core.specs.State.{IsServed, IsPreparedFor, plan_after, AnswersAll};
@@ -18,7 +18,7 @@ use super::requests::{changed, drafted};
 use super::settle::settle;
 use plan_basics::{Moment, OpKey, Refusal};
 use plan_records::{PlanContents, Reply, Request, What};
-use std::alloc::{AllocError, Global};
+use std::alloc::Global;
 use std::marker::Model;
 
 /// The plan in memory, with its clock. Contracts see it as that plan.
@@ -91,17 +91,17 @@ impl Plan {
         Ok(at)
     }
 
-    // What a request that may be accepted makes of what the plan holds.
-    fn contents_after(&self, what: &What) -> Result<PlanContents, AllocError>
+    // What a request that may be accepted makes of what the plan holds. The error is always `Memory`.
+    fn contents_after(&self, what: &What) -> Result<PlanContents, Refusal>
         requires served { IsServed what.now }
-        requires loaded { NeedsPlan what.now → self.now.plan.loaded ≡ true }
-        requires denotes { what.now ≢ What.Load None }
-        ensures { IfOk result (AreMadeBy self.now.plan what.now) }
+        requires free { (at : ℕ) × IsFree self.now.plan at what.now }
+        ensures made { IfOk result (AreMadeBy self.now.plan what.now) }
+        ensures refused { IfErr result (λ r. r ≡ Refusal.Memory) }
     {
         if let What::Load(draft) = what {
-            drafted(self.alloc, draft.as_ref().unwrap())
+            Ok(drafted(self.alloc, draft.as_ref().unwrap())?)
         } else {
-            changed(self.alloc, &self.loaded.as_ref().unwrap().contents, what)
+            changed(self.alloc, self.loaded.as_ref().unwrap(), what)
         }
     }
 
@@ -116,7 +116,7 @@ impl Plan {
     {
         let at = self.check(request)?;
         let contents = self.contents_after(&request.what)?;
-        Ok(settle(self.alloc, &contents, at)?)
+        settle(self.alloc, &contents, at)
     }
 
     /// Takes the step that was prepared for this plan, and gives the operations that are named to start, in order. It takes

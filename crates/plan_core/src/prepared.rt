@@ -7,7 +7,7 @@ use std::marker::Model;
 
 /// A request that is accepted, with all that it takes: the plan that it leads to, and the operations that are named to
 /// start. Contracts see it as that plan and those keys.
-#[derive(Debug, Drop)]
+#[derive(Drop)]
 pub struct Prepared {
     pub(crate) clock: Moment,
     pub(crate) loaded: LoadedPlan,

@@ -2,13 +2,14 @@
 ghost use Rattle.std.specs.Prelude.{◌≡◌, ◌↔◌, true, IfSome, IsSome};
 ghost use Rattle.std.specs.FinMap.{contains_key};
 ghost use Rattle.plan_model.specs.Plan.{IsInPlan};
-ghost use Rattle.plan_core.specs.Views.{IsOpView, IsOccView, AreOpViews, AreOccViews};
+ghost use Rattle.plan_core.specs.Views.{AreReadyViews, IsOpView, IsOccView, AreOpViews, AreOccViews};
 
 use super::listing::{Occs, Ops};
 use super::plan::Plan;
+use super::readying::Ready;
 use super::views::{OccView, OpView, occ_view, op_view};
-use plan_basics::{OccKey, OpKey};
-use plan_records::{occurrence_place, place_of};
+use plan_basics::{OccKey, OpKey, WsName};
+use plan_records::{occurrence_place, place_of, workstation_place};
 
 impl Plan {
     /// Whether a plan is loaded.
@@ -50,5 +51,16 @@ impl Plan {
         ensures { AreOccViews self.now.plan result }
     {
         Occs::new(self.loaded.as_ref())
+    }
+
+    /// What is ready on a workstation, in the order of the ready list, held operations too; `None` where the workstation
+    /// isn't in the plan.
+    pub fn ready(&self, workstation: &WsName) -> Option<Ready<'_>>
+        ensures some { IsSome result ↔ (contains_key self.now.plan.workstations workstation.now ≡ true) }
+        ensures views { IfSome result (AreReadyViews self.now.plan workstation.now) }
+    {
+        let loaded = self.loaded.as_ref()?;
+        workstation_place(&loaded.contents.workstations, workstation)?;
+        Some(Ready::new(loaded, loaded.ready.of_ws(workstation)))
     }
 }

@@ -30,6 +30,9 @@ pub struct OpView {
     /// Its occurrence's priority, from 1 (low) to 9 (urgent).
     pub priority: u8,
     pub status: Status,
+    /// In minutes from 1972-01-01T00:00; it may lie before that. To end by its deadline and leave time for all that comes
+    /// after it, the operation has to start by then.
+    pub latest: i64,
     /// How many of its predecessors are neither deleted nor satisfied.
     pub waiting: u32,
 }
@@ -58,6 +61,7 @@ pub(crate) fn op_view(loaded: &LoadedPlan, place: usize) -> OpView
     let standing = loaded.standings[place];
     let occurrence = known_occurrence(&loaded.contents.occurrences, &key.occurrence);
     let attribute = attribute_of(&loaded.contents, &operation);
+    let latest = loaded.latest.of(place);
     OpView {
         key,
         workstation: operation.workstation,
@@ -71,6 +75,7 @@ pub(crate) fn op_view(loaded: &LoadedPlan, place: usize) -> OpView
         nop: operation.nop,
         priority: loaded.contents.occurrences[occurrence].1.priority,
         status: status_with(&operation, attribute, &standing),
+        latest,
         waiting: standing.waiting,
     }
 }

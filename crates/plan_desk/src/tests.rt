@@ -58,7 +58,7 @@ struct Row {
     status: u8,
 }
 
-const ROWS: [Row; 10] = [
+const ROWS: [Row; 11] = [
     Row {
         what: "the successor waits",
         text: b"W,CPU1,A,,,,,,,
@@ -163,6 +163,18 @@ I,CPU1,1972-01-01T00:00,2071-12-31T23:59,2,0,0,,,
 X,CUSTFILE,Y,,,,,,,
 O,DAILY,2024-03-01T22:00,5,2024-03-02T05:00,,,,,
 P,DAILY,2024-03-01T22:00,10,CPU1,30,0,0,,
+",
+        at: "2024-03-01T22:00",
+        out: "accepted\nstarts DAILY/2024-03-01T22:00/010\n",
+        status: 0,
+    },
+    Row {
+        what: "a need of no resource",
+        text: b"W,CPU1,A,,,,,,,
+I,CPU1,1972-01-01T00:00,2071-12-31T23:59,2,0,0,,,
+O,DAILY,2024-03-01T22:00,5,2024-03-02T05:00,,,,,
+P,DAILY,2024-03-01T22:00,10,CPU1,30,0,0,,
+N,DAILY,2024-03-01T22:00,10,CUSTFILE,X,K,,,
 ",
         at: "2024-03-01T22:00",
         out: "refused 21 BadPlan\n",

@@ -7,7 +7,6 @@ ghost use Rattle.csv.specs.Reading.{strip_bom, source_of, reader_state, stops_re
 ghost use Rattle.csv.specs.declared.parser.State.TheVariants as st;
 ghost use Rattle.plan_model.specs.Plan.{Plan};
 ghost use Rattle.plan_items.specs.Items.{fields_of};
-ghost use Rattle.plan_records.specs.Drafts.{IsLoadable};
 ghost use Rattle.plan_records.specs.Records.{records_of};
 ghost use Rattle.plan_import.specs.Records.{IsReadingOf, IsPlain, TurnsTo};
 ghost use Rattle.plan_import.specs.Texts.{TextDenotes};
@@ -163,15 +162,15 @@ fn read_records<R: Read>(
     }
 }
 
-/// The plan that a text denotes, if it denotes one that can be loaded so far. The text is all that the reader gives: records
-/// of ten fields, without a header; a byte order mark at its front is left out. A text that can't be read to its end is a
-/// fault: `Reader` exactly where a read failed, or else `Memory`. (The records and what they denote: this project's own.)
+/// The plan that a text denotes, if it denotes one. The text is all that the reader gives: records of ten fields, without
+/// a header; a byte order mark at its front is left out. A text that can't be read to its end is a fault: `Reader` exactly
+/// where a read failed, or else `Memory`. (The records and what they denote: this project's own.)
 pub fn read_plan<R: Read>(
     alloc: Global,
     reader: &mut Watched<R>,
 ) -> Result<Option<PlanDraft>, ImportFault>
     ensures plan { IfOk result (λ found. IfSome (R.remaining (inner_of reader.old)) (λ text.
-        MatchOption found ((P : Plan) → IsLoadable P → ¬ TextDenotes text P) (λ draft. TextDenotes text draft × IsLoadable draft))) }
+        MatchOption found ((P : Plan) → ¬ TextDenotes text P) (λ draft. TextDenotes text draft))) }
     ensures reader_fault { (result ≡ Err ImportFault.Reader) ↔ (failed_of reader.new ≡ true) }
 {
     let Some(records) = read_records(alloc, reader)? else {

@@ -35,6 +35,16 @@ P,DAILY,2024-03-01T22:00,10,SETP,30,0,0,,
 P,DAILY,2024-03-01T22:00,20,CPU1,60,2,1,,
 ";
 
+// A special resource, an operation that needs it, and a pair that leads to the operation of the smaller key.
+const TAPES: &[u8] = b"W,CPU1,A,,,,,,,
+X,TAPE,N,,,,,,,
+O,DAILY,2024-03-01T22:00,5,2024-03-02T05:00,,,,,
+P,DAILY,2024-03-01T22:00,10,CPU1,30,0,0,,
+P,DAILY,2024-03-01T22:00,20,CPU1,60,0,0,,
+N,DAILY,2024-03-01T22:00,20,TAPE,X,K,,,
+D,DAILY,2024-03-01T22:00,20,DAILY,2024-03-01T22:00,10,,,
+";
+
 /// Gives at most `step` bytes a call, and fails at the call `fault`; the calls are counted from 1.
 #[derive(Drop)]
 struct Pieces<'a> {
@@ -186,8 +196,24 @@ fn several_workstations(rt: HostRuntime) -> Result<(), Fail> {
 }
 
 #[test]
+fn special_resource_and_descending_pair(rt: HostRuntime) -> Result<(), Fail> {
+    let mut reader = Watched::new(TAPES);
+    let draft = read_plan(rt.alloc(), &mut reader)?.ok_or("no draft")?;
+    let contents = draft.contents();
+    let [(_, available)] = contents.resources.as_slice() else {
+        return Err("one special resource")?;
+    };
+    assert!(rt; !*available);
+    let [(first, _), (second, _)] = contents.operations.as_slice() else {
+        return Err("two operations")?;
+    };
+    assert!(rt; contents.pairs.as_slice() == [(*second, *first)].as_slice());
+    Ok(())
+}
+
+#[test]
 fn texts_that_denote_no_plan(rt: HostRuntime) -> Result<(), Fail> {
-    let texts: [(&str, &[u8]); 4] = [
+    let texts: [(&str, &[u8]); 6] = [
         ("an empty text", b""),
         (
             "an occurrence without operations",
@@ -196,6 +222,24 @@ I,CPU1,1972-01-01T00:00,2071-12-31T23:59,2,0,0,,,
 O,DAILY,2024-03-01T22:00,5,2024-03-02T05:00,,,,,
 P,DAILY,2024-03-01T22:00,10,CPU1,30,0,0,,
 O,BILLING,2024-03-01T23:00,7,2024-03-02T03:00,,,,,
+",
+        ),
+        (
+            "a need of an unknown special resource",
+            b"W,CPU1,A,,,,,,,
+O,DAILY,2024-03-01T22:00,5,2024-03-02T05:00,,,,,
+P,DAILY,2024-03-01T22:00,10,CPU1,30,0,0,,
+N,DAILY,2024-03-01T22:00,10,TAPE,X,K,,,
+",
+        ),
+        (
+            "a path that returns to its start",
+            b"W,CPU1,A,,,,,,,
+O,DAILY,2024-03-01T22:00,5,2024-03-02T05:00,,,,,
+P,DAILY,2024-03-01T22:00,10,CPU1,30,0,0,,
+P,DAILY,2024-03-01T22:00,20,CPU1,60,0,0,,
+D,DAILY,2024-03-01T22:00,10,DAILY,2024-03-01T22:00,20,,,
+D,DAILY,2024-03-01T22:00,20,DAILY,2024-03-01T22:00,10,,,
 ",
         ),
         ("the byte 255 in a name", b"W,CP\xff1,A,,,,,,,\n"),

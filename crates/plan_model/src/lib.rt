@@ -3,6 +3,7 @@
 #![tactic(auto)]
 
 use plan_basics::{Moment, WsName};
+use special_resources::Needs;
 use status_rules::Mark;
 use std::marker::Model;
 
@@ -14,7 +15,7 @@ pub struct Occurrence {
 }
 
 /// An operation: what was planned of it, and what was reported. Contracts see it as the record `Operation` of the
-/// definitions, with no needs of special resources.
+/// definitions.
 #[derive(Clone, Copy, Debug)]
 pub struct OperationRecord {
     /// The workstation that carries it out.
@@ -28,6 +29,8 @@ pub struct OperationRecord {
     /// It doesn't start before this moment.
     pub not_before: Moment,
     pub deadline: Moment,
+    /// Its needs of special resources.
+    pub needs: Needs,
     /// What was reported of it.
     pub mark: Mark,
     /// An operator holds it: it neither starts nor passes.
@@ -39,13 +42,12 @@ pub struct OperationRecord {
 impl Model for OperationRecord {
     ghost use Rattle.plan_model.specs.Plan.{Operation};
     ghost use Rattle.plan_model.specs.Code.{operation_code};
-    ghost use Rattle.std.specs.FinMap as map;
 
     ghost Value = { Operation };
 
     ghost coded = { operation_code };
 
-    ghost view = { λ a. record { workstation = a.workstation; duration = a.duration; r1 = a.r1; r2 = a.r2; not_before = a.not_before; deadline = a.deadline; needs = map.empty; mark = a.mark; held = a.held; nop = a.nop } };
+    ghost view = { λ a. record { workstation = a.workstation; duration = a.duration; r1 = a.r1; r2 = a.r2; not_before = a.not_before; deadline = a.deadline; needs = a.needs; mark = a.mark; held = a.held; nop = a.nop } };
 
-    ghost inverse = { λ v. record { workstation = v.workstation; duration = v.duration; r1 = v.r1; r2 = v.r2; not_before = v.not_before; deadline = v.deadline; mark = v.mark; held = v.held; nop = v.nop } };
+    ghost inverse = { λ v. record { workstation = v.workstation; duration = v.duration; r1 = v.r1; r2 = v.r2; not_before = v.not_before; deadline = v.deadline; needs = v.needs; mark = v.mark; held = v.held; nop = v.nop } };
 }

@@ -9,12 +9,11 @@ use Rattle.plan_items.specs.Items.{Fields, fields_of, IsItem, Says}
 use Rattle.plan_items.proofs.ItemLaws.{one_item}
 use Rattle.plan_records.specs.declared.contents.PlanContents.{PlanContents}
 use Rattle.plan_records.specs.Contents.{plan_of, AreDraftContents}
-use Rattle.plan_records.specs.Drafts.{IsLoadable}
 use Rattle.plan_records.specs.Loading.{CanBeLoaded, AreContentsOf}
 use Rattle.plan_records.specs.Records.{records_of, StandsIn, IsItemOfPlan, AreItems, Denotes}
 use Rattle.plan_records.proofs.Needed.{needed}
 use Rattle.plan_records.proofs.Made.{are_items}
-use Rattle.plan_records.proofs.MadeDrafts.{some_workstation, some_occurrence, is_draft, is_loadable}
+use Rattle.plan_records.proofs.MadeDrafts.{some_workstation, some_occurrence, is_draft}
 
 -- ---- one record after another
 abbrev Records : Type 0
@@ -57,30 +56,24 @@ items_legal (r ∷ rs) (y ∷ ys) h = All-cons IsItem y ys h.0.0 (items_legal rs
 -- ---- the plan
 module _ (records : List Fields) (items : List Item) (said : AllZip Says records items) where
   pub are_draft_contents : (c : PlanContents) → AreContentsOf items c → AreDraftContents c
-  are_draft_contents c made = record {
-    in_order = made.in_order;
-    draft = is_draft items c (items_legal records items said) made;
-    loadable = is_loadable items c (items_legal records items said) made;
-  }
+  are_draft_contents c made = record { in_order = made.in_order; draft = is_draft items c (items_legal records items said) made }
 
-  pub are_denoted : (c : PlanContents) → AreContentsOf items c → Denotes records (plan_of 0 c) × IsLoadable (plan_of 0 c)
+  pub are_denoted : (c : PlanContents) → AreContentsOf items c → Denotes records (plan_of 0 c)
   are_denoted c made =
-      let legal = items_legal records items said in (
-        record {
-          draft = is_draft items c legal made;
-          clock = refl;
-          some_workstation = some_workstation items c legal made;
-          some_occurrence = some_occurrence items c legal made;
-          described = record { items = items; said = said; are = are_items items c legal made };
-        },
-        is_loadable items c legal made,
-      )
+      let legal = items_legal records items said in
+      record {
+        draft = is_draft items c legal made;
+        clock = refl;
+        some_workstation = some_workstation items c legal made;
+        some_occurrence = some_occurrence items c legal made;
+        described = record { items = items; said = said; are = are_items items c legal made };
+      }
 
-  pub none_denoted : ¬ CanBeLoaded items → (P : Plan) → IsLoadable P → ¬ Denotes records P
-  none_denoted none P loadable d =
+  pub none_denoted : ¬ CanBeLoaded items → (P : Plan) → ¬ Denotes records P
+  none_denoted none P d =
       let same = same_items records d.described.items items d.described.said said in
-      none (needed P d.draft.valid d.some_workstation d.some_occurrence loadable items (subst (AreItems (StandsIn P) (IsItemOfPlan P)) same d.described.are))
+      none (needed P d.draft.valid d.some_workstation d.some_occurrence items (subst (AreItems (StandsIn P) (IsItemOfPlan P)) same d.described.are))
 
 -- where a record says nothing
-pub none_said : (records : List Fields) → ((items : List Item) → ¬ AllZip Says records items) → (P : Plan) → IsLoadable P → ¬ Denotes records P
-none_said records none P loadable d = none d.described.items d.described.said
+pub none_said : (records : List Fields) → ((items : List Item) → ¬ AllZip Says records items) → (P : Plan) → ¬ Denotes records P
+none_said records none P d = none d.described.items d.described.said

@@ -1,5 +1,5 @@
--- The kinds of items that a plan that can be loaded has: what is read of each, and what it is known by.
-use Rattle.std.proofs.Common.{◌≡◌, ◌≢◌, refl, sym, subst, ap, ◌∙◌, ℕ, List, map, All, Contains, Option, Some}
+-- The kinds of items that a plan has: what is read of each, and what it is known by.
+use Rattle.std.proofs.Common.{◌≡◌, ◌≢◌, refl, sym, subst, ap, ◌∙◌, ℕ, Bool, List, map, All, Contains, Option, Some}
 use Rattle.std.specs.List.{filter_map}
 use Rattle.std.proofs.lemmas.List.Elements.{All-contains}
 use Rattle.plan_basics.specs.declared.Attr.{Attr}
@@ -7,6 +7,7 @@ use Rattle.plan_basics.specs.declared.keys.OccKey.{OccKey}
 use Rattle.plan_basics.specs.declared.keys.OpKey.{OpKey}
 use Rattle.plan_basics.specs.Keys.{Name}
 use Rattle.plan_basics.specs.Intervals.{OpenInterval}
+use Rattle.special_resources.specs.declared.Need.{Need}
 use Rattle.plan_model.specs.declared.Occurrence.{Occurrence}
 use Rattle.plan_items.specs.declared.Item.{Item}
 use Rattle.plan_items.specs.declared.Item.TheVariants as item
@@ -14,7 +15,7 @@ use Rattle.plan_items.specs.declared.OperationItem.{OperationItem}
 use Rattle.plan_records.specs.declared.RowKey.{RowKey}
 use Rattle.plan_records.specs.declared.RowKey.TheVariants as key
 use Rattle.plan_records.specs.Records.{key_of}
-use Rattle.plan_records.specs.Loading.{as_workstation, as_interval, as_occurrence, as_operation, as_pair}
+use Rattle.plan_records.specs.Loading.{as_workstation, as_interval, as_resource, as_occurrence, as_operation, as_pair, as_need, need_key}
 use Rattle.plan_records.proofs.Lists.{Differ, differ_filter, differ_map, from_filter, in_filter, in_map, from_map}
 use Rattle.plan_records.proofs.Tables.{same_some, no_some}
 
@@ -104,3 +105,25 @@ pair_back _ q e = cc
 
 pub pairs : IsKind as_pair (λ y. item.Dependency y.0 y.1) (λ y. y) (λ q. key.Dependency q.0 q.1)
 pairs = record { is = is_pair; tagged = λ y. refl; back = pair_back }
+
+is_resource : (a : Item) (y : Name × Bool) → as_resource a ≡ Some y → a ≡ item.Resource y.0 y.1
+is_resource (item.Resource n b) y e = ap (λ (z : Name × Bool). item.Resource z.0 z.1) (same_some (n, b) y e)
+is_resource _ y e = absurd (no_some y e)
+
+resource_back : (a : Item) (q : Name) → key_of a ≡ key.Resource q → (y : Name × Bool) × (as_resource a ≡ Some y) × (y.0 ≡ q)
+resource_back (item.Resource n b) q e = let same : n ≡ q = cc in ((n, b), refl, same)
+resource_back _ q e = cc
+
+pub resources : IsKind as_resource (λ y. item.Resource y.0 y.1) (λ y. y.0) (λ q. key.Resource q)
+resources = record { is = is_resource; tagged = λ y. refl; back = resource_back }
+
+is_need : (a : Item) (y : OpKey × Need) → as_need a ≡ Some y → a ≡ item.Need y.0 y.1
+is_need (item.Need o n) y e = ap (λ (z : OpKey × Need). item.Need z.0 z.1) (same_some (o, n) y e)
+is_need _ y e = absurd (no_some y e)
+
+need_back : (a : Item) (q : OpKey × Name) → key_of a ≡ key.Need q.0 q.1 → (y : OpKey × Need) × (as_need a ≡ Some y) × (need_key y ≡ q)
+need_back (item.Need o n) q e = let first : o ≡ q.0 = cc in let second : n.name ≡ q.1 = cc in ((o, n), refl, λ i. (first i, second i))
+need_back _ q e = cc
+
+pub needs : IsKind as_need (λ y. item.Need y.0 y.1) need_key (λ q. key.Need q.0 q.1)
+needs = record { is = is_need; tagged = λ y. refl; back = need_back }

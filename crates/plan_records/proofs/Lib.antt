@@ -1,6 +1,7 @@
 pub mod Lists
 pub mod Tables
 pub mod ItemKinds
+pub mod NeedsSaid
 pub mod Needed
 pub mod Made
 pub mod MadeDrafts
@@ -14,3 +15,6 @@ pub mod Unique
 pub mod RowPlaces
 pub mod Pairs
 pub mod MadeEntries
+pub mod Keyed
+pub mod OwnNeeds
+pub mod InOrder

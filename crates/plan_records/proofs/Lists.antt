@@ -126,3 +126,8 @@ module _ {X Y : Type 0} (f : X → Option Y) where
       rest : (o : Option Y) → Differ R (cons_option o (filter_map f xs)) → Differ R (filter_map f xs)
       rest None d = d
       rest (Some z) d = d.1
+
+-- what is the same of each element is the same of a list
+pub map_alike : {X Y : Type 0} (f g : X → Y) (xs : List X) → ((x : X) → f x ≡ g x) → map f xs ≡ map g xs
+map_alike f g [] same = refl
+map_alike f g (x ∷ xs) same = λ i. same x i ∷ map_alike f g xs same i

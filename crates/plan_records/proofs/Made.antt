@@ -1,19 +1,19 @@
--- Contents of items that can be loaded are the plan of these items.
-use Rattle.std.proofs.Common.{◌≡◌, ◌≢◌, Bool, refl, sym, subst, ap, ◌∙◌, true, List, map, All, Contains, Option, Some, option_map, is_some, true≢false}
+-- Contents of what items say are the plan of these items.
+use Rattle.std.proofs.Common.{◌≡◌, ◌≢◌, Bool, refl, sym, subst, ap, ◌∙◌, true, List, map, All, Contains, Option, Some, option_map}
 use Rattle.std.specs.List.{AllPairs, filter_map}
-use Rattle.std.specs.declared.cmp.Ordering.{Ordering}
-use Rattle.std.specs.FinMap.{get, contains_key, get-empty}
-use Rattle.std.specs.FinMap as fin
+use Rattle.std.specs.FinMap.{get, contains_key}
 use Rattle.std.specs.Map.{keys_of}
 use Rattle.std.proofs.lemmas.List.Elements.{All-contains}
 use Rattle.std.proofs.lemmas.List.Sorted.{Contains-permutation, IsPermutation-map, IsPermutation-sym}
 use Rattle.plan_basics.specs.declared.Attr.{Attr}
 use Rattle.plan_basics.specs.declared.keys.OccKey.{OccKey}
 use Rattle.plan_basics.specs.declared.keys.OpKey.{OpKey}
-use Rattle.plan_basics.specs.Keys.{Name, name_cmp, name_cmp_total, name_cmp-IsAntisymmetric, occurrence_cmp_total, occurrence_cmp-IsAntisymmetric, operation_cmp_total, operation_cmp-IsAntisymmetric}
+use Rattle.plan_basics.specs.Keys.{Name, name_cmp_total, name_cmp-IsAntisymmetric, occurrence_cmp_total, occurrence_cmp-IsAntisymmetric, operation_cmp_total, operation_cmp-IsAntisymmetric}
 use Rattle.plan_basics.specs.Intervals.{OpenInterval}
 use Rattle.workstations.specs.Workstations.{Workstation, IsWorkstation}
-use Rattle.special_resources.specs.Holders.{Usage}
+use Rattle.special_resources.specs.declared.Need.{Need}
+use Rattle.special_resources.specs.Holdings.{usage_of}
+use Rattle.special_resources.specs.Needs.{usages_of}
 use Rattle.plan_model.specs.Plan.{Plan, Operation, IsPairOf}
 use Rattle.plan_model.specs.declared.Occurrence.{Occurrence}
 use Rattle.plan_items.specs.declared.Item.{Item}
@@ -25,10 +25,11 @@ use Rattle.plan_records.specs.declared.RowKey.{RowKey}
 use Rattle.plan_records.specs.declared.RowKey.TheVariants as key
 use Rattle.plan_records.specs.Contents.{plan_of}
 use Rattle.plan_records.specs.Records.{key_of, StandsIn, IsItemOfPlan, AreItems}
-use Rattle.plan_records.specs.Loading.{Fits, IsPairIn, IsOpening, CanOpen, intervals_of, opened_in, AreContentsOf, as_workstation, as_interval, as_occurrence, as_operation, as_pair, as_resource, keys_said, operation_of, row_of, terms_of}
-use Rattle.plan_records.proofs.Lists.{Differ, differ_from_pairs, pairs_from_differ, in_map, from_map, in_filter, from_filter, contains_none, all_by_members, Kept, differ_kept}
+use Rattle.plan_records.specs.Loading.{Fits, IsNeedIn, IsPairIn, IsOpening, CanOpen, intervals_of, opened_in, AreContentsOf, as_workstation, as_interval, as_occurrence, as_operation, as_pair, as_resource, as_need, keys_said, need_key, needs_of, operation_of, row_of, terms_of}
+use Rattle.plan_records.proofs.Lists.{Differ, differ_from_pairs, pairs_from_differ, in_map, from_map, in_filter, from_filter, all_by_members, Kept, differ_kept}
 use Rattle.plan_records.proofs.Tables.{some_is, is_found, AreApart, rows_apart, get_row, row_found, in_set, from_set}
 use Rattle.plan_records.proofs.Pairs.{pair_cmp_total, pair_cmp-IsAntisymmetric}
+use Rattle.plan_records.proofs.NeedsSaid.{NeedsDiffer, usage_got, usage_said}
 use Rattle.plan_records.proofs.Terms.{terms_there}
 use Rattle.plan_records.proofs.Openings.{in_own}
 use Rattle.plan_records.proofs.OwnTimes.{AreLegal, own_legal, intervals_apart, got_by, opened_is, first_said}
@@ -36,26 +37,26 @@ use Rattle.plan_records.proofs.ItemKinds as kinds
 use Rattle.plan_records.proofs.ItemKinds.{key_out}
 
 -- items that tie in no kind differ in their keys
-combined : (a b : Item) → Kept as_workstation (λ y z. y.0 ≢ z.0) a b → Kept as_interval (λ y z. kinds.interval_key y ≢ kinds.interval_key z) a b → Kept as_occurrence (λ y z. y.0 ≢ z.0) a b → Kept as_operation (λ y z. y.key ≢ z.key) a b → Kept as_pair (λ y z. y ≢ z) a b → Kept as_resource (λ y z. ⊥) a b → key_of a ≢ key_of b
-combined (item.Workstation n t) (item.Workstation m u) w i c o p r = λ e. w (n, t) (m, u) refl refl (cc)
-combined (item.Interval n x) (item.Interval m y) w i c o p r = λ e. let first : n ≡ m = cc in let second : x.from ≡ y.from = cc in i (n, x) (m, y) refl refl (λ j. (first j, second j))
-combined (item.Occurrence n q d) (item.Occurrence m s f) w i c o p r = λ e. c (n, record { priority = q; deadline = d }) (m, record { priority = s; deadline = f }) refl refl (cc)
-combined (item.Operation x) (item.Operation y) w i c o p r = λ e. o x y refl refl (cc)
-combined (item.Dependency x y) (item.Dependency u v) w i c o p r = λ e. let first : x ≡ u = cc in let second : y ≡ v = cc in p (x, y) (u, v) refl refl (λ j. (first j, second j))
-combined (item.Resource n a) (item.Resource m b) w i c o p r = λ e. r n m refl refl
-combined (item.Need x n) (item.Need y m) w i c o p r = λ e. r n.name m.name refl refl
-combined a b w i c o p r = λ e. cc
-
-pub no_key : {K : Type 0} (R : K → K → Ordering) (X : Type 0) (q : K) → contains_key (fin.empty {X = X} {R = R}) q ≡ true → ⊥
-no_key R X q e = true≢false (sym e ∙ ap is_some (get-empty R q))
+combined :
+    (a b : Item) → Kept as_workstation (λ y z. y.0 ≢ z.0) a b → Kept as_interval (λ y z. kinds.interval_key y ≢ kinds.interval_key z) a b → Kept as_occurrence (λ y z. y.0 ≢ z.0) a b →
+    Kept as_operation (λ y z. y.key ≢ z.key) a b → Kept as_pair (λ y z. y ≢ z) a b → Kept as_resource (λ y z. y.0 ≢ z.0) a b → Kept as_need (λ y z. need_key y ≢ need_key z) a b →
+    key_of a ≢ key_of b
+combined (item.Workstation n t) (item.Workstation m u) w i c o p r d = λ e. w (n, t) (m, u) refl refl (cc)
+combined (item.Interval n x) (item.Interval m y) w i c o p r d = λ e. let first : n ≡ m = cc in let second : x.from ≡ y.from = cc in i (n, x) (m, y) refl refl (λ j. (first j, second j))
+combined (item.Occurrence n q x) (item.Occurrence m s y) w i c o p r d = λ e. c (n, record { priority = q; deadline = x }) (m, record { priority = s; deadline = y }) refl refl (cc)
+combined (item.Operation x) (item.Operation y) w i c o p r d = λ e. o x y refl refl (cc)
+combined (item.Dependency x y) (item.Dependency u v) w i c o p r d = λ e. let first : x ≡ u = cc in let second : y ≡ v = cc in p (x, y) (u, v) refl refl (λ j. (first j, second j))
+combined (item.Resource n a) (item.Resource m b) w i c o p r d = λ e. r (n, a) (m, b) refl refl (cc)
+combined (item.Need x n) (item.Need y m) w i c o p r d = λ e. let first : x ≡ y = cc in let second : n.name ≡ m.name = cc in d (x, n) (y, m) refl refl (λ j. (first j, second j))
+combined a b w i c o p r d = λ e. cc
 
 -- the terms of an operation's occurrence
 abbrev pub terms_in : PlanContents → OperationItem → Occurrence
 terms_in c said = terms_of c.occurrences.items said.key.occurrence
 
 -- the operation that is made with them
-abbrev pub made_of : PlanContents → OperationItem → Operation
-made_of c said = operation_of (terms_in c said) said
+abbrev pub made_of : List Item → PlanContents → OperationItem → Operation
+made_of items c said = operation_of (terms_in c said) (filter_map as_need items) said
 
 module _ (items : List Item) (c : PlanContents) (legal_items : All items_of.IsItem items) (made : AreContentsOf items c) where
   abbrev P : Plan
@@ -76,6 +77,12 @@ module _ (items : List Item) (c : PlanContents) (legal_items : All items_of.IsIt
   abbrev Intervals : List (Name × OpenInterval)
   Intervals = filter_map as_interval items
 
+  abbrev Resources : List (Name × Bool)
+  Resources = filter_map as_resource items
+
+  abbrev NeedRows : List (OpKey × Need)
+  NeedRows = filter_map as_need items
+
   legal : AreLegal Intervals
   legal y has =
       let r = from_filter as_interval items y has in
@@ -85,6 +92,9 @@ module _ (items : List Item) (c : PlanContents) (legal_items : All items_of.IsIt
   kept_pairs : {Y : Type 0} (f : Item → Option Y) (R : Y → Y → Type 0) → Differ R (filter_map f items) → AllPairs (Kept f R) items
   kept_pairs f R d = pairs_from_differ (Kept f R) items (differ_kept f R items d)
 
+  pub needs_apart : NeedsDiffer NeedRows
+  needs_apart = differ_from_pairs (λ y z. need_key y ≢ need_key z) NeedRows made.items_are.needs.distinct
+
   distinct : AllPairs (λ a b. key_of a ≢ key_of b) items
   distinct = λ i j d before in_items.
       combined _ _
@@ -93,22 +103,23 @@ module _ (items : List Item) (c : PlanContents) (legal_items : All items_of.IsIt
       (kept_pairs as_occurrence (λ y z. y.0 ≢ z.0) (differ_from_pairs (λ y z. y.0 ≢ z.0) Occurrences made.items_are.occurrences.distinct) i j d before in_items)
       (kept_pairs as_operation (λ y z. y.key ≢ z.key) (differ_from_pairs (λ y z. y.key ≢ z.key) Said made.items_are.operations.distinct) i j d before in_items)
       (kept_pairs as_pair (λ y z. y ≢ z) (differ_from_pairs (λ y z. y ≢ z) Pairs made.items_are.pairs.distinct) i j d before in_items)
-      (kept_pairs as_resource (λ y z. ⊥) (subst (Differ (λ y z. ⊥)) (sym made.items_are.no_resources) tt) i j d before in_items)
+      (kept_pairs as_resource (λ y z. y.0 ≢ z.0) (differ_from_pairs (λ y z. y.0 ≢ z.0) Resources made.items_are.resources.distinct) i j d before in_items)
+      (kept_pairs as_need (λ y z. need_key y ≢ need_key z) needs_apart i j d before in_items)
 
   -- ---- rows and pairs of the contents against those of the items
   pub apart : AreApart c.operations.items
   apart = rows_apart operation_cmp_total operation_cmp-IsAntisymmetric c.operations.items made.in_order.operations
 
-  row_at : (said : OperationItem) → Contains Said said → get P.operations said.key ≡ Some (made_of c said)
-  row_at said has = get_row operation_cmp_total operation_cmp-IsAntisymmetric c.operations.items said.key (made_of c said) apart
-      (Contains-permutation (map (row_of c.occurrences.items) Said) c.operations.items (row_of c.occurrences.items said) made.operations (in_map (row_of c.occurrences.items) Said said has))
+  row_at : (said : OperationItem) → Contains Said said → get P.operations said.key ≡ Some (made_of items c said)
+  row_at said has = get_row operation_cmp_total operation_cmp-IsAntisymmetric c.operations.items said.key (made_of items c said) apart
+      (Contains-permutation (map (row_of c.occurrences.items NeedRows) Said) c.operations.items (row_of c.occurrences.items NeedRows said) made.operations (in_map (row_of c.occurrences.items NeedRows) Said said has))
 
   -- what is so of each operation that the items say is so of each of the plan
-  pub each_row : (Q : OpKey → Operation → Type 0) → ((said : OperationItem) → Contains Said said → Q said.key (made_of c said)) → (o : OpKey) (op : Operation) → get P.operations o ≡ Some op → Q o op
+  pub each_row : (Q : OpKey → Operation → Type 0) → ((said : OperationItem) → Contains Said said → Q said.key (made_of items c said)) → (o : OpKey) (op : Operation) → get P.operations o ≡ Some op → Q o op
   each_row Q so o op e =
       let has = row_found operation_cmp_total operation_cmp-IsAntisymmetric c.operations.items o op e in
-      let back = Contains-permutation c.operations.items (map (row_of c.occurrences.items) Said) (o, op) (IsPermutation-sym (map (row_of c.occurrences.items) Said) c.operations.items made.operations) has in
-      let r = from_map (row_of c.occurrences.items) Said (o, op) back in
+      let back = Contains-permutation c.operations.items (map (row_of c.occurrences.items NeedRows) Said) (o, op) (IsPermutation-sym (map (row_of c.occurrences.items NeedRows) Said) c.operations.items made.operations) has in
+      let r = from_map (row_of c.occurrences.items NeedRows) Said (o, op) back in
       subst (λ (row : OpKey × Operation). Q row.0 row.1) r.2 (so r.0 r.1)
 
   pair_at : (p : OpKey × OpKey) → Contains Pairs p → IsPairOf P.pairs p.0 p.1
@@ -123,10 +134,10 @@ module _ (items : List Item) (c : PlanContents) (legal_items : All items_of.IsIt
   pub end_there : (o : OpKey) → Contains (keys_said Said) o → contains_key P.operations o ≡ true
   end_there o has =
       let r = from_map (λ (said : OperationItem). said.key) Said o has in
-      subst (λ z. contains_key P.operations z ≡ true) r.2 (some_is (get P.operations r.0.key) (made_of c r.0) (row_at r.0 r.1))
+      subst (λ z. contains_key P.operations z ≡ true) r.2 (some_is (get P.operations r.0.key) (made_of items c r.0) (row_at r.0 r.1))
 
-  pub fits : (said : OperationItem) → Contains Said said → Fits (keys_of Stations) Occurrences said
-  fits said has = All-contains (Fits (keys_of Stations) Occurrences) Said said made.items_are.operations.fit has
+  pub fits : (said : OperationItem) → Contains Said said → Fits (keys_of Stations) Occurrences NeedRows said
+  fits said has = All-contains (Fits (keys_of Stations) Occurrences NeedRows) Said said made.items_are.operations.fit has
 
   -- ---- workstations and occurrences
   pub workstations_apart : AreApart c.workstations.items
@@ -176,6 +187,34 @@ module _ (items : List Item) (c : PlanContents) (legal_items : All items_of.IsIt
       let known = Contains-permutation (keys_of Occurrences) (keys_of c.occurrences.items) said.key.occurrence (IsPermutation-map (λ (row : OccKey × Occurrence). row.0) Occurrences c.occurrences.items made.occurrences) (fits said has).occurrence in
       terms_there c.occurrences.items made.in_order.occurrences said.key.occurrence known
 
+  -- ---- special resources and needs
+  pub resources_apart : AreApart c.resources.items
+  resources_apart = rows_apart name_cmp_total name_cmp-IsAntisymmetric c.resources.items made.in_order.resources
+
+  resource_at : (row : Name × Bool) → Contains Resources row → get P.resources row.0 ≡ Some row.1
+  resource_at row has = get_row name_cmp_total name_cmp-IsAntisymmetric c.resources.items row.0 row.1 resources_apart (Contains-permutation Resources c.resources.items row made.resources has)
+
+  pub resource_from : (r : Name) (available : Bool) → get P.resources r ≡ Some available → Contains Resources (r, available)
+  resource_from r available e =
+      Contains-permutation c.resources.items Resources (r, available) (IsPermutation-sym Resources c.resources.items made.resources)
+      (row_found name_cmp_total name_cmp-IsAntisymmetric c.resources.items r available e)
+
+  -- a special resource that is said is there
+  pub resource_there : (r : Name) → Contains (keys_of Resources) r → contains_key P.resources r ≡ true
+  resource_there r has =
+      let row = from_map (λ (row : Name × Bool). row.0) Resources r has in
+      subst (λ z. contains_key P.resources z ≡ true) row.2 (some_is (get P.resources row.0.0) row.0.1 (resource_at row.0 row.1))
+
+  -- a need is of an operation and of a special resource that are said
+  pub need_within : (said : OpKey × Need) → Contains NeedRows said → IsNeedIn (keys_said Said) (keys_of Resources) said
+  need_within said has = All-contains (IsNeedIn (keys_said Said) (keys_of Resources)) NeedRows said made.items_are.needs.within has
+
+  -- it stands in its operation
+  need_at : (o : OpKey) (need : Need) → Contains NeedRows (o, need) → (op : Operation) × (get P.operations o ≡ Some op) × (get op.needs need.name ≡ Some (usage_of need))
+  need_at o need has =
+      let r = from_map (λ (said : OperationItem). said.key) Said o (need_within (o, need) has).operation in
+      (made_of items c r.0, ap (get P.operations) (sym r.2) ∙ row_at r.0 r.1, ap (λ k. get (usages_of (needs_of k NeedRows)) need.name) r.2 ∙ usage_got NeedRows needs_apart o need has)
+
   -- ---- each item stands in the plan
   stands : (i : Item) → Contains items i → StandsIn P i
   stands (item.Workstation n t) has = ap (option_map (λ (ws : Workstation). ws.attribute)) (workstation_at (n, t) (in_filter as_workstation items (item.Workstation n t) (n, t) has refl))
@@ -186,12 +225,19 @@ module _ (items : List Item) (c : PlanContents) (legal_items : All items_of.IsIt
   stands (item.Occurrence k q d) has = let x : Occurrence = record { priority = q; deadline = d } in occurrence_at (k, x) (in_filter as_occurrence items (item.Occurrence k q d) (k, x) has refl)
   stands (item.Operation said) has =
       let in_said = in_filter as_operation items (item.Operation said) said has refl in
-      (made_of c said, terms_in c said, row_at said in_said, terms_at said in_said, record { workstation = refl; duration = refl; fixed = (refl, refl); not_before = refl; deadline = refl })
+      (made_of items c said, terms_in c said, row_at said in_said, terms_at said in_said, record { workstation = refl; duration = refl; fixed = (refl, refl); not_before = refl; deadline = refl })
   stands (item.Dependency p o) has = pair_at (p, o) (in_filter as_pair items (item.Dependency p o) (p, o) has refl)
-  stands (item.Resource n a) has = absurd (contains_none n (subst (λ ys. Contains ys n) made.items_are.no_resources (in_filter as_resource items (item.Resource n a) n has refl)))
-  stands (item.Need o need) has = absurd (contains_none need.name (subst (λ ys. Contains ys need.name) made.items_are.no_resources (in_filter as_resource items (item.Need o need) need.name has refl)))
+  stands (item.Resource n a) has = resource_at (n, a) (in_filter as_resource items (item.Resource n a) (n, a) has refl)
+  stands (item.Need o need) has = need_at o need (in_filter as_need items (item.Need o need) (o, need) has refl)
 
   -- ---- each item of the plan is the key of one
+  -- a resource that an operation needs is said of it
+  need_said : (o : OpKey) (r : Name) → contains_key (usages_of (needs_of o NeedRows)) r ≡ true → Contains (map need_key NeedRows) (o, r)
+  need_said o r e =
+      let found = is_found (get (usages_of (needs_of o NeedRows)) r) e in
+      let n = usage_said NeedRows o r found.0 found.1 in
+      subst (λ z. Contains (map need_key NeedRows) (o, z)) n.2 (in_map need_key NeedRows (o, n.0) n.1)
+
   described : (k : RowKey) → IsItemOfPlan P k → (i : Item) × Contains items i × (key_of i ≡ k)
   described (key.Workstation w) e =
       let found = is_found (get P.workstations w) e in
@@ -212,8 +258,14 @@ module _ (items : List Item) (c : PlanContents) (legal_items : All items_of.IsIt
       (each_row (λ o op. Contains keys o) (λ said has. in_map (λ (said : OperationItem). said.key) Said said has) o found.0 found.1)
   described (key.Dependency p o) e =
       key_out as_pair (λ y. item.Dependency y.0 y.1) (λ y. y) (λ q. key.Dependency q.0 q.1) kinds.pairs items (p, o) (in_map (λ (y : OpKey × OpKey). y) Pairs (p, o) (pair_from (p, o) e))
-  described (key.Resource r) e = absurd (no_key name_cmp Bool r e)
-  described (key.Need o r) (op, there, e) = absurd (each_row (λ o op. contains_key op.needs r ≡ true → ⊥) (λ said has f. no_key name_cmp Usage r f) o op there e)
+  described (key.Resource r) e =
+      let found = is_found (get P.resources r) e in
+      key_out as_resource (λ y. item.Resource y.0 y.1) (λ y. y.0) (λ q. key.Resource q) kinds.resources items r
+      (in_map (λ (y : Name × Bool). y.0) Resources (r, found.0) (resource_from r found.0 found.1))
+  described (key.Need o r) (op, there, e) =
+      let Q : OpKey → Operation → Type 0 = λ o op. contains_key op.needs r ≡ true → Contains (map need_key NeedRows) (o, r) in
+      key_out as_need (λ y. item.Need y.0 y.1) need_key (λ q. key.Need q.0 q.1) kinds.needs items (o, r)
+      (each_row Q (λ said has f. need_said said.key r f) o op there e)
   described key.Meta e = absurd e
 
   pub are_items : AreItems (StandsIn P) (IsItemOfPlan P) items

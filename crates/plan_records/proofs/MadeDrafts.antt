@@ -1,24 +1,22 @@
--- Contents of items that can be loaded are a draft that can be loaded.
-use Rattle.std.proofs.Common.{◌≡◌, Bool, refl, sym, subst, ◌∙◌, arith, ℕ, ◌<◌, ◌≤◌, true, List, map, length, All, Contains, Option, Some, None, unwrap_or, MatchOption}
+-- Contents of what items say are a draft.
+use Rattle.std.proofs.Common.{◌≡◌, Bool, refl, subst, ◌∙◌, arith, ℕ, ◌<◌, ◌≤◌, true, List, map, length, All, Contains, Option, Some, None, unwrap_or, MatchOption}
 use Rattle.std.specs.List.{filter_map}
-use Rattle.std.specs.declared.cmp.Ordering.TheVariants.{Less, Equal}
-use Rattle.std.specs.Cmp.{tied_itself}
-use Rattle.std.specs.FinMap.{get, contains_key, len, get-empty, len-empty}
-use Rattle.std.specs.FinMap as fin
+use Rattle.std.specs.FinMap.{get, contains_key, len}
 use Rattle.std.specs.FinSet as set
 use Rattle.std.proofs.lemmas.List.Elements.{All-contains}
 use Rattle.std.proofs.lemmas.List.Sorted.{length_permutation}
 use Rattle.plan_basics.specs.declared.Attr.{Attr}
 use Rattle.plan_basics.specs.declared.keys.OccKey.{OccKey}
 use Rattle.plan_basics.specs.declared.keys.OpKey.{OpKey}
-use Rattle.plan_basics.specs.Keys.{Name, name_cmp, name_cmp_total, name_cmp-IsAntisymmetric, occurrence_cmp_total, occurrence_cmp-IsAntisymmetric, operation_cmp, operation_cmp_total, operation_cmp-IsAntisymmetric}
+use Rattle.plan_basics.specs.Keys.{Name, name_cmp_total, name_cmp-IsAntisymmetric, occurrence_cmp_total, occurrence_cmp-IsAntisymmetric, operation_cmp_total, operation_cmp-IsAntisymmetric}
 use Rattle.plan_basics.specs.Minutes.{IsMoment}
-use Rattle.plan_basics.specs.Names.{IsName}
+use Rattle.plan_basics.specs.Names.{IsName, IsResourceName}
 use Rattle.workstations.specs.Workstations.{IsWorkstation}
+use Rattle.special_resources.specs.declared.Need.{Need}
 use Rattle.special_resources.specs.Holders.{Usage}
-use Rattle.operation_graph.specs.Paths.{LeadsBy, by_edge, by_more}
-use Rattle.plan_model.specs.Plan.{Plan, IsPairOf}
-use Rattle.plan_model.specs.Valid.{IsValid, IsOccurrence, IsOperation, AreOccurrences, IsWithinLimits, IsUntouched}
+use Rattle.special_resources.specs.Needs.{usages_of}
+use Rattle.plan_model.specs.Plan.{Plan}
+use Rattle.plan_model.specs.Valid.{IsValid, IsAcyclic, IsOccurrence, IsOperation, AreOccurrences, IsWithinLimits, IsUntouched}
 use Rattle.plan_model.specs.declared.Occurrence.{Occurrence}
 use Rattle.plan_items.specs.declared.Item.{Item}
 use Rattle.plan_items.specs.declared.Item.TheVariants as item
@@ -27,13 +25,15 @@ use Rattle.plan_items.specs.Items.{Fields, Says, IsOperationItem}
 use Rattle.plan_items.specs.Items as items_of
 use Rattle.plan_records.specs.declared.contents.PlanContents.{PlanContents}
 use Rattle.plan_records.specs.Contents.{plan_of}
-use Rattle.plan_records.specs.Drafts.{IsDraft, IsLoadable}
-use Rattle.plan_records.specs.Loading.{AreContentsOf, opened_in, as_workstation, as_interval, as_occurrence, as_operation, as_pair, keys_said, occurrence_of, row_of}
+use Rattle.plan_records.specs.Drafts.{IsDraft}
+use Rattle.plan_records.specs.Loading.{AreContentsOf, opened_in, as_workstation, as_interval, as_occurrence, as_operation, as_pair, as_resource, as_need, keys_said, needs_of, occurrence_of, row_of}
 use Rattle.plan_records.proofs.Lists.{from_map, from_filter, length_map}
-use Rattle.plan_records.proofs.Tables.{some_is, is_found, no_some, sorted_apart, len_rows, len_set}
+use Rattle.plan_records.proofs.Tables.{some_is, is_found, sorted_apart, len_rows, len_set}
 use Rattle.plan_records.proofs.Pairs.{pair_cmp_total, pair_cmp-IsAntisymmetric}
+use Rattle.plan_records.proofs.NeedsSaid.{usage_said, usages_count}
+use Rattle.plan_records.proofs.InOrder.{same_pairs}
 use Rattle.plan_records.proofs.ItemKinds as kinds
-use Rattle.plan_records.proofs.Made.{each_row, pair_in, end_there, fits, each_workstation, workstation_there, workstations_apart, workstation_is, terms_at, occurrence_from, occurrences_apart, apart, made_of, no_key, terms_in}
+use Rattle.plan_records.proofs.Made.{each_row, pair_in, end_there, fits, each_workstation, workstation_there, workstations_apart, workstation_is, terms_at, occurrence_from, occurrences_apart, apart, made_of, terms_in, resources_apart, resource_from, resource_there, need_within, needs_apart}
 
 module _ (items : List Item) (c : PlanContents) (legal : All items_of.IsItem items) (made : AreContentsOf items c) where
   abbrev P : Plan
@@ -51,11 +51,23 @@ module _ (items : List Item) (c : PlanContents) (legal : All items_of.IsItem ite
   abbrev Stations : List (Name × Attr)
   Stations = filter_map as_workstation items
 
+  abbrev Resources : List (Name × Bool)
+  Resources = filter_map as_resource items
+
+  abbrev NeedRows : List (OpKey × Need)
+  NeedRows = filter_map as_need items
+
   -- ---- the parts are in range
   name_legal : (row : Name × Attr) → Contains Stations row → IsName 4 row.0
   name_legal row has =
       let r = from_filter as_workstation items row has in
       subst items_of.IsItem (kinds.workstations.is r.0 row r.2) (All-contains items_of.IsItem items r.0 legal r.1)
+
+  resource_legal : (r : Name) → contains_key P.resources r ≡ true → IsResourceName r
+  resource_legal r e =
+      let found = is_found (get P.resources r) e in
+      let m = from_filter as_resource items (r, found.0) (resource_from items c legal made r found.0 found.1) in
+      subst items_of.IsItem (kinds.resources.is m.0 (r, found.0) m.2) (All-contains items_of.IsItem items m.0 legal m.1)
 
   occurrence_legal : (k : OccKey) (x : Occurrence) → get P.occurrences k ≡ Some x → IsOccurrence k x
   occurrence_legal k x e =
@@ -68,10 +80,17 @@ module _ (items : List Item) (c : PlanContents) (legal : All items_of.IsItem ite
       let r = from_filter as_operation items said has in
       subst items_of.IsItem (kinds.operations.is r.0 said r.2) (All-contains items_of.IsItem items r.0 legal r.1)
 
-  operation_legal : (said : OperationItem) → Contains Said said → IsOperation said.key (made_of c said)
+  -- a special resource that an operation uses is there
+  used_there : (o : OpKey) (r : Name) (usage : Usage) → get (usages_of (needs_of o NeedRows)) r ≡ Some usage → contains_key P.resources r ≡ true
+  used_there o r usage e =
+      let n = usage_said NeedRows o r usage e in
+      subst (λ z. contains_key P.resources z ≡ true) n.2 (resource_there items c legal made n.0.name (need_within items c legal made (o, n.0) n.1).resource)
+
+  operation_legal : (said : OperationItem) → Contains Said said → IsOperation said.key (made_of items c said)
   operation_legal said has =
       let is = said_legal said has in
-      let none : len (fin.empty {X = Usage} {R = name_cmp}) ≡ 0 = len-empty name_cmp Usage in
+      let few : length (needs_of said.key NeedRows) ≤ 16 = (fits items c legal made said has).few_needs in
+      let count = usages_count NeedRows (needs_apart items c legal made) said.key in
       record {
         key = is.key;
         workstation = is.workstation;
@@ -79,8 +98,8 @@ module _ (items : List Item) (c : PlanContents) (legal : All items_of.IsItem ite
         fixed = (omega arith, omega arith);
         not_before = is.not_before;
         deadline = due said.deadline is.deadline;
-        needs = λ r usage e. absurd (no_some usage (sym (get-empty name_cmp r) ∙ e));
-        few_needs = omega arith;
+        needs = λ r usage e. resource_legal r (used_there said.key r usage e);
+        few_needs = omega (arith, few, count);
         code = λ code e. absurd (cc);
       }
     where
@@ -88,7 +107,7 @@ module _ (items : List Item) (c : PlanContents) (legal : All items_of.IsItem ite
       due None h = (occurrence_legal said.key.occurrence (terms_in c said) (terms_at items c legal made said has)).deadline
       due (Some m) h = h
 
-  -- ---- the plan is a draft that can be loaded
+  -- ---- the plan is a draft
   occurrences_are : AreOccurrences P.occurrences P.operations
   occurrences_are = record {
     each_occurrence = occurrence_legal;
@@ -100,9 +119,8 @@ module _ (items : List Item) (c : PlanContents) (legal : All items_of.IsItem ite
         (o.0, o.2, end_there items c legal made o.0 o.1);
   }
 
-  ascends : (a b : OpKey) → LeadsBy (IsPairOf P.pairs) a b → operation_cmp a b ≡ Less
-  ascends a b (by_edge e) = (pair_in items c legal made a b e).ascending
-  ascends a b (by_more {b = m} e rest) = operation_cmp_total.trans a m b (pair_in items c legal made a m e).ascending (ascends m b rest)
+  acyclic : IsAcyclic P.pairs
+  acyclic = subst IsAcyclic (same_pairs (keys_said Said) Pairs c.pairs.items made.pairs) made.items_are.pairs.acyclic
 
   occurrences_count : len P.occurrences ≡ length Occurrences
   occurrences_count =
@@ -115,14 +133,19 @@ module _ (items : List Item) (c : PlanContents) (legal : All items_of.IsItem ite
       ∙ length_permutation (map (opened_in (filter_map as_interval items)) Stations) c.workstations.items made.workstations
       ∙ length_map (opened_in (filter_map as_interval items)) Stations
 
+  resources_count : len P.resources ≡ length Resources
+  resources_count =
+      len_rows name_cmp_total name_cmp-IsAntisymmetric c.resources.items (resources_apart items c legal made)
+      ∙ length_permutation Resources c.resources.items made.resources
+
   limits : IsWithinLimits P
   limits = record {
     workstations = let few : length Stations ≤ 99 = made.items_are.workstations.few in omega (arith, workstations_count);
-    resources = let none : len P.resources ≡ 0 = len-empty name_cmp _ in omega arith;
+    resources = let few : length Resources ≤ 999 = made.items_are.resources.few in omega (arith, resources_count);
     occurrences = let few : length Occurrences ≤ 5000 = made.items_are.occurrences.few in omega (arith, occurrences_count);
     operations =
         let rows : len P.operations ≡ length c.operations.items = len_rows operation_cmp_total operation_cmp-IsAntisymmetric c.operations.items (apart items c legal made) in
-        let same : length c.operations.items ≡ length Said = length_permutation (map (row_of c.occurrences.items) Said) c.operations.items made.operations ∙ length_map (row_of c.occurrences.items) Said in
+        let same : length c.operations.items ≡ length Said = length_permutation (map (row_of c.occurrences.items NeedRows) Said) c.operations.items made.operations ∙ length_map (row_of c.occurrences.items NeedRows) Said in
         let few : length Said ≤ 20000 = made.items_are.operations.few in
         omega arith;
     pairs =
@@ -136,12 +159,12 @@ module _ (items : List Item) (c : PlanContents) (legal : All items_of.IsItem ite
   valid = record {
     clock = omega arith;
     workstations = each_workstation items c legal made (λ w ws. IsName 4 w × IsWorkstation ws) (λ row has. (name_legal row has, workstation_is items c legal made row has));
-    resources = λ r e. absurd (no_key name_cmp Bool r e);
+    resources = resource_legal;
     occurrences = occurrences_are;
     have_workstations = each_row items c legal made (λ o op. contains_key P.workstations op.workstation ≡ true) (λ said has. let there = workstation_there items c legal made said.workstation (fits items c legal made said has).workstation in some_is (get P.workstations said.workstation) _ there.3);
-    have_resources = each_row items c legal made (λ o op. (r : Name) (usage : Usage) → get op.needs r ≡ Some usage → contains_key P.resources r ≡ true) (λ said has r usage e. absurd (no_some usage (sym (get-empty name_cmp r) ∙ e)));
+    have_resources = each_row items c legal made (λ o op. (r : Name) (usage : Usage) → get op.needs r ≡ Some usage → contains_key P.resources r ≡ true) (λ said has. used_there said.key);
     pairs = λ p o e. (end_there items c legal made p (pair_in items c legal made p o e).first, end_there items c legal made o (pair_in items c legal made p o e).second);
-    acyclic = λ a leads. let less = ascends a a leads in let tied : operation_cmp a a ≡ Equal = tied_itself operation_cmp_total a in cc;
+    acyclic = acyclic;
     limits = limits;
   }
 
@@ -153,10 +176,3 @@ module _ (items : List Item) (c : PlanContents) (legal : All items_of.IsItem ite
 
   pub is_draft : IsDraft P
   is_draft = record { valid = valid; loaded = refl; untouched = each_row items c legal made (λ o op. IsUntouched op) (λ said has. (refl, refl, refl)) }
-
-  pub is_loadable : IsLoadable P
-  is_loadable = record {
-    no_resources = len-empty name_cmp _;
-    without_needs = each_row items c legal made (λ o op. len op.needs ≡ 0) (λ said has. len-empty name_cmp Usage);
-    ascending = λ p o e. (pair_in items c legal made p o e).ascending;
-  }

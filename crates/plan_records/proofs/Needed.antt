@@ -1,32 +1,34 @@
--- Where items are those of a plan that can be loaded, they can be loaded, kind by kind.
-use Rattle.std.proofs.Common.{◌≡◌, ◌≢◌, refl, sym, subst, ap, ◌∙◌, arith, ℕ, ◌<◌, ◌≤◌, true, List, map, length, Contains, Option, Some, None, option_map}
+-- Where items are those of a plan, they can be loaded, kind by kind.
+use Rattle.std.proofs.Common.{◌≡◌, ◌≢◌, refl, sym, subst, ap, ◌∙◌, arith, ℕ, Bool, ◌<◌, ◌≤◌, true, List, map, length, Contains, Option, Some, None, option_map}
 use Rattle.std.specs.List.{filter_map}
-use Rattle.std.specs.Cmp.{nat_cmp_total}
-use Rattle.std.specs.FinMap.{get, contains_key, len, empty_of_len, get-empty, nat_cmp-IsAntisymmetric}
+use Rattle.std.specs.Cmp.{nat_cmp_total, both_ways}
+use Rattle.std.specs.FinMap.{get, contains_key, len, nat_cmp-IsAntisymmetric}
 use Rattle.std.specs.FinSet as set
-use Rattle.std.proofs.lemmas.List.Elements.{All-contains}
 use Rattle.std.proofs.lemmas.Map.Entries.{length-keys_of}
 use Rattle.plan_basics.specs.declared.Attr.{Attr}
 use Rattle.plan_basics.specs.declared.keys.OccKey.{OccKey}
 use Rattle.plan_basics.specs.declared.keys.OpKey.{OpKey}
-use Rattle.plan_basics.specs.Keys.{Name, name_cmp, name_cmp_total, name_cmp-IsAntisymmetric, occurrence_cmp_total, occurrence_cmp-IsAntisymmetric, operation_cmp_total, operation_cmp-IsAntisymmetric}
+use Rattle.plan_basics.specs.Keys.{Name, name_cmp_total, name_cmp-IsAntisymmetric, occurrence_cmp_total, occurrence_cmp-IsAntisymmetric, operation_cmp_total, operation_cmp-IsAntisymmetric}
 use Rattle.plan_basics.specs.Intervals.{OpenInterval}
 use Rattle.workstations.specs.Workstations.{Workstation, IsWorkstation}
-use Rattle.plan_model.specs.Plan.{Plan, Operation, IsPairOf}
-use Rattle.plan_model.specs.Valid.{IsValid}
+use Rattle.special_resources.specs.declared.Need.{Need}
+use Rattle.special_resources.specs.Holdings.{usage_of}
+use Rattle.special_resources.specs.Needs.{usages_of}
+use Rattle.plan_model.specs.Plan.{Plan, Operation, IsPairOf, pair_cmp}
+use Rattle.plan_model.specs.Valid.{IsValid, IsAcyclic}
 use Rattle.plan_model.specs.declared.Occurrence.{Occurrence}
 use Rattle.plan_items.specs.declared.Item.{Item}
 use Rattle.plan_items.specs.declared.Item.TheVariants as item
 use Rattle.plan_items.specs.declared.OperationItem.{OperationItem}
 use Rattle.plan_records.specs.declared.RowKey.TheVariants as key
-use Rattle.plan_records.specs.Drafts.{IsLoadable}
 use Rattle.plan_records.specs.Records.{key_of, StandsIn, IsItemOfPlan, AreItems, IsAsSaid}
-use Rattle.plan_records.specs.Loading.{own_interval, intervals_of, IsOpening, CanOpen, AreWorkstations, Fits, AreOccurrenceRows, AreOperations, occurrence_of, IsPairIn, ArePairs, CanBeLoaded, as_workstation, as_interval, as_occurrence, as_operation, as_pair, as_resource}
-use Rattle.plan_records.proofs.Lists.{Differ, differ_from_pairs, pairs_from_differ, differ_filter, differ_map, length_map, in_map, from_map, from_filter, all_by_members, no_members}
-use Rattle.plan_records.proofs.Tables.{some_is, same_some, no_some, map_count, set_count}
+use Rattle.plan_records.specs.Loading.{own_interval, intervals_of, IsOpening, CanOpen, AreWorkstations, AreResources, Fits, AreOccurrenceRows, AreOperations, occurrence_of, IsNeedIn, AreNeeds, IsPairIn, ArePairs, CanBeLoaded, as_workstation, as_interval, as_occurrence, as_operation, as_pair, as_resource, as_need, need_key, needs_of}
+use Rattle.plan_records.proofs.Lists.{Differ, differ_from_pairs, pairs_from_differ, differ_filter, differ_map, length_map, in_map, from_map, all_by_members}
+use Rattle.plan_records.proofs.Tables.{some_is, same_some, no_some, map_count, set_count, in_set, from_set, same_entries}
 use Rattle.plan_records.proofs.Pairs.{pair_cmp_total, pair_cmp-IsAntisymmetric}
 use Rattle.plan_records.proofs.Openings.{in_own, from_own, own_from}
 use Rattle.plan_records.proofs.OwnTimes.{opening_by}
+use Rattle.plan_records.proofs.NeedsSaid.{NeedsDiffer, usage_got, usage_said, usages_count}
 use Rattle.plan_records.proofs.ItemKinds as kinds
 use Rattle.plan_records.proofs.ItemKinds.{read_apart, keys_apart, read_stands, key_in, key_out}
 
@@ -35,7 +37,7 @@ pub found_attribute : (o : Option Workstation) (a : Attr) → option_map (λ ws.
 found_attribute None a e = absurd (no_some a e)
 found_attribute (Some ws) a e = (ws, refl, same_some ws.attribute a e)
 
-module _ (P : Plan) (valid : IsValid P) (some_station : 0 < len P.workstations) (some : 0 < len P.occurrences) (loadable : IsLoadable P) (items : List Item) (are : AreItems (StandsIn P) (IsItemOfPlan P) items) where
+module _ (P : Plan) (valid : IsValid P) (some_station : 0 < len P.workstations) (some : 0 < len P.occurrences) (items : List Item) (are : AreItems (StandsIn P) (IsItemOfPlan P) items) where
   apart : Differ (λ a b. key_of a ≢ key_of b) items
   apart = differ_from_pairs (λ a b. key_of a ≢ key_of b) items are.distinct
 
@@ -53,6 +55,15 @@ module _ (P : Plan) (valid : IsValid P) (some_station : 0 < len P.workstations) 
 
   abbrev OperationKeys : List OpKey
   OperationKeys = map (λ (y : OperationItem). y.key) (filter_map as_operation items)
+
+  abbrev Resources : List (Name × Bool)
+  Resources = filter_map as_resource items
+
+  abbrev ResourceNames : List Name
+  ResourceNames = map (λ (y : Name × Bool). y.0) (filter_map as_resource items)
+
+  abbrev NeedRows : List (OpKey × Need)
+  NeedRows = filter_map as_need items
 
   workstation_is : (y : Name × Attr) → Contains (filter_map as_workstation items) y → (ws : Workstation) × (get P.workstations y.0 ≡ Some ws) × (ws.attribute ≡ y.1)
   workstation_is y has = found_attribute (get P.workstations y.0) y.1 (read_stands as_workstation (λ y. item.Workstation y.0 y.1) (λ y. y.0) (λ q. key.Workstation q) kinds.workstations (StandsIn P) items are.stand y has)
@@ -117,15 +128,6 @@ module _ (P : Plan) (valid : IsValid P) (some_station : 0 < len P.workstations) 
   pairs_apart : Differ (λ a b. a ≢ b) (filter_map as_pair items)
   pairs_apart = read_apart as_pair (λ y. item.Dependency y.0 y.1) (λ y. y) (λ q. key.Dependency q.0 q.1) kinds.pairs items apart
 
-  resource_none : (r : Name) → Contains (filter_map as_resource items) r → ⊥
-  resource_none r has = let m = from_filter as_resource items r has in stands m.0 (All-contains (StandsIn P) items m.0 are.stand m.1) m.2
-    where
-      stands : (i : Item) → StandsIn P i → as_resource i ≡ Some r → ⊥
-      stands (item.Resource n a) s e = no_some a (sym (get-empty name_cmp n) ∙ ap (λ m. get m n) (sym (empty_of_len P.resources loadable.no_resources)) ∙ s)
-      stands (item.Need o need) (op, there, s) e =
-          no_some _ (sym (get-empty name_cmp need.name) ∙ ap (λ m. get m need.name) (sym (empty_of_len op.needs (loadable.without_needs o op there))) ∙ s)
-      stands _ s e = no_some r e
-
   -- ---- the intervals of each workstation
   interval_is : (y : Name × OpenInterval) → Contains Intervals y → (ws : Workstation) × (get P.workstations y.0 ≡ Some ws) × (get ws.intervals y.1.from ≡ Some y.1)
   interval_is y has = read_stands as_interval (λ y. item.Interval y.0 y.1) kinds.interval_key (λ q. key.Interval q.0 q.1) kinds.intervals (StandsIn P) items are.stand y has
@@ -182,12 +184,80 @@ module _ (P : Plan) (valid : IsValid P) (some_station : 0 < len P.workstations) 
     no_others = all_by_members (λ y. Contains Names y.0) Intervals (λ y has. let s = interval_is y has in name_in y.0 (some_is (get P.workstations y.0) s.0 s.1));
   }
 
-  fits : (y : OperationItem) → Contains (filter_map as_operation items) y → Fits Names (filter_map as_occurrence items) y
+  -- ---- special resources and needs
+  resource_is : (y : Name × Bool) → Contains Resources y → get P.resources y.0 ≡ Some y.1
+  resource_is y has = read_stands as_resource (λ y. item.Resource y.0 y.1) (λ y. y.0) (λ q. key.Resource q) kinds.resources (StandsIn P) items are.stand y has
+
+  resource_in : (r : Name) → contains_key P.resources r ≡ true → Contains ResourceNames r
+  resource_in r e = key_in as_resource (λ y. item.Resource y.0 y.1) (λ y. y.0) (λ q. key.Resource q) kinds.resources items r (are.all (key.Resource r) e)
+
+  resource_there : (r : Name) → Contains ResourceNames r → contains_key P.resources r ≡ true
+  resource_there r has =
+      let m = from_map (λ (y : Name × Bool). y.0) Resources r has in
+      subst (λ z. contains_key P.resources z ≡ true) m.2 (some_is (get P.resources m.0.0) m.0.1 (resource_is m.0 m.1))
+
+  resources_count : length Resources ≡ len P.resources
+  resources_count =
+      sym (length-keys_of Resources)
+      ∙ map_count name_cmp_total name_cmp-IsAntisymmetric ResourceNames P.resources (keys_apart as_resource (λ y. item.Resource y.0 y.1) (λ y. y.0) (λ q. key.Resource q) kinds.resources items apart) resource_there resource_in
+
+  are_resources : AreResources Resources
+  are_resources = record {
+    few = let most : len P.resources ≤ 999 = valid.limits.resources in omega (arith, resources_count);
+    distinct = pairs_from_differ (λ a b. a.0 ≢ b.0) Resources (read_apart as_resource (λ y. item.Resource y.0 y.1) (λ y. y.0) (λ q. key.Resource q) kinds.resources items apart);
+  }
+
+  need_is : (y : OpKey × Need) → Contains NeedRows y → (op : Operation) × (get P.operations y.0 ≡ Some op) × (get op.needs y.1.name ≡ Some (usage_of y.1))
+  need_is y has = read_stands as_need (λ y. item.Need y.0 y.1) need_key (λ q. key.Need q.0 q.1) kinds.needs (StandsIn P) items are.stand y has
+
+  needs_apart : NeedsDiffer NeedRows
+  needs_apart = read_apart as_need (λ y. item.Need y.0 y.1) need_key (λ q. key.Need q.0 q.1) kinds.needs items apart
+
+  are_needs : AreNeeds OperationKeys ResourceNames NeedRows
+  are_needs = record {
+    within = all_by_members (IsNeedIn OperationKeys ResourceNames) NeedRows (λ y has.
+        let is = need_is y has in
+        record {
+          operation = operation_in y.0 (some_is (get P.operations y.0) is.0 is.1);
+          resource = resource_in y.1.name (valid.have_resources y.0 is.0 is.1 y.1.name (usage_of y.1) is.2);
+        });
+    distinct = pairs_from_differ (λ a b. need_key a ≢ need_key b) NeedRows needs_apart;
+  }
+
+  -- an operation has as many needs as are said of it
+  module _ (o : OpKey) (op : Operation) (there : get P.operations o ≡ Some op) where
+    used_is : (n : Need) → Contains NeedRows (o, n) → get op.needs n.name ≡ Some (usage_of n)
+    used_is n has =
+        let is = need_is (o, n) has in
+        let one : is.0 ≡ op = same_some is.0 op (sym is.1 ∙ there) in
+        subst (λ (x : Operation). get x.needs n.name ≡ Some (usage_of n)) one is.2
+
+    needs_same : usages_of (needs_of o NeedRows) ≡ op.needs
+    needs_same = same_entries name_cmp_total name_cmp-IsAntisymmetric (usages_of (needs_of o NeedRows)) op.needs
+        (λ r usage e.
+        let n = usage_said NeedRows o r usage e in
+        subst (λ z. get op.needs z ≡ Some usage) n.2 (used_is n.0 n.1 ∙ ap (λ u. Some u) n.3))
+        (λ r usage e.
+        let k = key_in as_need (λ y. item.Need y.0 y.1) need_key (λ q. key.Need q.0 q.1) kinds.needs items (o, r) (are.all (key.Need o r) (op, there, some_is (get op.needs r) usage e)) in
+        let m = from_map need_key NeedRows (o, r) k in
+        let has : Contains NeedRows (o, m.0.1) = subst (λ z. Contains NeedRows (z, m.0.1)) (ap (λ (q : OpKey × Name). q.0) m.2) m.1 in
+        let name : m.0.1.name ≡ r = ap (λ (q : OpKey × Name). q.1) m.2 in
+        subst (λ z. get (usages_of (needs_of o NeedRows)) z ≡ get op.needs z) name (usage_got NeedRows needs_apart o m.0.1 has ∙ sym (used_is m.0.1 has)) ∙ e)
+
+    few_of : length (needs_of o NeedRows) ≤ 16
+    few_of =
+        let most : len op.needs ≤ 16 = (valid.occurrences.each_operation o op there).0.few_needs in
+        let count = usages_count NeedRows needs_apart o in
+        let same : len (usages_of (needs_of o NeedRows)) ≡ len op.needs = ap len needs_same in
+        omega (arith, most, count, same)
+
+  fits : (y : OperationItem) → Contains (filter_map as_operation items) y → Fits Names (filter_map as_occurrence items) NeedRows y
   fits y has =
       let is = operation_is y has in
       record {
         workstation = subst (Contains Names) is.4.workstation (name_in is.0.workstation (valid.have_workstations y.key is.0 is.2));
         occurrence = occurrence_in y.key.occurrence (some_is (get P.occurrences y.key.occurrence) is.1 is.3);
+        few_needs = few_of y.key is.0 is.2;
       }
 
   has_operation : (y : OccKey × Occurrence) → Contains (filter_map as_occurrence items) y → Contains (map occurrence_of OperationKeys) y.0
@@ -195,10 +265,10 @@ module _ (P : Plan) (valid : IsValid P) (some_station : 0 < len P.workstations) 
       let o = valid.occurrences.not_empty y.0 (some_is (get P.occurrences y.0) y.1 (occurrence_is y has)) in
       subst (Contains (map occurrence_of OperationKeys)) o.1 (in_map occurrence_of OperationKeys o.0 (operation_in o.0 o.2))
 
-  are_operations : AreOperations Names (filter_map as_occurrence items) (filter_map as_operation items)
+  are_operations : AreOperations Names (filter_map as_occurrence items) NeedRows (filter_map as_operation items)
   are_operations = record {
     few = let most : len P.operations ≤ 20000 = valid.limits.operations in omega (arith, operations_count);
-    fit = all_by_members (Fits Names (filter_map as_occurrence items)) (filter_map as_operation items) fits;
+    fit = all_by_members (Fits Names (filter_map as_occurrence items) NeedRows) (filter_map as_operation items) fits;
     distinct = pairs_from_differ (λ a b. a.key ≢ b.key) (filter_map as_operation items) (read_apart as_operation (λ y. item.Operation y) (λ y. y.key) (λ q. key.Operation q) kinds.operations items apart);
     not_empty = all_by_members (λ y. Contains (map occurrence_of OperationKeys) y.0) (filter_map as_occurrence items) has_operation;
   }
@@ -209,14 +279,21 @@ module _ (P : Plan) (valid : IsValid P) (some_station : 0 < len P.workstations) 
       let r = from_map (λ (z : OpKey × OpKey). z) (filter_map as_pair items) y k in
       subst (Contains (filter_map as_pair items)) r.2 r.1
 
+  pairs_same : set.from_list {R = pair_cmp} (filter_map as_pair items) ≡ P.pairs
+  pairs_same =
+      let Pairs : List (OpKey × OpKey) = filter_map as_pair items in
+      set.same_set pair_cmp_total pair_cmp-IsAntisymmetric (set.from_list Pairs) P.pairs (λ q. both_ways (set.contains (set.from_list {R = pair_cmp} Pairs) q) (set.contains P.pairs q)
+      (λ e. pair_is q (from_set pair_cmp_total pair_cmp-IsAntisymmetric Pairs q e)) (λ e. in_set pair_cmp_total pair_cmp-IsAntisymmetric Pairs q (pair_in q e)))
+
   are_pairs : ArePairs OperationKeys (filter_map as_pair items)
   are_pairs = record {
     few = let most : set.len P.pairs ≤ 100000 = valid.limits.pairs in omega (arith, set_count pair_cmp_total pair_cmp-IsAntisymmetric (filter_map as_pair items) P.pairs pairs_apart pair_is pair_in);
     within = all_by_members (IsPairIn OperationKeys) (filter_map as_pair items) (λ y has.
         let e = pair_is y has in
-        record { ascending = loadable.ascending y.0 y.1 e; first = operation_in y.0 (valid.pairs y.0 y.1 e).0; second = operation_in y.1 (valid.pairs y.0 y.1 e).1 });
+        record { first = operation_in y.0 (valid.pairs y.0 y.1 e).0; second = operation_in y.1 (valid.pairs y.0 y.1 e).1 });
     distinct = pairs_from_differ (λ a b. a ≢ b) (filter_map as_pair items) pairs_apart;
+    acyclic = subst IsAcyclic (sym pairs_same) valid.acyclic;
   }
 
   pub needed : CanBeLoaded items
-  needed = record { no_resources = no_members (filter_map as_resource items) resource_none; workstations = are_workstations; occurrences = are_occurrences; operations = are_operations; pairs = are_pairs }
+  needed = record { workstations = are_workstations; resources = are_resources; occurrences = are_occurrences; operations = are_operations; needs = are_needs; pairs = are_pairs }

@@ -180,3 +180,12 @@ module _ {K : Type 0} {R : K → K → Ordering} (total : IsTotalOrder R) (exact
 
   pub len_set : (ks : List K) → Differ (λ a b. a ≢ b) ks → set.len (set.from_list {R = R} ks) ≡ length ks
   len_set ks apart = sym (set_count ks (set.from_list ks) apart (in_set ks) (from_set ks))
+
+-- two maps of which each has what the other has are one
+pub same_entries : {K X : Type 0} {R : K → K → Ordering} → IsTotalOrder R → IsAntisymmetric R → (m n : FinMap R X) → ((k : K) (x : X) → get m k ≡ Some x → get n k ≡ Some x) → ((k : K) (x : X) → get n k ≡ Some x → get m k ≡ Some x) → m ≡ n
+same_entries {K} {X} total exact m n there back = same_map total exact m n (λ q. same q (get m q) (get n q) refl refl)
+  where
+    same : (q : K) (a b : Option X) → get m q ≡ a → get n q ≡ b → get m q ≡ get n q
+    same q (Some x) b e f = e ∙ sym (there q x e)
+    same q None None e f = e ∙ sym f
+    same q None (Some y) e f = absurd (no_some y (sym e ∙ back q y f))

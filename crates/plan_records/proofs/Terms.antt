@@ -1,6 +1,6 @@
--- Occurrences in key order, and the rows that operations make of their terms.
-use Rattle.std.proofs.Common.{◌≡◌, refl, arith, ◌+◌, get_or, sym, ap, ◌∙◌, ℕ, false, List, Contains, Some, None, unwrap_or}
-use Rattle.std.specs.FinMap.{empty, get, from_entries}
+-- Occurrences in key order, and their terms.
+use Rattle.std.proofs.Common.{◌≡◌, refl, arith, ◌+◌, get_or, sym, ap, ◌∙◌, false, List, Contains, Some, unwrap_or}
+use Rattle.std.specs.FinMap.{get, from_entries}
 use Rattle.std.specs.List.Sorted.{IsSortedBy, IsStrictlySortedBy}
 use Rattle.std.specs.Ordering.{is_lt, ordering_reverse, ordering_then}
 use Rattle.std.specs.declared.cmp.Ordering.{Ordering}
@@ -9,18 +9,11 @@ use Rattle.std.proofs.lemmas.Map.Keys.{Less-from_sorted}
 use Rattle.std.specs.Map.{keys_of}
 use Rattle.plan_basics.specs.declared.keys.OccKey.{OccKey}
 use Rattle.plan_basics.specs.declared.keys.OpKey.{OpKey}
-use Rattle.plan_basics.specs.Keys.{Name, operation_cmp, occurrence_cmp, occurrence_cmp_total, occurrence_cmp-IsAntisymmetric}
-use Rattle.status_rules.specs.declared.Mark.TheVariants.{Unmarked}
-use Rattle.plan_model.specs.Plan.{Operation}
+use Rattle.plan_basics.specs.Keys.{operation_cmp, occurrence_cmp, occurrence_cmp_total, occurrence_cmp-IsAntisymmetric}
 use Rattle.plan_model.specs.declared.Occurrence.{Occurrence}
-use Rattle.plan_items.specs.declared.OperationItem.{OperationItem}
-use Rattle.plan_records.specs.Loading.{Fits, terms_of, row_of}
+use Rattle.plan_records.specs.Loading.{terms_of}
 use Rattle.plan_records.proofs.Lists.{from_map}
-use Rattle.plan_records.proofs.Tables.{some_is, no_some, rows_apart, get_row, key_found}
-
--- an operation as its record says, with that deadline
-abbrev operation_due : OperationItem → ℕ → Operation
-operation_due said due = record { workstation = said.workstation; duration = said.duration; r1 = said.r1; r2 = said.r2; not_before = said.not_before; deadline = due; needs = empty; mark = Unmarked; held = false; nop = false }
+use Rattle.plan_records.proofs.Tables.{some_is, rows_apart, get_row, key_found}
 
 module _ (occurrences : List (OccKey × Occurrence)) where
   -- the terms that are found are those of the occurrence
@@ -31,10 +24,6 @@ module _ (occurrences : List (OccKey × Occurrence)) where
   pub found_key : (k : OccKey) (terms : Occurrence) → get {R = occurrence_cmp} (from_entries occurrences) k ≡ Some terms → Contains (keys_of occurrences) k
   found_key k terms e = key_found occurrence_cmp_total occurrence_cmp-IsAntisymmetric occurrences k (some_is _ terms e)
 
-  -- the row that an operation makes with them
-  pub row_made : (said : OperationItem) (terms : Occurrence) (due : ℕ) → get {R = occurrence_cmp} (from_entries occurrences) said.key.occurrence ≡ Some terms → due ≡ unwrap_or said.deadline terms.deadline → (said.key, operation_due said due) ≡ row_of occurrences said
-  row_made said terms due e is = ap (λ d. (said.key, operation_due said d)) (is ∙ ap (λ (t : Occurrence). unwrap_or said.deadline t.deadline) (sym (terms_found said.key.occurrence terms e)))
-
   module _ (up : IsStrictlySortedBy occurrence_cmp (keys_of occurrences)) where
     row_there : (k : OccKey) → Contains (keys_of occurrences) k → (terms : Occurrence) × (get {R = occurrence_cmp} (from_entries occurrences) k ≡ Some terms)
     row_there k has =
@@ -44,10 +33,6 @@ module _ (occurrences : List (OccKey × Occurrence)) where
     -- an occurrence that is one of them has terms
     pub terms_there : (k : OccKey) → Contains (keys_of occurrences) k → get {R = occurrence_cmp} (from_entries occurrences) k ≡ Some (terms_of occurrences k)
     terms_there k has = let r = row_there k has in r.1 ∙ ap (λ t. Some t) (sym (terms_found k r.0 r.1))
-
-    -- an operation of no occurrence doesn't fit
-    pub unknown : (names : List Name) (said : OperationItem) → None ≡ get {R = occurrence_cmp} (from_entries occurrences) said.key.occurrence → ¬ Fits names occurrences said
-    unknown names said e fits = let r = row_there said.key.occurrence fits.occurrence in no_some r.0 (e ∙ r.1)
 
 -- ---- the order of operations
 not_later : (r s : Ordering) → ordering_then r s ≡ Less → is_lt (ordering_reverse r) ≡ false

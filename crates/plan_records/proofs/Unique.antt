@@ -1,9 +1,8 @@
 -- Records denote one plan at most, and one addition at most.
-use Rattle.std.proofs.Common.{◌≡◌, refl, sym, subst, ap, ◌∙◌, ℕ, Bool, true, List, Contains, Option, Some, None, option_map, unwrap_or}
+use Rattle.std.proofs.Common.{◌≡◌, sym, subst, ap, ◌∙◌, ℕ, Bool, true, List, Contains, Some, option_map, unwrap_or}
 use Rattle.std.proofs.lemmas.List.Elements.{All-contains}
-use Rattle.std.specs.declared.cmp.Ordering.{Ordering}
-use Rattle.std.specs.Cmp.{IsTotalOrder, nat_cmp_total, both_ways}
-use Rattle.std.specs.FinMap.{FinMap, IsAntisymmetric, get, same_map, nat_cmp-IsAntisymmetric}
+use Rattle.std.specs.Cmp.{nat_cmp_total, both_ways}
+use Rattle.std.specs.FinMap.{get, nat_cmp-IsAntisymmetric}
 use Rattle.std.specs.FinSet as set
 use Rattle.plan_basics.specs.declared.Attr.{Attr}
 use Rattle.plan_basics.specs.declared.keys.OccKey.{OccKey}
@@ -21,19 +20,10 @@ use Rattle.plan_items.specs.declared.OperationItem.{OperationItem}
 use Rattle.plan_records.specs.declared.RowKey.{RowKey}
 use Rattle.plan_records.specs.declared.RowKey.TheVariants as key
 use Rattle.plan_records.specs.Records.{key_of, entered, IsAsSaid, StandsInSupplement, StandsIn, IsItemOf, IsItemOfPlan, AreItems, OnePlan, OneAddition}
-use Rattle.plan_records.proofs.Tables.{some_is, same_some, no_some}
+use Rattle.plan_records.proofs.Tables.{some_is, same_some, same_entries}
 use Rattle.plan_records.proofs.Needed.{found_attribute}
 use Rattle.plan_records.proofs.Pairs.{pair_cmp_total, pair_cmp-IsAntisymmetric}
 use Rattle.plan_records.proofs.Denoting.{same_items}
-
--- two maps of which each has what the other has are one
-same_entries : {K X : Type 0} {R : K → K → Ordering} → IsTotalOrder R → IsAntisymmetric R → (m n : FinMap R X) → ((k : K) (x : X) → get m k ≡ Some x → get n k ≡ Some x) → ((k : K) (x : X) → get n k ≡ Some x → get m k ≡ Some x) → m ≡ n
-same_entries {K} {X} total exact m n there back = same_map total exact m n (λ q. same q (get m q) (get n q) refl refl)
-  where
-    same : (q : K) (a b : Option X) → get m q ≡ a → get n q ≡ b → get m q ≡ get n q
-    same q (Some x) b e f = e ∙ sym (there q x e)
-    same q None None e f = e ∙ sym f
-    same q None (Some y) e f = absurd (no_some y (sym e ∙ back q y f))
 
 -- an item of an occurrence, an operation, a pair or a need stands in what comes in
 abbrev Stands : Supplement → Item → Type 0

@@ -11,7 +11,9 @@ use Rattle.plan_model.specs.declared.Occurrence.{Occurrence}
 use Rattle.plan_model.specs.Plan.{Plan, Operation, Supplement, pair_cmp}
 use Rattle.plan_model.specs.Valid.{IsValid}
 use Rattle.plan_records.specs.declared.contents.PlanContents.{PlanContents}
-use Rattle.plan_records.specs.Drafts.{IsDraft, IsLoadable}
+use Rattle.plan_graph.specs.PlanGraphs.{IsGraphOf}
+use Rattle.operation_graph.specs.Graphs.{Digraph}
+use Rattle.plan_records.specs.Drafts.{IsDraft}
 
 -- an occurrence with its operations and pairs
 abbrev pub supplement_of : OccKey → Occurrence → List (OpKey × Operation) → List (OpKey × OpKey) → Supplement
@@ -23,27 +25,30 @@ plan_of clock c = record {
   loaded = true;
   clock = clock;
   workstations = map.from_entries c.workstations.items;
-  resources = map.empty;
+  resources = map.from_entries c.resources.items;
   occurrences = map.from_entries c.occurrences.items;
   operations = map.from_entries c.operations.items;
   pairs = set.from_list c.pairs.items;
 }
 
--- workstations by name, occurrences and operations by key, pairs by predecessor and then successor, and each of them once
+-- workstations and special resources by name, occurrences and operations by key, pairs by predecessor and then successor, and each of them once
 pub record AreContents (c : PlanContents) : Type 0 where
   pub workstations : IsStrictlySortedBy name_cmp (keys_of c.workstations.items)
+  pub resources : IsStrictlySortedBy name_cmp (keys_of c.resources.items)
   pub occurrences : IsStrictlySortedBy occurrence_cmp (keys_of c.occurrences.items)
   pub operations : IsStrictlySortedBy operation_cmp (keys_of c.operations.items)
   pub pairs : IsStrictlySortedBy pair_cmp c.pairs.items
 
--- contents in order, of a valid plan that can be loaded so far
+-- contents in order, of a valid plan
 pub record AreValidContents (c : PlanContents) : Type 0 where
   pub in_order : AreContents c
   pub valid : IsValid (plan_of 0 c)
-  pub loadable : IsLoadable (plan_of 0 c)
 
--- contents of a draft that can be loaded so far
+-- contents in order, of a draft
 pub record AreDraftContents (c : PlanContents) : Type 0 where
   pub in_order : AreContents c
   pub draft : IsDraft (plan_of 0 c)
-  pub loadable : IsLoadable (plan_of 0 c)
+
+-- the graph of the contents' operations and pairs, by the places of the operations
+abbrev pub IsGraphFor : PlanContents → Digraph → Type 0
+IsGraphFor c g = IsGraphOf (keys_of c.operations.items) (set.from_list c.pairs.items) g

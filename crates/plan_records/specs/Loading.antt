@@ -1,9 +1,13 @@
--- What lists of items say of a plan that can be loaded so far, kind by kind.
-use Rattle.std.specs.Prelude.{◌≡◌, ◌≢◌, ◌<◌, ◌≤◌, List, [], length, map, All, Contains, Option, Some, None, cond, unwrap_or, false}
+-- What lists of items say of a plan, kind by kind.
+use Rattle.std.specs.Prelude.{◌≢◌, ◌<◌, ◌≤◌, List, length, map, All, Contains, Option, Some, None, cond, unwrap_or, Bool, false}
 use Rattle.std.specs.List.{AllPairs, filter_map}
-use Rattle.std.specs.declared.cmp.Ordering.TheVariants.{Less}
+use Rattle.std.specs.declared.cmp.Ordering.{Ordering}
+use Rattle.std.specs.FinSet.{from_list}
+use Rattle.special_resources.specs.declared.Need.{Need}
+use Rattle.special_resources.specs.Needs.{usages_of}
+use Rattle.plan_model.specs.Valid.{IsAcyclic}
 use Rattle.std.specs.FinMap as fin
-use Rattle.std.specs.Ordering.{eq_by_cmp}
+use Rattle.std.specs.Ordering.{eq_by_cmp, ordering_then}
 use Rattle.plan_basics.specs.declared.Attr.{Attr}
 use Rattle.plan_basics.specs.declared.keys.OccKey.{OccKey}
 use Rattle.plan_basics.specs.declared.keys.OpKey.{OpKey}
@@ -46,32 +50,45 @@ abbrev pub as_pair : Item → Option (OpKey × OpKey)
 as_pair (item.Dependency predecessor successor) = Some (predecessor, successor)
 as_pair _ = None
 
--- the special resource that an item says, or that an operation needs
-abbrev pub as_resource : Item → Option Name
-as_resource (item.Resource name available) = Some name
-as_resource (item.Need operation need) = Some need.name
+-- the special resource that an item says, and whether it is available
+abbrev pub as_resource : Item → Option (Name × Bool)
+as_resource (item.Resource name available) = Some (name, available)
 as_resource _ = None
+
+-- the need that an item says, with its operation
+abbrev pub as_need : Item → Option (OpKey × Need)
+as_need (item.Need operation need) = Some (operation, need)
+as_need _ = None
 
 -- the priority and deadline of an occurrence that is one of these, and zeros for any other
 abbrev pub terms_of : List (OccKey × Occurrence) → OccKey → Occurrence
 terms_of occurrences c = unwrap_or (fin.get {R = occurrence_cmp} (fin.from_entries occurrences) c) (record { priority = 0; deadline = 0 })
 
--- the operation that its record says, of an occurrence
-abbrev pub operation_of : Occurrence → OperationItem → Operation
-operation_of c said = record { workstation = said.workstation; duration = said.duration; r1 = said.r1; r2 = said.r2; not_before = said.not_before; deadline = unwrap_or said.deadline c.deadline; needs = fin.empty; mark = Unmarked; held = false; nop = false }
+-- the need, if it is of that operation
+abbrev pub own_need : OpKey → OpKey × Need → Option Need
+own_need o said = cond (eq_by_cmp operation_cmp said.0 o) (Some said.1) None
+
+-- the needs of that operation
+abbrev pub needs_of : OpKey → List (OpKey × Need) → List Need
+needs_of o needs = filter_map (own_need o) needs
+
+-- the operation that its record says, of an occurrence and with those of these needs that are its own
+abbrev pub operation_of : Occurrence → List (OpKey × Need) → OperationItem → Operation
+operation_of c needs said = record { workstation = said.workstation; duration = said.duration; r1 = said.r1; r2 = said.r2; not_before = said.not_before; deadline = unwrap_or said.deadline c.deadline; needs = usages_of (needs_of said.key needs); mark = Unmarked; held = false; nop = false }
 
 -- with its key, where these are the occurrences
-abbrev pub row_of : List (OccKey × Occurrence) → OperationItem → OpKey × Operation
-row_of occurrences said = (said.key, operation_of (terms_of occurrences said.key.occurrence) said)
+abbrev pub row_of : List (OccKey × Occurrence) → List (OpKey × Need) → OperationItem → OpKey × Operation
+row_of occurrences needs said = (said.key, operation_of (terms_of occurrences said.key.occurrence) needs said)
 
 -- the occurrence of an operation
 abbrev pub occurrence_of : OpKey → OccKey
 occurrence_of o = o.occurrence
 
--- an operation of one of these workstations and of one of these occurrences
-pub record Fits (names : List Name) (occurrences : List (OccKey × Occurrence)) (said : OperationItem) : Type 0 where
+-- an operation of one of these workstations and of one of these occurrences, which has 16 of these needs at most
+pub record Fits (names : List Name) (occurrences : List (OccKey × Occurrence)) (needs : List (OpKey × Need)) (said : OperationItem) : Type 0 where
   pub workstation : Contains names said.workstation
   pub occurrence : Contains (keys_of occurrences) said.key.occurrence
+  pub few_needs : length (needs_of said.key needs) ≤ 16
 
 -- the interval, if it is of the workstation of that name
 abbrev pub own_interval : Name → Name × OpenInterval → Option OpenInterval
@@ -112,6 +129,11 @@ pub record AreWorkstationsInOrder (said : List (Name × Attr)) (intervals : List
   pub same : IsPermutation (map (opened_in intervals) said) ordered
   pub in_order : IsStrictlySortedBy name_cmp (keys_of ordered)
 
+-- 999 special resources at most, and no two have one name
+pub record AreResources (said : List (Name × Bool)) : Type 0 where
+  pub few : length said ≤ 999
+  pub distinct : AllPairs (λ a b. a.0 ≢ b.0) said
+
 -- at least one occurrence, 5,000 at most, and no two have one key
 pub record AreOccurrenceRows (said : List (OccKey × Occurrence)) : Type 0 where
   pub some : 0 < length said
@@ -127,23 +149,53 @@ abbrev pub EachHasOperation : List OpKey → List (OccKey × Occurrence) → Typ
 EachHasOperation keys occurrences = All (λ row. Contains (map occurrence_of keys) row.0) occurrences
 
 -- 20,000 operations at most: each fits, no two have one key, and each occurrence has one
-pub record AreOperations (names : List Name) (occurrences : List (OccKey × Occurrence)) (said : List OperationItem) : Type 0 where
+pub record AreOperations (names : List Name) (occurrences : List (OccKey × Occurrence)) (needs : List (OpKey × Need)) (said : List OperationItem) : Type 0 where
   pub few : length said ≤ 20000
-  pub fit : All (Fits names occurrences) said
+  pub fit : All (Fits names occurrences needs) said
   pub distinct : AllPairs (λ a b. a.key ≢ b.key) said
   pub not_empty : EachHasOperation (keys_said said) occurrences
 
--- a pair of operations of the list, in ascending order
+-- what a need is known by: its operation, and the resource
+abbrev pub need_key : OpKey × Need → OpKey × Name
+need_key said = (said.0, said.1.name)
+
+-- by operation, then resource
+abbrev pub need_cmp : OpKey × Name → OpKey × Name → Ordering
+need_cmp a b = ordering_then (operation_cmp a.0 b.0) (name_cmp a.1 b.1)
+
+-- a need of one of these operations, of one of these resources
+pub record IsNeedIn (keys : List OpKey) (names : List Name) (said : OpKey × Need) : Type 0 where
+  pub operation : Contains keys said.0
+  pub resource : Contains names said.1.name
+
+-- each is of one of these operations and of one of these resources, and no operation needs a resource twice
+pub record AreNeeds (keys : List OpKey) (names : List Name) (said : List (OpKey × Need)) : Type 0 where
+  pub within : All (IsNeedIn keys names) said
+  pub distinct : AllPairs (λ a b. need_key a ≢ need_key b) said
+
+-- a pair of operations of the list
 pub record IsPairIn (keys : List OpKey) (p : OpKey × OpKey) : Type 0 where
-  pub ascending : operation_cmp p.0 p.1 ≡ Less
   pub first : Contains keys p.0
   pub second : Contains keys p.1
 
--- 100,000 pairs at most: each is one of these operations, and none stands twice
+-- 100,000 pairs at most: each is one of these operations, none stands twice, and no path returns to its start
 pub record ArePairs (keys : List OpKey) (pairs : List (OpKey × OpKey)) : Type 0 where
   pub few : length pairs ≤ 100000
   pub within : All (IsPairIn keys) pairs
   pub distinct : AllPairs (λ a b. a ≢ b) pairs
+  pub acyclic : IsAcyclic (from_list {R = pair_cmp} pairs)
+
+-- the special resources by name
+pub record AreResourcesInOrder (said ordered : List (Name × Bool)) : Type 0 where
+  pub are : AreResources said
+  pub same : IsPermutation said ordered
+  pub in_order : IsStrictlySortedBy name_cmp (keys_of ordered)
+
+-- the needs by operation and then resource
+pub record AreNeedsInOrder (said ordered : List (OpKey × Need)) : Type 0 where
+  pub distinct : AllPairs (λ a b. need_key a ≢ need_key b) said
+  pub same : IsPermutation said ordered
+  pub in_order : IsStrictlySortedBy need_cmp (map need_key ordered)
 
 -- the occurrences in key order
 pub record AreOccurrencesInOrder (said : List (OccKey × Occurrence)) (ordered : List (OccKey × Occurrence)) : Type 0 where
@@ -152,9 +204,9 @@ pub record AreOccurrencesInOrder (said : List (OccKey × Occurrence)) (ordered :
   pub in_order : IsStrictlySortedBy occurrence_cmp (keys_of ordered)
 
 -- the operations' rows in key order
-pub record AreRowsOf (names : List Name) (occurrences : List (OccKey × Occurrence)) (said : List OperationItem) (rows : List (OpKey × Operation)) : Type 0 where
-  pub operations : AreOperations names occurrences said
-  pub same : IsPermutation (map (row_of occurrences) said) rows
+pub record AreRowsOf (names : List Name) (occurrences : List (OccKey × Occurrence)) (needs : List (OpKey × Need)) (said : List OperationItem) (rows : List (OpKey × Operation)) : Type 0 where
+  pub operations : AreOperations names occurrences needs said
+  pub same : IsPermutation (map (row_of occurrences needs) said) rows
   pub in_order : IsStrictlySortedBy operation_cmp (keys_of rows)
 
 -- the pairs by predecessor and then successor
@@ -163,19 +215,21 @@ pub record ArePairsInOrder (keys : List OpKey) (pairs : List (OpKey × OpKey)) (
   pub same : IsPermutation pairs ordered
   pub in_order : IsStrictlySortedBy pair_cmp ordered
 
--- the items are those of a plan that can be loaded so far
+-- the items are those of a plan
 pub record CanBeLoaded (items : List Item) : Type 0 where
-  pub no_resources : filter_map as_resource items ≡ []
   pub workstations : AreWorkstations (filter_map as_workstation items) (filter_map as_interval items)
+  pub resources : AreResources (filter_map as_resource items)
   pub occurrences : AreOccurrenceRows (filter_map as_occurrence items)
-  pub operations : AreOperations (keys_of (filter_map as_workstation items)) (filter_map as_occurrence items) (filter_map as_operation items)
+  pub operations : AreOperations (keys_of (filter_map as_workstation items)) (filter_map as_occurrence items) (filter_map as_need items) (filter_map as_operation items)
+  pub needs : AreNeeds (keys_said (filter_map as_operation items)) (keys_of (filter_map as_resource items)) (filter_map as_need items)
   pub pairs : ArePairs (keys_said (filter_map as_operation items)) (filter_map as_pair items)
 
 -- contents in order of what the items say
 pub record AreContentsOf (items : List Item) (c : PlanContents) : Type 0 where
   pub items_are : CanBeLoaded items
   pub workstations : IsPermutation (map (opened_in (filter_map as_interval items)) (filter_map as_workstation items)) c.workstations.items
+  pub resources : IsPermutation (filter_map as_resource items) c.resources.items
   pub occurrences : IsPermutation (filter_map as_occurrence items) c.occurrences.items
-  pub operations : IsPermutation (map (row_of c.occurrences.items) (filter_map as_operation items)) c.operations.items
+  pub operations : IsPermutation (map (row_of c.occurrences.items (filter_map as_need items)) (filter_map as_operation items)) c.operations.items
   pub pairs : IsPermutation (filter_map as_pair items) c.pairs.items
   pub in_order : AreContents c

@@ -4,14 +4,16 @@ ghost use Rattle.std.specs.List.{AllZip, filter_map};
 ghost use Rattle.plan_items.specs.declared.Item.{Item};
 ghost use Rattle.plan_items.specs.Items.{Says};
 ghost use Rattle.plan_records.specs.Records.{records_of};
-ghost use Rattle.plan_records.specs.Loading.{as_workstation, as_interval, as_occurrence, as_operation, as_pair, as_resource, CanBeLoaded, AreContentsOf};
+ghost use Rattle.plan_records.specs.Loading.{as_workstation, as_interval, as_occurrence, as_operation, as_pair, as_resource, as_need, CanBeLoaded, AreContentsOf};
 
 use super::contents::PlanContents;
 use super::in_order::{keys, occurrences_in_order, operations_in_order, pairs_in_order};
+use super::needing::{are_needs_in, needs_in_order, resources_in_order};
 use super::opening::workstations_in_order;
 use plan_basics::{Attr, Interval, OccKey, OpKey, ResName, WsName};
 use plan_items::{Item, OperationItem, read_item};
 use plan_model::Occurrence;
+use special_resources::Need;
 use std::alloc::{AllocError, Global};
 
 /// The ten fields of one record of a plan's text.
@@ -86,12 +88,20 @@ fn pair_of(item: &Item) -> Option<(OpKey, OpKey)>
     }
 }
 
-fn resource_of(item: &Item) -> Option<ResName>
+fn resource_of(item: &Item) -> Option<(ResName, bool)>
     ensures { result ≡ as_resource item.now }
 {
     match *item {
-        Item::Resource { name, .. } => Some(name),
-        Item::Need { need, .. } => Some(need.name),
+        Item::Resource { name, available } => Some((name, available)),
+        _ => None,
+    }
+}
+
+fn need_of(item: &Item) -> Option<(OpKey, Need)>
+    ensures { result ≡ as_need item.now }
+{
+    match *item {
+        Item::Need { operation, need } => Some((operation, need)),
         _ => None,
     }
 }
@@ -126,37 +136,51 @@ fn pairs(alloc: Global, items: &[Item]) -> Result<Vec<(OpKey, OpKey)>, AllocErro
     items.iter().filter_map(pair_of).collect(alloc)
 }
 
-fn resources(alloc: Global, items: &[Item]) -> Result<Vec<ResName>, AllocError>
+fn resources(alloc: Global, items: &[Item]) -> Result<Vec<(ResName, bool)>, AllocError>
     ensures { IfOk result (λ v. v.items ≡ filter_map as_resource items.now) }
 {
     items.iter().filter_map(resource_of).collect(alloc)
 }
 
-/// The contents of the plan that can be loaded whose items these are; `None` where they are those of no such plan.
+fn needs(alloc: Global, items: &[Item]) -> Result<Vec<(OpKey, Need)>, AllocError>
+    ensures { IfOk result (λ v. v.items ≡ filter_map as_need items.now) }
+{
+    items.iter().filter_map(need_of).collect(alloc)
+}
+
+/// The contents of the plan whose items these are; `None` where they are those of no plan.
 pub fn contents_of(alloc: Global, items: &[Item]) -> Result<Option<PlanContents>, AllocError>
     ensures { IfOk result (λ found. MatchOption found (¬ CanBeLoaded items.now) (λ c. AreContentsOf items.now c)) }
 {
-    if !resources(alloc, items)?.is_empty() {
-        return Ok(None);
-    }
     let intervals = intervals(alloc, items)?;
     let Some(workstations) = workstations_in_order(alloc, workstations(alloc, items)?, &intervals)?
     else {
         return Ok(None);
     };
+    let Some(resources) = resources_in_order(alloc, resources(alloc, items)?)? else {
+        return Ok(None);
+    };
     let Some(occurrences) = occurrences_in_order(alloc, occurrences(alloc, items)?)? else {
         return Ok(None);
     };
+    let Some(needs) = needs_in_order(alloc, needs(alloc, items)?)? else {
+        return Ok(None);
+    };
     let said = operations(alloc, items)?;
-    let Some(operations) = operations_in_order(alloc, &workstations, &occurrences, &said)? else {
+    let Some(operations) = operations_in_order(alloc, &workstations, &occurrences, &needs, &said)?
+    else {
         return Ok(None);
     };
     let keys = keys(alloc, &operations)?;
-    let Some(pairs) = pairs_in_order(&keys, pairs(alloc, items)?)? else {
+    if !are_needs_in(&keys, &resources, &needs) {
+        return Ok(None);
+    }
+    let Some(pairs) = pairs_in_order(alloc, &keys, pairs(alloc, items)?)? else {
         return Ok(None);
     };
     Ok(Some(PlanContents {
         workstations,
+        resources,
         occurrences,
         operations,
         pairs,

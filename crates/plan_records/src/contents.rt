@@ -1,13 +1,15 @@
 // What a loaded plan holds.
-use plan_basics::{OccKey, OpKey};
+use plan_basics::{OccKey, OpKey, ResName};
 use plan_model::{Occurrence, OperationRecord};
 use workstations::Workstation;
 
-/// What a loaded plan holds: its workstations, by name; its occurrences and their operations, in key order; and the pairs of
-/// predecessor and successor, by predecessor and then successor.
+/// What a loaded plan holds: its workstations and special resources, by name; its occurrences and their operations, in key
+/// order; and the pairs of predecessor and successor, by predecessor and then successor.
 #[derive(Debug, Drop)]
 pub struct PlanContents {
     pub workstations: Vec<Workstation>,
+    /// Each with whether it is available.
+    pub resources: Vec<(ResName, bool)>,
     /// Each with its priority and deadline.
     pub occurrences: Vec<(OccKey, Occurrence)>,
     pub operations: Vec<(OpKey, OperationRecord)>,

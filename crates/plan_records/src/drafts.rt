@@ -1,6 +1,6 @@
 // What texts denote: a plan to be loaded, or an addition to one.
 ghost use Rattle.std.specs.Prelude.{◌≡◌, IfOk, IfErr, MatchOption};
-ghost use Rattle.plan_records.specs.Drafts.{IsDraft, IsLoadable};
+ghost use Rattle.plan_records.specs.Drafts.{IsDraft};
 ghost use Rattle.plan_records.specs.Contents.{plan_of, AreContents};
 ghost use Rattle.plan_records.specs.Records.{records_of, Denotes};
 ghost use Rattle.plan_model.specs.Plan.{Plan};
@@ -32,13 +32,13 @@ impl Model for PlanDraft {
 }
 
 impl PlanDraft {
-    /// The draft that the records of a text denote; `None` where they denote none that can be loaded so far: none without
-    /// special resources, whose pairs each lead from a smaller to a greater key. There are one to 99 workstations, of any
+    /// The draft that the records of a text denote; `None` where they denote none. There are one to 99 workstations, of any
     /// attribute, each with up to 400 intervals, or with none; intervals of one workstation may touch, but not overlap.
-    /// There is at least one occurrence, each with its operations, and an operation may need R1 and R2; pairs may lead from
-    /// one occurrence to another. The records may come in any order. The error is always `Memory`.
+    /// There are up to 999 special resources. There is at least one occurrence, each with its operations, and an operation
+    /// may need R1, R2 and up to 16 special resources; pairs may lead from one occurrence to another, but no path of pairs
+    /// returns to its start. The records may come in any order. The error is always `Memory`.
     pub fn build(records: Vec<Record>) -> Result<Option<PlanDraft>, Refusal>
-        ensures denoted { IfOk result (λ found. MatchOption found ((P : Plan) → IsLoadable P → ¬ Denotes (records_of records.items) P) (λ draft. Denotes (records_of records.items) draft × IsLoadable draft)) }
+        ensures denoted { IfOk result (λ found. MatchOption found ((P : Plan) → ¬ Denotes (records_of records.items) P) (λ draft. Denotes (records_of records.items) draft)) }
         ensures memory { IfErr result (λ r. r ≡ Refusal.Memory) }
     {
         let alloc = *records.allocator();
@@ -62,7 +62,6 @@ impl PlanDraft {
         ensures view { self.now ≡ plan_of 0 result.now }
         ensures in_order { AreContents result.now }
         ensures draft { IsDraft self.now }
-        ensures loadable { IsLoadable self.now }
     {
         &self.contents
     }

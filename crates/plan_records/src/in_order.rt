@@ -1,16 +1,23 @@
 // Occurrences, operations and pairs of a plan, put in key order.
 ghost use Rattle.std.specs.Prelude.{◌≡◌, ◌↔◌, map, All, Contains, IsTrue, IfOk, MatchOption};
 ghost use Rattle.std.specs.FinMap.{get, from_entries};
+ghost use Rattle.std.specs.FinSet.{from_list};
 ghost use Rattle.std.specs.List.Sorted.{IsPermutation, IsSortedByKey, IsStrictlySortedBy};
 ghost use Rattle.std.specs.Map.{keys_of};
 ghost use Rattle.plan_basics.specs.Keys.{name_cmp, occurrence_cmp, operation_cmp};
-ghost use Rattle.plan_records.specs.Loading.{row_of, occurrence_of, Fits, AreOccurrenceRows, AreOccurrencesInOrder, AreOperations, EachHasOperation, AreRowsOf, IsPairIn, ArePairs, ArePairsInOrder};
+ghost use Rattle.plan_model.specs.Plan.{pair_cmp};
+ghost use Rattle.plan_model.specs.Valid.{IsAcyclic};
+ghost use Rattle.plan_graph.specs.PlanGraphs.{AreAmong};
+ghost use Rattle.plan_records.specs.Loading.{row_of, occurrence_of, need_cmp, need_key, Fits, AreOccurrenceRows, AreOccurrencesInOrder, AreOperations, EachHasOperation, AreRowsOf, IsPairIn, ArePairs, ArePairsInOrder};
 
+use super::needing::own_needs;
 use super::opening::is_named;
 use super::places::occurrence_place;
 use plan_basics::{OccKey, OpKey};
+use plan_graph::graph_of;
 use plan_items::OperationItem;
 use plan_model::{Occurrence, OperationRecord};
+use special_resources::Need;
 use status_rules::Mark;
 use std::alloc::{AllocError, Global};
 use std::cmp::Ordering;
@@ -57,21 +64,24 @@ fn terms_of(occurrences: &[(OccKey, Occurrence)], key: &OccKey) -> Option<Occurr
     Some(occurrences[place].1)
 }
 
-// The row of an operation of one of these workstations and of one of these occurrences: nothing is reported of it, and
-// its flags are clear.
+// The row of an operation of one of these workstations and of one of these occurrences, with its own needs, which are 16
+// at most: nothing is reported of it, and its flags are clear.
 fn row(
     workstations: &[Workstation],
     occurrences: &[(OccKey, Occurrence)],
+    needs: &[(OpKey, Need)],
     said: &OperationItem,
 ) -> Option<(OpKey, OperationRecord)>
     requires named { IsStrictlySortedBy name_cmp (keys_of workstations.now) }
     requires in_order { IsStrictlySortedBy occurrence_cmp (keys_of occurrences.now) }
-    ensures { MatchOption result (¬ Fits (keys_of workstations.now) occurrences.now said.now) (λ row. Fits (keys_of workstations.now) occurrences.now said.now × (row ≡ row_of occurrences.now said.now)) }
+    requires needs { IsStrictlySortedBy need_cmp (map need_key needs.now) }
+    ensures { MatchOption result (¬ Fits (keys_of workstations.now) occurrences.now needs.now said.now) (λ row. Fits (keys_of workstations.now) occurrences.now needs.now said.now × (row ≡ row_of occurrences.now needs.now said.now)) }
 {
     let terms = terms_of(occurrences, &said.key.occurrence)?;
     if !is_named(workstations, &said.workstation) {
         return None;
     }
+    let needs = own_needs(needs, &said.key)?;
     let operation = OperationRecord {
         workstation: said.workstation,
         duration: said.duration,
@@ -79,6 +89,7 @@ fn row(
         r2: said.r2,
         not_before: said.not_before,
         deadline: said.deadline.unwrap_or(terms.deadline),
+        needs,
         mark: Mark::Unmarked,
         held: false,
         nop: false,
@@ -91,15 +102,17 @@ fn rows(
     alloc: Global,
     workstations: &[Workstation],
     occurrences: &[(OccKey, Occurrence)],
+    needs: &[(OpKey, Need)],
     said: &[OperationItem],
 ) -> Result<Option<Vec<(OpKey, OperationRecord)>>, AllocError>
     requires named { IsStrictlySortedBy name_cmp (keys_of workstations.now) }
     requires in_order { IsStrictlySortedBy occurrence_cmp (keys_of occurrences.now) }
-    ensures { IfOk result (λ found. MatchOption found (¬ All (Fits (keys_of workstations.now) occurrences.now) said.now) (λ v. All (Fits (keys_of workstations.now) occurrences.now) said.now × (v.items ≡ map (row_of occurrences.now) said.now))) }
+    requires needs { IsStrictlySortedBy need_cmp (map need_key needs.now) }
+    ensures { IfOk result (λ found. MatchOption found (¬ All (Fits (keys_of workstations.now) occurrences.now needs.now) said.now) (λ v. All (Fits (keys_of workstations.now) occurrences.now needs.now) said.now × (v.items ≡ map (row_of occurrences.now needs.now) said.now))) }
 {
     let mut rows = Vec::new(alloc);
     for said in said {
-        let Some(row) = row(workstations, occurrences, said) else {
+        let Some(row) = row(workstations, occurrences, needs, said) else {
             return Ok(None);
         };
         rows.push(row)?;
@@ -112,13 +125,15 @@ fn sorted_rows(
     alloc: Global,
     workstations: &[Workstation],
     occurrences: &[(OccKey, Occurrence)],
+    needs: &[(OpKey, Need)],
     said: &[OperationItem],
 ) -> Result<Option<Vec<(OpKey, OperationRecord)>>, AllocError>
     requires named { IsStrictlySortedBy name_cmp (keys_of workstations.now) }
     requires in_order { IsStrictlySortedBy occurrence_cmp (keys_of occurrences.now) }
-    ensures { IfOk result (λ found. MatchOption found (¬ All (Fits (keys_of workstations.now) occurrences.now) said.now) (λ v. All (Fits (keys_of workstations.now) occurrences.now) said.now × IsPermutation (map (row_of occurrences.now) said.now) v.items × IsSortedByKey (λ row. row.0) operation_cmp v.items)) }
+    requires needs { IsStrictlySortedBy need_cmp (map need_key needs.now) }
+    ensures { IfOk result (λ found. MatchOption found (¬ All (Fits (keys_of workstations.now) occurrences.now needs.now) said.now) (λ v. All (Fits (keys_of workstations.now) occurrences.now needs.now) said.now × IsPermutation (map (row_of occurrences.now needs.now) said.now) v.items × IsSortedByKey (λ row. row.0) operation_cmp v.items)) }
 {
-    let Some(mut rows) = rows(alloc, workstations, occurrences, said)? else {
+    let Some(mut rows) = rows(alloc, workstations, occurrences, needs, said)? else {
         return Ok(None);
     };
     rows.sort_by_key(|row| row.0)?;
@@ -152,16 +167,18 @@ pub fn operations_in_order(
     alloc: Global,
     workstations: &[Workstation],
     occurrences: &[(OccKey, Occurrence)],
+    needs: &[(OpKey, Need)],
     said: &[OperationItem],
 ) -> Result<Option<Vec<(OpKey, OperationRecord)>>, AllocError>
     requires named { IsStrictlySortedBy name_cmp (keys_of workstations.now) }
     requires in_order { IsStrictlySortedBy occurrence_cmp (keys_of occurrences.now) }
-    ensures { IfOk result (λ found. MatchOption found (¬ AreOperations (keys_of workstations.now) occurrences.now said.now) (λ v. AreRowsOf (keys_of workstations.now) occurrences.now said.now v.items)) }
+    requires needs { IsStrictlySortedBy need_cmp (map need_key needs.now) }
+    ensures { IfOk result (λ found. MatchOption found (¬ AreOperations (keys_of workstations.now) occurrences.now needs.now said.now) (λ v. AreRowsOf (keys_of workstations.now) occurrences.now needs.now said.now v.items)) }
 {
     if said.len() > 20_000 {
         return Ok(None);
     }
-    let Some(rows) = sorted_rows(alloc, workstations, occurrences, said)? else {
+    let Some(rows) = sorted_rows(alloc, workstations, occurrences, needs, said)? else {
         return Ok(None);
     };
     let keys = keys(alloc, &rows)?;
@@ -175,22 +192,22 @@ pub fn operations_in_order(
 }
 
 // Whether a key is among keys in order.
-fn is_among(keys: &[OpKey], key: &OpKey) -> bool
+pub fn is_among(keys: &[OpKey], key: &OpKey) -> bool
     requires { IsStrictlySortedBy operation_cmp keys.now }
     ensures { IsTrue result ↔ Contains keys.now key.now }
 {
     keys.binary_search(key).is_ok()
 }
 
-// Whether a pair ascends, and both its ends are among keys in order.
+// Whether both ends of a pair are among keys in order.
 fn is_pair_in(keys: &[OpKey], pair: &(OpKey, OpKey)) -> bool
     requires { IsStrictlySortedBy operation_cmp keys.now }
     ensures { IsTrue result ↔ IsPairIn keys.now pair.now }
 {
-    pair.0.order(&pair.1) == Ordering::Less && is_among(keys, &pair.0) && is_among(keys, &pair.1)
+    is_among(keys, &pair.0) && is_among(keys, &pair.1)
 }
 
-// Whether all pairs do.
+// Whether those of all pairs are.
 fn are_pairs_in(keys: &[OpKey], pairs: &[(OpKey, OpKey)]) -> bool
     requires { IsStrictlySortedBy operation_cmp keys.now }
     ensures { IsTrue result ↔ All (IsPairIn keys.now) pairs.now }
@@ -203,8 +220,21 @@ fn are_pairs_in(keys: &[OpKey], pairs: &[(OpKey, OpKey)]) -> bool
     true
 }
 
-// The pairs by predecessor and then successor, where each ascends between these keys and none stands twice.
+// Whether no path of these pairs returns to its start.
+fn is_acyclic(alloc: Global, keys: &[OpKey], pairs: &[(OpKey, OpKey)]) -> Result<bool, AllocError>
+    requires keys { IsStrictlySortedBy operation_cmp keys.now }
+    requires pairs { IsStrictlySortedBy pair_cmp pairs.now }
+    requires ends { AreAmong keys.now pairs.now }
+    ensures { IfOk result (λ told. IsTrue told ↔ IsAcyclic (from_list pairs.now)) }
+{
+    let graph = graph_of(alloc, keys, pairs)?;
+    Ok(graph.is_some())
+}
+
+// The pairs by predecessor and then successor, where each is between these keys, none stands twice and no path of them
+// returns to its start.
 pub fn pairs_in_order(
+    alloc: Global,
     keys: &[OpKey],
     mut pairs: Vec<(OpKey, OpKey)>,
 ) -> Result<Option<Vec<(OpKey, OpKey)>>, AllocError>
@@ -219,6 +249,9 @@ pub fn pairs_in_order(
     }
     pairs.sort()?;
     if !ascends(&pairs) {
+        return Ok(None);
+    }
+    if !is_acyclic(alloc, keys, &pairs)? {
         return Ok(None);
     }
     Ok(Some(pairs))

@@ -6,7 +6,9 @@ ghost use Rattle.plan_records.specs.Records.{OnePlan, OneAddition};
 mod building;
 mod contents;
 mod drafts;
+mod graphs;
 mod in_order;
+mod needing;
 mod opening;
 mod places;
 #[cfg(test)]
@@ -17,8 +19,10 @@ mod workstation_tests;
 pub use building::Record;
 pub use contents::PlanContents;
 pub use drafts::{Addition, PlanDraft};
+pub use graphs::graph_for;
 pub use places::{
-    known_occurrence, known_place, known_workstation, occurrence_place, place_of, workstation_place,
+    known_occurrence, known_place, known_workstation, occurrence_place, place_of, resource_place,
+    workstation_place,
 };
 use plan_basics::{Attr, ErrCode, Interval, Moment, OccKey, OpKey, Refusal, ResName, WsName};
 use special_resources::Need;

@@ -1,5 +1,5 @@
 // Where rows in key order stand.
-ghost use Rattle.std.specs.Prelude.{◌≡◌, ◌<◌, Some, None, IfSome, IsNone, IsSome, length, slice_get};
+ghost use Rattle.std.specs.Prelude.{◌≡◌, ◌<◌, Bool, Some, None, IfSome, IsNone, IsSome, length, slice_get};
 ghost use Rattle.std.specs.FinMap.{get, from_entries};
 ghost use Rattle.std.specs.List.Sorted.{IsStrictlySortedBy};
 ghost use Rattle.std.specs.Map.{keys_of};
@@ -8,7 +8,7 @@ ghost use Rattle.plan_model.specs.Plan.{Operation};
 ghost use Rattle.plan_model.specs.declared.Occurrence.{Occurrence};
 ghost use Rattle.workstations.specs.Workstations.{Workstation as WorkstationValue};
 
-use plan_basics::{OccKey, OpKey, WsName};
+use plan_basics::{OccKey, OpKey, ResName, WsName};
 use plan_model::{Occurrence, OperationRecord};
 use workstations::Workstation;
 
@@ -67,4 +67,13 @@ pub fn known_workstation(rows: &[Workstation], name: &WsName) -> usize
     ensures at { (ws : WorkstationValue) × (slice_get rows.now result ≡ Some (name.now, ws)) }
 {
     workstation_place(rows, name).unwrap()
+}
+
+/// Where the special resource of a name stands, if there is one.
+pub fn resource_place(rows: &[(ResName, bool)], name: &ResName) -> Option<usize>
+    requires { IsStrictlySortedBy name_cmp (keys_of rows.now) }
+    ensures found { IfSome result (λ i. (available : Bool) × (slice_get rows.now i ≡ Some (name.now, available))) }
+    ensures absent { IsNone result → get {R = name_cmp} (from_entries rows.now) name.now ≡ None }
+{
+    rows.binary_search_by_key(name, |row| row.0).ok()
 }

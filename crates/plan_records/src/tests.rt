@@ -149,6 +149,27 @@ fn check_night(rt: &impl Abort, text: Vec<Record>) -> Result<(), Fail> {
 }
 
 #[test]
+fn builds_pairs_that_lead_either_way(rt: HostRuntime) -> Result<(), Fail> {
+    let back = "D,PAYROLL,2024-03-01T22:00,10,BILLING,2024-03-01T23:00,10,,,";
+    let text = records(&rt, rt.alloc(), NIGHT.as_slice(), "", back)?;
+    let Ok(Some(draft)) = PlanDraft::build(text) else {
+        return Err("no draft")?;
+    };
+    let contents = draft.contents();
+    let [(a, _), (b, _), (c, _)] = contents.operations.as_slice() else {
+        return Err("three operations")?;
+    };
+    assert!(rt; contents.pairs.as_slice() == [(*b, *c), (*c, *a)].as_slice());
+    let back = "D,PAYROLL,2024-03-01T22:00,20,PAYROLL,2024-03-01T22:00,10,,,";
+    let text = records(&rt, rt.alloc(), DAY.as_slice(), DAY[1], back)?;
+    assert!(rt;
+        matches!(PlanDraft::build(text), Ok(Some(_))),
+        "one descending pair"
+    );
+    Ok(())
+}
+
+#[test]
 fn builds_two_occurrences_from_records_in_any_order(rt: HostRuntime) -> Result<(), Fail> {
     check_night(&rt, records(&rt, rt.alloc(), NIGHT.as_slice(), "", "")?)?;
     let mut text = records(&rt, rt.alloc(), NIGHT.as_slice(), "", "")?;
@@ -188,8 +209,8 @@ fn refuses_occurrences_that_do_not_fit(rt: HostRuntime) -> Result<(), Fail> {
         ),
         (
             "",
-            "D,PAYROLL,2024-03-01T22:00,10,BILLING,2024-03-01T23:00,10,,,",
-            "a descending pair across occurrences",
+            "D,PAYROLL,2024-03-01T22:00,10,BILLING,2024-03-01T23:00,20,,,",
+            "a closed path across occurrences",
         ),
     ];
     for (left_out, added, what) in cases {
@@ -216,11 +237,10 @@ fn refuses_what_is_no_such_plan(rt: HostRuntime) -> Result<(), Fail> {
             "O,BILLING,2024-03-01T22:00,5,2024-03-02T03:00,,,,,",
             "an occurrence without operations",
         ),
-        ("", "X,CUSTFILE,Y,,,,,,,", "a special resource"),
         (
             "",
             "N,PAYROLL,2024-03-01T22:00,20,CUSTFILE,X,K,,,",
-            "a need",
+            "a need of no special resource",
         ),
         (
             "",
@@ -235,12 +255,12 @@ fn refuses_what_is_no_such_plan(rt: HostRuntime) -> Result<(), Fail> {
         (
             "",
             "D,PAYROLL,2024-03-01T22:00,20,PAYROLL,2024-03-01T22:00,10,,,",
-            "a descending pair",
+            "a closed path of two pairs",
         ),
         (
             "",
             "D,PAYROLL,2024-03-01T22:00,20,PAYROLL,2024-03-01T22:00,20,,,",
-            "a pair of one operation",
+            "a pair that leads from an operation to itself",
         ),
         (
             "",

@@ -1,90 +1,222 @@
--- Pairs in order, of which each ascends, stand in turn.
-use Rattle.std.proofs.Common.{◌≡◌, inl, inr, sym, ◌∙◌, ap, subst, arith, ℕ, zero, suc, ◌+◌, ◌<◌, true, false, cond, List, [], ◌∷◌, ◌++◌, length, get_or, take, Some, slice_get}
-use Rattle.std.specs.FinMap.{contains_key}
+-- The edges of a plan's graph, as pairs of keys, stand in turn.
+use Rattle.std.proofs.Common.{◌≡◌, inl, inr, sym, ◌∙◌, ap, subst, arith, ℕ, zero, suc, ◌+◌, ◌<◌, ◌≤◌, true, false, cond, List, [], ◌∷◌, ◌++◌, length, get_or, map, take, Some, Option, option_map, unwrap_or, slice_get, Contains, ◌↔◌}
+use Rattle.std.specs.FinMap.{from_entries, get}
 use Rattle.std.specs.FinSet as set
-use Rattle.std.specs.FinSet.{from_list}
-use Rattle.std.specs.List.{AllByRecursion}
-use Rattle.std.specs.List.Sorted.{IsStrictlySortedBy}
-use Rattle.std.specs.declared.cmp.Ordering.{Ordering}
-use Rattle.std.specs.declared.cmp.Ordering.TheVariants.{Less}
-use Rattle.plan_basics.specs.Keys.{operation_cmp, operation_cmp_total}
+use Rattle.std.specs.FinSet.{from_list, same_set}
+use Rattle.std.specs.Map.{keys_of}
+use Rattle.std.proofs.lemmas.List.{map-append, take_all, take_more}
+use Rattle.std.proofs.lemmas.Option.{slice_get-get_or, slice_get_within, get_or_from_slice_get}
+use Rattle.operation_graph.specs.Graphs.{AreDifferent, AreInTurn, Digraph, HasEdge}
+use Rattle.operation_graph.proofs.Members.{contains_head, contains_later, contains_cases, contains_none}
+use Rattle.plan_basics.specs.Keys.{operation_cmp, operation_cmp_total, operation_cmp-IsAntisymmetric}
 use Rattle.plan_basics.specs.declared.keys.OpKey.{OpKey}
-use Rattle.plan_model.specs.Plan.{IsPairOf, pair_cmp}
-use Rattle.plan_records.proofs.Pairs.{each_pair, none_back, pair_added, pair_cases, pair_cmp_total, pair_kept}
-use Rattle.plan_laws.proofs.Sorted.{not_itself}
-use Rattle.std.proofs.lemmas.List.{take_more}
-use Rattle.std.proofs.lemmas.Option.{slice_get-get_or}
-use Rattle.plan_laws.proofs.Looks.{told_flag}
-use Rattle.plan_records.specs.Contents.{AreValidContents, plan_of}
+use Rattle.plan_graph.proofs.KeyPlaces.{one_place, listed_in, in_listed, pair_cmp_total, pair_cmp-IsAntisymmetric}
+use Rattle.plan_model.specs.Plan.{IsPairOf, Operation, pair_cmp}
+use Rattle.plan_records.proofs.Pairs.{pair_cases, pair_pushed}
+use Rattle.plan_records.proofs.Lists.{from_map}
+use Rattle.plan_records.specs.Contents.{AreValidContents, IsGraphFor, plan_of}
 use Rattle.plan_records.specs.declared.contents.PlanContents.{PlanContents}
-use Rattle.plan_status.specs.Incoming.{AreInTurn, ComesAfter}
+use Rattle.plan_laws.proofs.Looks.{found_key, told_flag}
+use Rattle.plan_laws.proofs.Single.{same_bool}
+use Rattle.plan_records.proofs.RowPlaces.{place_of_found}
+use Rattle.plan_status.specs.Incoming.{ComesAfter}
 
-at_place : {K : Type 0} (Q : K → Type 0) (xs : List K) (i : ℕ) (x : K) → AllByRecursion Q xs → slice_get xs i ≡ Some x → Q x
-at_place Q [] i x all e = cc
-at_place Q (y ∷ ys) zero x all e = let same : y ≡ x = cc in subst Q same all.0
-at_place Q (y ∷ ys) (suc i) x all e = at_place Q ys i x all.1 e
+abbrev Rows : Type 0
+Rows = List (OpKey × Operation)
 
--- those before a place come earlier in order
-earlier : {K : Type 0} (R : K → K → Ordering) (xs : List K) (i : ℕ) (x : K) → IsStrictlySortedBy R xs → slice_get xs i ≡ Some x → AllByRecursion (λ y. R y x ≡ Less) (take i xs)
-unfolding IsStrictlySortedBy
-earlier R xs zero x sorted e = tt
-earlier R [] (suc i) x sorted e = tt
-earlier R (y ∷ ys) (suc i) x sorted e = (at_place (λ z. R y z ≡ Less) ys i x sorted.0 e, earlier R ys i x sorted.1 e)
+abbrev Edge : Type 0
+Edge = ℕ × ℕ
 
-is_pair_at : (pairs : List (OpKey × OpKey)) (i : ℕ) (x : OpKey × OpKey) → slice_get pairs i ≡ Some x → IsPairOf (from_list pairs) x.0 x.1
-is_pair_at [] i x e = cc
-is_pair_at (y ∷ pairs) zero x e = let same : ◌≡◌ {A = OpKey × OpKey} y x = cc in subst (λ (z : OpKey × OpKey). IsPairOf (from_list (y ∷ pairs)) z.0 z.1) same (pair_added y pairs)
-is_pair_at (y ∷ pairs) (suc i) x e = pair_kept y pairs x.0 x.1 (is_pair_at pairs i x e)
+-- the key at a place, some other where there is none
+abbrev key_at : Rows → ℕ → OpKey
+key_at rows i = unwrap_or (option_map (λ (row : OpKey × Operation). row.0) (slice_get rows i)) (record { occurrence = record { app = []; arrival = 0 }; number = 0 })
 
--- each pair comes after those before it
-pub are_in_turn : (pairs : List (OpKey × OpKey)) → IsStrictlySortedBy pair_cmp pairs → ((p o : OpKey) → IsPairOf (from_list pairs) p o → operation_cmp p o ≡ Less) → AreInTurn pairs
-are_in_turn pairs sorted ascending i x at = record {
-  is_new = λ h. not_itself pair_cmp_total x (each_pair (λ y. pair_cmp y x ≡ Less) (take i pairs) x.0 x.1 before h);
-  leads_on = λ o h. elim (pair_cases x (take i pairs) x.1 o h) [
-    | inl old ↦ none_back x.1 o x.0 (each_pair (λ y. pair_cmp y x ≡ Less) (take i pairs) x.1 o before old) up
-    | inr here ↦ not_itself operation_cmp_total x.0 (subst (λ z. operation_cmp x.0 z ≡ Less) here.0 up)
-  ];
-}
-  where
-    before : AllByRecursion (λ y. pair_cmp y x ≡ Less) (take i pairs)
-    before = earlier pair_cmp pairs i x sorted at
+-- the pair of an edge
+abbrev pub pair_of : Rows → Edge → OpKey × OpKey
+pair_of rows e = (key_at rows e.0, key_at rows e.1)
 
-    up : operation_cmp x.0 x.1 ≡ Less
-    up = ascending x.0 x.1 (is_pair_at pairs i x at)
+-- the pairs of the first edges
+abbrev pub pairs_so_far : Rows → List Edge → ℕ → List (OpKey × OpKey)
+pairs_so_far rows edges i = map (pair_of rows) (take i edges)
 
--- a set of pairs in order has as many as the list
-len-from_pairs : (pairs : List (OpKey × OpKey)) → IsStrictlySortedBy pair_cmp pairs → set.len (from_list {R = pair_cmp} pairs) ≡ length pairs
-unfolding IsStrictlySortedBy
-len-from_pairs [] sorted = set.len-empty pair_cmp
-len-from_pairs (x ∷ pairs) sorted =
-    let new : set.contains {R = pair_cmp} (from_list pairs) x ≡ false =
-    told_flag (set.contains {R = pair_cmp} (from_list pairs) x) (λ h. not_itself pair_cmp_total x (each_pair (λ y. pair_cmp x y ≡ Less) pairs x.0 x.1 sorted.0 h)) in
-    let ih = len-from_pairs pairs sorted.1 in
-    set.len-insert pair_cmp_total (from_list pairs) x ∙ ap (λ b. cond b (set.len (from_list {R = pair_cmp} pairs)) (set.len (from_list {R = pair_cmp} pairs) + 1)) new ∙ one_more ih
-  where
-    one_more : {a b : ℕ} → a ≡ b → a + 1 ≡ suc b
-    one_more e = omega (arith, e)
+-- the row at a key's place
+pub row_at_key : (rows : Rows) (i : ℕ) (k : OpKey) → slice_get (keys_of rows) i ≡ Some k → (op : Operation) × (slice_get rows i ≡ Some (k, op))
+row_at_key [] i k e = cc
+row_at_key (row ∷ rows) zero k e = (row.1, let same : row.0 ≡ k = cc in λ j. Some (same j, row.1))
+row_at_key (row ∷ rows) (suc i) k e = row_at_key rows i k e
 
--- the pair at a place of a plan's contents
-module _ (c : PlanContents) (h : AreValidContents c) (pairs : List (OpKey × OpKey)) (same : pairs ≡ c.pairs.items) (i : ℕ) (lt : i < length pairs) (x : OpKey × OpKey) (is : x ≡ get_or pairs i x) where
-  at : slice_get pairs i ≡ Some x
-  at = slice_get-get_or pairs i x lt ∙ ap (λ (z : OpKey × OpKey). Some z) (sym is)
+key_is : (rows : Rows) (i : ℕ) (k : OpKey) (op : Operation) → slice_get rows i ≡ Some (k, op) → key_at rows i ≡ k
+key_is rows i k op e = ap (λ (z : Option (OpKey × Operation)). unwrap_or (option_map (λ (row : OpKey × Operation). row.0) z) (record { occurrence = record { app = []; arrival = 0 }; number = 0 })) e
 
-  in_plan : IsPairOf (plan_of 0 c).pairs x.0 x.1
-  in_plan = subst (λ ps. IsPairOf (from_list ps) x.0 x.1) same (is_pair_at pairs i x at)
+-- an element of the first ones stands before that place
+in_taken : {X : Type 0} (i : ℕ) (xs : List X) (x : X) → Contains (take i xs) x → (j : ℕ) × (j < i) × (slice_get xs j ≡ Some x)
+in_taken zero xs x h = absurd (contains_none x h)
+in_taken (suc i) [] x h = absurd (contains_none x h)
+in_taken (suc i) (y ∷ xs) x h = elim (contains_cases y (take i xs) x h) [
+  | inl here ↦ (0, omega arith, ap Some here)
+  | inr later ↦ let found = in_taken i xs x later in (suc found.0, let less = found.1 in omega (arith, less), found.2)
+]
 
-  pub comes_after : ComesAfter (take i pairs) x
-  comes_after = subst AreInTurn (sym same) (are_in_turn c.pairs.items h.in_order.pairs h.loadable.ascending) i x at
+taken_in : {X : Type 0} (i : ℕ) (xs : List X) (x : X) → i < length xs → slice_get xs i ≡ Some x → Contains xs x
+taken_in i xs x lt at = (i, lt, get_or_from_slice_get xs i x x at)
 
-  pub ends_known : (contains_key (plan_of 0 c).operations x.0 ≡ true) × (contains_key (plan_of 0 c).operations x.1 ≡ true)
-  ends_known = h.valid.pairs x.0 x.1 in_plan
+into_map : {X Y : Type 0} (f : X → Y) (xs : List X) (x : X) → Contains xs x → Contains (map f xs) (f x)
+into_map f [] x h = absurd (contains_none x h)
+into_map f (y ∷ xs) x h = elim (contains_cases y xs x h) [
+  | inl here ↦ subst (λ z. Contains (map f (y ∷ xs)) (f z)) here (contains_head (f y) (map f xs))
+  | inr later ↦ contains_later (f y) (map f xs) (f x) (into_map f xs x later)
+]
 
-  pub few_pairs : i < 100000
-  few_pairs =
+-- these are all edges of the graph, in turn
+pub record AreAllInTurn (g : Digraph) (edges : List Edge) : Type 0 where
+  pub different : AreDifferent edges
+  pub listed : (p s : ℕ) → Contains edges (p, s) ↔ HasEdge g p s
+  pub turn : AreInTurn edges
+
+module _ (c : PlanContents) (h : AreValidContents c) (g : Digraph) (graph : IsGraphFor c g) (edges : List Edge) (all : AreAllInTurn g edges) where
+  abbrev rows : Rows
+  rows = c.operations.items
+
+  abbrev keys : List OpKey
+  keys = keys_of c.operations.items
+
+  -- an edge's ends are rows, and their keys are a pair of the plan
+  pub record IsPairAt (e : Edge) : Type 0 where
+    pub before : Operation
+    pub after : Operation
+    pub first : slice_get rows e.0 ≡ Some ((pair_of rows e).0, before)
+    pub second : slice_get rows e.1 ≡ Some ((pair_of rows e).1, after)
+    pub is_pair : IsPairOf (plan_of 0 c).pairs (pair_of rows e).0 (pair_of rows e).1
+
+  pair_is : (e : Edge) → HasEdge g e.0 e.1 → IsPairAt e
+  pair_is e has =
+      let found = (graph.edges e.0 e.1).0 has in
+      let p = found.0 in
+      let o = found.1 in
+      let first = row_at_key rows e.0 p found.2 in
+      let second = row_at_key rows e.1 o found.3 in
+      let same_p = sym (key_is rows e.0 p first.0 first.1) in
+      let same_o = sym (key_is rows e.1 o second.0 second.1) in
+      record {
+        before = first.0;
+        after = second.0;
+        first = subst (λ k. slice_get rows e.0 ≡ Some (k, first.0)) same_p first.1;
+        second = subst (λ k. slice_get rows e.1 ≡ Some (k, second.0)) same_o second.1;
+        is_pair = subst (λ k. IsPairOf (plan_of 0 c).pairs (key_at rows e.0) k) same_o (subst (λ k. IsPairOf (plan_of 0 c).pairs k o) same_p found.4);
+      }
+
+  -- the edge at a place
+  module _ (i : ℕ) (lt : i < length edges) (e : Edge) (at : slice_get edges i ≡ Some e) where
+    has_edge : HasEdge g e.0 e.1
+    has_edge = (all.listed e.0 e.1).0 (taken_in i edges e lt at)
+
+    pub pair_at : IsPairAt e
+    pair_at = pair_is e has_edge
+
+  edge_of : (j : ℕ) (e : Edge) → slice_get edges j ≡ Some e → IsPairAt e
+  edge_of j e at = pair_at j (slice_get_within edges j e at) e at
+
+  key_in : (j : ℕ) (k : OpKey) (op : Operation) → slice_get rows j ≡ Some (k, op) → slice_get keys j ≡ Some k
+  key_in j k op at = keys_at rows j k op at
+    where
+      keys_at : (rows : Rows) (j : ℕ) (k : OpKey) (op : Operation) → slice_get rows j ≡ Some (k, op) → slice_get (keys_of rows) j ≡ Some k
+      keys_at [] j k op e = cc
+      keys_at (row ∷ rows) zero k op e = let same : ◌≡◌ {A = OpKey × Operation} row (k, op) = cc in ap (λ (z : OpKey × Operation). Some z.0) same
+      keys_at (row ∷ rows) (suc j) k op e = keys_at rows j k op e
+
+  -- equal keys stand at one place
+  same_place : (i j : ℕ) (a b : OpKey) (v w : Operation) → slice_get rows i ≡ Some (a, v) → slice_get rows j ≡ Some (b, w) → a ≡ b → i ≡ j
+  same_place i j a b v w at_i at_j same = one_place operation_cmp_total keys h.in_order.operations i j a (key_in i a v at_i) (subst (λ k. slice_get keys j ≡ Some k) (sym same) (key_in j b w at_j))
+
+  module _ (i : ℕ) (lt : i < length edges) (e : Edge) (at : slice_get edges i ≡ Some e) where
+    here : get_or edges i e ≡ e
+    here = get_or_from_slice_get edges i e e at
+
+    -- an earlier edge
+    earlier : (d : Edge) → Contains (take i edges) d → (j : ℕ) × (j < i) × (slice_get edges j ≡ Some d)
+    earlier d = in_taken i edges d
+
+    pub comes_after : ComesAfter (pairs_so_far rows edges i) (pair_of rows e)
+    comes_after = record {
+      is_new = λ old.
+          let found = from_map (pair_of rows) (take i edges) (pair_of rows e) (listed_in pair_cmp_total pair_cmp-IsAntisymmetric (map (pair_of rows) (take i edges)) (pair_of rows e) old) in
+          let before = earlier found.0 found.1 in
+          let its = edge_of before.0 found.0 before.2 in
+          let own = edge_of i e at in
+          let first = same_place (found.0).0 e.0 (pair_of rows found.0).0 (pair_of rows e).0 its.before own.before its.first own.first (ap (λ (z : OpKey × OpKey). z.0) found.2) in
+          let second = same_place (found.0).1 e.1 (pair_of rows found.0).1 (pair_of rows e).1 its.after own.after its.second own.second (ap (λ (z : OpKey × OpKey). z.1) found.2) in
+          all.different before.0 i e before.1 lt
+          (get_or_from_slice_get edges before.0 found.0 e before.2 ∙ (λ k. (first k, second k)) ∙ sym here);
+      leads_on = λ o leads. elim (pair_cases (pair_of rows e) (map (pair_of rows) (take i edges)) (pair_of rows e).1 o leads) [
+        | inl old ↦
+            let found = from_map (pair_of rows) (take i edges) ((pair_of rows e).1, o) (listed_in pair_cmp_total pair_cmp-IsAntisymmetric (map (pair_of rows) (take i edges)) ((pair_of rows e).1, o) old) in
+            let before = earlier found.0 found.1 in
+            let its = edge_of before.0 found.0 before.2 in
+            let own = edge_of i e at in
+            let same = same_place e.1 (found.0).0 (pair_of rows e).1 (pair_of rows found.0).0 own.after its.before own.second its.first (sym (ap (λ (z : OpKey × OpKey). z.0) found.2)) in
+            all.turn.0 before.0 i e before.1 lt
+            (ap (λ (z : Edge). z.1) here ∙ same ∙ sym (ap (λ (z : Edge). z.0) (get_or_from_slice_get edges before.0 found.0 e before.2)))
+        | inr itself ↦
+            let own = edge_of i e at in
+            let same = same_place e.1 e.0 (pair_of rows e).1 (pair_of rows e).0 own.after own.before own.second own.first itself.0 in
+            all.turn.1 i e lt (ap (λ (z : Edge). z.1) here ∙ same ∙ sym (ap (λ (z : Edge). z.0) here))
+      ];
+    }
+
+    -- with one more edge, one more pair
+    pub pairs_more : pairs_so_far rows edges (i + 1) ≡ pairs_so_far rows edges i ++ pair_of rows e ∷ []
+    pairs_more = ap (map (pair_of rows)) (take_more edges i e lt) ∙ map-append (pair_of rows) (take i edges) (get_or edges i e ∷ []) ∙ ap (λ (z : Edge). pairs_so_far rows edges i ++ pair_of rows z ∷ []) here
+
+  -- so many pairs
+  len-so_far : (i : ℕ) → i ≤ length edges → set.len (from_list {R = pair_cmp} (pairs_so_far rows edges i)) ≡ i
+  len-so_far zero le = set.len-empty pair_cmp
+  len-so_far (suc i) le =
+      let lt : i < length edges = omega (arith, le) in
+      let e = edge_there i lt in
+      let new : set.contains {R = pair_cmp} (from_list (pairs_so_far rows edges i)) (pair_of rows e.0) ≡ false = told_flag _ (comes_after i lt e.0 e.1).is_new in
+      let ih = len-so_far i (omega (arith, le)) in
+      let step : pairs_so_far rows edges (suc i) ≡ pairs_so_far rows edges i ++ pair_of rows e.0 ∷ [] = subst (λ n. pairs_so_far rows edges n ≡ pairs_so_far rows edges i ++ pair_of rows e.0 ∷ []) (more i) (pairs_more i lt e.0 e.1) in
+      ap (λ ps. set.len (from_list {R = pair_cmp} ps)) step
+      ∙ ap set.len (pair_pushed (pairs_so_far rows edges i) (pair_of rows e.0))
+      ∙ set.len-insert pair_cmp_total (from_list (pairs_so_far rows edges i)) (pair_of rows e.0)
+      ∙ ap (λ b. cond b (set.len (from_list {R = pair_cmp} (pairs_so_far rows edges i))) (set.len (from_list {R = pair_cmp} (pairs_so_far rows edges i)) + 1)) new
+      ∙ one_more ih
+    where
+      one_more : {a b : ℕ} → a ≡ b → a + 1 ≡ suc b
+      one_more e = omega (arith, e)
+
+      more : (i : ℕ) → i + 1 ≡ suc i
+      more i = omega arith
+
+      edge_there : (i : ℕ) → i < length edges → (e : Edge) × (slice_get edges i ≡ Some e)
+      edge_there i lt = (get_or edges i (0, 0), slice_get-get_or edges i (0, 0) lt)
+
+  -- in the end they are the plan's pairs
+  pub pairs_all : from_list {R = pair_cmp} (pairs_so_far rows edges (length edges)) ≡ (plan_of 0 c).pairs
+  pairs_all = ap (λ es. from_list {R = pair_cmp} (map (pair_of rows) es)) (take_all (length edges) edges (omega arith)) ∙ same_set pair_cmp_total pair_cmp-IsAntisymmetric (from_list (map (pair_of rows) edges)) (plan_of 0 c).pairs alike
+    where
+      there : (x : OpKey × OpKey) → set.contains {R = pair_cmp} (from_list (map (pair_of rows) edges)) x ≡ true → set.contains (plan_of 0 c).pairs x ≡ true
+      there x has =
+          let found = from_map (pair_of rows) edges x (listed_in pair_cmp_total pair_cmp-IsAntisymmetric (map (pair_of rows) edges) x has) in
+          subst (λ z. set.contains (plan_of 0 c).pairs z ≡ true) found.2 (pair_is found.0 ((all.listed (found.0).0 (found.0).1).0 found.1)).is_pair
+
+      back : (x : OpKey × OpKey) → set.contains (plan_of 0 c).pairs x ≡ true → set.contains {R = pair_cmp} (from_list (map (pair_of rows) edges)) x ≡ true
+      back x has =
+          let ends = h.valid.pairs x.0 x.1 has in
+          let p = found_key (get {R = operation_cmp} (from_entries rows) x.0) ends.0 in
+          let o = found_key (get {R = operation_cmp} (from_entries rows) x.1) ends.1 in
+          let i = place_of_found operation_cmp operation_cmp_total operation_cmp-IsAntisymmetric rows x.0 p.0 p.1 in
+          let j = place_of_found operation_cmp operation_cmp_total operation_cmp-IsAntisymmetric rows x.1 o.0 o.1 in
+          let edge : HasEdge g i.0 j.0 = (graph.edges i.0 j.0).1 (x.0, x.1, key_in i.0 x.0 p.0 i.1, key_in j.0 x.1 o.0 j.1, has) in
+          let is : ◌≡◌ {A = OpKey × OpKey} (pair_of rows (i.0, j.0)) x = λ k. (key_is rows i.0 x.0 p.0 i.1 k, key_is rows j.0 x.1 o.0 j.1 k) in
+          in_listed pair_cmp_total pair_cmp-IsAntisymmetric (map (pair_of rows) edges) x (subst (Contains (map (pair_of rows) edges)) is (into_map (pair_of rows) edges (i.0, j.0) ((all.listed i.0 j.0).1 edge)))
+
+      alike : (x : OpKey × OpKey) → set.contains {R = pair_cmp} (from_list (map (pair_of rows) edges)) x ≡ set.contains (plan_of 0 c).pairs x
+      alike x = same_bool _ _ (there x) (back x)
+
+  -- so that there are no more than a plan may have
+  pub few_edges : length edges ≤ 100000
+  few_edges =
       let most = h.valid.limits.pairs in
-      let all = len-from_pairs c.pairs.items h.in_order.pairs in
-      let here = ap length same in
-      omega (arith, lt, most, all, here)
-
-  pub taken : take (i + 1) pairs ≡ take i pairs ++ x ∷ []
-  taken = take_more pairs i x lt ∙ ap (λ (z : OpKey × OpKey). take i pairs ++ z ∷ []) (sym is)
+      let count = sym (len-so_far (length edges) (omega arith)) ∙ ap set.len pairs_all in
+      omega (arith, most, count)

@@ -1,6 +1,7 @@
 -- The standings of rows, as pair after pair comes in.
 use Rattle.std.proofs.Common.{◌≡◌, ◌≢◌, ◌⊎◌, inl, inr, refl, sym, ◌∙◌, ap, subst, true≢false, arith, ℕ, zero, suc, ◌+◌, ◌≤◌, true, false, List, [], ◌∷◌, ◌++◌, get_or, length, replicate, set, Option, Some, slice_get}
 use Rattle.std.specs.FinMap.{from_entries, get}
+use Rattle.std.specs.FinSet.{from_list}
 use Rattle.std.specs.List.Sorted.{IsStrictlySortedBy}
 use Rattle.std.specs.declared.cmp.Ordering.TheVariants.{Less}
 use Rattle.std.specs.Map.{keys_of}
@@ -9,7 +10,7 @@ use Rattle.std.proofs.lemmas.Map.Keys.{sorted_head, sorted_tail}
 use Rattle.std.proofs.lemmas.Option.{get_or_from_slice_get, slice_get-get_or, slice_get_within}
 use Rattle.plan_basics.specs.Keys.{operation_cmp, operation_cmp_total, operation_cmp-IsAntisymmetric}
 use Rattle.plan_basics.specs.declared.keys.OpKey.{OpKey}
-use Rattle.plan_model.specs.Plan.{Plan, Operation}
+use Rattle.plan_model.specs.Plan.{Plan, Operation, pair_cmp}
 use Rattle.plan_records.specs.Contents.{plan_of}
 use Rattle.plan_records.specs.declared.contents.PlanContents.{PlanContents}
 use Rattle.plan_records.proofs.Pairs.{no_pair, pair_pushed}
@@ -125,10 +126,10 @@ module _ (P : Plan) (rows : List (OpKey × Operation)) where
         (subst (λ s. AreStandings (record P { pairs = s }) rows (set standings place t)) (sym (pair_pushed pairs pair)) one_more)
 
 -- all pairs have come in
-pub standings_all : (c : PlanContents) (clock : ℕ) (pairs : List (OpKey × OpKey)) (standings : List Standing) → pairs ≡ c.pairs.items
+pub standings_all : (c : PlanContents) (clock : ℕ) (pairs : List (OpKey × OpKey)) (standings : List Standing) → from_list {R = pair_cmp} pairs ≡ (plan_of 0 c).pairs
     → AreStandings (with_pairs pairs (plan_of 0 c)) c.operations.items standings → AreStandings (plan_of clock c) c.operations.items standings
 standings_all c clock pairs standings e are =
-    let all : AreStandings (with_pairs c.pairs.items (plan_of 0 c)) c.operations.items standings = subst (λ ps. AreStandings (with_pairs ps (plan_of 0 c)) c.operations.items standings) e are in record {
+    let all : AreStandings (plan_of 0 c) c.operations.items standings = subst (λ ps. AreStandings (record (plan_of 0 c) { pairs = ps }) c.operations.items standings) e are in record {
       size = all.size;
       each = λ i o op s row here. let is = all.each i o op s row here in record {
         preds = record { live = is.preds.live; satisfied = is.preds.satisfied; nonreporting = is.preds.nonreporting };

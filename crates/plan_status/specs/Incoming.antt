@@ -1,5 +1,5 @@
 -- What standings are worked out from: operations on their workstations, and pairs that come in one after another.
-use Rattle.std.specs.Prelude.{◌≡◌, ℕ, List, ◌∷◌, take, Some, slice_get}
+use Rattle.std.specs.Prelude.{◌≡◌, List, ◌∷◌, Some}
 use Rattle.std.specs.FinMap.{get}
 use Rattle.std.specs.FinSet.{from_list}
 use Rattle.plan_basics.specs.declared.Attr.{Attr}
@@ -20,10 +20,6 @@ with_pairs pairs P = record P { pairs = from_list pairs }
 pub record ComesAfter (pairs : List (OpKey × OpKey)) (pair : OpKey × OpKey) : Type 0 where
   pub is_new : ¬ IsPairOf (from_list pairs) pair.0 pair.1
   pub leads_on : (o : OpKey) → ¬ IsPairOf (from_list (pair ∷ pairs)) pair.1 o
-
--- each pair comes after those before it: all that leads to an operation stands before what leads away from it
-abbrev pub AreInTurn : List (OpKey × OpKey) → Type 0
-AreInTurn pairs = (i : ℕ) (pair : OpKey × OpKey) → slice_get pairs i ≡ Some pair → ComesAfter (take i pairs) pair
 
 -- where these are the standings of the pair's ends before it comes in, `next` is its successor's after that
 abbrev pub IsNextStanding : Plan → List (OpKey × OpKey) → OpKey × OpKey → Standing → Standing → Standing → Type 0

@@ -1,19 +1,21 @@
 // What is known of operations' predecessors.
-ghost use Rattle.std.specs.Prelude.{◌≡◌, ◌+◌, ◌<◌, ◌≤◌, ◌&&◌, ◌||◌, ℕ, true, cond, not, List, Some, IfOk, Decides};
+ghost use Rattle.std.specs.Prelude.{◌≡◌, ◌+◌, ◌<◌, ◌≤◌, ◌&&◌, ◌||◌, ℕ, true, cond, not, List, Some, IfOk, IfErr, Decides};
 ghost use Rattle.std.specs.FinMap.{get};
+ghost use Rattle.plan_basics.specs.declared.Refusal.{Refusal};
 ghost use Rattle.plan_basics.specs.declared.keys.OpKey.{OpKey};
 ghost use Rattle.plan_model.specs.Plan.{Plan, HasAttribute};
 ghost use Rattle.plan_model.specs.Status.{IsSatisfied};
-ghost use Rattle.plan_records.specs.Contents.{plan_of, AreValidContents};
+ghost use Rattle.plan_records.specs.Contents.{plan_of, AreValidContents, IsGraphFor};
 ghost use Rattle.status_rules.specs.Table.{reports};
 ghost use Rattle.plan_status.specs.Incoming.{IsNextStanding, IsOperationOn};
 ghost use Rattle.plan_status.specs.Standings.{IsStanding, AreStandings};
 
-use plan_basics::Attr;
+use operation_graph::Graph;
+use plan_basics::{Attr, Refusal};
 use plan_model::OperationRecord;
-use plan_records::{PlanContents, known_place, known_workstation};
+use plan_records::{PlanContents, known_workstation};
 use status_rules::{Mark, Preds};
-use std::alloc::{AllocError, Global};
+use std::alloc::Global;
 
 /// What is known of an operation's live predecessors.
 #[derive(Clone, Copy, Debug)]
@@ -103,18 +105,27 @@ fn standing_after(
     with_one_more(standing, satisfied, nonreporting)
 }
 
-/// The standing of each operation, at its row's place.
-pub fn standings_of(alloc: Global, contents: &PlanContents) -> Result<Vec<Standing>, AllocError>
-    requires { AreValidContents contents.now }
-    ensures { IfOk result (λ found. (clock : ℕ) → AreStandings (plan_of clock contents.now) contents.now.operations.items found.items) }
+/// The standing of each operation, at its row's place. The error is always `Memory`.
+pub fn standings_of(
+    alloc: Global,
+    contents: &PlanContents,
+    graph: &Graph,
+) -> Result<Vec<Standing>, Refusal>
+    requires contents { AreValidContents contents.now }
+    requires graph { IsGraphFor contents.now graph.now }
+    ensures standings { IfOk result (λ found. (clock : ℕ) → AreStandings (plan_of clock contents.now) contents.now.operations.items found.items) }
+    ensures refused { IfErr result (λ r. r ≡ Refusal.Memory) }
 {
     let mut standings = vec![in alloc; FIRST; contents.operations.len()]?;
-    for pair in &contents.pairs {
-        let before = known_place(&contents.operations, &pair.0);
-        let after = known_place(&contents.operations, &pair.1);
-        let predecessor = &contents.operations[before].1;
+    for (before, after) in &graph.edges_in_turn()? {
+        let predecessor = &contents.operations[*before].1;
         let attr = attribute_of(contents, predecessor);
-        standings[after] = standing_after(&standings[after], predecessor, attr, &standings[before]);
+        standings[*after] = standing_after(
+            &standings[*after],
+            predecessor,
+            attr,
+            &standings[*before],
+        );
     }
     Ok(standings)
 }

@@ -163,3 +163,15 @@ module _ (automatic : OpKey → Type 0) (allowed : List OpKey → OpKey → Type
         | inr more ↦ choice.others b more.0 j more.1 on_j other
       ];
     }
+
+    -- one more that is on no automatic workstation: it is passed over
+    pub chosen_skipped : ¬ automatic k → IsChoice automatic allowed (before ++ k ∷ []) named
+    chosen_skipped off = record {
+      in_order = choice.in_order ∙ sym (filter-append (is_among named) before (k ∷ []) ∙ ap (λ b. among named before ++ cond b (k ∷ []) []) (chosen_among k new) ∙ append-nil (among named before));
+      on_automatic = choice.on_automatic;
+      members = choice.members;
+      others = λ b a j e on_j other. elim (snoc_cases before k b a j e) [
+        | inl last ↦ absurd (off (subst automatic (sym last.1) on_j))
+        | inr more ↦ choice.others b more.0 j more.1 on_j other
+      ];
+    }

@@ -1,18 +1,18 @@
--- The small plan is a draft that can be loaded so far.
-use Rattle.std.proofs.Common.{rules, arith, pos, cond, option_map, ◌≡◌, inl, inr, refl, sym, ◌∙◌, ap, subst, Bool, true≢false, ℕ, ◌<◌, true, List, [], ◌∷◌, Some, Less, is_some, length}
+-- The small plan is a draft.
+use Rattle.std.proofs.Common.{rules, arith, pos, cond, option_map, ◌≡◌, inl, inr, refl, sym, ◌∙◌, ap, subst, Bool, true≢false, ℕ, ◌<◌, true, List, [], ◌∷◌, Some, is_some, length}
 use Rattle.std.specs.FinMap.{contains_key, get, get-empty, get-from_entries, len, len-empty, len-entries}
 use Rattle.plan_basics.specs.declared.Attr.TheVariants.{Automatic}
 use Rattle.plan_basics.specs.declared.keys.OccKey.{OccKey}
 use Rattle.plan_basics.specs.declared.keys.OpKey.{OpKey}
 use Rattle.plan_basics.specs.Intervals.{IsInterval, interval_by}
-use Rattle.plan_basics.specs.Keys.{Name, IsOperationKey, IsOccurrenceKey, name_cmp, name_cmp_total, name_cmp-IsAntisymmetric, occurrence_cmp_total, occurrence_cmp-IsAntisymmetric, operation_cmp, operation_cmp_total, operation_cmp-IsAntisymmetric}
+use Rattle.plan_basics.specs.Keys.{Name, IsOperationKey, IsOccurrenceKey, name_cmp, name_cmp_total, name_cmp-IsAntisymmetric, occurrence_cmp_total, occurrence_cmp-IsAntisymmetric, operation_cmp_total, operation_cmp-IsAntisymmetric}
 use Rattle.plan_basics.specs.Names.{IsName}
 use Rattle.special_resources.specs.Holders.{Usage}
 use Rattle.workstations.specs.Workstations.{IsWorkstation, Workstation}
 use Rattle.plan_model.specs.Plan.{Operation, Plan, IsPairOf}
 use Rattle.plan_model.specs.declared.Occurrence.{Occurrence}
 use Rattle.plan_model.specs.Valid.{AreOccurrences, IsOccurrence, IsOperation, IsUntouched, IsValid}
-use Rattle.plan_records.specs.Drafts.{IsDraft, IsLoadable}
+use Rattle.plan_records.specs.Drafts.{IsDraft}
 use Rattle.plan_basics.specs.declared.Refusal.{Refusal}
 use Rattle.plan_basics.specs.declared.Refusal.TheVariants as refusal
 use Rattle.std.specs.List.Sorted.{IsStrictlySortedBy}
@@ -131,13 +131,6 @@ day_is_draft = record { valid = day_is_valid; loaded = refl; untouched = of_both
 
 pub one_occurrence : len day.occurrences ≡ 1
 one_occurrence = len-entries day.occurrences ∙ ap length (entries-from_entries occurrence_cmp_total occurrence_cmp-IsAntisymmetric ((daily, occurrence) ∷ []) tt)
-
-pub day_is_loadable : IsLoadable day
-day_is_loadable = record {
-  no_resources = len-empty name_cmp _;
-  without_needs = of_both (λ o op. len op.needs ≡ 0) (len-empty name_cmp _) (len-empty name_cmp _);
-  ascending = only_pair (λ p o. operation_cmp p o ≡ Less) refl;
-}
 
 pub one_workstation : len day.workstations ≡ 1
 one_workstation = len-entries day.workstations ∙ ap length (entries-from_entries name_cmp_total name_cmp-IsAntisymmetric ((cpu1, always_open) ∷ []) tt)

@@ -5,7 +5,7 @@
 ghost use Rattle.std.specs.Prelude.{pos, negsuc, None, []};
 ghost use Rattle.plan_model.specs.Plan.{no_plan};
 ghost use Rattle.plan_model.specs.Status.{HasStatus};
-ghost use Rattle.plan_records.specs.Drafts.{IsDraft, IsLoadable};
+ghost use Rattle.plan_records.specs.Drafts.{IsDraft};
 ghost use Rattle.plan_records.specs.Records.{Denotes};
 ghost use Rattle.worked_rows.specs.DayText.{day_records};
 ghost use Rattle.plan_records.specs.Step.{Step};
@@ -105,10 +105,9 @@ pub fn kept_resource()
     ensures { KeptResource }
 {}
 
-/// The small plan is a draft, and one that can be loaded so far.
+/// The small plan is a draft: it is valid, and nothing is reported of it.
 pub fn plan_that_can_be_loaded()
-    ensures draft { IsDraft day }
-    ensures loadable { IsLoadable day }
+    ensures { IsDraft day }
 {}
 
 /// The small plan is loaded, and its first operation is named.

@@ -3,6 +3,14 @@
 #![tactic(auto)]
 
 #[cfg(test)]
+mod command_tests;
+#[cfg(test)]
+mod latest_tests;
+#[cfg(test)]
 mod nights;
+#[cfg(test)]
+mod payroll;
+#[cfg(test)]
+mod resource_tests;
 #[cfg(test)]
 mod tests;

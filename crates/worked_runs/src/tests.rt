@@ -1,5 +1,6 @@
 // Nights with their answers.
-use super::nights::{Ask, Shown, Told, Turn, night};
+use super::nights::{Ask, Shown, Told, night};
+use super::payroll::{NIGHT, OP5, OP10, OP20, OP30, OP40, payroll, turn};
 use std::alloc::Global;
 use std::process::Abort;
 use std::test::Fail;
@@ -20,10 +21,6 @@ const FIRST: &[u8] = b"DAILY/2024-03-01T22:00/010";
 const SECOND: &[u8] = b"DAILY/2024-03-01T22:00/020";
 
 const UNKNOWN: &[u8] = b"DAILY/2024-03-01T22:00/030";
-
-const fn turn(at: &'static [u8], ask: Ask, told: Told) -> Turn {
-    Turn { at, ask, told }
-}
 
 #[test]
 fn an_operation_ends_and_the_next_fails(rt: HostRuntime) -> Result<(), Fail> {
@@ -133,7 +130,7 @@ fn occurrences_by_their_operations(rt: HostRuntime) -> Result<(), Fail> {
 }
 
 /// Three occurrences of one operation each, of priorities 5, 5 and 9.
-const THREE: &[u8] = b"W,CPU1,A,,,,,,,
+pub const THREE: &[u8] = b"W,CPU1,A,,,,,,,
 I,CPU1,2024-03-01T22:00,2024-03-02T06:00,2,3,0,,,
 O,AAA,2024-03-01T22:00,5,2024-03-02T04:00,,,,,
 O,BBB,2024-03-01T22:00,5,2024-03-02T03:30,,,,,
@@ -144,7 +141,7 @@ P,CCC,2024-03-01T22:00,10,CPU1,30,0,0,,
 ";
 
 /// The second takes 40 minutes and has to end at 04:10: its latest start is that of the first.
-const LONGER: &[u8] = b"W,CPU1,A,,,,,,,
+pub const LONGER: &[u8] = b"W,CPU1,A,,,,,,,
 I,CPU1,2024-03-01T22:00,2024-03-02T06:00,2,3,0,,,
 O,AAA,2024-03-01T22:00,5,2024-03-02T04:00,,,,,
 O,BBB,2024-03-01T22:00,5,2024-03-02T04:10,,,,,
@@ -165,11 +162,11 @@ P,BBB,2024-03-01T22:00,10,CPU1,30,0,0,,
 P,CCC,2024-03-01T22:00,10,CPU1,30,0,0,,
 ";
 
-const AAA: &[u8] = b"AAA/2024-03-01T22:00/010";
+pub const AAA: &[u8] = b"AAA/2024-03-01T22:00/010";
 
-const BBB: &[u8] = b"BBB/2024-03-01T22:00/010";
+pub const BBB: &[u8] = b"BBB/2024-03-01T22:00/010";
 
-const CCC: &[u8] = b"CCC/2024-03-01T22:00/010";
+pub const CCC: &[u8] = b"CCC/2024-03-01T22:00/010";
 
 /// The status of an occurrence of one operation, by that of the operation.
 fn of_one(letter: u8) -> u8 {
@@ -201,60 +198,10 @@ fn the_order_of_the_ready_list(rt: HostRuntime) -> Result<(), Fail> {
     names(&rt, rt.alloc(), EQUAL, &[CCC, AAA], [b'S', b'A', b'S'])
 }
 
-/// A night's production on workstations of all four attributes: a set-up that is reported, two automatic runs, a check that
-/// isn't reported, and printing, of which the completion is reported; one after the other.
-const NIGHT: &[u8] = b"W,CPU1,A,,,,,,,
-W,SETP,S,,,,,,,
-W,PRT1,C,,,,,,,
-W,DUMM,N,,,,,,,
-I,CPU1,2024-03-01T22:00,2024-03-02T06:00,2,3,0,,,
-I,SETP,2024-03-01T22:00,2024-03-02T02:00,1,0,0,,,
-O,PAYROLL,2024-03-01T22:00,5,2024-03-02T05:00,,,,,
-P,PAYROLL,2024-03-01T22:00,5,SETP,10,0,0,,
-P,PAYROLL,2024-03-01T22:00,10,CPU1,30,0,0,,
-P,PAYROLL,2024-03-01T22:00,20,CPU1,60,0,0,,
-P,PAYROLL,2024-03-01T22:00,30,DUMM,1,0,0,,
-P,PAYROLL,2024-03-01T22:00,40,PRT1,20,0,0,,
-D,PAYROLL,2024-03-01T22:00,5,PAYROLL,2024-03-01T22:00,10,,,
-D,PAYROLL,2024-03-01T22:00,10,PAYROLL,2024-03-01T22:00,20,,,
-D,PAYROLL,2024-03-01T22:00,20,PAYROLL,2024-03-01T22:00,30,,,
-D,PAYROLL,2024-03-01T22:00,30,PAYROLL,2024-03-01T22:00,40,,,
-";
-
-const PAYROLL: &[u8] = b"PAYROLL/2024-03-01T22:00";
-
-const OP5: &[u8] = b"PAYROLL/2024-03-01T22:00/005";
-
-const OP10: &[u8] = b"PAYROLL/2024-03-01T22:00/010";
-
-const OP20: &[u8] = b"PAYROLL/2024-03-01T22:00/020";
-
-const OP30: &[u8] = b"PAYROLL/2024-03-01T22:00/030";
-
-const OP40: &[u8] = b"PAYROLL/2024-03-01T22:00/040";
-
-/// The turns of a night, after which its operations and its occurrence have these statuses.
-fn payroll(
-    rt: &impl Abort,
-    alloc: Global,
-    turns: &[Turn],
-    letters: [u8; 5],
-    occurrence: u8,
-) -> Result<(), Fail> {
-    let shown: [Shown; 5] = [
-        (OP5, letters[0]),
-        (OP10, letters[1]),
-        (OP20, letters[2]),
-        (OP30, letters[3]),
-        (OP40, letters[4]),
-    ];
-    night(rt, alloc, turns, &shown, &[(PAYROLL, occurrence)])
-}
-
 #[test]
 fn a_set_up_that_is_reported(rt: HostRuntime) -> Result<(), Fail> {
     let turns = [
-        turn(b"2024-03-01T21:00", Ask::Load(NIGHT), Told::Named(&[])),
+        turn(b"2024-03-01T21:00", Ask::LoadAll(NIGHT), Told::Named(&[])),
         turn(b"2024-03-01T21:59", Ask::Started(OP5), Told::Refused(13)),
         turn(b"2024-03-01T22:00", Ask::Started(OP5), Told::Named(&[])),
         turn(b"2024-03-01T22:05", Ask::Interrupted(OP5), Told::Named(&[])),
@@ -296,7 +243,7 @@ fn a_set_up_that_is_reported(rt: HostRuntime) -> Result<(), Fail> {
 #[test]
 fn an_end_of_an_interval_is_outside(rt: HostRuntime) -> Result<(), Fail> {
     let turns = [
-        turn(b"2024-03-01T21:00", Ask::Load(NIGHT), Told::Named(&[])),
+        turn(b"2024-03-01T21:00", Ask::LoadAll(NIGHT), Told::Named(&[])),
         turn(b"2024-03-02T02:00", Ask::Started(OP5), Told::Refused(13)),
         turn(b"2024-03-02T01:59", Ask::Started(OP5), Told::Named(&[])),
     ];
@@ -312,7 +259,7 @@ fn an_end_of_an_interval_is_outside(rt: HostRuntime) -> Result<(), Fail> {
 #[test]
 fn a_night_from_its_set_up_to_its_printing(rt: HostRuntime) -> Result<(), Fail> {
     let turns = [
-        turn(b"2024-03-01T21:00", Ask::Load(NIGHT), Told::Named(&[])),
+        turn(b"2024-03-01T21:00", Ask::LoadAll(NIGHT), Told::Named(&[])),
         turn(b"2024-03-01T22:00", Ask::Started(OP5), Told::Named(&[])),
         turn(b"2024-03-01T22:10", Ask::Ended(OP5), Told::Named(&[OP10])),
         turn(
@@ -348,7 +295,7 @@ fn a_night_from_its_set_up_to_its_printing(rt: HostRuntime) -> Result<(), Fail> 
 #[test]
 fn an_outcome_that_is_unknown(rt: HostRuntime) -> Result<(), Fail> {
     let turns = [
-        turn(b"2024-03-01T21:00", Ask::Load(NIGHT), Told::Named(&[])),
+        turn(b"2024-03-01T21:00", Ask::LoadAll(NIGHT), Told::Named(&[])),
         turn(b"2024-03-01T22:00", Ask::Started(OP5), Told::Named(&[])),
         turn(b"2024-03-01T22:10", Ask::Ended(OP5), Told::Named(&[OP10])),
         turn(b"2024-03-01T22:20", Ask::Unknown(OP20), Told::Refused(9)),
@@ -415,7 +362,7 @@ fn an_undecided_operation_keeps_its_server(rt: HostRuntime) -> Result<(), Fail> 
 }
 
 /// The second needs all three of R1, of which the first takes one.
-const FIXED: &[u8] = b"W,CPU1,A,,,,,,,
+pub const FIXED: &[u8] = b"W,CPU1,A,,,,,,,
 I,CPU1,2024-03-01T22:00,2024-03-02T06:00,2,3,0,,,
 O,AAA,2024-03-01T22:00,5,2024-03-02T03:00,,,,,
 O,BBB,2024-03-01T22:00,5,2024-03-02T04:00,,,,,

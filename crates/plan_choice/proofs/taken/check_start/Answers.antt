@@ -1,33 +1,29 @@
-use Rattle.std.proofs.Common.{◌≡◌, sym, ap, subst, ◌∙◌, ℕ, ◌≤◌, arith, false, Some, slice_get, is_some, true, OnOk, IfErr, Result, Ok, Err}
+use Rattle.std.specs.Result.{IsErrAnd}
+use Rattle.std.proofs.Common.{Result, Ok, Err, IfErr, ◌≡◌, sym, ap, subst, ◌∙◌, ℕ, ◌<◌, ◌≤◌, arith, false, true, true≢false, Some, slice_get, is_some}
 use Rattle.std.proofs.lemmas.Int.{ints}
 use Rattle.std.proofs.lemmas.Option.{get_or_from_slice_get}
 use Rattle.std.specs.FinMap.{from_entries, get}
 use Rattle.plan_basics.specs.Keys.{name_cmp, name_cmp-IsAntisymmetric, name_cmp_total}
+use Rattle.plan_basics.specs.Refusals.{number_of}
 use Rattle.plan_basics.specs.declared.Refusal.{Refusal}
-use Rattle.plan_model.specs.Plan.{Operation}
+use Rattle.plan_model.specs.Plan.{Operation, Plan}
+use Rattle.plan_model.specs.Starting.{MayStart}
 use Rattle.plan_records.proofs.RowPlaces.{get_at}
 use Rattle.plan_records.specs.Contents.{plan_of}
-use Rattle.workstations.specs.Timetables.{NamedWorkstation}
+use Rattle.workstations.specs.Timetables.{IsLeastRefusal, NamedWorkstation}
 use Rattle.workstations.specs.Workstations.{HasRoom, Workstation}
-use Rattle.plan_choice.proofs.StartLines.{line_met, no_room}
+use Rattle.plan_choice.specs.Choosing.{HasTaken, IsStartLine}
+use Rattle.plan_choice.proofs.StartLines.{before_busy, line_met, lower_met, no_room, not_free}
 use Rattle.plan_choice.proofs.taken.check_start.Goals as goal
+use Rattle.plan_choice.proofs.taken.check_start.Goals.{After-fits}
 
 pub known_workstation-place-requires-clause-known : goal.known_workstation-place-requires-clause-known
 known_workstation-place-requires-clause-known c =
-    let on = c.requires.operation in
-    let known = c.requires.contents.valid.have_workstations on.0 c.args.operation.now on.1 in
+    let known = c.requires.contents.valid.have_workstations c.args.key.now c.args.operation.now c.requires.operation in
     let named = subst (λ (op : Operation). is_some (get {R = name_cmp} (from_entries c.args.contents.now.workstations.items) op.workstation) ≡ true) (sym c.operation.view_is) known in
     subst (λ rows. is_some (get {R = name_cmp} (from_entries rows) c.operation.inside.workstation) ≡ true) (sym c.deref.ensures.value) named
 
-if_ok : {E A B : Type 0} {X : Type 0} (x : Result X E) → OnOk x A → (A → B) → OnOk x B
-if_ok (Ok u) a f = f a
-if_ok (Err e) a f = tt
-
-if_err : {X E : Type 0} {A B : E → Type 0} (x : Result X E) → IfErr x A → ((e : E) → A e → B e) → IfErr x B
-if_err (Ok u) a f = tt
-if_err (Err e) a f = f e a
-
-module _ (c : goal.After-fits) where
+module _ (c : After-fits) where
   abbrev workstation : Workstation
   workstation = c.index-workstation.result.now.1
 
@@ -60,14 +56,53 @@ module _ (c : goal.After-fits) where
       let b = c.minute-2.ensures.value in
       omega (arith, ints, late, a, b, e)
 
-pub returns-clause-ok : goal.returns-clause-ok
-returns-clause-ok c = if_ok c.fits.result c.fits.ensures.ok (λ room P has o r line.
-    line_met c.args.contents.now c.args.operation.now (workstation c) (its_workstation c) c.args.at c.args.taken.now P has (free c) (after c) o r line (subst (λ needs. has_room c needs r) (same_needs c) (room r)))
+  -- what its workstation refuses, and what comes before that
+  module _ (r : Refusal) (least : IsLeastRefusal (has_room (c.from.result, c.from-2.result)) r) where
+    lacks : ¬ has_room (c.args.operation.now.r1, c.args.operation.now.r2) r
+    lacks room = least.0 (subst (λ needs. has_room needs r) (sym same_needs) room)
 
-pub returns-clause-refused : goal.returns-clause-refused
-returns-clause-refused c = if_err c.fits.result c.fits.ensures.refused (λ r least P has o.
-    no_room c.args.contents.now c.args.operation.now (workstation c) (its_workstation c) c.args.at c.args.taken.now P has o r (λ room. least.0 (subst (λ needs. has_room c needs r) (sym (same_needs c)) room)))
+    cannot : (P : Plan) → HasTaken P c.args.contents.now c.args.operation.now c.args.taken.now c.args.holdings.now.held → ¬ MayStart P c.args.key.now c.args.operation.now c.args.at r
+    cannot P has = no_room c.args.contents.now c.args.operation.now workstation its_workstation c.args.at c.args.taken.now c.args.holdings.now.held P has c.args.key.now r lacks
 
-pub returns-clause-least : goal.returns-clause-least
-returns-clause-least c = if_err c.fits.result c.fits.ensures.refused (λ r least P has o lower line less.
-    line_met c.args.contents.now c.args.operation.now (workstation c) (its_workstation c) c.args.at c.args.taken.now P has (free c) (after c) o lower line (subst (λ needs. has_room c needs lower) (same_needs c) (least.1 lower less)))
+    may_lower : (P : Plan) → HasTaken P c.args.contents.now c.args.operation.now c.args.taken.now c.args.holdings.now.held
+        → (lower : Refusal) → IsStartLine lower → number_of lower < number_of r → MayStart P c.args.key.now c.args.operation.now c.args.at lower
+    may_lower P has lower line less =
+        lower_met c.args.contents.now c.args.operation.now workstation its_workstation c.args.at c.args.taken.now c.args.holdings.now.held P has free after c.args.key.now lower line
+        (before_busy workstation c.args.at c.args.taken.now c.args.operation.now.r1 c.args.operation.now.r2 r lower lacks less)
+        (subst (λ needs. has_room needs lower) same_needs (least.1 lower less))
+
+if_err_and : {X E : Type 0} {A B : E → Type 0} (x : Result X E) → IsErrAnd x A → ((e : E) → A e → B e) → IfErr x B
+if_err_and (Ok u) a f = tt
+if_err_and (Err e) a f = f e a
+
+pub returns-in_err-fits-clause-refused : goal.returns-in_err-fits-clause-refused
+returns-in_err-fits-clause-refused c =
+    let at = ((goal.at.returns-in_err-fits-clause-refused c).After-fits) in
+    if_err_and c.from_residual.result c.from_residual.ensures.1
+    (λ r is. cannot at r (subst (IsLeastRefusal (has_room at (c.from.result, c.from-2.result))) (sym is) c.in_err-fits.ensures.refused))
+
+pub returns-in_err-fits-clause-least : goal.returns-in_err-fits-clause-least
+returns-in_err-fits-clause-least c =
+    let at = ((goal.at.returns-in_err-fits-clause-least c).After-fits) in
+    if_err_and c.from_residual.result c.from_residual.ensures.1
+    (λ r is. may_lower at r (subst (IsLeastRefusal (has_room at (c.from.result, c.from-2.result))) (sym is) c.in_err-fits.ensures.refused))
+
+pub returns-then-has_resources-clause-ok : goal.returns-then-has_resources-clause-ok
+returns-then-has_resources-clause-ok c P has r line =
+    let at = ((goal.at.returns-then-has_resources-clause-ok c).After-fits) in
+    let room : has_room at (c.args.operation.now.r1, c.args.operation.now.r2) r = subst (λ needs. has_room at needs r) (same_needs at) (c.in_ok-fits.ensures.ok r) in
+    line_met c.args.contents.now c.args.operation.now (workstation at) (its_workstation at) c.args.at c.args.taken.now c.args.holdings.now.held P has (free at) (after at) c.args.key.now r line room
+    (c.has_resources.ensures.0 c.if-has_resources.true)
+
+pub returns-else-has_resources-clause-refused : goal.returns-else-has_resources-clause-refused
+returns-else-has_resources-clause-refused c P has =
+    let at = ((goal.at.returns-else-has_resources-clause-refused c).After-fits) in
+    not_free c.args.contents.now c.args.operation.now (workstation at) (its_workstation at) c.args.at c.args.taken.now c.args.holdings.now.held P has c.args.key.now
+    (λ usable. true≢false (sym (c.has_resources.ensures.1 usable) ∙ c.if-has_resources.false))
+
+pub returns-else-has_resources-clause-least : goal.returns-else-has_resources-clause-least
+returns-else-has_resources-clause-least c P has lower line less =
+    let at = ((goal.at.returns-else-has_resources-clause-least c).After-fits) in
+    let room : has_room at (c.args.operation.now.r1, c.args.operation.now.r2) lower = subst (λ needs. has_room at needs lower) (same_needs at) (c.in_ok-fits.ensures.ok lower) in
+    lower_met c.args.contents.now c.args.operation.now (workstation at) (its_workstation at) c.args.at c.args.taken.now c.args.holdings.now.held P has (free at) (after at) c.args.key.now lower line
+    (λ is. omega (arith, less, ap number_of is)) room

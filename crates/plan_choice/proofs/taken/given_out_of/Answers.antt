@@ -18,19 +18,6 @@ row c =
 pub holds_a_server-requires-clause-operation : goal.holds_a_server-requires-clause-operation
 holds_a_server-requires-clause-operation c = (c.row-item.result.0, row_found c.args.contents.now c.requires c.loop-row.row-index c.row-item.result.0 c.row-item.result.1 (row c))
 
-pub with_operation-requires : goal.with_operation-requires
-with_operation-requires c =
-    let stations = c.args.contents.now.workstations.items in
-    let given = c.loop-row.given.items in
-    let place = c.known_workstation-place.result in
-    let name = c.row-item.result.1.workstation in
-    let at = own_place c.deref.result.now stations c.deref.ensures.value place c.operation.inside.workstation name
-    (ap (λ (op : Operation). op.workstation) c.operation.view_is) c.known_workstation-place.ensures.at in
-    let within : place < length stations = omega (arith, c.known_workstation-place.ensures.within, ap length c.deref.ensures.value) in
-    let there = read_at stations given (given_before c.args.contents.now c.loop-row.row-index) c.loop-row.invariant place c.index.result.now within c.index.ensures in
-    subst (IsAtMost 1980000) (sym (c.loop-row.invariant.each place name at.0 c.index.result.now at.1 there))
-    (before_at_most c.args.contents.now c.requires c.loop-row.row-index name)
-
 pub loop-row-preserved : goal.loop-row-preserved
 loop-row-preserved c =
     let contents = c.args.contents.now in
@@ -46,7 +33,8 @@ loop-row-preserved c =
           (ap (λ (op : Operation). op.workstation) c.operation.view_is) w.known_workstation-place.ensures.at in
           let within : place < length stations = omega (arith, w.known_workstation-place.ensures.within, ap length w.deref.ensures.value) in
           let there = read_at stations given (given_before contents i) c.loop-row.invariant place w.index.result.now within w.index.ensures in
-          rw (w.given-is, w.with_operation.ensures)
+          let most = subst (IsAtMost 1980000) (sym (c.loop-row.invariant.each place op.workstation at.0 w.index.result.now at.1 there)) (before_at_most contents c.requires i op.workstation) in
+          rw (w.given-is, w.with_operation.ensures most)
           (row_counted contents c.requires i c.row-item.result.0 op at_row given c.loop-row.invariant (sym c.holds_a_server.ensures ∙ w.if-holds_a_server.true) place at.0 at.1 w.index.result.now there)
       | else-holds_a_server w ↦
           rw w.given-is (row_passed contents c.requires i c.row-item.result.0 op at_row given c.loop-row.invariant (sym c.holds_a_server.ensures ∙ w.if-holds_a_server.false))

@@ -1,45 +1,96 @@
-use Rattle.std.proofs.Common.{sym, ap, subst, ◌∙◌, ℕ, IfOk}
+use Rattle.std.proofs.Common.{◌≡◌, ◌∙◌, inl, inr, ap, subst, sym, arith, ℕ, All, IfOk}
+use Rattle.plan_basics.specs.Intervals.{IsInterval}
+use Rattle.plan_basics.specs.declared.Refusal.TheVariants as refusal
+use Rattle.plan_records.specs.Accepting.{MayBeOpenBy}
 use Rattle.plan_records.specs.Changes.{marked}
 use Rattle.plan_records.specs.Contents.{plan_of}
-use Rattle.plan_records.specs.declared.What.{What}
 use Rattle.plan_records.specs.declared.What.TheVariants as what
+use Rattle.plan_records.specs.declared.contents.PlanContents.{PlanContents}
 use Rattle.status_rules.specs.declared.Mark.TheVariants as mark
-use Rattle.plan_core.specs.Requested.{AreMadeBy}
-use Rattle.plan_core.proofs.Made.{if_marked, if_ok, made_alike}
+use Rattle.plan_core.specs.Requested.{AllHold, AreMadeBy}
+use Rattle.plan_core.proofs.Commanded.{opened}
+use Rattle.plan_core.proofs.Made.{clear_of, if_alike, if_made, if_marked, open_by}
 use Rattle.plan_core.proofs.requests.changed.Goals as goal
+use Rattle.plan_core.proofs.requests.changed.Goals.{in-Tick, in-Started, in-Error, in-Interrupted, in-Unknown, in-Hold, in-Release, in-Nop, in-Unnop, in-DeleteOccurrence, in-SetAvailable, in-ReplaceIntervals, in-Ended2}
 
-pub returns-in-Tick : goal.returns-in-Tick
-returns-in-Tick c =
-    let old = c.args.contents.now in
-    subst (λ (w : What). IfOk c.copy_of.result (λ new. (clock : ℕ) → AreMadeBy (plan_of clock old) w new)) (sym c.in-Tick.is)
-    (if_ok c.copy_of.result (λ new h. made_alike old new (λ clock. (h clock).0) ((h 0).1 c.requires.in_order) c.requires.loadable) c.copy_of.ensures)
+pub rerun-requires-clause-known : goal.rerun-requires-clause-known
+rerun-requires-clause-known c =
+    (clear_of c.args.loaded.now.contents c.args.what.now (what.Rerun c.in-Rerun.key) c.in-Rerun.is c.requires.clear).1 refusal.UnknownOperation (omega arith)
 
-pub returns-in-Started : goal.returns-in-Started
-returns-in-Started c =
-    let marks = c.with_marks in
-    if_marked c.args.contents.now c.in-Started.key mark.Running (what.Started c.in-Started.key) tt (λ P Q e. e) c.requires.loadable
-    c.args.what.now c.in-Started.is marks.result marks.ensures.plan marks.ensures.in_order
+pub returns-in-Rerun-clause-made : goal.returns-in-Rerun-clause-made
+returns-in-Rerun-clause-made c =
+    if_made c.args.loaded.now.contents (what.Rerun c.in-Rerun.key) tt c.args.what.now c.in-Rerun.is c.rerun.result c.rerun.ensures.plan c.rerun.ensures.in_order
 
-pub returns-in-Ended : goal.returns-in-Ended
-returns-in-Ended c =
-    let marks = c.with_marks-in-Ended in
-    if_marked c.args.contents.now c.in-Ended.key mark.Done (what.Ended c.in-Ended.key) tt (λ P Q e. e) c.requires.loadable
-    c.args.what.now c.in-Ended.is marks.result marks.ensures.plan marks.ensures.in_order
+pub with_available-new-requires-clause-known : goal.with_available-new-requires-clause-known
+with_available-new-requires-clause-known c =
+    (clear_of c.args.loaded.now.contents c.args.what.now (what.SetAvailable c.in-SetAvailable.name c.in-SetAvailable.available) c.in-SetAvailable.is c.requires.clear).1 refusal.UnknownResource (omega arith)
 
-pub returns-in-Error : goal.returns-in-Error
-returns-in-Error c =
-    let marks = c.with_marks-in-Error in
-    if_marked c.args.contents.now c.in-Error.key c.error_mark.result (what.Error c.in-Error.key c.in-Error.code) c.error_mark.ensures.legal (λ P Q e. e ∙ ap (λ m. marked c.in-Error.key m P) c.error_mark.ensures.mark) c.requires.loadable
-    c.args.what.now c.in-Error.is marks.result marks.ensures.plan marks.ensures.in_order
+pub with_intervals-new-requires-clause-open : goal.with_intervals-new-requires-clause-open
+with_intervals-new-requires-clause-open c =
+    let plan = plan_of 0 c.args.loaded.now.contents in
+    let clear = clear_of c.args.loaded.now.contents c.args.what.now (what.ReplaceIntervals c.in-ReplaceIntervals.name c.in-ReplaceIntervals.intervals) c.in-ReplaceIntervals.is c.requires.clear in
+    subst (λ items. AllHold (MayBeOpenBy plan c.in-ReplaceIntervals.name items)) (sym c.deref-in-ReplaceIntervals.ensures.value)
+    (open_by plan c.in-ReplaceIntervals.name c.in-ReplaceIntervals.intervals.items clear.1)
 
-pub returns-in-Interrupted : goal.returns-in-Interrupted
-returns-in-Interrupted c =
-    let marks = c.with_marks-in-Interrupted in
-    if_marked c.args.contents.now c.in-Interrupted.key mark.Interrupted (what.Interrupted c.in-Interrupted.key) tt (λ P Q e. e) c.requires.loadable
-    c.args.what.now c.in-Interrupted.is marks.result marks.ensures.plan marks.ensures.in_order
-
-pub returns-in-Unknown : goal.returns-in-Unknown
-returns-in-Unknown c =
-    let marks = c.with_marks-in-Unknown in
-    if_marked c.args.contents.now c.in-Unknown.key mark.Undecided (what.Unknown c.in-Unknown.key) tt (λ P Q e. e) c.requires.loadable
-    c.args.what.now c.in-Unknown.is marks.result marks.ensures.plan marks.ensures.in_order
+pub returns-clause-made : goal.returns-clause-made
+returns-clause-made c =
+    let old = c.args.loaded.now.contents in
+    let v = c.args.what.now in
+    let in_order = c.requires.held.1.in_order in
+    let is_made = λ (new : PlanContents). (clock : ℕ) → AreMadeBy (plan_of clock old) v new in
+    let made : IfOk c.match-what.new is_made = elim c.match-what.branch [
+      | in-Tick w ↦ subst (λ r. IfOk r is_made) (sym w.new-is) (if_alike old in_order v w.in-Tick.is w.copy_of-new.result w.copy_of-new.ensures)
+      | in-Started w ↦
+          let new = w.with_marks-new in
+          subst (λ r. IfOk r is_made) (sym w.new-is)
+          (if_marked old (what.Started w.in-Started.key) tt w.in-Started.key mark.Running (λ P Q e. e) v w.in-Started.is new.result new.ensures.plan new.ensures.in_order)
+      | in-Ended2 w ↦
+          let new = w.with_marks-new-in-Ended in
+          let key = w.in-Ended.key in
+          subst (λ r. IfOk r is_made) (sym w.new-is)
+          (elim w.in-Ended.is [
+            | inl is ↦ if_marked old (what.Ended key) tt key mark.Done (λ P Q e. e) v is new.result new.ensures.plan new.ensures.in_order
+            | inr is ↦ if_marked old (what.Complete key) tt key mark.Done (λ P Q e. e) v is new.result new.ensures.plan new.ensures.in_order
+          ])
+      | in-Error w ↦
+          let new = w.with_marks-new-in-Error in
+          let key = w.in-Error.key in
+          let code = w.error_mark.ensures in
+          subst (λ r. IfOk r is_made) (sym w.new-is)
+          (if_marked old (what.Error key w.in-Error.code) code.legal key w.error_mark.result (λ P Q e. e ∙ ap (λ m. marked key m P) code.mark) v w.in-Error.is new.result new.ensures.plan new.ensures.in_order)
+      | in-Interrupted w ↦
+          let new = w.with_marks-new-in-Interrupted in
+          subst (λ r. IfOk r is_made) (sym w.new-is)
+          (if_marked old (what.Interrupted w.in-Interrupted.key) tt w.in-Interrupted.key mark.Interrupted (λ P Q e. e) v w.in-Interrupted.is new.result new.ensures.plan new.ensures.in_order)
+      | in-Unknown w ↦
+          let new = w.with_marks-new-in-Unknown in
+          subst (λ r. IfOk r is_made) (sym w.new-is)
+          (if_marked old (what.Unknown w.in-Unknown.key) tt w.in-Unknown.key mark.Undecided (λ P Q e. e) v w.in-Unknown.is new.result new.ensures.plan new.ensures.in_order)
+      | in-Hold w ↦
+          let new = w.with_held-new in
+          subst (λ r. IfOk r is_made) (sym w.new-is) (if_made old (what.Hold w.in-Hold.key) tt v w.in-Hold.is new.result new.ensures.plan new.ensures.in_order)
+      | in-Release w ↦
+          let new = w.with_held-new-in-Release in
+          subst (λ r. IfOk r is_made) (sym w.new-is) (if_made old (what.Release w.in-Release.key) tt v w.in-Release.is new.result new.ensures.plan new.ensures.in_order)
+      | in-Nop w ↦
+          let new = w.with_nop-new in
+          subst (λ r. IfOk r is_made) (sym w.new-is) (if_made old (what.Nop w.in-Nop.key) tt v w.in-Nop.is new.result new.ensures.plan new.ensures.in_order)
+      | in-Unnop w ↦
+          let new = w.with_nop-new-in-Unnop in
+          subst (λ r. IfOk r is_made) (sym w.new-is) (if_made old (what.Unnop w.in-Unnop.key) tt v w.in-Unnop.is new.result new.ensures.plan new.ensures.in_order)
+      | in-DeleteOccurrence w ↦
+          let new = w.deleted-new in
+          subst (λ r. IfOk r is_made) (sym w.new-is) (if_made old (what.DeleteOccurrence w.in-DeleteOccurrence.key) tt v w.in-DeleteOccurrence.is new.result new.ensures.plan new.ensures.in_order)
+      | in-SetAvailable w ↦
+          let new = w.with_available-new in
+          subst (λ r. IfOk r is_made) (sym w.new-is)
+          (if_made old (what.SetAvailable w.in-SetAvailable.name w.in-SetAvailable.available) tt v w.in-SetAvailable.is new.result new.ensures.plan new.ensures.in_order)
+      | in-ReplaceIntervals w ↦
+          let new = w.with_intervals-new in
+          let name = w.in-ReplaceIntervals.name in
+          let legal : All IsInterval w.in-ReplaceIntervals.intervals.items = subst (λ items. All IsInterval items) w.deref.ensures.value w.look_at.ensures in
+          subst (λ r. IfOk r is_made) (sym w.new-is)
+          (if_made old (what.ReplaceIntervals name w.in-ReplaceIntervals.intervals) legal v w.in-ReplaceIntervals.is new.result
+          (subst (λ items. IfOk new.result (λ (x : PlanContents). (clock : ℕ) → plan_of clock x ≡ opened name items (plan_of clock old))) w.deref-in-ReplaceIntervals.ensures.value new.ensures.plan) new.ensures.in_order)
+    ] in
+    subst (λ r. IfOk r is_made) c.in_ok-new.was made

@@ -5,4 +5,4 @@ pub returns : goal.returns
 returns c =
     let contents = c.contents.result.now in
     let is = c.contents.ensures in
-    if_ok c.copy_of.result (λ new h P. made_drafted contents new c.args.draft.now is.view is.draft is.loadable (h 0).0 ((h 0).1 is.in_order) P) c.copy_of.ensures
+    if_ok c.copy_of.result (λ new h P. made_drafted contents new c.args.draft.now is.view is.draft (h 0).0 ((h 0).1 is.in_order) P) c.copy_of.ensures

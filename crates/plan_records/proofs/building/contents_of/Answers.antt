@@ -1,36 +1,63 @@
-use Rattle.std.proofs.Common.{◌≡◌, ◌∙◌, ap, subst, sym, eqb, true}
+use Rattle.std.proofs.Common.{◌∙◌, ap, sym, refl, true≢false, All}
+use Rattle.std.proofs.Math.Path.{transport}
 use Rattle.std.specs.Map.{keys_of}
-use Rattle.plan_records.specs.Loading.{AreOperations, AreRowsOf}
-use Rattle.plan_records.proofs.Lists.{nil_from_test}
-use Rattle.plan_records.proofs.Assembling.{no_operations, no_pairs, contents_are}
+use Rattle.plan_records.specs.Loading.{AreWorkstationsInOrder, AreResourcesInOrder, AreOccurrencesInOrder, AreOperations, AreRowsOf, AreNeedsInOrder, IsNeedIn, ArePairs, ArePairsInOrder}
+use Rattle.plan_records.proofs.Assembling.{no_operations, no_needs, no_pairs, contents_are}
 use Rattle.plan_records.proofs.building.contents_of.Goals as goal
 
-pub returns-in_default-3 : goal.returns-in_default-3
-returns-in_default-3 c =
-    let stations = c.in_ok-workstations.field-0.items in
+pub returns-in_default-5 : goal.returns-in_default-5
+returns-in_default-5 c =
     let opened = rw c.in-Some.is at c.in_ok-workstations-2.ensures in
-    let in_order = rw c.in-Some-2.is at c.in_ok-occurrences-2.ensures in
-    let none = rw c.in_default-3.is at c.in_ok-operations.ensures in
-    let said = c.deref-4.result.now in
-    no_operations c.args.items.now stations c.deref.result.now c.in-Some.workstations.items c.in_ok-occurrences.field-0.items c.in-Some-2.occurrences.items said c.in_ok-workstations.ensures opened c.in_ok-occurrences.ensures in_order (c.deref-4.ensures.value ∙ c.in_ok-said.ensures)
-    (subst (λ os. ¬ AreOperations (keys_of c.in-Some.workstations.items) os said) c.deref-3.ensures.value (subst (λ ws. ¬ AreOperations (keys_of ws) c.deref-3.result.now said) c.deref-2.ensures.value none))
+    let stations = transport (λ i. AreWorkstationsInOrder (c.in_ok-workstations.ensures i) ((c.deref.ensures.value ∙ c.in_ok-intervals.ensures) i) c.in-Some.workstations.items) opened in
+    let ordered = rw c.in-Some-3.is at c.in_ok-occurrences-2.ensures in
+    let occurrences = transport (λ i. AreOccurrencesInOrder (c.in_ok-occurrences.ensures i) c.in-Some-3.occurrences.items) ordered in
+    let sorted = rw c.in-Some-4.is at c.in_ok-needs-2.ensures in
+    let needs = transport (λ i. AreNeedsInOrder (c.in_ok-needs.ensures i) c.in-Some-4.needs.items) sorted in
+    let said = c.deref-5.ensures.value ∙ c.in_ok-said.ensures in
+    let none = rw c.in_default-5.is at c.in_ok-operations.ensures in
+    no_operations c.args.items.now c.in-Some.workstations.items c.in-Some-3.occurrences.items c.in-Some-4.needs.items stations occurrences needs
+    (transport (λ i. ¬ AreOperations (keys_of (c.deref-2.ensures.value i)) (c.deref-3.ensures.value i) (c.deref-4.ensures.value i) (said i)) none)
 
-pub returns-in_default-4 : goal.returns-in_default-4
-returns-in_default-4 c =
-    let rows = rw c.in-Some-3.is at c.in_ok-operations.ensures in
-    let none = rw c.in_default-4.is at c.in_ok-pairs-2.ensures in
-    no_pairs (keys_of c.deref-2.result.now) c.deref-3.result.now c.args.items.now c.deref-4.result.now c.in-Some-3.operations.items c.deref-6.result.now c.in_ok-pairs.field-0.items (c.deref-4.ensures.value ∙ c.in_ok-said.ensures) rows (c.deref-6.ensures.value ∙ c.in_ok-keys.ensures ∙ ap keys_of c.deref-5.ensures.value) c.in_ok-pairs.ensures none
+pub returns-then-not-are_needs_in : goal.returns-then-not-are_needs_in
+returns-then-not-are_needs_in c =
+    let named = rw c.in-Some-2.is at c.in_ok-resources-2.ensures in
+    let resources = transport (λ i. AreResourcesInOrder (c.in_ok-resources.ensures i) c.in-Some-2.resources.items) named in
+    let sorted = rw c.in-Some-4.is at c.in_ok-needs-2.ensures in
+    let needs = transport (λ i. AreNeedsInOrder (c.in_ok-needs.ensures i) c.in-Some-4.needs.items) sorted in
+    let said = c.deref-5.ensures.value ∙ c.in_ok-said.ensures in
+    let made = rw c.in-Some-5.is at c.in_ok-operations.ensures in
+    let rows = transport (λ i. AreRowsOf (keys_of c.deref-2.result.now) c.deref-3.result.now (c.deref-4.ensures.value i) (said i) c.in-Some-5.operations.items) made in
+    let keyed = c.deref-7.ensures.value ∙ c.in_ok-keys.ensures ∙ ap keys_of c.deref-6.ensures.value in
+    no_needs c.args.items.now (keys_of c.deref-2.result.now) c.deref-3.result.now c.in-Some-2.resources.items c.in-Some-4.needs.items c.in-Some-5.operations.items resources needs rows
+    (λ all. true≢false (sym (c.if-not-are_needs_in.ensures.1 (transport (λ i. All (IsNeedIn (sym keyed i) (keys_of (sym c.deref-8.ensures.value i))) (sym c.deref-9.ensures.value i)) all))))
+
+pub returns-in_default-6 : goal.returns-in_default-6
+returns-in_default-6 c =
+    let said = c.deref-5.ensures.value ∙ c.in_ok-said.ensures in
+    let made = rw c.in-Some-5.is at c.in_ok-operations.ensures in
+    let rows = transport (λ i. AreRowsOf (keys_of c.deref-2.result.now) c.deref-3.result.now (c.deref-4.ensures.value i) (said i) c.in-Some-5.operations.items) made in
+    let keyed = c.deref-10.ensures.value ∙ c.in_ok-keys.ensures ∙ ap keys_of c.deref-6.ensures.value in
+    let none = rw c.in_default-6.is at c.in_ok-pairs-2.ensures in
+    no_pairs c.args.items.now (keys_of c.deref-2.result.now) c.deref-3.result.now c.in-Some-4.needs.items c.in-Some-5.operations.items rows
+    (transport (λ i. ¬ ArePairs (keyed i) (c.in_ok-pairs.ensures i)) none)
 
 pub returns : goal.returns
 returns c =
-    let without = nil_from_test c.in_ok-resources.field-0.items (subst (λ n. true ≡ eqb n 0) c.in_ok-resources.field-0.ok.0 c.if-not-is_empty.ensures) in
-    let stations = c.in_ok-workstations.field-0.items in
     let opened = rw c.in-Some.is at c.in_ok-workstations-2.ensures in
-    let in_order = rw c.in-Some-2.is at c.in_ok-occurrences-2.ensures in
-    let said = c.deref-4.result.now in
-    let made = rw c.in-Some-3.is at c.in_ok-operations.ensures in
-    let named = subst (λ ws. AreRowsOf (keys_of ws) c.deref-3.result.now said c.in-Some-3.operations.items) c.deref-2.ensures.value made in
-    let rows = subst (λ os. AreRowsOf (keys_of c.in-Some.workstations.items) os said c.in-Some-3.operations.items) c.deref-3.ensures.value named in
-    let ordered = rw c.in-Some-4.is at c.in_ok-pairs-2.ensures in
-    contents_are c.args.items.now _ stations c.deref.result.now c.in_ok-occurrences.field-0.items said c.deref-6.result.now c.in_ok-pairs.field-0.items (sym c.in_ok-resources.ensures ∙ without) c.in_ok-workstations.ensures (c.deref.ensures.value ∙ c.in_ok-intervals.ensures) opened
-    c.in_ok-occurrences.ensures in_order (c.deref-4.ensures.value ∙ c.in_ok-said.ensures) rows (c.deref-6.ensures.value ∙ c.in_ok-keys.ensures ∙ ap keys_of c.deref-5.ensures.value) c.in_ok-pairs.ensures ordered
+    let stations = transport (λ i. AreWorkstationsInOrder (c.in_ok-workstations.ensures i) ((c.deref.ensures.value ∙ c.in_ok-intervals.ensures) i) c.in-Some.workstations.items) opened in
+    let named = rw c.in-Some-2.is at c.in_ok-resources-2.ensures in
+    let resources = transport (λ i. AreResourcesInOrder (c.in_ok-resources.ensures i) c.in-Some-2.resources.items) named in
+    let ordered = rw c.in-Some-3.is at c.in_ok-occurrences-2.ensures in
+    let occurrences = transport (λ i. AreOccurrencesInOrder (c.in_ok-occurrences.ensures i) c.in-Some-3.occurrences.items) ordered in
+    let sorted = rw c.in-Some-4.is at c.in_ok-needs-2.ensures in
+    let needs = transport (λ i. AreNeedsInOrder (c.in_ok-needs.ensures i) c.in-Some-4.needs.items) sorted in
+    let said = c.deref-5.ensures.value ∙ c.in_ok-said.ensures in
+    let made = rw c.in-Some-5.is at c.in_ok-operations.ensures in
+    let rows = transport (λ i. AreRowsOf (keys_of (c.deref-2.ensures.value i)) (c.deref-3.ensures.value i) (c.deref-4.ensures.value i) (said i) c.in-Some-5.operations.items) made in
+    let keyed = c.in_ok-keys.ensures ∙ ap keys_of c.deref-6.ensures.value in
+    let in_reach = c.deref-7.ensures.value ∙ keyed in
+    let within = transport (λ i. All (IsNeedIn (in_reach i) (keys_of (c.deref-8.ensures.value i))) (c.deref-9.ensures.value i)) (c.if-not-are_needs_in.ensures.0 refl) in
+    let checked = rw c.in-Some-6.is at c.in_ok-pairs-2.ensures in
+    let paired = c.deref-10.ensures.value ∙ keyed in
+    let pairs = transport (λ i. ArePairsInOrder (paired i) (c.in_ok-pairs.ensures i) c.in-Some-6.pairs.items) checked in
+    contents_are c.args.items.now _ c.in-Some-4.needs.items stations resources occurrences needs rows within pairs

@@ -1,0 +1,40 @@
+-- Whether special resources that an operation needs are free, need by need.
+use Rattle.std.proofs.Common.{◌≡◌, ◌↔◌, subst, ℕ, ◌<◌, List, length, get_or, Contains, Some, true}
+use Rattle.std.specs.FinMap.{get}
+use Rattle.plan_basics.specs.Keys.{Name}
+use Rattle.plan_basics.specs.declared.Refusal.TheVariants.{ResourceBusy}
+use Rattle.plan_basics.specs.declared.keys.OpKey.{OpKey}
+use Rattle.special_resources.specs.Holders.{SharesWithHolders, Usage}
+use Rattle.special_resources.specs.Holdings.{Held, usage_of}
+use Rattle.special_resources.specs.Needs.{AreInNameOrder, usages_of}
+use Rattle.special_resources.specs.declared.Need.{Need}
+use Rattle.special_resources.proofs.MoreNeeds.{need_by_usage, usage_by_need}
+use Rattle.plan_model.specs.Holdings.{Holds}
+use Rattle.plan_model.specs.Plan.{Operation, Plan, Resources}
+use Rattle.plan_model.specs.Starting.{MayStart}
+use Rattle.plan_choice.specs.Choosing.{AreHeldIn}
+use Rattle.plan_choice.specs.Taking.{AreFree, CanUse, IsFree}
+
+module _ (resources : Resources) (held : Held) (o : OpKey) (needs : List Need) (sorted : AreInNameOrder needs) where
+  -- where each need can be met, all can
+  pub all_free : ((k : ℕ) (d : Need) → k < length needs → IsFree resources held o (get_or needs k d)) → AreFree resources held o (usages_of needs)
+  all_free each r usage is =
+      let there = need_by_usage needs sorted r usage is in
+      let at : IsFree resources held o there.0 = subst (IsFree resources held o) there.1.2 (each there.1.0 there.0 there.1.1) in
+      subst (λ (u : Usage). CanUse resources held o r u) there.3 (subst (λ name. CanUse resources held o name (usage_of there.0)) there.2 at)
+
+  -- where one can't, not all can
+  pub one_busy : (n : Need) → Contains needs n → ¬ IsFree resources held o n → ¬ AreFree resources held o (usages_of needs)
+  one_busy n has busy free = busy (free n.name (usage_of n) (usage_by_need needs sorted n has))
+
+-- by the holders, and by what is held
+module _ (P : Plan) (held : Held) (holders : AreHeldIn P held) (o : OpKey) where
+  pub shared_by_holders : (r : Name) (usage : Usage) → CanUse P.resources held o r usage → (get P.resources r ≡ Some true) × SharesWithHolders (Holds P) o r usage
+  shared_by_holders r usage can = (can.0, λ other u differs holds. can.1 other u differs ((holders other r u.mode).1 (u.keep, holds)))
+
+  pub shared_by_held : (r : Name) (usage : Usage) → (get P.resources r ≡ Some true) × SharesWithHolders (Holds P) o r usage → CanUse P.resources held o r usage
+  shared_by_held r usage may = (may.0, λ other u differs at. let holds = (holders other r u.mode).0 at in may.1 other (record { mode = u.mode; keep = holds.0 }) differs holds.1)
+
+  -- the line on special resources
+  pub may_start_by_free : (op : Operation) (m : ℕ) → AreFree P.resources held o op.needs ↔ MayStart P o op m ResourceBusy
+  may_start_by_free op m = (λ free r usage is. shared_by_holders r usage (free r usage is), λ may r usage is. shared_by_held r usage (may r usage is))

@@ -1,0 +1,102 @@
+-- Latest starts by the items of rows are those of their operations.
+use Rattle.std.proofs.Common.{◌≡◌, ◌≢◌, refl, sym, ap, subst, ◌∙◌, true≢false, ℕ, ℤ, true, List, map, slice_get, Option, Some, None, option_map}
+use Rattle.std.specs.Map.{keys_of}
+use Rattle.std.specs.FinMap.{get}
+use Rattle.std.proofs.lemmas.List.{length-map}
+use Rattle.std.proofs.lemmas.Option.{get_or_from_slice_get, slice_get-map}
+use Rattle.operation_graph.specs.Graphs.{Digraph}
+use Rattle.latest_start.specs.declared.Item.{Item}
+use Rattle.latest_start.specs.NodeStarts.{AreLatestStartsOf, IsLiveBy, deadline_by, duration_by, item_of, no_item}
+use Rattle.plan_basics.specs.Keys.{operation_cmp, operation_cmp_total, operation_cmp-IsAntisymmetric}
+use Rattle.plan_basics.specs.declared.keys.OpKey.{OpKey}
+use Rattle.status_rules.specs.declared.Mark.{Mark}
+use Rattle.status_rules.specs.declared.Mark.TheVariants as mark
+use Rattle.plan_model.specs.Plan.{IsLive, Operation, Plan}
+use Rattle.plan_graph.specs.PlanGraphs.{CountsAlike, HoldsAlike, JoinsAmong}
+use Rattle.plan_graph.proofs.PlacePaths.{least_starts_alike}
+use Rattle.plan_records.specs.Contents.{AreValidContents, IsGraphFor, plan_of}
+use Rattle.plan_records.specs.declared.contents.PlanContents.{PlanContents}
+use Rattle.plan_records.proofs.RowPlaces.{get_at}
+use Rattle.plan_records.proofs.Tables.{key_found}
+use Rattle.plan_laws.proofs.Looks.{same_some}
+use Rattle.plan_choice.specs.Choosing.{AreLatestStarts}
+use Rattle.plan_choice.proofs.RowKeys.{key_of_row, row_of_key}
+use Rattle.plan_choice.specs.StartItems.{is_live_mark, start_item}
+
+live_mark : (m : Mark) → is_live_mark m ≡ true → m ≢ mark.Deleted
+live_mark m live deleted = true≢false (sym live ∙ ap is_live_mark deleted)
+
+mark_live : (m : Mark) → m ≢ mark.Deleted → is_live_mark m ≡ true
+mark_live mark.Unmarked h = refl
+mark_live mark.Named h = refl
+mark_live mark.Running h = refl
+mark_live mark.Undecided h = refl
+mark_live mark.Interrupted h = refl
+mark_live (mark.Error code) h = refl
+mark_live mark.Done h = refl
+mark_live mark.Deleted h = absurd (h refl)
+
+abbrev number_of : Option Operation → (Operation → ℕ) → ℕ
+number_of (Some op) f = f op
+number_of None f = 0
+
+abbrev duration_in : Plan → OpKey → ℕ
+duration_in P o = number_of (get P.operations o) (λ op. op.duration)
+
+abbrev deadline_in : Plan → OpKey → ℕ
+deadline_in P o = number_of (get P.operations o) (λ op. op.deadline)
+
+-- what latest starts go by, row by row
+abbrev pub items_by : List (OpKey × Operation) → List Item
+items_by rows = map (λ (row : OpKey × Operation). start_item row.1) rows
+
+module _ (c : PlanContents) (h : AreValidContents c) (clock : ℕ) where
+  abbrev P : Plan
+  P = plan_of clock c
+
+  abbrev rows : List (OpKey × Operation)
+  rows = c.operations.items
+
+  abbrev keys : List OpKey
+  keys = keys_of rows
+
+  -- what stands at a key's place is its operation, and its item
+  standing : (i : ℕ) (o : OpKey) → slice_get keys i ≡ Some o → (op : Operation) × (get P.operations o ≡ Some op) × (item_of (items_by rows) i ≡ start_item op)
+  standing i o at =
+      let row = row_of_key rows i o at in (
+        row.0,
+        get_at operation_cmp operation_cmp_total operation_cmp-IsAntisymmetric rows h.in_order.operations i o row.0 row.1,
+        get_or_from_slice_get (items_by rows) i (start_item row.0) no_item (slice_get-map (λ (r : OpKey × Operation). start_item r.1) rows i ∙ ap (option_map (λ (r : OpKey × Operation). start_item r.1)) row.1),
+      )
+
+  live_alike : HoldsAlike keys (IsLiveBy (items_by rows)) (IsLive P)
+  live_alike i o at = (to, back)
+    where
+      to : IsLiveBy (items_by rows) i → IsLive P o
+      to live = let s = standing i o at in (s.0, s.1, live_mark s.0.mark (sym (ap (λ (z : Item). z.live) s.2) ∙ live))
+
+      back : IsLive P o → IsLiveBy (items_by rows) i
+      back (op, is, not_deleted) =
+          let s = standing i o at in
+          ap (λ (z : Item). z.live) s.2 ∙ mark_live s.0.mark (subst (λ (z : Operation). z.mark ≢ mark.Deleted) (same_some op s.0 (sym is ∙ s.1)) not_deleted)
+
+  durations_alike : CountsAlike keys (duration_by (items_by rows)) (duration_in P)
+  durations_alike i o at = let s = standing i o at in ap (λ (z : Item). z.duration) s.2 ∙ sym (ap (λ x. number_of x (λ op. op.duration)) s.1)
+
+  deadlines_alike : CountsAlike keys (deadline_by (items_by rows)) (deadline_in P)
+  deadlines_alike i o at = let s = standing i o at in ap (λ (z : Item). z.deadline) s.2 ∙ sym (ap (λ x. number_of x (λ op. op.deadline)) s.1)
+
+  joins : JoinsAmong keys P.pairs
+  joins p o pair =
+      let ends = h.valid.pairs p o pair in
+      (key_found operation_cmp_total operation_cmp-IsAntisymmetric rows p ends.0, key_found operation_cmp_total operation_cmp-IsAntisymmetric rows o ends.1)
+
+  -- the latest starts of the graph's nodes are those of the rows' operations
+  pub starts_of_rows : (g : Digraph) → IsGraphFor c g → (starts : List ℤ) → AreLatestStartsOf g (items_by rows) starts → AreLatestStarts P rows starts
+  starts_of_rows g graph starts are = record {
+    size = are.size ∙ graph.nodes ∙ length-map rows (λ (row : OpKey × Operation). row.0);
+    each = λ i o op v at is.
+        (least_starts_alike keys P.pairs g graph (IsLiveBy (items_by rows)) (IsLive P) live_alike joins
+        (duration_by (items_by rows)) (duration_in P) (deadline_by (items_by rows)) (deadline_in P)
+        durations_alike deadlines_alike i o v (key_of_row rows i o op at)).0 (are.each i v is);
+  }

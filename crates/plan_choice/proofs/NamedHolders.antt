@@ -1,0 +1,117 @@
+-- Who holds special resources, once one operation more is named.
+use Rattle.std.proofs.Common.{◌≡◌, ◌≢◌, ◌↔◌, refl, sym, ap, subst, ◌∙◌, true≢false, Bool, true, false, ◌||◌, cond, List, [], ◌∷◌, ◌++◌, Option, None, Some, option_map}
+use Rattle.std.specs.Cmp.{eq_by_cmp_equiv}
+use Rattle.std.specs.FinMap.{get}
+use Rattle.std.specs.Ordering.{eq_by_cmp}
+use Rattle.plan_basics.specs.Keys.{Name, operation_cmp, operation_cmp_total}
+use Rattle.plan_basics.specs.declared.Attr.TheVariants.{Automatic}
+use Rattle.plan_basics.specs.declared.keys.OpKey.{OpKey}
+use Rattle.special_resources.specs.Holders.{Usage}
+use Rattle.special_resources.specs.Holdings.{Held}
+use Rattle.special_resources.specs.declared.Mode.{Mode}
+use Rattle.status_rules.specs.Table.{marked_status}
+use Rattle.status_rules.specs.declared.Mark.TheVariants as mark
+use Rattle.ready_list.specs.Choice.{is_among}
+use Rattle.plan_model.specs.Holdings.{Holds, holds_resource, takes}
+use Rattle.plan_model.specs.Plan.{HasAttribute, Operation, Plan}
+use Rattle.plan_model.specs.Ready.{named, with_mark}
+use Rattle.plan_laws.proofs.Looks.{get-named, same_key, same_some}
+use Rattle.plan_choice.specs.Choosing.{AreHeldIn}
+use Rattle.plan_choice.specs.Taking.{HaveTaken}
+use Rattle.plan_choice.proofs.NamedGiven.{among_more}
+use Rattle.plan_choice.proofs.Naming.{now, still}
+
+-- two plans with the same workstations, whose operations are alike at a key
+module _ (P Q : Plan) (stations : Q.workstations ≡ P.workstations) (o : OpKey) (same : get Q.operations o ≡ get P.operations o) where
+  held_alike : (r : Name) (usage : Usage) → Holds P o r usage → Holds Q o r usage
+  held_alike r usage (op, is, (needs, known, holds)) =
+      (op, same ∙ is, (needs, ap (λ all. takes (option_map (λ ws. ws.attribute) (get all op.workstation))) stations ∙ known, holds))
+
+none_of : {A : Type 0} (x : Option A) → ((a : A) → ¬ (x ≡ Some a)) → x ≡ None
+none_of None none = refl
+none_of (Some a) none = absurd (none a refl)
+
+or_true : (b : Bool) → (b || true) ≡ true
+or_true true = refl
+or_true false = refl
+
+or_false : (b : Bool) → (b || false) ≡ b
+or_false true = refl
+or_false false = refl
+
+module _ (P : Plan) (os : List OpKey) (k : OpKey) (op : Operation) (is : get P.operations k ≡ Some op) (out : is_among os k ≡ false) (unmarked : op.mark ≡ mark.Unmarked)
+    (automatic : HasAttribute P op.workstation Automatic) where
+  abbrev before : Plan
+  before = named os P
+
+  abbrev after : Plan
+  after = named (os ++ k ∷ []) P
+
+  -- whether o holds r in this mode is told by what is held
+  abbrev TellsHolding : Held → OpKey → Name → Mode → Type 0
+  TellsHolding held o r mode = (get held (r, o) ≡ Some mode) ↔ ((keep : Bool) × Holds after o r (record { mode = mode; keep = keep }))
+
+  -- another stands in both as it does
+  same_row : (o : OpKey) → eq_by_cmp operation_cmp o k ≡ false → get after.operations o ≡ get before.operations o
+  same_row o apart =
+      get-named (os ++ k ∷ []) P o
+      ∙ ap (λ b. option_map (λ x. cond b (with_mark mark.Named x) x) (get P.operations o)) (among_more os k o ∙ ap (λ b. is_among os o || b) apart ∙ or_false (is_among os o))
+      ∙ sym (get-named os P o)
+
+  named_row : get after.operations k ≡ Some (with_mark mark.Named op)
+  named_row =
+      now (os ++ k ∷ []) P k op is
+      ∙ ap (λ b. Some (cond b (with_mark mark.Named op) op)) (among_more os k k ∙ ap (λ b. is_among os k || b) ((eq_by_cmp_equiv operation_cmp_total).refl k) ∙ or_true (is_among os k))
+
+  -- what is unmarked holds nothing
+  holds_nothing : (r : Name) (usage : Usage) → ¬ Holds before k r usage
+  holds_nothing r usage (x, found, (needs, known, holds)) =
+      let same : x ≡ op = same_some x op (sym found ∙ still os P k op out is) in
+      true≢false (sym holds ∙ ap (λ (z : Operation). holds_resource usage.keep (marked_status z.mark)) same ∙ ap (λ m. holds_resource usage.keep (marked_status m)) unmarked)
+
+  -- named, it holds what it needs
+  holds_needs : (r : Name) (usage : Usage) → get op.needs r ≡ Some usage → Holds after k r usage
+  holds_needs r usage needs = (with_mark mark.Named op, named_row, (needs, ap takes automatic, refl))
+
+  needs_held : (r : Name) (usage : Usage) → Holds after k r usage → get op.needs r ≡ Some usage
+  needs_held r usage (x, found, (needs, known, holds)) = subst (λ (z : Operation). get z.needs r ≡ Some usage) (same_some x (with_mark mark.Named op) (sym found ∙ named_row)) needs
+
+  module _ (old new : Held) (held : AreHeldIn before old) (taken : HaveTaken old k op.needs mark.Named new) where
+    none_yet : (r : Name) → get old (r, k) ≡ None
+    none_yet r = none_of (get old (r, k)) (λ mode e. let h = (held k r mode).0 e in holds_nothing r _ h.1)
+
+    its_own : (r : Name) (mode : Mode) → TellsHolding new k r mode
+    its_own r mode =
+        let own = taken.own r (none_yet r) mode in (
+          λ e. let h = own.0 e in (h.0, holds_needs r _ h.1),
+          λ h. own.1 (h.0, needs_held r _ h.1, refl),
+        )
+
+    of_another : (o : OpKey) → eq_by_cmp operation_cmp o k ≡ false → o ≢ k → (r : Name) (mode : Mode) → TellsHolding new o r mode
+    of_another o apart differs r mode = (
+      λ e. let h = (held o r mode).0 (sym (taken.others o r differs) ∙ e) in (h.0, held_alike before after refl o (same_row o apart) r _ h.1),
+      λ h. taken.others o r differs ∙ (held o r mode).1 (h.0, held_alike after before refl o (sym (same_row o apart)) r _ h.1),
+    )
+
+    by_key : (o : OpKey) (b : Bool) → eq_by_cmp operation_cmp o k ≡ b → (r : Name) (mode : Mode) → TellsHolding new o r mode
+    by_key o true e r mode = subst (λ z. TellsHolding new z r mode) (sym (same_key o k e)) (its_own r mode)
+    by_key o false e r mode =
+        of_another o e (λ same. true≢false (sym ((eq_by_cmp_equiv operation_cmp_total).refl k) ∙ ap (λ z. eq_by_cmp operation_cmp z k) (sym same) ∙ e)) r mode
+
+    -- once it is named, it holds what it takes
+    pub named_held : AreHeldIn after new
+    named_held o r mode = by_key o (eq_by_cmp operation_cmp o k) refl r mode
+
+-- with none named, the holders are the plan's
+pub none_named_held : (P : Plan) (held : Held) → AreHeldIn P held → AreHeldIn (named [] P) held
+none_named_held P held are o r mode = (
+  λ e. let h = (are o r mode).0 e in (h.0, held_alike P (named [] P) refl o same r _ h.1),
+  λ h. (are o r mode).1 (h.0, held_alike (named [] P) P refl o (sym same) r _ h.1),
+)
+  where
+    as_it_is : (x : Option Operation) → option_map (λ op. op) x ≡ x
+    as_it_is None = refl
+    as_it_is (Some op) = refl
+
+    same : get (named [] P).operations o ≡ get P.operations o
+    same = get-named [] P o ∙ as_it_is (get P.operations o)

@@ -1,0 +1,9 @@
+use Rattle.std.proofs.Common.{◌≡◌, map, take}
+use Rattle.plan_basics.specs.declared.keys.OpKey.{OpKey}
+use Rattle.plan_model.specs.Plan.{Operation}
+use Rattle.plan_choice.specs.StartItems.{start_item}
+use Rattle.plan_choice.proofs.latest.items_of.Given as goal
+
+-- the rows before this one are gone through
+abbrev pub invariant-loop-row : goal.invariant-loop-row
+invariant-loop-row l = l.items.items ≡ map (λ (row : OpKey × Operation). start_item row.1) (take l.row-index l.rows)

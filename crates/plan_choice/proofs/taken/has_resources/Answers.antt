@@ -1,0 +1,30 @@
+use Rattle.std.proofs.Common.{◌≡◌, sym, ap, subst, ◌∙◌, arith, refl, true≢false, Contains}
+use Rattle.special_resources.specs.Needs.{usages_of}
+use Rattle.plan_model.specs.Plan.{Operation, Resources}
+use Rattle.plan_records.specs.Contents.{plan_of}
+use Rattle.plan_choice.specs.Taking.{AreFree, IsFree}
+use Rattle.plan_choice.proofs.FreeResources.{all_free, one_busy}
+use Rattle.plan_choice.proofs.taken.has_resources.Goals as goal
+
+pub returns-then-not-has_resource : goal.returns-then-not-has_resource
+returns-then-not-has_resource c =
+    let resources : Resources = (plan_of 0 c.args.contents.now).resources in
+    let held = c.args.holdings.now.held in
+    let o = c.args.key.now in
+    let items = c.as_slice-need-items.result.now in
+    let same : c.args.operation.now.needs ≡ usages_of items = ap (λ (op : Operation). op.needs) (sym c.operation.view_is) ∙ c.as_slice-need-items.ensures.usages in
+    let has : Contains items c.need-item.result = (c.loop-need.need-index, c.loop-need-test.true, sym c.need-item.is) in
+    let busy : ¬ IsFree resources held o c.need-item.result = λ free. true≢false (sym (c.has_resource.ensures.1 free) ∙ c.if-not-has_resource.true) in (
+      λ never. absurd (true≢false (sym never)),
+      λ free. absurd (one_busy resources held o items c.as_slice-need-items.ensures.in_order c.need-item.result has busy (subst (λ needs. AreFree resources held o needs) same free)),
+    )
+
+pub returns : goal.returns
+returns c =
+    let resources : Resources = (plan_of 0 c.args.contents.now).resources in
+    let held = c.args.holdings.now.held in
+    let o = c.args.key.now in
+    let items = c.as_slice-need-items.result.now in
+    let same : c.args.operation.now.needs ≡ usages_of items = ap (λ (op : Operation). op.needs) (sym c.operation.view_is) ∙ c.as_slice-need-items.ensures.usages in
+    let passed = c.loop-need-test.false in
+    (λ _. subst (λ needs. AreFree resources held o needs) (sym same) (all_free resources held o items c.as_slice-need-items.ensures.in_order (λ k d lt. c.loop-need.invariant k d (omega (arith, lt, passed)))), λ _. refl)

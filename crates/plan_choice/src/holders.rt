@@ -1,0 +1,78 @@
+// Who holds special resources.
+ghost use Rattle.std.specs.Prelude.{◌≡◌, ℕ, IfOk, IfErr, OnOk};
+ghost use Rattle.plan_basics.specs.declared.Refusal.{Refusal};
+ghost use Rattle.plan_model.specs.Holdings.{holds_resource};
+ghost use Rattle.plan_records.specs.Contents.{plan_of, AreValidContents};
+ghost use Rattle.status_rules.specs.Table.{marked_status};
+ghost use Rattle.status_rules.specs.declared.Mark.{Mark};
+ghost use Rattle.plan_choice.specs.Choosing.{AreHeldIn};
+ghost use Rattle.plan_choice.specs.Taking.{HaveTaken};
+
+use super::taken::starts_are_known;
+use plan_basics::{OpKey, Refusal};
+use plan_model::OperationRecord;
+use plan_records::PlanContents;
+use special_resources::Holdings;
+use status_rules::Mark;
+use std::alloc::Global;
+
+// Whether an operation of this mark holds a special resource that an error keeps, or frees.
+fn holds_by(mark: &Mark, keep: bool) -> bool
+    ensures { result ≡ holds_resource keep (marked_status mark.now) }
+{
+    match mark {
+        Mark::Named | Mark::Running | Mark::Undecided | Mark::Interrupted => true,
+        Mark::Error(_) => keep,
+        _ => false,
+    }
+}
+
+// Takes what an operation with this mark holds of what it needs, unless it holds it already.
+fn take_marked(
+    holdings: &mut Holdings,
+    key: &OpKey,
+    operation: &OperationRecord,
+    mark: &Mark,
+) -> Result<(), Refusal>
+    ensures taken { OnOk result (HaveTaken holdings.old.held key.now operation.now.needs mark.now holdings.new.held) }
+    ensures refused { IfErr result (λ r. r ≡ Refusal.Memory) }
+{
+    let needs = operation.needs.as_slice();
+    holdings.reserve(needs.len())?;
+    for need in needs {
+        if holds_by(mark, need.keep) && holdings.mode_of(&need.name, *key).is_none() {
+            holdings.take(need, *key);
+        }
+    }
+    Ok(())
+}
+
+/// Takes all that an operation needs of special resources as it starts, unless it holds it already. The error is always
+/// `Memory`: then it may have taken a part of it.
+pub fn take_needs(
+    holdings: &mut Holdings,
+    key: &OpKey,
+    operation: &OperationRecord,
+) -> Result<(), Refusal>
+    ensures taken { OnOk result (HaveTaken holdings.old.held key.now operation.now.needs Mark.Named holdings.new.held) }
+    ensures refused { IfErr result (λ r. r ≡ Refusal.Memory) }
+{
+    take_marked(holdings, key, operation, &Mark::Named)
+}
+
+/// Who holds what of special resources: an operation on a workstation where starts are known that is started, undecided or
+/// interrupted holds what it needs; one that ended in error holds what an error keeps. The error is always `Memory`.
+pub fn holdings_of(alloc: Global, contents: &PlanContents) -> Result<Holdings, Refusal>
+    requires { AreValidContents contents.now }
+    ensures held { IfOk result (λ found. (clock : ℕ) → AreHeldIn (plan_of clock contents.now) found.held) }
+    ensures refused { IfErr result (λ r. r ≡ Refusal.Memory) }
+{
+    let mut holdings = Holdings::new(alloc);
+    for row in &contents.operations {
+        let operation = &row.1;
+        if starts_are_known(contents, operation) {
+            take_marked(&mut holdings, &row.0, operation, &operation.mark)?;
+        }
+    }
+    Ok(holdings)
+}

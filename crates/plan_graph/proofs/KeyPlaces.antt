@@ -1,0 +1,88 @@
+-- Where keys in order stand, and what a set made of a list holds.
+use Rattle.std.proofs.Common.{◌≡◌, ◌≢◌, ◌⊎◌, inl, inr, refl, sym, ap, subst, ◌∙◌, true≢false, arith, ℕ, ◌+◌, ◌<◌, Bool, true, false, ◌||◌, List, [], ◌∷◌, length, get_or, slice_get, Some, Contains, Result, Ok, Err}
+use Rattle.std.specs.Cmp.{IsTotalOrder, Equal-is, eq_by_cmp_equiv, on_total, then_total}
+use Rattle.std.specs.FinMap.{IsAntisymmetric}
+use Rattle.std.specs.FinSet.{contains, contains-empty, contains-insert, from_list}
+use Rattle.std.specs.List.Sorted.{IsStrictlySortedBy, IsSortedBy, IsBinarySearchResult, IsSearchInRange}
+use Rattle.std.specs.Ordering.{eq_by_cmp, is_lt, ordering_reverse}
+use Rattle.std.specs.declared.cmp.Ordering.{Ordering}
+use Rattle.std.specs.declared.cmp.Ordering.TheVariants.{Less, Equal, Greater}
+use Rattle.std.proofs.lemmas.Bool.{cases_lt}
+use Rattle.std.proofs.lemmas.Cmp.{tied_itself}
+use Rattle.std.proofs.lemmas.List.Sorted.{searchable_from_sorted}
+use Rattle.std.proofs.lemmas.Map.Keys.{Less-from_sorted}
+use Rattle.std.proofs.lemmas.Option.{slice_get-get_or, slice_get_within, get_or_from_slice_get}
+use Rattle.operation_graph.specs.Graphs.{AreDifferent}
+use Rattle.operation_graph.proofs.Members.{contains_head, contains_later, contains_cases, contains_none}
+use Rattle.plan_basics.specs.Keys.{operation_cmp, operation_cmp_total, operation_cmp-IsAntisymmetric, then_IsAntisymmetric}
+use Rattle.plan_basics.specs.declared.keys.OpKey.{OpKey}
+use Rattle.plan_model.specs.Plan.{pair_cmp}
+
+abbrev Pair : Type 0
+Pair = OpKey × OpKey
+
+pub pair_cmp_total : IsTotalOrder pair_cmp
+pair_cmp_total = then_total (on_total (λ (x : Pair). x.0) operation_cmp_total) (on_total (λ (x : Pair). x.1) operation_cmp_total)
+
+pub pair_cmp-IsAntisymmetric : IsAntisymmetric pair_cmp
+pair_cmp-IsAntisymmetric = then_IsAntisymmetric {R = operation_cmp} {S = operation_cmp} (λ (x : Pair). x.0) (λ (x : Pair). x.1) (λ x y p q i. (p i, q i)) operation_cmp-IsAntisymmetric operation_cmp-IsAntisymmetric
+
+or_cases : (a b : Bool) → (a || b) ≡ true → (a ≡ true) ⊎ (b ≡ true)
+or_cases true b e = inl refl
+or_cases false b e = inr e
+
+or_right : (a b : Bool) → b ≡ true → (a || b) ≡ true
+or_right true b e = refl
+or_right false b e = e
+
+module _ {K : Type 0} {R : K → K → Ordering} (total : IsTotalOrder R) where
+  -- no key is below itself
+  not_below : (a b : K) → R a b ≡ Less → a ≢ b
+  not_below a b less same = let less' : R a a ≡ Less = subst (λ z. R a z ≡ Less) (sym same) less in let tied = tied_itself total a in cc
+
+  -- keys in order are different
+  pub different_in_order : (ks : List K) → IsStrictlySortedBy R ks → AreDifferent ks
+  different_in_order ks sorted i j d lt within = not_below (get_or ks i d) (get_or ks j d) (Less-from_sorted R ks i j d sorted lt within)
+
+  -- so that each stands at one place
+  pub one_place : (ks : List K) → IsStrictlySortedBy R ks → (i j : ℕ) (k : K) → slice_get ks i ≡ Some k → slice_get ks j ≡ Some k → i ≡ j
+  one_place ks sorted i j k at_i at_j = elim (cases_lt i j) [
+    | inl lt ↦ absurd (never i j lt at_i at_j)
+    | inr ge ↦ elim (cases_lt j i) [ inl gt ↦ absurd (never j i gt at_j at_i) | inr le ↦ omega (arith, ge, le) ]
+  ]
+    where
+      never : (a b : ℕ) → a < b → slice_get ks a ≡ Some k → slice_get ks b ≡ Some k → ⊥
+      never a b lt at_a at_b =
+          different_in_order ks sorted a b k lt (slice_get_within ks b k at_b)
+          (get_or_from_slice_get ks a k k at_a ∙ sym (get_or_from_slice_get ks b k k at_b))
+
+  none_less_back : (ks : List K) → IsStrictlySortedBy R ks → IsSortedBy (λ a b. is_lt (R a b)) ks
+  none_less_back ks up = λ k d low high. ap is_lt (total.antisymm (get_or ks (k + 1) d) (get_or ks k d) ∙ ap ordering_reverse (Less-from_sorted R ks k (k + 1) d up (omega arith) high))
+
+  module _ (exact : IsAntisymmetric R) where
+    -- a search among keys in order finds one that is there
+    pub search_places : (ks : List K) (k : K) (r : Result ℕ ℕ) → IsSearchInRange r (length ks) → IsBinarySearchResult (λ y. R y k) ks r → IsStrictlySortedBy R ks → Contains ks k
+        → (i : ℕ) × (r ≡ Ok i) × (slice_get ks i ≡ Some k)
+    search_places ks k (Ok i) within h sorted has = (i, refl, slice_get-get_or ks i k within ∙ ap Some (exact (get_or ks i k) k (h k)))
+    search_places ks k (Err i) within h sorted (j, lt, is) =
+        let parts = h (searchable_from_sorted total (λ y. y) ks k (none_less_back ks sorted)) in
+        let tied : R (get_or ks j k) k ≡ Equal = subst (λ z. R z k ≡ Equal) (sym is) (tied_itself total k) in
+        absurd (elim (cases_lt j i) [
+          | inl before ↦ let less : R (get_or ks j k) k ≡ Less = parts.0 j k (omega arith) before in cc
+          | inr after ↦ let greater : R (get_or ks j k) k ≡ Greater = parts.1 j k after lt in cc
+        ])
+
+    -- a set that is made of a list holds its elements
+    pub listed_in : (ks : List K) (k : K) → contains (from_list {R = R} ks) k ≡ true → Contains ks k
+    listed_in [] k h = absurd (true≢false (sym h ∙ contains-empty R k))
+    listed_in (x ∷ ks) k h = elim (or_cases (eq_by_cmp R k x) (contains {R = R} (from_list ks) k) (sym (contains-insert total (from_list ks) x k) ∙ h)) [
+      | inl is ↦ subst (Contains (x ∷ ks)) (sym (exact k x ((Equal-is (R k x)).0 is))) (contains_head x ks)
+      | inr old ↦ contains_later x ks k (listed_in ks k old)
+    ]
+
+    pub in_listed : (ks : List K) (k : K) → Contains ks k → contains (from_list {R = R} ks) k ≡ true
+    in_listed [] k has = absurd (contains_none k has)
+    in_listed (x ∷ ks) k has = elim (contains_cases x ks k has) [
+      | inl e ↦ subst (λ z. contains {R = R} (from_list (x ∷ ks)) z ≡ true) e (contains-insert total (from_list ks) x x ∙ ap (λ b. b || contains {R = R} (from_list ks) x) ((eq_by_cmp_equiv total).refl x))
+      | inr later ↦ contains-insert total (from_list ks) x k ∙ or_right (eq_by_cmp R k x) _ (in_listed ks k later)
+    ]

@@ -1,0 +1,4 @@
+pub mod KeyPlaces
+pub mod PairEdges
+pub mod PlacePaths
+pub mod NumberedOrder

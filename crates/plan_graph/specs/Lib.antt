@@ -1,0 +1,2 @@
+pub mod PlanGraphs
+pub mod Numbered

@@ -1,0 +1,65 @@
+-- The graph of a plan's operations: its nodes are the places of their keys, its edges those of the pairs.
+use Rattle.std.specs.Prelude.{◌≡◌, ◌↔◌, ℕ, ℤ, List, All, Contains, Option, Some, length, map, slice_get}
+use Rattle.operation_graph.specs.Graphs.{Digraph, HasEdge, IsGraph}
+use Rattle.operation_graph.specs.Paths.{IsPathBy, ReachesBy}
+use Rattle.latest_start.specs.LeastStart.{IsLeastStart}
+use Rattle.plan_basics.specs.declared.keys.OpKey.{OpKey}
+use Rattle.plan_model.specs.Plan.{Pairs, IsPairOf}
+
+-- the graph's nodes are the places of these keys, its edges lead from place to place as the pairs do from key to key
+pub record IsGraphOf (keys : List OpKey) (pairs : Pairs) (g : Digraph) : Type 0 where
+  pub nodes : g.nodes ≡ length keys
+  pub edges : (i j : ℕ) → HasEdge g i j ↔ ((p : OpKey) × (o : OpKey) × (slice_get keys i ≡ Some p) × (slice_get keys j ≡ Some o) × IsPairOf pairs p o)
+  pub graph : IsGraph g
+
+-- the ends of these pairs are among the keys
+abbrev pub AreAmong : List OpKey → List (OpKey × OpKey) → Type 0
+AreAmong keys pairs = All (λ pair. Contains keys pair.0 × Contains keys pair.1) pairs
+
+-- so are those of a set of pairs
+abbrev pub JoinsAmong : List OpKey → Pairs → Type 0
+JoinsAmong keys pairs = (p o : OpKey) → IsPairOf pairs p o → Contains keys p × Contains keys o
+
+-- what stands at the two places that an edge joins
+abbrev pub keys_at : List OpKey → ℕ × ℕ → Option OpKey × Option OpKey
+keys_at keys e = (slice_get keys e.0, slice_get keys e.1)
+
+-- the two ends of a pair
+abbrev pub both_ends : OpKey × OpKey → Option OpKey × Option OpKey
+both_ends pair = (Some pair.0, Some pair.1)
+
+-- these edges join the places where the ends of these pairs stand, one edge for each pair
+abbrev pub AreAtPlaces : List OpKey → List (OpKey × OpKey) → List (ℕ × ℕ) → Type 0
+AreAtPlaces keys pairs edges = map (keys_at keys) edges ≡ map both_ends pairs
+
+-- at these places stand these keys
+abbrev pub StandAt : List OpKey → List ℕ → List OpKey → Type 0
+StandAt keys places members = map (slice_get keys) places ≡ map Some members
+
+-- what is so of a place is so of its key, and back
+abbrev pub HoldsAlike : List OpKey → (ℕ → Type 0) → (OpKey → Type 0) → Type 0
+HoldsAlike keys at_place of_key = (i : ℕ) (o : OpKey) → slice_get keys i ≡ Some o → at_place i ↔ of_key o
+
+-- the number at a place is that of its key
+abbrev pub CountsAlike : List OpKey → (ℕ → ℕ) → (OpKey → ℕ) → Type 0
+CountsAlike keys at_place of_key = (i : ℕ) (o : OpKey) → slice_get keys i ≡ Some o → at_place i ≡ of_key o
+
+-- each path of live members over the places is one over their keys
+abbrev pub PathsHaveKeys : List OpKey → Pairs → Digraph → (ℕ → Type 0) → (OpKey → Type 0) → Type 0
+PathsHaveKeys keys pairs g live_at live = (i : ℕ) (p : OpKey) (places : List ℕ) → slice_get keys i ≡ Some p → IsPathBy (HasEdge g) live_at i places
+    → (rest : List OpKey) × StandAt keys places rest × IsPathBy (IsPairOf pairs) live p rest
+
+-- and each over the keys is one over their places
+abbrev pub PathsHavePlaces : List OpKey → Pairs → Digraph → (ℕ → Type 0) → (OpKey → Type 0) → Type 0
+PathsHavePlaces keys pairs g live_at live = (i : ℕ) (p : OpKey) (rest : List OpKey) → slice_get keys i ≡ Some p → IsPathBy (IsPairOf pairs) live p rest
+    → (places : List ℕ) × StandAt keys places rest × IsPathBy (HasEdge g) live_at i places
+
+-- a place reaches another exactly where its key reaches that one's
+abbrev pub ReachAlike : List OpKey → Pairs → Digraph → (ℕ → Type 0) → (OpKey → Type 0) → Type 0
+ReachAlike keys pairs g live_at live = (i j : ℕ) (p o : OpKey) → slice_get keys i ≡ Some p → slice_get keys j ≡ Some o
+    → ReachesBy (HasEdge g) live_at i j ↔ ReachesBy (IsPairOf pairs) live p o
+
+-- the least start over all paths from a place is that over all paths from its key
+abbrev pub LeastStartsAlike : List OpKey → Pairs → Digraph → (ℕ → Type 0) → (OpKey → Type 0) → (ℕ → ℕ) → (OpKey → ℕ) → (ℕ → ℕ) → (OpKey → ℕ) → Type 0
+LeastStartsAlike keys pairs g live_at live duration_at duration deadline_at deadline = (i : ℕ) (p : OpKey) (v : ℤ) → slice_get keys i ≡ Some p
+    → IsLeastStart (HasEdge g) live_at duration_at deadline_at i v ↔ IsLeastStart (IsPairOf pairs) live duration deadline p v

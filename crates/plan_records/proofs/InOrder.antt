@@ -1,0 +1,167 @@
+-- Occurrences, operations and pairs of a plan, as they are said and in key order.
+use Rattle.std.proofs.Common.{◌≡◌, ◌≢◌, ◌↔◌, refl, true≢false, IsTrue, Option, is_some, sym, subst, ap, ap₂, ◌∙◌, ℕ, ◌<◌, ◌≤◌, true, false, List, map, length, All, Contains, Some, None, unwrap_or}
+use Rattle.std.specs.Prelude.{MatchOption}
+use Rattle.std.specs.List.Sorted.{IsPermutation, IsSorted, IsSortedByKey, IsStrictlySortedBy}
+use Rattle.std.specs.Map.{keys_of}
+use Rattle.std.specs.FinMap.{get, contains_key, from_entries}
+use Rattle.std.specs.FinSet as set
+use Rattle.std.specs.Ordering.{eq_by_cmp}
+use Rattle.std.proofs.lemmas.List.Elements.{All-contains, All-weaker}
+use Rattle.std.proofs.lemmas.List.Sorted.{IsPermutation-sym, Contains-permutation, list_any-IsPermutation}
+use Rattle.plan_basics.specs.declared.keys.OccKey.{OccKey}
+use Rattle.plan_basics.specs.declared.keys.OpKey.{OpKey}
+use Rattle.plan_basics.specs.Keys.{Name, occurrence_cmp, occurrence_cmp_total, occurrence_cmp-IsAntisymmetric, operation_cmp, operation_cmp_total, operation_cmp-IsAntisymmetric}
+use Rattle.special_resources.specs.declared.Need.{Need}
+use Rattle.special_resources.specs.Needs.{Usages, usages_of}
+use Rattle.status_rules.specs.declared.Mark.TheVariants.{Unmarked}
+use Rattle.plan_model.specs.Plan.{Operation, IsPairOf, pair_cmp}
+use Rattle.plan_model.specs.Valid.{IsAcyclic}
+use Rattle.plan_model.specs.declared.Occurrence.{Occurrence}
+use Rattle.plan_graph.specs.PlanGraphs.{AreAmong}
+use Rattle.plan_items.specs.declared.OperationItem.{OperationItem}
+use Rattle.plan_records.specs.Loading.{Fits, AreOccurrencesInOrder, AreOperations, EachHasOperation, AreRowsOf, IsPairIn, ArePairs, ArePairsInOrder, keys_said, needs_of, occurrence_of, row_of}
+use Rattle.plan_records.proofs.Keyed.{ascend_by, apart_by}
+use Rattle.plan_records.proofs.Lists.{all_by_members, differ_from_pairs, pairs_from_differ, differ_map, differ_unmap, in_map, from_map}
+use Rattle.plan_records.proofs.Orders.{map_same}
+use Rattle.plan_records.proofs.Pairs.{pair_cmp_total, pair_cmp-IsAntisymmetric}
+use Rattle.plan_records.proofs.Tables.{no_some, in_set, key_found}
+use Rattle.plan_records.proofs.Terms.{terms_there}
+
+-- ---- occurrences
+pub occurrences_are :
+    (said ordered : List (OccKey × Occurrence)) → 0 < length said → length said ≤ 5000 → IsPermutation said ordered →
+    IsStrictlySortedBy occurrence_cmp (keys_of ordered) → AreOccurrencesInOrder said ordered
+occurrences_are said ordered some few same up =
+    let apart = apart_by occurrence_cmp_total occurrence_cmp-IsAntisymmetric (λ (row : OccKey × Occurrence). row.0) said ordered same up in
+    record { are = record { some = some; few = few; distinct = apart }; same = same; in_order = up }
+
+-- ---- the row of an operation
+
+-- an operation as its record says, with that deadline and those needs
+abbrev operation_with : OperationItem → ℕ → Usages → Operation
+operation_with said due own = record { workstation = said.workstation; duration = said.duration; r1 = said.r1; r2 = said.r2; not_before = said.not_before; deadline = due; needs = own; mark = Unmarked; held = false; nop = false }
+
+abbrev Terms : Type 0
+Terms = List (OccKey × Occurrence)
+
+abbrev Wants : Type 0
+Wants = List (OpKey × Need)
+
+abbrev due_of : Occurrence → ℕ
+due_of terms = terms.deadline
+
+-- the row that an operation makes of the terms and needs that are found
+pub row_made :
+    (occurrences : Terms) (needs : Wants) (said : OperationItem) (terms : Occurrence) (due : ℕ) (own : Usages) →
+    get {R = occurrence_cmp} (from_entries occurrences) said.key.occurrence ≡ Some terms → due ≡ unwrap_or said.deadline terms.deadline →
+    own ≡ usages_of (needs_of said.key needs) → (said.key, operation_with said due own) ≡ row_of occurrences needs said
+row_made occurrences needs said terms due own e is own_is =
+    let found = ap (λ o. unwrap_or said.deadline (due_of (unwrap_or o (record { priority = 0; deadline = 0 })))) e in
+    ap₂ (λ d u. (said.key, operation_with said d u)) (is ∙ sym found) own_is
+
+-- an operation of no occurrence doesn't fit
+pub unknown :
+    (names : List Name) (occurrences : Terms) (needs : Wants) (said : OperationItem) → IsStrictlySortedBy occurrence_cmp (keys_of occurrences) →
+    None ≡ get {R = occurrence_cmp} (from_entries occurrences) said.key.occurrence → ¬ Fits names occurrences needs said
+unknown names occurrences needs said up e fits = no_some _ (e ∙ terms_there occurrences up said.key.occurrence fits.occurrence)
+
+-- ---- rows of operations
+pub rows_ascend :
+    (names : List Name) (occurrences : Terms) (needs : Wants) (said : List OperationItem) (rows : List (OpKey × Operation)) →
+    IsPermutation (map (row_of occurrences needs) said) rows → IsSortedByKey (λ row. row.0) operation_cmp rows → AreOperations names occurrences needs said →
+    IsStrictlySortedBy operation_cmp (keys_of rows)
+rows_ascend names occurrences needs said rows same sorted are =
+    ascend_by operation_cmp_total operation_cmp-IsAntisymmetric (λ (row : OpKey × Operation). row.0) (map (row_of occurrences needs) said) rows same sorted
+    (pairs_from_differ (λ a b. a.0 ≢ b.0) (map (row_of occurrences needs) said) (differ_map (row_of occurrences needs) (λ a b. a.0 ≢ b.0) said (differ_from_pairs (λ a b. a.key ≢ b.key) said are.distinct)))
+
+module _ (occurrences : Terms) (needs : Wants) (said : List OperationItem) (rows : List (OpKey × Operation)) (same : IsPermutation (map (row_of occurrences needs) said) rows) where
+  -- the operations that are said and those of the rows are the same
+  pub key_to_row : (o : OpKey) → Contains (keys_said said) o → Contains (keys_of rows) o
+  key_to_row o has =
+      let r = from_map (λ (s : OperationItem). s.key) said o has in
+      subst (Contains (keys_of rows)) r.2 (in_map (λ (row : OpKey × Operation). row.0) rows (row_of occurrences needs r.0) (Contains-permutation (map (row_of occurrences needs) said) rows (row_of occurrences needs r.0) same (in_map (row_of occurrences needs) said r.0 r.1)))
+
+  pub row_to_key : (o : OpKey) → Contains (keys_of rows) o → Contains (keys_said said) o
+  row_to_key o has =
+      let r = from_map (λ (row : OpKey × Operation). row.0) rows o has in
+      let s = from_map (row_of occurrences needs) said r.0 (Contains-permutation rows (map (row_of occurrences needs) said) r.0 (IsPermutation-sym (map (row_of occurrences needs) said) rows same) r.1) in
+      subst (Contains (keys_said said)) (ap (λ (row : OpKey × Operation). row.0) s.2 ∙ r.2) (in_map (λ (s : OperationItem). s.key) said s.0 s.1)
+
+-- each occurrence has one of more operations
+has_over :
+    (ks ls : List OpKey) (occurrences : Terms) → ((o : OpKey) → Contains ks o → Contains ls o) → EachHasOperation ks occurrences →
+    EachHasOperation ls occurrences
+has_over ks ls occurrences all has = All-weaker (λ row. Contains (map occurrence_of ks) row.0) (λ row. Contains (map occurrence_of ls) row.0)
+    (λ row is. let r = from_map occurrence_of ks row.0 is in subst (Contains (map occurrence_of ls)) r.2 (in_map occurrence_of ls r.0 (all r.0 r.1))) occurrences has
+
+pub rows_are :
+    (names : List Name) (occurrences : Terms) (needs : Wants) (said : List OperationItem) (rows : List (OpKey × Operation)) → length said ≤ 20000 →
+    All (Fits names occurrences needs) said → IsPermutation (map (row_of occurrences needs) said) rows → IsStrictlySortedBy operation_cmp (keys_of rows) →
+    EachHasOperation (keys_of rows) occurrences → AreRowsOf names occurrences needs said rows
+rows_are names occurrences needs said rows few fit same up has =
+    let apart = apart_by operation_cmp_total operation_cmp-IsAntisymmetric (λ (row : OpKey × Operation). row.0) (map (row_of occurrences needs) said) rows same up in
+    record {
+      operations = record {
+        few = few;
+        fit = fit;
+        distinct = pairs_from_differ (λ a b. a.key ≢ b.key) said (differ_unmap (row_of occurrences needs) (λ a b. a.0 ≢ b.0) said (differ_from_pairs (λ a b. a.0 ≢ b.0) (map (row_of occurrences needs) said) apart));
+        not_empty = has_over (keys_of rows) (keys_said said) occurrences (row_to_key occurrences needs said rows same) has;
+      };
+      same = same;
+      in_order = up;
+    }
+
+-- where the rows' keys leave out an occurrence, so do those that are said
+pub none_has :
+    (names : List Name) (occurrences : Terms) (needs : Wants) (said : List OperationItem) (rows : List (OpKey × Operation)) →
+    IsPermutation (map (row_of occurrences needs) said) rows → ¬ EachHasOperation (keys_of rows) occurrences → ¬ AreOperations names occurrences needs said
+none_has names occurrences needs said rows same none are = none (has_over (keys_said said) (keys_of rows) occurrences (key_to_row occurrences needs said rows same) are.not_empty)
+
+-- ---- pairs
+
+-- what is answered only where P is so tells whether it is
+pub told_by : {G : Type 0} (P : Type 0) (Q : G → Type 0) (found : Option G) → MatchOption found (¬ P) (λ g. Q g × P) → IsTrue (is_some found) ↔ P
+told_by P Q None h = (λ e. absurd (true≢false (sym e)), λ p. absurd (h p))
+told_by P Q (Some g) h = (λ _. h.1, λ _. refl)
+
+abbrev Pair : Type 0
+Pair = OpKey × OpKey
+
+-- the ends of pairs between operations that are there are among their keys
+pub ends_known :
+    (rows : List (OpKey × Operation)) (pairs : List Pair) →
+    ((p o : OpKey) → IsPairOf (set.from_list pairs) p o → (contains_key {R = operation_cmp} (from_entries rows) p ≡ true) × (contains_key {R = operation_cmp} (from_entries rows) o ≡ true)) →
+    AreAmong (keys_of rows) pairs
+ends_known rows pairs known = all_by_members (λ (p : Pair). Contains (keys_of rows) p.0 × Contains (keys_of rows) p.1) pairs (λ p has.
+    let both = known p.0 p.1 (in_set pair_cmp_total pair_cmp-IsAntisymmetric pairs p has) in
+    (key_found operation_cmp_total operation_cmp-IsAntisymmetric rows p.0 both.0, key_found operation_cmp_total operation_cmp-IsAntisymmetric rows p.1 both.1))
+
+module _ (keys : List OpKey) (pairs ordered : List Pair) (same : IsPermutation pairs ordered) where
+  pub pairs_ascend : IsSorted pair_cmp ordered → ArePairs keys pairs → IsStrictlySortedBy pair_cmp ordered
+  pairs_ascend sorted are =
+      subst (IsStrictlySortedBy pair_cmp) (map_same ordered) (ascend_by pair_cmp_total pair_cmp-IsAntisymmetric (λ (p : Pair). p) pairs ordered same sorted are.distinct)
+
+  -- between the keys in order too
+  pub ends_among : All (IsPairIn keys) pairs → AreAmong keys ordered
+  ends_among within =
+      all_by_members (λ (p : Pair). Contains keys p.0 × Contains keys p.1) ordered (λ p has.
+      let is = All-contains (IsPairIn keys) pairs p within (Contains-permutation ordered pairs p (IsPermutation-sym pairs ordered same) has) in
+      (is.first, is.second))
+
+  -- in any order they are the same set
+  pub same_pairs : ◌≡◌ {A = set.FinSet pair_cmp} (set.from_list pairs) (set.from_list ordered)
+  same_pairs = set.same_set pair_cmp_total pair_cmp-IsAntisymmetric (set.from_list pairs) (set.from_list ordered) (λ q.
+      set.contains-from_list pair_cmp_total pairs q ∙ list_any-IsPermutation (eq_by_cmp pair_cmp q) pairs ordered same ∙ sym (set.contains-from_list pair_cmp_total ordered q))
+
+  pub pairs_are :
+      length pairs ≤ 100000 → All (IsPairIn keys) pairs → IsStrictlySortedBy pair_cmp ordered → IsAcyclic (set.from_list ordered) → ArePairsInOrder keys pairs ordered
+  pairs_are few within up acyclic = record {
+    are = record {
+      few = few;
+      within = within;
+      distinct = apart_by pair_cmp_total pair_cmp-IsAntisymmetric (λ (p : Pair). p) pairs ordered same (subst (IsStrictlySortedBy pair_cmp) (sym (map_same ordered)) up);
+      acyclic = subst IsAcyclic (sym same_pairs) acyclic;
+    };
+    same = same;
+    in_order = up;
+  }

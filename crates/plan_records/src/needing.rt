@@ -1,0 +1,121 @@
+// Special resources of a plan, and needs of them, put in order.
+ghost use Rattle.std.specs.Prelude.{◌≡◌, ◌↔◌, ◌≢◌, ◌<◌, ◌≤◌, map, length, All, Contains, IsTrue, IfOk, MatchOption};
+ghost use Rattle.std.specs.List.{AllPairs};
+ghost use Rattle.std.specs.List.Sorted.{IsStrictlySortedBy};
+ghost use Rattle.std.specs.Map.{keys_of};
+ghost use Rattle.plan_basics.specs.Keys.{name_cmp, operation_cmp};
+ghost use Rattle.special_resources.specs.Needs.{AreInNameOrder, usages_of};
+ghost use Rattle.plan_records.specs.Loading.{AreResources, AreResourcesInOrder, AreNeedsInOrder, IsNeedIn, need_cmp, need_key, needs_of};
+
+use super::in_order::{ascends, is_among, keys};
+use super::places::resource_place;
+use plan_basics::{OpKey, ResName};
+use special_resources::{Need, Needs};
+use std::alloc::{AllocError, Global};
+
+// The special resources by name, where none stands twice.
+pub fn resources_in_order(
+    alloc: Global,
+    mut said: Vec<(ResName, bool)>,
+) -> Result<Option<Vec<(ResName, bool)>>, AllocError>
+    ensures { IfOk result (λ found. MatchOption found (¬ AreResources said.items) (λ v. AreResourcesInOrder said.items v.items)) }
+{
+    if said.len() > 999 {
+        return Ok(None);
+    }
+    said.sort_by_key(|row| row.0)?;
+    let names = keys(alloc, &said)?;
+    if !ascends(&names) {
+        return Ok(None);
+    }
+    Ok(Some(said))
+}
+
+// The needs' operations and resources.
+fn need_keys(alloc: Global, needs: &[(OpKey, Need)]) -> Result<Vec<(OpKey, ResName)>, AllocError>
+    ensures { IfOk result (λ v. v.items ≡ map need_key needs.now) }
+{
+    needs
+        .iter()
+        .map(|said| (said.0, said.1.name))
+        .collect(alloc)
+}
+
+// The needs by operation and then resource, where no operation needs a resource twice.
+pub fn needs_in_order(
+    alloc: Global,
+    mut said: Vec<(OpKey, Need)>,
+) -> Result<Option<Vec<(OpKey, Need)>>, AllocError>
+    ensures { IfOk result (λ found. MatchOption found (¬ AllPairs (λ a b. need_key a ≢ need_key b) said.items) (λ v. AreNeedsInOrder said.items v.items)) }
+{
+    said.sort_by_key(|said| (said.0, said.1.name))?;
+    let sorted = need_keys(alloc, &said)?;
+    if !ascends(&sorted) {
+        return Ok(None);
+    }
+    Ok(Some(said))
+}
+
+// The needs of an operation stand together.
+fn needs_by<'a>(needs: &'a [(OpKey, Need)], key: &OpKey) -> &'a [(OpKey, Need)]
+    requires { IsStrictlySortedBy need_cmp (map need_key needs.now) }
+    ensures { map (λ said. said.1) result.now ≡ needs_of key.now needs.now }
+{
+    let from = needs.partition_point(|said| said.0.order(key).is_lt());
+    let rest = &needs[from..];
+    let number = rest.partition_point(|said| said.0.order(key).is_le());
+    &rest[..number]
+}
+
+// These needs, which are by name, where they are 16 at most.
+fn gathered(said: &[(OpKey, Need)]) -> Option<Needs>
+    requires { AreInNameOrder (map (λ said. said.1) said.now) }
+    ensures { MatchOption result (16 < length said.now) (λ v. (length said.now ≤ 16) × (v ≡ usages_of (map (λ said. said.1) said.now))) }
+{
+    let mut needs = Needs::none();
+    for said in said {
+        if !needs.push(&said.1) {
+            return None;
+        }
+    }
+    Some(needs)
+}
+
+// The needs of an operation, where they are 16 at most.
+pub fn own_needs(needs: &[(OpKey, Need)], key: &OpKey) -> Option<Needs>
+    requires { IsStrictlySortedBy need_cmp (map need_key needs.now) }
+    ensures { MatchOption result (16 < length (needs_of key.now needs.now)) (λ v. (length (needs_of key.now needs.now) ≤ 16) × (v ≡ usages_of (needs_of key.now needs.now))) }
+{
+    gathered(needs_by(needs, key))
+}
+
+// Whether a name is that of one of these special resources.
+fn is_resource(resources: &[(ResName, bool)], name: &ResName) -> bool
+    requires { IsStrictlySortedBy name_cmp (keys_of resources.now) }
+    ensures { IsTrue result ↔ Contains (keys_of resources.now) name.now }
+{
+    resource_place(resources, name).is_some()
+}
+
+// Whether a need is of one of these operations, and of one of these resources.
+fn is_need_in(keys: &[OpKey], resources: &[(ResName, bool)], said: &(OpKey, Need)) -> bool
+    requires keys { IsStrictlySortedBy operation_cmp keys.now }
+    requires names { IsStrictlySortedBy name_cmp (keys_of resources.now) }
+    ensures { IsTrue result ↔ IsNeedIn keys.now (keys_of resources.now) said.now }
+{
+    is_among(keys, &said.0) && is_resource(resources, &said.1.name)
+}
+
+// Whether each need is of one of these operations, and of one of these resources.
+pub fn are_needs_in(keys: &[OpKey], resources: &[(ResName, bool)], needs: &[(OpKey, Need)]) -> bool
+    requires keys { IsStrictlySortedBy operation_cmp keys.now }
+    requires names { IsStrictlySortedBy name_cmp (keys_of resources.now) }
+    ensures { IsTrue result ↔ All (IsNeedIn keys.now (keys_of resources.now)) needs.now }
+{
+    for said in needs {
+        if !is_need_in(keys, resources, said) {
+            return false;
+        }
+    }
+    true
+}
