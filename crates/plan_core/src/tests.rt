@@ -18,6 +18,13 @@ const HEADS: [&str; 3] = [
     "O,DAILY,2024-03-01T22:00,5,2024-03-02T05:00,,,,,",
 ];
 
+// The same with one server.
+const ONE_SERVER: [&str; 3] = [
+    "W,CPU1,A,,,,,,,",
+    "I,CPU1,2024-03-01T22:00,2024-03-02T06:00,1,3,0,,,",
+    "O,DAILY,2024-03-01T22:00,5,2024-03-02T05:00,,,,,",
+];
+
 // Two operations, the first before the second.
 const DAY: [&str; 3] = [
     "P,DAILY,2024-03-01T22:00,10,CPU1,30,0,0,,",
@@ -62,6 +69,128 @@ fn operation(number: u8) -> Option<OpKey> {
     let arrival = Moment::from_text(b"2024-03-01T22:00")?;
     let occurrence = OccKey { app, arrival };
     Some(OpKey { occurrence, number })
+}
+
+// A load of these lines at a minute is accepted, names the operations of these numbers, and sets the clock.
+fn names(
+    rt: &impl Abort,
+    alloc: Global,
+    heads: &[&str],
+    lines: &[&str],
+    at: i64,
+    expected: &[u8],
+    what: &str,
+) -> Result<(), Fail> {
+    let mut plan = Plan::empty(alloc);
+    let load = Request {
+        at,
+        what: What::Load(draft(rt, alloc, heads, lines)?),
+    };
+    let Ok(prepared) = plan.prepare(&load) else {
+        return Err("refused")?;
+    };
+    assert_eq!(rt; prepared.named().len(), expected.len(), "{what}");
+    let named = plan.apply(prepared);
+    assert_eq!(rt; named.len(), expected.len(), "{what}");
+    for (key, number) in named.iter().zip(expected) {
+        assert_eq!(rt; key.number, *number, "{what}");
+    }
+    assert_eq!(rt; plan.clock().minute(), at, "{what}");
+    Ok(())
+}
+
+#[test]
+fn names_what_may_start(rt: HostRuntime) -> Result<(), Fail> {
+    let equal = [
+        "P,DAILY,2024-03-01T22:00,10,CPU1,30,0,0,,",
+        "P,DAILY,2024-03-01T22:00,20,CPU1,30,0,0,,",
+    ];
+    let three = [
+        "P,DAILY,2024-03-01T22:00,10,CPU1,60,0,0,,",
+        "P,DAILY,2024-03-01T22:00,20,CPU1,120,0,0,,",
+        "P,DAILY,2024-03-01T22:00,30,CPU1,30,0,0,,",
+    ];
+    let followed = [
+        "P,DAILY,2024-03-01T22:00,10,CPU1,60,0,0,,",
+        "P,DAILY,2024-03-01T22:00,20,CPU1,120,0,0,,",
+        "P,DAILY,2024-03-01T22:00,30,CPU1,30,0,0,,",
+        "P,DAILY,2024-03-01T22:00,40,CPU1,60,0,0,,",
+        "P,DAILY,2024-03-01T22:00,50,CPU1,100,0,0,,",
+        "D,DAILY,2024-03-01T22:00,30,DAILY,2024-03-01T22:00,40,,,",
+        "D,DAILY,2024-03-01T22:00,30,DAILY,2024-03-01T22:00,50,,,",
+    ];
+    let later = [
+        "P,DAILY,2024-03-01T22:00,10,CPU1,60,0,0,2024-03-01T22:01,",
+        "P,DAILY,2024-03-01T22:00,20,CPU1,30,0,0,2024-03-01T22:00,",
+    ];
+    let alloc = rt.alloc();
+    names(&rt, alloc, &HEADS, &DAY, EVENING, &[10], "the day")?;
+    names(
+        &rt,
+        alloc,
+        &HEADS,
+        &equal,
+        EVENING,
+        &[10, 20],
+        "two without a pair",
+    )?;
+    names(
+        &rt,
+        alloc,
+        &ONE_SERVER,
+        &equal,
+        EVENING,
+        &[10],
+        "one server",
+    )?;
+    names(
+        &rt,
+        alloc,
+        &ONE_SERVER,
+        &three,
+        EVENING,
+        &[20],
+        "the longest first",
+    )?;
+    names(
+        &rt,
+        alloc,
+        &HEADS,
+        &three,
+        EVENING,
+        &[20, 10],
+        "by latest start",
+    )?;
+    names(
+        &rt,
+        alloc,
+        &ONE_SERVER,
+        &followed,
+        EVENING,
+        &[30],
+        "what follows",
+    )?;
+    names(&rt, alloc, &ONE_SERVER, &later, EVENING, &[20], "too early")?;
+    names(
+        &rt,
+        alloc,
+        &HEADS,
+        &DAY,
+        EVENING - 1,
+        &[],
+        "before the interval",
+    )?;
+    names(
+        &rt,
+        alloc,
+        &HEADS,
+        &DAY,
+        EVENING + 479,
+        &[10],
+        "its last minute",
+    )?;
+    names(&rt, alloc, &HEADS, &DAY, EVENING + 480, &[], "its end")?;
+    names(&rt, alloc, &HEADS, &DAY, 52_595_999, &[], "the last moment")
 }
 
 #[test]

@@ -12,6 +12,8 @@ mod needing;
 mod opening;
 mod places;
 #[cfg(test)]
+mod resource_tests;
+#[cfg(test)]
 mod tests;
 #[cfg(test)]
 mod workstation_tests;
