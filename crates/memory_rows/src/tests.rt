@@ -1,6 +1,4 @@
 // Each call that can want memory, without any and with a little.
-ghost use Rattle.plan_core.specs.State.{IsServed};
-
 use super::taking::take_all;
 use plan_basics::{Moment, OpKey, Refusal, Watched};
 use plan_core::Plan;
@@ -26,9 +24,7 @@ fn day(alloc: Global) -> Result<Option<PlanDraft>, ImportFault> {
     read_plan(alloc, &mut reader)
 }
 
-fn load(draft: Option<PlanDraft>) -> Request
-    ensures { IsServed result.what }
-{
+fn load(draft: Option<PlanDraft>) -> Request {
     Request {
         at: EVENING,
         what: What::Load(draft),
@@ -91,29 +87,78 @@ fn a_draft_without_memory_is_refused(rt: HostRuntime) -> Result<(), Fail> {
     Ok(())
 }
 
+/// What a request is refused for while all memory is taken, if it is.
+fn refused_without_memory(
+    alloc: Global,
+    plan: &mut Plan,
+    request: &Request,
+) -> Result<Option<Refusal>, AllocError> {
+    let held = take_all(alloc)?;
+    let refusal = plan.prepare(request).err();
+    drop(held);
+    Ok(refusal)
+}
+
+/// The operations that a request names, if it isn't refused. It is prepared with memory, and applied while all is taken.
+fn applied_without_memory(
+    alloc: Global,
+    plan: &mut Plan,
+    request: &Request,
+) -> Result<Option<Vec<OpKey>>, AllocError> {
+    let Ok(prepared) = plan.prepare(request) else {
+        return Ok(None);
+    };
+    let held = take_all(alloc)?;
+    let named = plan.apply(prepared);
+    drop(held);
+    Ok(Some(named))
+}
+
+/// Whether nothing has come in, and the clock stands at its first minute.
+fn is_empty(plan: &Plan, first: &OpKey) -> bool {
+    !plan.is_loaded() && plan.clock().minute() == 0 && plan.view_op(first).is_none()
+}
+
+/// Whether the day is loaded in the evening.
+fn holds_day(plan: &Plan, first: &OpKey) -> bool {
+    plan.is_loaded() && plan.clock().minute() == EVENING && plan.view_op(first).is_some()
+}
+
 #[test]
 fn a_load_without_memory_changes_nothing(rt: HostRuntime) -> Result<(), Fail> {
     let first = key(b"DAILY/2024-03-01T22:00/010")?;
     let request = load(day(rt.alloc()).ok().ok_or("no memory")?);
     let mut plan = Plan::empty(rt.alloc());
-    let held = take_all(rt.alloc())?;
-    let without = plan.prepare(&request).err();
-    drop(held);
+    let without = refused_without_memory(rt.alloc(), &mut plan, &request)?;
     assert_eq!(rt; without, Some(Refusal::Memory));
-    assert_eq!(rt; plan.clock().minute(), 0);
-    assert!(rt; plan.view_op(&first).is_none());
-
-    let Ok(prepared) = plan.prepare(&request) else {
-        return Err("refused with memory")?;
-    };
-    assert_eq!(rt; prepared.named(), [first].as_slice());
-    let held = take_all(rt.alloc())?;
-    let named = plan.apply(prepared);
-    drop(held);
-    assert_eq!(rt; named.as_slice(), [first].as_slice());
-    assert_eq!(rt; plan.clock().minute(), EVENING);
-    assert!(rt; plan.view_op(&first).is_some());
+    assert!(rt; is_empty(&plan, &first));
+    let named = applied_without_memory(rt.alloc(), &mut plan, &request)?;
+    assert_eq!(rt;
+        named.ok_or("refused with memory")?.as_slice(),
+        [first].as_slice()
+    );
+    assert!(rt; holds_day(&plan, &first));
     Ok(())
+}
+
+/// What a run answers while all memory is taken, if it isn't carried out.
+fn run_without_memory(
+    alloc: Global,
+    plan: &mut Plan,
+    requests: &[Request],
+) -> Result<Option<Refusal>, AllocError> {
+    let held = take_all(alloc)?;
+    let refusal = plan.run(requests).err();
+    drop(held);
+    Ok(refusal)
+}
+
+/// Whether the one reply names this operation alone.
+fn names_alone(replies: &[Reply], key: &OpKey) -> bool {
+    let [Reply::Accepted { named }] = replies else {
+        return false;
+    };
+    named.as_slice() == [*key].as_slice()
 }
 
 #[test]
@@ -121,20 +166,12 @@ fn a_run_without_memory_changes_nothing(rt: HostRuntime) -> Result<(), Fail> {
     let first = key(b"DAILY/2024-03-01T22:00/010")?;
     let requests = [load(day(rt.alloc()).ok().ok_or("no memory")?)];
     let mut plan = Plan::empty(rt.alloc());
-    let held = take_all(rt.alloc())?;
-    let without = plan.run(&requests).err();
-    drop(held);
+    let without = run_without_memory(rt.alloc(), &mut plan, &requests)?;
     assert_eq!(rt; without, Some(Refusal::Memory));
-    assert!(rt; !plan.is_loaded());
-    assert_eq!(rt; plan.clock().minute(), 0);
-
+    assert!(rt; is_empty(&plan, &first));
     let replies = plan.run(&requests).ok().ok_or("no memory for the replies")?;
-    assert_eq!(rt; replies.len(), 1);
-    match &replies[0] {
-        Reply::Accepted { named } => assert_eq!(rt; named.as_slice(), [first].as_slice()),
-        Reply::Refused(_) => return Err("refused with memory")?,
-    }
-    assert_eq!(rt; plan.clock().minute(), EVENING);
+    assert!(rt; names_alone(&replies, &first));
+    assert!(rt; holds_day(&plan, &first));
     Ok(())
 }
 
@@ -164,9 +201,7 @@ fn is_read(alloc: Global) -> Result<bool, &'static str> {
 }
 
 /// Whether an empty plan takes the load and names the first operation; or it answers want of memory, and stays empty.
-fn is_loaded(plan: &mut Plan, request: &Request, first: &OpKey) -> Result<bool, &'static str>
-    requires { IsServed request.now.what }
-{
+fn is_loaded(plan: &mut Plan, request: &Request, first: &OpKey) -> Result<bool, &'static str> {
     let answer = plan.prepare(request);
     if plan.is_loaded() || plan.clock().minute() != 0 {
         return Err("a request that was only prepared changed the plan");

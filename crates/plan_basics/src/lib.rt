@@ -10,8 +10,6 @@ mod laws;
 mod minutes;
 mod moments;
 mod names;
-#[cfg(test)]
-mod tests;
 mod text;
 mod watched;
 

@@ -15,9 +15,9 @@ use Rattle.plan_records.specs.Contents.{plan_of}
 use Rattle.plan_core.proofs.OccViews.{are_occ_views}
 use Rattle.plan_core.proofs.OpViews.{are_op_views}
 use Rattle.plan_core.proofs.SideBySide.{left_from, length_viewed, length_zipped}
-use Rattle.plan_core.specs.Held.{IsHeld, plan_held}
-use Rattle.plan_core.specs.Views.{AreOccViews, AreOpViews, IsHeldAtSome, IsHeldIfLoaded, known_of, occ_view_of, occ_views, occs_from, op_view_of, op_views, ops_from}
-use Rattle.plan_core.specs.declared.loaded.LoadedPlan.{LoadedPlan}
+use Rattle.plan_checks.specs.Held.{IsHeld, plan_held, IsHeldAtSome}
+use Rattle.plan_core.specs.Views.{AreOccViews, AreOpViews, IsHeldIfLoaded, known_of, occ_view_of, occ_views, occs_from, op_view_of, op_views, ops_from}
+use Rattle.plan_checks.specs.declared.loaded.LoadedPlan.{LoadedPlan}
 
 -- ---- where nothing is loaded
 

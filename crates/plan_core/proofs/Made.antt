@@ -1,32 +1,27 @@
 -- Contents that a request makes.
-use Rattle.std.proofs.Common.{◌≡◌, refl, sym, ap, subst, ◌∙◌, arith, ◌<◌, ℕ, [], ◌∷◌, List, Some, Result, Ok, Err, IfOk}
+use Rattle.std.proofs.Common.{◌≡◌, refl, sym, ap, subst, ◌∙◌, arith, ◌<◌, ℕ, [], ◌∷◌, List, Option, Some, None, is_some, true, Result, IfOk}
 use Rattle.plan_basics.specs.Intervals.{OpenInterval}
 use Rattle.plan_basics.specs.Keys.{Name}
 use Rattle.plan_basics.specs.Refusals.{number_of}
 use Rattle.plan_basics.specs.declared.Refusal.{Refusal}
 use Rattle.plan_basics.specs.declared.Refusal.TheVariants as refusal
 use Rattle.plan_basics.specs.declared.keys.OpKey.{OpKey}
-use Rattle.plan_model.specs.Plan.{Plan}
+use Rattle.plan_model.specs.Plan.{Plan, Supplement}
 use Rattle.plan_model.specs.Ready.{with_mark}
-use Rattle.plan_records.specs.Accepting.{MayBeOpenBy}
+use Rattle.plan_records.specs.Accepting.{MayBeOpenBy, AllHold}
 use Rattle.plan_records.specs.Changes.{Changes, IsRequest, marked, revised}
-use Rattle.plan_records.specs.Contents.{AreContents, plan_of}
-use Rattle.plan_records.specs.Drafts.{IsDraft}
+use Rattle.plan_records.specs.Contents.{AreAdditionParts, AreContents, incoming, plan_of}
+use Rattle.plan_records.specs.Drafts.{IsAddition, IsDraft}
 use Rattle.plan_records.specs.declared.What.{What}
 use Rattle.plan_records.specs.declared.What.TheVariants as what
+use Rattle.plan_records.specs.declared.contents.NewOccurrence.{NewOccurrence}
 use Rattle.plan_records.specs.declared.contents.PlanContents.{PlanContents}
 use Rattle.ready_list.specs.Choice.{is_among}
 use Rattle.status_rules.specs.declared.Mark.{Mark}
-use Rattle.plan_core.specs.Requested.{AllHold, AreMadeBy, IsClear}
-use Rattle.plan_core.proofs.Marks.{one_marked}
-
-pub if_ok : {T E : Type 0} {A B : T → Type 0} → (r : Result T E) → ((x : T) → A x → B x) → IfOk r A → IfOk r B
-if_ok (Ok x) f h = f x h
-if_ok (Err e) f h = h
-
-pub if_both_ok : {T E : Type 0} {A B C : T → Type 0} → (r : Result T E) → ((x : T) → A x → B x → C x) → IfOk r A → IfOk r B → IfOk r C
-if_both_ok (Ok x) f a b = f x a b
-if_both_ok (Err e) f a b = a
+use Rattle.plan_checks.specs.Barring.{IsClear}
+use Rattle.plan_core.specs.Requested.{AreMadeBy}
+use Rattle.plan_changes.proofs.Answered.{if_both_ok, if_ok}
+use Rattle.plan_changes.proofs.Marks.{one_marked}
 
 module _ (c : PlanContents) (w : What) (legal : IsRequest w) where
   -- where the plan is what the request changes it to
@@ -73,3 +68,12 @@ open_by P w items h _ = tt
 -- of a request, v, that is this one
 pub clear_of : (c : PlanContents) (v w : What) → v ≡ w → (at : ℕ) × ((clock : ℕ) → IsClear (plan_of clock c) at v) → (at : ℕ) × IsClear (plan_of 0 c) at w
 clear_of c v w is clear = (clear.0, subst (λ z. IsClear (plan_of 0 c) clear.0 z) is (clear.1 0))
+
+-- what comes in is of a text that denotes something
+pub has_addition : (P : Plan) (m : ℕ) (a : Option Supplement) → IsClear P m (what.AddOccurrence a) → is_some a ≡ true
+has_addition P m None clear = absurd (clear refusal.BadPlan (omega arith))
+has_addition P m (Some s) clear = refl
+
+-- what its parts tell of an addition
+pub legal_by_parts : (s : Supplement) (parts : NewOccurrence) → s ≡ incoming parts → AreAdditionParts parts → IsAddition s
+legal_by_parts s parts is told = subst (λ (s : Supplement). IsAddition s) (sym is) told.addition

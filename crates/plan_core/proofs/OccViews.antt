@@ -19,9 +19,9 @@ use Rattle.plan_status.proofs.OfOccurrences.{status_counted}
 use Rattle.plan_status.specs.Standings.{IsTally}
 use Rattle.plan_core.proofs.ByTally.{first_by_table}
 use Rattle.plan_core.proofs.SideBySide.{from_viewed, keys_viewed, place_of_member, viewed_at}
-use Rattle.plan_core.specs.Held.{AreHeld}
+use Rattle.plan_checks.specs.Held.{AreHeld}
 use Rattle.plan_core.specs.Views.{AreOccViews, IsOccView, occ_view_of, occ_views}
-use Rattle.plan_core.specs.declared.loaded.LoadedPlan.{LoadedPlan}
+use Rattle.plan_checks.specs.declared.loaded.LoadedPlan.{LoadedPlan}
 use Rattle.plan_core.specs.declared.views.OccView.{OccView}
 use Rattle.status_rules.specs.Table.{occurrence_by}
 use Rattle.status_rules.specs.declared.Counts.{Counts}

@@ -19,9 +19,9 @@ use Rattle.plan_status.proofs.ByStanding.{status_on}
 use Rattle.plan_status.specs.Standings.{IsStanding}
 use Rattle.plan_status.specs.declared.standings.Standing.{Standing}
 use Rattle.plan_core.proofs.SideBySide.{from_viewed, from_zipped, keys_viewed, length_zipped, place_of_member, viewed_at, zipped_at}
-use Rattle.plan_core.specs.Held.{AreHeld}
+use Rattle.plan_checks.specs.Held.{AreHeld}
 use Rattle.plan_core.specs.Views.{AreOpViews, IsOpView, attribute_or_automatic, known_of, op_view_of, op_views, priority_of}
-use Rattle.plan_core.specs.declared.loaded.LoadedPlan.{LoadedPlan}
+use Rattle.plan_checks.specs.declared.loaded.LoadedPlan.{LoadedPlan}
 use Rattle.plan_core.specs.declared.views.OpView.{OpView}
 use Rattle.status_rules.specs.Table.{status_by}
 use Rattle.status_rules.specs.declared.Status.{Status}

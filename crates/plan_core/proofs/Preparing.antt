@@ -17,15 +17,21 @@ use Rattle.plan_records.specs.declared.Request.{Request}
 use Rattle.plan_records.specs.declared.What.{What}
 use Rattle.plan_records.specs.declared.What.TheVariants as what
 use Rattle.plan_records.specs.declared.contents.PlanContents.{PlanContents}
-use Rattle.plan_core.specs.Held.{IsHeld, plan_held}
-use Rattle.plan_core.specs.Requested.{AreMadeBy, IsClear, IsFree}
-use Rattle.plan_core.specs.State.{IsServed, PreparedState}
-use Rattle.plan_core.specs.declared.loaded.LoadedPlan.{LoadedPlan}
+use Rattle.plan_checks.specs.Held.{IsHeld, plan_held}
+use Rattle.plan_checks.specs.Barring.{IsClear}
+use Rattle.plan_core.specs.Requested.{AreMadeBy, IsFree}
+use Rattle.plan_checks.proofs.AtClock.{added_at, paired_at}
+use Rattle.plan_core.specs.State.{PlanState, PreparedState}
+use Rattle.plan_checks.specs.declared.loaded.LoadedPlan.{LoadedPlan}
 
 -- what is held is sound
-pub held_sound : (clock : ℕ) (x : Option LoadedPlan) → IsHeld clock x → IsSound (plan_held clock x)
+held_sound : (clock : ℕ) (x : Option LoadedPlan) → IsHeld clock x → IsSound (plan_held clock x)
 held_sound clock None e = subst (λ n. IsSound (record no_plan { clock = n })) (sym e) no_plan_is_sound
 held_sound clock (Some h) held = held.sound
+
+-- so is the plan that callers see
+pub seen_sound : (clock : ℕ) (x : Option LoadedPlan) (s : PlanState) → IsHeld clock x → record { plan = plan_held clock x } ≡ s → IsSound s.plan
+seen_sound clock x s held is = subst (λ (s : PlanState). IsSound s.plan) is (held_sound clock x held)
 
 -- ---- what is free to be made
 
@@ -43,25 +49,27 @@ module _ (P : Plan) (m : ℕ) (w : What) (free : IsFree P m w) where
   is_clear refusal.NotLoaded past = absurd (omega (arith, past))
   is_clear r past = free r (omega (arith, past))
 
--- what a request that is served asks of a plan doesn't go by the plan's clock
-pub clear_at : (c : PlanContents) (k clock m : ℕ) (w : What) → IsServed w → IsClear (plan_of k c) m w → IsClear (plan_of clock c) m w
-clear_at c k clock m (what.Load draft) served h = h
-clear_at c k clock m what.Tick served h = h
-clear_at c k clock m (what.Started o) served h = h
-clear_at c k clock m (what.Ended o) served h = h
-clear_at c k clock m (what.Error o code) served h = h
-clear_at c k clock m (what.Interrupted o) served h = h
-clear_at c k clock m (what.Unknown o) served h = h
-clear_at c k clock m (what.Hold o) served h = h
-clear_at c k clock m (what.Release o) served h = h
-clear_at c k clock m (what.Nop o) served h = h
-clear_at c k clock m (what.Unnop o) served h = h
-clear_at c k clock m (what.Rerun o) served h = h
-clear_at c k clock m (what.Complete o) served h = h
-clear_at c k clock m (what.DeleteOccurrence o) served h = h
-clear_at c k clock m (what.SetAvailable r available) served h = h
-clear_at c k clock m (what.ReplaceIntervals v items) served h = h
-clear_at c k clock m w served h = absurd served
+-- what a request asks of a plan doesn't go by the plan's clock
+pub clear_at : (c : PlanContents) (k clock m : ℕ) (w : What) → IsClear (plan_of k c) m w → IsClear (plan_of clock c) m w
+clear_at c k clock m (what.Load draft) h = h
+clear_at c k clock m what.Tick h = h
+clear_at c k clock m (what.Started o) h = h
+clear_at c k clock m (what.Ended o) h = h
+clear_at c k clock m (what.Error o code) h = h
+clear_at c k clock m (what.Interrupted o) h = h
+clear_at c k clock m (what.Unknown o) h = h
+clear_at c k clock m (what.Hold o) h = h
+clear_at c k clock m (what.Release o) h = h
+clear_at c k clock m (what.Nop o) h = h
+clear_at c k clock m (what.Unnop o) h = h
+clear_at c k clock m (what.Rerun o) h = h
+clear_at c k clock m (what.Complete o) h = h
+clear_at c k clock m (what.DeleteOccurrence o) h = h
+clear_at c k clock m (what.AddOccurrence None) h = h
+clear_at c k clock m (what.AddOccurrence (Some s)) h = λ r past. added_at c s k clock r (h r past)
+clear_at c k clock m (what.AddDependency p s) h = λ r past. paired_at c p s k clock r (h r past)
+clear_at c k clock m (what.SetAvailable r available) h = h
+clear_at c k clock m (what.ReplaceIntervals v items) h = h
 
 -- ---- what is made
 

@@ -15,9 +15,9 @@ use Rattle.ready_list.specs.Choice.{operations_of}
 use Rattle.ready_list.specs.Entries.{keys_of as entry_keys, is_on as is_entry_on, on_workstation}
 use Rattle.ready_list.specs.declared.entry.ReadyEntry.{ReadyEntry}
 use Rattle.plan_core.proofs.OpViews.{are_op_views, op_view_is, op_view_there}
-use Rattle.plan_core.specs.Held.{AreHeld}
+use Rattle.plan_checks.specs.Held.{AreHeld}
 use Rattle.plan_core.specs.Views.{AreReadyViews, IsOpView, is_at_workstation, is_on, op_views, ready_views, view_at}
-use Rattle.plan_core.specs.declared.loaded.LoadedPlan.{LoadedPlan}
+use Rattle.plan_checks.specs.declared.loaded.LoadedPlan.{LoadedPlan}
 use Rattle.plan_core.specs.declared.views.OpView.{OpView}
 
 keyed : List OpView → List (OpKey × OpView)

@@ -10,9 +10,10 @@ use Rattle.plan_records.specs.Answer.{refused}
 use Rattle.plan_records.specs.Step.{Step}
 use Rattle.plan_records.specs.declared.Request.{Request}
 use Rattle.plan_records.specs.declared.What.{What}
-use Rattle.plan_core.specs.Held.{plan_held}
-use Rattle.plan_core.specs.Requested.{IsBarred, IsFree, IsPermitted, IsStopped}
-use Rattle.plan_core.specs.declared.loaded.LoadedPlan.{LoadedPlan}
+use Rattle.plan_checks.specs.Held.{plan_held}
+use Rattle.plan_checks.specs.Barring.{IsBarred, IsPermitted}
+use Rattle.plan_core.specs.Requested.{IsFree, IsStopped}
+use Rattle.plan_checks.specs.declared.loaded.LoadedPlan.{LoadedPlan}
 
 -- ---- but for its moment
 

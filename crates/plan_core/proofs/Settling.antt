@@ -24,10 +24,10 @@ use Rattle.plan_graph.specs.PlanGraphs.{IsGraphOf}
 use Rattle.operation_graph.specs.Graphs.{Digraph}
 use Rattle.plan_status.specs.Standings.{AreStandings, IsStanding}
 use Rattle.plan_status.specs.declared.standings.Standing.{Standing}
-use Rattle.plan_core.specs.Marking.{marked_row, marked_rows}
+use Rattle.plan_changes.specs.Marking.{marked_row, marked_rows}
 use Rattle.plan_status.proofs.Naming.{naming_keeps_standings}
 use Rattle.plan_core.proofs.LatestKept.{naming_keeps_latest}
-use Rattle.plan_core.proofs.Marks.{rows_marked}
+use Rattle.plan_changes.proofs.Marks.{rows_marked}
 
 -- ---- what is chosen is ready
 

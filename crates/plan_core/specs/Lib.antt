@@ -1,7 +1,4 @@
 pub mod State
-pub mod Held
-pub mod Marking
+pub mod Provided
 pub mod Requested
 pub mod Views
-pub mod Reaching
-pub mod Commanding

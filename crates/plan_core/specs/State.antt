@@ -9,8 +9,6 @@ use Rattle.plan_records.specs.Answer.{Answer, accepted}
 use Rattle.plan_records.specs.Run.{Run, plain, usable}
 use Rattle.plan_records.specs.Step.{Step, Receipts}
 use Rattle.plan_records.specs.declared.Request.{Request}
-use Rattle.plan_records.specs.declared.What.{What}
-use Rattle.plan_records.specs.declared.What.TheVariants as what
 
 pub record PlanState : Type 0 where
   pub plan : Plan
@@ -25,26 +23,6 @@ state_code = code_by Plan plan_code (λ s. s.plan) (λ P. record { plan = P }) (
 
 abbrev pub prepared_code : Coded PreparedState
 prepared_code = code_by (Plan × List OpKey) (coded× plan_code (coded_list (operation_key.the_row).coded)) (λ s. (s.plan, s.named)) (λ p. record { plan = p.0; named = p.1 }) (λ _. refl)
-
--- the requests that are served so far
-abbrev pub IsServed : What → Type 0
-IsServed (what.Load draft) = Unit {0}
-IsServed what.Tick = Unit {0}
-IsServed (what.Started o) = Unit {0}
-IsServed (what.Ended o) = Unit {0}
-IsServed (what.Error o code) = Unit {0}
-IsServed (what.Interrupted o) = Unit {0}
-IsServed (what.Unknown o) = Unit {0}
-IsServed (what.Hold o) = Unit {0}
-IsServed (what.Release o) = Unit {0}
-IsServed (what.Nop o) = Unit {0}
-IsServed (what.Unnop o) = Unit {0}
-IsServed (what.Rerun o) = Unit {0}
-IsServed (what.Complete o) = Unit {0}
-IsServed (what.DeleteOccurrence c) = Unit {0}
-IsServed (what.SetAvailable r available) = Unit {0}
-IsServed (what.ReplaceIntervals w items) = Unit {0}
-IsServed _ = ⊥
 
 -- the plan that a prepared request leads to
 abbrev pub plan_after : PlanState → PreparedState → Plan

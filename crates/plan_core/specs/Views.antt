@@ -24,8 +24,8 @@ use Rattle.plan_status.specs.declared.standings.Standing.{Standing}
 use Rattle.status_rules.specs.Table.{status_by, occurrence_by}
 use Rattle.status_rules.specs.declared.Counts.{Counts}
 use Rattle.status_rules.specs.declared.Status.TheVariants.{Complete}
-use Rattle.plan_core.specs.Held.{AreHeld}
-use Rattle.plan_core.specs.declared.loaded.LoadedPlan.{LoadedPlan}
+use Rattle.plan_checks.specs.Held.{IsHeldAtSome}
+use Rattle.plan_checks.specs.declared.loaded.LoadedPlan.{LoadedPlan}
 use Rattle.plan_core.specs.declared.views.OccView.{OccView}
 use Rattle.plan_core.specs.declared.views.OpView.{OpView}
 
@@ -73,10 +73,6 @@ pub record AreOccViews (P : Plan) (views : List OccView) : Type 0 where
   pub in_order : IsStrictlySortedBy occurrence_cmp (map (λ v. v.key) views)
   pub every : (c : OccKey) → Contains (map (λ v. v.key) views) c ↔ (contains_key P.occurrences c ≡ true)
   pub each : (v : OccView) → Contains views v → IsOccView P v
-
--- it is held at some clock
-abbrev pub IsHeldAtSome : LoadedPlan → Type 0
-IsHeldAtSome h = (clock : ℕ) × AreHeld clock h
 
 -- the priority of an occurrence, 0 where there is none
 abbrev pub priority_of : Option Occurrence → ℕ

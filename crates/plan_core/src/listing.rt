@@ -3,8 +3,8 @@ ghost use Rattle.std.specs.Prelude.{◌≡◌};
 ghost use Rattle.std.specs.Iterator.{YieldsFirst, item_count};
 ghost use Rattle.plan_core.specs.Views.{ops_from, occs_from, IsHeldIfLoaded};
 
-use super::loaded::LoadedPlan;
 use super::views::{OccView, OpView, occ_view, op_view};
+use plan_checks::LoadedPlan;
 use std::marker::Model;
 
 /// The operations of the plan from a place on, in key order. Contracts see the list of those that are left.

@@ -1,5 +1,5 @@
 // The plan in memory, and the steps that requests take in it.
-ghost use Rattle.std.specs.Prelude.{◌≡◌, ◌⊎◌, ℕ, pos, map, All, Some, None, IfOk, IfErr, OnOk};
+ghost use Rattle.std.specs.Prelude.{◌≡◌, ◌⊎◌, ℕ, pos, map, Some, None, IfOk, IfErr, OnOk};
 ghost use Rattle.plan_basics.specs.declared.Refusal.{Refusal};
 ghost use Rattle.plan_model.specs.Plan.{no_plan};
 ghost use Rattle.plan_model.specs.Valid.{IsSound};
@@ -8,15 +8,15 @@ ghost use Rattle.plan_records.specs.declared.Request.{Request};
 ghost use Rattle.plan_records.specs.Answer.{accepted, refused, answer_of};
 ghost use Rattle.plan_records.specs.Accepting.{MayBeAccepted};
 ghost use Rattle.plan_records.specs.Step.{Step};
+ghost use Rattle.plan_core.specs.Provided.{RunStartsAreProvided, StartsAreProvided};
 ghost use Rattle.plan_core.specs.Requested.{AreMadeBy, IsAnswered, IsFree, IsStopped};
-ghost use Rattle.plan_core.specs.State.{IsServed, IsPreparedFor, plan_after, AnswersAll};
+ghost use Rattle.plan_core.specs.State.{IsPreparedFor, plan_after, AnswersAll};
 
-use super::checks::{check_load, check_report};
-use super::loaded::LoadedPlan;
 use super::prepared::Prepared;
 use super::requests::{changed, drafted};
 use super::settle::settle;
 use plan_basics::{Moment, OpKey, Refusal};
+use plan_checks::{LoadedPlan, check_load, check_report};
 use plan_records::{PlanContents, Reply, Request, What};
 use std::alloc::Global;
 use std::marker::Model;
@@ -31,7 +31,7 @@ pub struct Plan {
 
 impl Model for Plan {
     ghost use Rattle.plan_core.specs.State.{PlanState, state_code};
-    ghost use Rattle.plan_core.specs.Held.{plan_held, IsHeld};
+    ghost use Rattle.plan_checks.specs.Held.{plan_held, IsHeld};
 
     ghost Value = { PlanState };
 
@@ -64,7 +64,6 @@ impl Plan {
 
     // What stands in the way of a request that is made at a moment, but for that moment.
     fn check_what(&self, what: &What, at: Moment) -> Result<(), Refusal>
-        requires { IsServed what.now }
         ensures ok { OnOk result (IsFree self.now.plan at what.now) }
         ensures refused { IfErr result (λ r. (r ≡ Refusal.Memory) ⊎ IsStopped self.now.plan at what.now r) }
     {
@@ -78,7 +77,6 @@ impl Plan {
 
     // The moment of a request that may be accepted; else the least refusal that applies, or that no memory is found.
     fn check(&self, request: &Request) -> Result<Moment, Refusal>
-        requires { IsServed request.now.what }
         ensures at { IfOk result (λ m. request.now.at ≡ pos m) }
         ensures ok { OnOk result ((r : Refusal) → MayBeAccepted self.now.plan request.now r) }
         ensures refused { IfErr result (λ r. (r ≡ Refusal.Memory) ⊎ Step self.now.plan request.now (refused r) self.now.plan) }
@@ -93,8 +91,7 @@ impl Plan {
 
     // What a request that may be accepted makes of what the plan holds. The error is always `Memory`.
     fn contents_after(&self, what: &What) -> Result<PlanContents, Refusal>
-        requires served { IsServed what.now }
-        requires free { (at : ℕ) × IsFree self.now.plan at what.now }
+        requires { (at : ℕ) × IsFree self.now.plan at what.now }
         ensures made { IfOk result (AreMadeBy self.now.plan what.now) }
         ensures refused { IfErr result (λ r. r ≡ Refusal.Memory) }
     {
@@ -106,12 +103,14 @@ impl Plan {
     }
 
     /// What a request leads to, if it is accepted: it makes all checks and takes all memory, and the plan stays as it is.
-    /// It is refused for the least number that applies (this project's own), or for want of memory.
+    /// It is refused for the least number that applies (this project's own), or for want of memory. What it leads to is
+    /// sound, and for whatever becomes started there was all that it needs.
     pub fn prepare(&mut self, request: &Request) -> Result<Prepared, Refusal>
-        requires { IsServed request.now.what }
         ensures unchanged { self.new ≡ self.old }
         ensures prepared { IfOk result (IsPreparedFor self.new) }
         ensures step { IfOk result (λ p. Step self.old.plan request.now (accepted p.named) (plan_after self.old p)) }
+        ensures sound { IfOk result (λ p. IsSound (plan_after self.old p)) }
+        ensures starts { IfOk result (λ p. StartsAreProvided self.old.plan request.now (accepted p.named) (plan_after self.old p)) }
         ensures refused { IfErr result (λ r. (r ≡ Refusal.Memory) ⊎ Step self.old.plan request.now (refused r) self.old.plan) }
     {
         let at = self.check(request)?;
@@ -120,11 +119,14 @@ impl Plan {
     }
 
     /// Takes the step that was prepared for this plan, and gives the operations that are named to start, in order. It takes
-    /// no memory.
+    /// no memory. The plan is sound after it, and for whatever becomes started there was all that it needs, at the moment of
+    /// the request.
     pub fn apply(&mut self, prepared: Prepared) -> Vec<OpKey>
         requires { IsPreparedFor self.old prepared }
         ensures plan { self.new.plan ≡ plan_after self.old prepared }
         ensures named { result.items ≡ prepared.named }
+        ensures sound { IsSound self.new.plan }
+        ensures starts { (q : Request) × Step self.old.plan q (accepted result.items) self.new.plan × StartsAreProvided self.old.plan q (accepted result.items) self.new.plan }
     {
         self.clock = prepared.clock;
         self.loaded = Some(prepared.loaded);
@@ -133,7 +135,6 @@ impl Plan {
 
     // Makes a request: a step, or for want of memory nothing.
     fn answer(&mut self, request: &Request) -> Reply
-        requires { IsServed request.now.what }
         ensures { IsAnswered self.old.plan request.now (answer_of result) self.new.plan }
     {
         match self.prepare(request) {
@@ -146,10 +147,12 @@ impl Plan {
 
     /// Makes these requests, one after the other, each answered by a step of the plan that the one before left, or by want
     /// of memory, nothing changed. The error is always `Memory`: the list of replies found no memory, and nothing changed.
+    /// The plan is sound after them, and for whatever becomes started by one of them there was all that it needs then.
     pub fn run(&mut self, requests: &[Request]) -> Result<Vec<Reply>, Refusal>
-        requires { All (λ q. IsServed q.what) requests.now }
         ensures answers { IfOk result (λ replies. AnswersAll self.old.plan requests.now (map answer_of replies.items) self.new.plan) }
         ensures memory { IfErr result (λ r. (r ≡ Refusal.Memory) × (self.new ≡ self.old)) }
+        ensures sound { IsSound self.new.plan }
+        ensures starts { IfOk result (λ replies. RunStartsAreProvided self.old.plan requests.now (map answer_of replies.items) self.new.plan) }
     {
         let mut replies = Vec::with_capacity(self.alloc, requests.len())?;
         for request in requests {

@@ -1,8 +1,8 @@
 // A request that was prepared.
 ghost use Rattle.std.specs.Prelude.{◌≡◌};
 
-use super::loaded::LoadedPlan;
 use plan_basics::{Moment, OpKey};
+use plan_checks::LoadedPlan;
 use std::marker::Model;
 
 /// A request that is accepted, with all that it takes: the plan that it leads to, and the operations that are named to
@@ -17,7 +17,7 @@ pub struct Prepared {
 impl Model for Prepared {
     ghost use Rattle.plan_records.specs.Contents.{plan_of};
     ghost use Rattle.plan_core.specs.State.{PreparedState, prepared_code};
-    ghost use Rattle.plan_core.specs.Held.{AreHeld};
+    ghost use Rattle.plan_checks.specs.Held.{AreHeld};
 
     ghost Value = { PreparedState };
 

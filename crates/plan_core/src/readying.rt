@@ -3,8 +3,8 @@ ghost use Rattle.std.specs.Prelude.{◌≡◌};
 ghost use Rattle.std.specs.Iterator.{YieldsFirst, item_count};
 ghost use Rattle.plan_core.specs.Views.{ready_from, AreEntriesOf};
 
-use super::loaded::LoadedPlan;
 use super::views::{OpView, op_view};
+use plan_checks::LoadedPlan;
 use plan_records::known_place;
 use ready_list::ReadyEntry;
 use std::marker::Model;

@@ -2,20 +2,25 @@
 ghost use Rattle.std.specs.Prelude.{◌≡◌, ℕ, All, Some, IfOk, IfErr};
 ghost use Rattle.plan_basics.specs.Intervals.{IsInterval};
 ghost use Rattle.plan_basics.specs.Names.{IsName};
-ghost use Rattle.plan_model.specs.Plan.{Plan};
-ghost use Rattle.plan_records.specs.Accepting.{NeedsPlan};
-ghost use Rattle.plan_records.specs.Contents.{plan_of};
+ghost use Rattle.plan_model.specs.Plan.{IsInPlan, Plan};
+ghost use Rattle.plan_records.specs.Accepting.{MayBeAdded, NeedsPlan};
+ghost use Rattle.plan_records.specs.Changes.{Changes, with_supplement};
+ghost use Rattle.plan_records.specs.Contents.{plan_of, AreContents};
+ghost use Rattle.plan_records.specs.Drafts.{IsAddition};
 ghost use Rattle.plan_records.specs.declared.What.{What};
-ghost use Rattle.plan_core.specs.Requested.{AreMadeBy, IsClear};
-ghost use Rattle.plan_core.specs.State.{IsServed};
-ghost use Rattle.plan_core.specs.Views.{IsHeldAtSome};
+ghost use Rattle.plan_records.specs.declared.What.TheVariants as what;
+ghost use Rattle.plan_checks.specs.Barring.{IsClear};
+ghost use Rattle.plan_core.specs.Requested.{AreMadeBy};
+ghost use Rattle.plan_checks.specs.Held.{IsHeldAtSome};
 ghost use Rattle.plan_basics.specs.declared.Refusal.{Refusal};
 
-use super::change::{copy_of, with_marks};
-use super::commanding::{deleted, rerun, with_available, with_held, with_intervals, with_nop};
-use super::loaded::LoadedPlan;
-use plan_basics::{ErrCode, Interval, Refusal};
-use plan_records::{PlanContents, PlanDraft, What};
+use plan_basics::{ErrCode, Interval, OpKey, Refusal};
+use plan_changes::{
+    copy_of, deleted, with_addition, with_available, with_held, with_intervals, with_marks,
+    with_nop, with_pair,
+};
+use plan_checks::{LoadedPlan, reached_keys};
+use plan_records::{Addition, PlanContents, PlanDraft, What};
 use status_rules::Mark;
 use std::alloc::{AllocError, Global};
 
@@ -37,9 +42,38 @@ fn look_at(intervals: &[Interval])
     }
 }
 
+// The contents with the mark of an operation and of all that it reaches taken away. The error is always `Memory`.
+fn rerun(alloc: Global, loaded: &LoadedPlan, key: &OpKey) -> Result<PlanContents, Refusal>
+    requires held { IsHeldAtSome loaded.now }
+    requires known { IsInPlan (plan_of 0 loaded.now.contents) key.now }
+    ensures plan { IfOk result (λ new. (clock : ℕ) → Changes (plan_of clock loaded.now.contents) (what.Rerun key.now) (plan_of clock new)) }
+    ensures in_order { IfOk result (λ new. AreContents new) }
+    ensures refused { IfErr result (λ r. r ≡ Refusal.Memory) }
+{
+    let reached = reached_keys(alloc, loaded, key)?;
+    Ok(with_marks(alloc, &loaded.contents, &reached, Mark::Unmarked)?)
+}
+
+// The contents with what comes in, of whose occurrence there is nothing yet. Its parts are looked at for the proof alone,
+// which learns that it is legal.
+#[tactic(auto, using(crate::proofs::Made::legal_by_parts))]
+fn added(
+    alloc: Global,
+    loaded: &LoadedPlan,
+    addition: &Addition,
+) -> Result<PlanContents, AllocError>
+    requires held { IsHeldAtSome loaded.now }
+    requires new { MayBeAdded (plan_of 0 loaded.now.contents) addition.now Refusal.Duplicate }
+    ensures legal { IsAddition addition.now }
+    ensures plan { IfOk result (λ new. (clock : ℕ) → plan_of clock new ≡ with_supplement (plan_of clock loaded.now.contents) addition.now) }
+    ensures in_order { IfOk result (λ new. AreContents new) }
+{
+    let _ = addition.parts();
+    with_addition(alloc, &loaded.contents, addition)
+}
+
 /// What a request other than a load, in whose way nothing stands, makes of the contents. The error is always `Memory`.
 pub fn changed(alloc: Global, loaded: &LoadedPlan, what: &What) -> Result<PlanContents, Refusal>
-    requires served { IsServed what.now }
     requires needs { NeedsPlan what.now }
     requires held { IsHeldAtSome loaded.now }
     requires clear { (at : ℕ) × ((clock : ℕ) → IsClear (plan_of clock loaded.now.contents) at what.now) }
@@ -60,12 +94,16 @@ pub fn changed(alloc: Global, loaded: &LoadedPlan, what: &What) -> Result<PlanCo
         What::Unnop(key) => with_nop(alloc, contents, key, false),
         What::Rerun(key) => return rerun(alloc, loaded, key),
         What::DeleteOccurrence(key) => deleted(alloc, contents, key),
+        What::AddOccurrence(addition) => added(alloc, loaded, addition.as_ref().unwrap()),
+        What::AddDependency(predecessor, successor) => {
+            with_pair(alloc, contents, predecessor, successor)
+        }
         What::SetAvailable(name, available) => with_available(alloc, contents, name, *available),
         What::ReplaceIntervals(name, intervals) => {
             look_at(intervals);
             with_intervals(alloc, contents, name, intervals)
         }
-        _ => unreachable!(),
+        What::Load(_) => unreachable!(),
     };
     Ok(new?)
 }

@@ -6,14 +6,14 @@ ghost use Rattle.plan_model.specs.Valid.{IsSound};
 ghost use Rattle.plan_records.specs.Contents.{plan_of, AreContents, AreValidContents, IsGraphFor};
 ghost use Rattle.plan_choice.specs.Choosing.{AreLatestStarts};
 ghost use Rattle.plan_status.specs.Standings.{AreStandings};
-ghost use Rattle.plan_core.specs.Held.{AreHeld};
+ghost use Rattle.plan_checks.specs.Held.{AreHeld};
 
-use super::change::with_marks;
-use super::loaded::LoadedPlan;
 use super::prepared::Prepared;
 use latest_start::Latest;
 use operation_graph::Graph;
 use plan_basics::{Moment, OpKey, Refusal};
+use plan_changes::with_marks;
+use plan_checks::LoadedPlan;
 use plan_choice::{chosen, latest_of, ready_of};
 use plan_records::{PlanContents, graph_for};
 use plan_status::{Standing, standings_of, statuses_of, tallies_of};

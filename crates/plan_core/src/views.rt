@@ -1,9 +1,10 @@
 // What is read off the plan for one operation or one occurrence.
 ghost use Rattle.std.specs.Prelude.{◌≡◌, ◌<◌, Some, length, slice_get};
-ghost use Rattle.plan_core.specs.Views.{IsHeldAtSome, op_views, occ_views};
+ghost use Rattle.plan_checks.specs.Held.{IsHeldAtSome};
+ghost use Rattle.plan_core.specs.Views.{op_views, occ_views};
 
-use super::loaded::LoadedPlan;
 use plan_basics::{Moment, OccKey, OpKey, WsName};
+use plan_checks::LoadedPlan;
 use plan_records::known_occurrence;
 use plan_status::{attribute_of, occurrence_status_with, status_with};
 use status_rules::{Mark, OccStatus, Status};

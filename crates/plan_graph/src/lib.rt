@@ -9,9 +9,6 @@ ghost use Rattle.plan_model.specs.Plan.{pair_cmp};
 ghost use Rattle.plan_model.specs.Valid.{IsAcyclic};
 ghost use Rattle.plan_graph.specs.PlanGraphs.{AreAmong, AreAtPlaces, IsGraphOf};
 
-#[cfg(test)]
-mod tests;
-
 use operation_graph::{EdgeFault, Graph};
 use plan_basics::OpKey;
 use std::alloc::{AllocError, Global};

@@ -1,21 +1,33 @@
--- From the records of a text to its plan.
+-- From the records of a text to what it denotes.
 use Rattle.std.proofs.Common.{◌≡◌, ℕ, List, Option, Some, None, IfSome, MatchOption}
 use Rattle.csv.specs.Reading.{strip_bom, default_config}
 use Rattle.csv.specs.declared.parser.State.TheVariants as st
-use Rattle.plan_model.specs.Plan.{Plan}
+use Rattle.plan_model.specs.Plan.{Plan, Supplement}
 use Rattle.plan_items.specs.Items.{Fields}
-use Rattle.plan_records.specs.Records.{Denotes}
+use Rattle.plan_records.specs.Records.{Denotes, DenotesAddition}
 use Rattle.plan_import.specs.Records.{IsReadingOf}
-use Rattle.plan_import.specs.Texts.{TextDenotes}
+use Rattle.plan_import.specs.Texts.{TextDenotes, TextDenotesAddition, ReadsAs}
 use Rattle.plan_import.proofs.Rows.{one_reading}
 
 -- what the records of a text denote, the text does, since it has no others
+denoted_by : {X : Type 0} (D : List Fields → X → Type 0) (o : Option (List ℕ)) (records : List Fields) (found : Option X)
+    → IfSome o (λ text. IsReadingOf (strip_bom text) (Some records))
+    → MatchOption found ((x : X) → ¬ D records x) (λ x. D records x)
+    → IfSome o (λ text. MatchOption found ((x : X) → ¬ ((rs : List Fields) × ReadsAs text rs × D rs x)) (λ x. (rs : List Fields) × ReadsAs text rs × D rs x))
+denoted_by D None records found reads denoted = tt
+denoted_by D (Some text) records None reads denoted = λ x (other, reads_other, denotes).
+    let same : other ≡ records = one_reading default_config st.StartRecord (strip_bom text) other records reads_other.0 reads.0 in
+    denoted x (rw (← same) denotes)
+denoted_by D (Some text) records (Some x) reads denoted = (records, reads, denoted)
+
 pub denoted_by_text : (o : Option (List ℕ)) (records : List Fields) (found : Option Plan)
     → IfSome o (λ text. IsReadingOf (strip_bom text) (Some records))
     → MatchOption found ((P : Plan) → ¬ Denotes records P) (λ draft. Denotes records draft)
     → IfSome o (λ text. MatchOption found ((P : Plan) → ¬ TextDenotes text P) (λ draft. TextDenotes text draft))
-denoted_by_text None records found reads denoted = tt
-denoted_by_text (Some text) records None reads denoted = λ P (other, reads_other, denotes).
-    let same : other ≡ records = one_reading default_config st.StartRecord (strip_bom text) other records reads_other.0 reads.0 in
-    denoted P (rw (← same) denotes)
-denoted_by_text (Some text) records (Some draft) reads denoted = (records, reads, denoted)
+denoted_by_text o records found reads denoted = denoted_by Denotes o records found reads denoted
+
+pub addition_by_text : (o : Option (List ℕ)) (records : List Fields) (found : Option Supplement)
+    → IfSome o (λ text. IsReadingOf (strip_bom text) (Some records))
+    → MatchOption found ((s : Supplement) → ¬ DenotesAddition records s) (λ a. DenotesAddition records a)
+    → IfSome o (λ text. MatchOption found ((s : Supplement) → ¬ TextDenotesAddition text s) (λ a. TextDenotesAddition text a))
+addition_by_text o records found reads denoted = denoted_by DenotesAddition o records found reads denoted

@@ -1,20 +1,20 @@
-//! Plans from texts of comma-separated fields, over any reader of bytes.
+//! Plans, and occurrences that come in, from texts of comma-separated fields, over any reader of bytes.
 #![tactic(auto)]
 
 ghost use Rattle.std.specs.Prelude.{◌≡◌, ◌↔◌, IfOk, IfSome, IfNone, MatchOption, Err, true, false, option_map};
 ghost use Rattle.csv.specs.Records.{fields_of as row_fields};
 ghost use Rattle.csv.specs.Reading.{strip_bom, source_of, reader_state, stops_reader, error_kind};
 ghost use Rattle.csv.specs.declared.parser.State.TheVariants as st;
-ghost use Rattle.plan_model.specs.Plan.{Plan};
+ghost use Rattle.plan_model.specs.Plan.{Plan, Supplement};
 ghost use Rattle.plan_items.specs.Items.{fields_of};
 ghost use Rattle.plan_records.specs.Records.{records_of};
 ghost use Rattle.plan_import.specs.Records.{IsReadingOf, IsPlain, TurnsTo};
-ghost use Rattle.plan_import.specs.Texts.{TextDenotes};
+ghost use Rattle.plan_import.specs.Texts.{TextDenotes, TextDenotesAddition};
 ghost use Rattle.plan_basics.specs.Watched.{inner_of, failed_of};
 
 use csv::{ByteRecord, ErrorKind, Reader, ReaderBuilder};
 use plan_basics::Watched;
-use plan_records::{PlanDraft, Record};
+use plan_records::{Addition, PlanDraft, Record};
 use std::alloc::{AllocError, AllocFailed, Global};
 use std::io::Read;
 
@@ -178,6 +178,25 @@ pub fn read_plan<R: Read>(
     };
     match PlanDraft::build(records) {
         Ok(draft) => Ok(draft),
+        Err(_) => Err(ImportFault::Memory),
+    }
+}
+
+/// The occurrence that a text denotes, with its operations and pairs, if it denotes one. The text is read as that of a plan,
+/// and its faults are the same. (The records and what they denote: this project's own.)
+pub fn read_occurrence<R: Read>(
+    alloc: Global,
+    reader: &mut Watched<R>,
+) -> Result<Option<Addition>, ImportFault>
+    ensures addition { IfOk result (λ found. IfSome (R.remaining (inner_of reader.old)) (λ text.
+        MatchOption found ((s : Supplement) → ¬ TextDenotesAddition text s) (λ a. TextDenotesAddition text a))) }
+    ensures reader_fault { (result ≡ Err ImportFault.Reader) ↔ (failed_of reader.new ≡ true) }
+{
+    let Some(records) = read_records(alloc, reader)? else {
+        return Ok(None);
+    };
+    match Addition::build(records) {
+        Ok(addition) => Ok(addition),
         Err(_) => Err(ImportFault::Memory),
     }
 }

@@ -1,84 +1,8 @@
-// Texts as the formats describe them, and readers that give them in pieces or fail.
-use super::{ImportFault, read_plan, read_records};
-use plan_basics::{Attr, Watched};
+// Records of texts, which no caller of the crate sees.
+use super::read_records;
+use plan_basics::Watched;
 use plan_records::Record;
-use std::io;
-use std::io::Read;
 use std::test::Fail;
-
-const DAY: &[u8] = b"W,CPU1,A,,,,,,,
-I,CPU1,1972-01-01T00:00,2071-12-31T23:59,2,0,0,,,
-O,DAILY,2024-03-01T22:00,5,2024-03-02T05:00,,,,,
-P,DAILY,2024-03-01T22:00,10,CPU1,30,0,0,,
-P,DAILY,2024-03-01T22:00,20,CPU1,60,0,0,,
-D,DAILY,2024-03-01T22:00,10,DAILY,2024-03-01T22:00,20,,,
-";
-
-// Two occurrences, and a pair that leads from one to the other.
-const NIGHT: &[u8] = b"W,CPU1,A,,,,,,,
-I,CPU1,1972-01-01T00:00,2071-12-31T23:59,2,0,0,,,
-O,DAILY,2024-03-01T22:00,5,2024-03-02T05:00,,,,,
-P,DAILY,2024-03-01T22:00,10,CPU1,30,0,0,,
-O,BILLING,2024-03-01T23:00,7,2024-03-02T03:00,,,,,
-P,BILLING,2024-03-01T23:00,10,CPU1,15,0,0,,
-P,BILLING,2024-03-01T23:00,20,CPU1,45,0,0,,
-D,BILLING,2024-03-01T23:00,20,DAILY,2024-03-01T22:00,10,,,
-";
-
-// Two workstations, one of them open in two intervals that touch, and an operation on each.
-const STATIONS: &[u8] = b"W,SETP,S,,,,,,,
-W,CPU1,A,,,,,,,
-I,CPU1,2024-03-02T06:00,2024-03-03T06:00,4,0,0,,,
-I,CPU1,2024-03-01T22:00,2024-03-02T06:00,2,3,1,,,
-O,DAILY,2024-03-01T22:00,5,2024-03-02T05:00,,,,,
-P,DAILY,2024-03-01T22:00,10,SETP,30,0,0,,
-P,DAILY,2024-03-01T22:00,20,CPU1,60,2,1,,
-";
-
-// A special resource, an operation that needs it, and a pair that leads to the operation of the smaller key.
-const TAPES: &[u8] = b"W,CPU1,A,,,,,,,
-X,TAPE,N,,,,,,,
-O,DAILY,2024-03-01T22:00,5,2024-03-02T05:00,,,,,
-P,DAILY,2024-03-01T22:00,10,CPU1,30,0,0,,
-P,DAILY,2024-03-01T22:00,20,CPU1,60,0,0,,
-N,DAILY,2024-03-01T22:00,20,TAPE,X,K,,,
-D,DAILY,2024-03-01T22:00,20,DAILY,2024-03-01T22:00,10,,,
-";
-
-/// Gives at most `step` bytes a call, and fails at the call `fault`; the calls are counted from 1.
-#[derive(Drop)]
-struct Pieces<'a> {
-    text: &'a [u8],
-    step: usize,
-    calls: usize,
-    fault: usize,
-}
-
-impl<'a> Pieces<'a> {
-    fn new(text: &'a [u8], step: usize, fault: usize) -> Watched<Pieces<'a>> {
-        Watched::new(Pieces {
-            text,
-            step,
-            calls: 0,
-            fault,
-        })
-    }
-}
-
-impl<'a> Read for Pieces<'a> {
-    fn read(&mut self, buf: &mut [u8]) -> io::Result<usize> {
-        self.calls = self.calls.saturating_add(1);
-        if self.calls == self.fault {
-            return Err(io::Error::from(io::ErrorKind::Interrupted));
-        }
-        let most = self.step.min(buf.len());
-        let mut place = &mut buf[..most];
-        let mut text = self.text;
-        let n = text.read(&mut place)?;
-        self.text = text;
-        Ok(n)
-    }
-}
 
 fn field(records: &[Record], record: usize, field: usize) -> &[u8] {
     match records.get(record).and_then(|fields| fields.get(field)) {
@@ -87,190 +11,71 @@ fn field(records: &[Record], record: usize, field: usize) -> &[u8] {
     }
 }
 
+// What is shown, a text, its number of records, and the second field of the first.
+const MANY: [(&str, &[u8], usize, &[u8]); 6] = [
+    (
+        "line feeds",
+        b"W,CPU1,A,,,,,,,\nX,TAPE,Y,,,,,,,\n",
+        2,
+        b"CPU1",
+    ),
+    (
+        "CR LF",
+        b"W,CPU1,A,,,,,,,\r\nX,TAPE,Y,,,,,,,\r\n",
+        2,
+        b"CPU1",
+    ),
+    (
+        "no last line end, an empty line",
+        b"W,CPU1,A,,,,,,,\n\nX,TAPE,Y,,,,,,,",
+        2,
+        b"CPU1",
+    ),
+    (
+        "a quoted field",
+        b"\"W\",\"CP,\"\"1\",A,,,,,,,\n",
+        1,
+        b"CP,\"1",
+    ),
+    (
+        "a byte order mark",
+        b"\xef\xbb\xbfW,CPU1,A,,,,,,,\n",
+        1,
+        b"CPU1",
+    ),
+    (
+        "blanks and other bytes stay",
+        b"W, \xff ,A,,,,,,,\n",
+        1,
+        b" \xff ",
+    ),
+];
+
 #[test]
 fn texts_and_their_records(rt: HostRuntime) -> Result<(), Fail> {
-    let many: [(&str, &[u8], usize, &[u8]); 6] = [
-        (
-            "line feeds",
-            b"W,CPU1,A,,,,,,,\nX,TAPE,Y,,,,,,,\n",
-            2,
-            b"CPU1",
-        ),
-        (
-            "CR LF",
-            b"W,CPU1,A,,,,,,,\r\nX,TAPE,Y,,,,,,,\r\n",
-            2,
-            b"CPU1",
-        ),
-        (
-            "no last line end, an empty line",
-            b"W,CPU1,A,,,,,,,\n\nX,TAPE,Y,,,,,,,",
-            2,
-            b"CPU1",
-        ),
-        (
-            "a quoted field",
-            b"\"W\",\"CP,\"\"1\",A,,,,,,,\n",
-            1,
-            b"CP,\"1",
-        ),
-        (
-            "a byte order mark",
-            b"\xef\xbb\xbfW,CPU1,A,,,,,,,\n",
-            1,
-            b"CPU1",
-        ),
-        (
-            "blanks and other bytes stay",
-            b"W, \xff ,A,,,,,,,\n",
-            1,
-            b" \xff ",
-        ),
-    ];
-    for (what, text, count, name) in many {
+    for (what, text, count, name) in MANY {
         let mut reader = Watched::new(text);
         let records = read_records(rt.alloc(), &mut reader)?.ok_or("none")?;
         assert_eq!(rt; records.len(), count, "{what}");
         assert_eq!(rt; field(&records, 0, 0), b"W".as_slice(), "{what}");
         assert_eq!(rt; field(&records, 0, 1), name, "{what}");
     }
-    let none: [(&str, &[u8]); 3] = [
-        ("nine fields", b"W,CPU1,A,,,,,,,\nX,TAPE,Y,,,,,,\n"),
-        ("eleven fields", b"W,CPU1,A,,,,,,,,\n"),
-        ("a line of blanks", b"W,CPU1,A,,,,,,,\n \n"),
-    ];
-    for (what, text) in none {
+    Ok(())
+}
+
+// What is shown, and a text.
+const NONE: [(&str, &[u8]); 3] = [
+    ("nine fields", b"W,CPU1,A,,,,,,,\nX,TAPE,Y,,,,,,\n"),
+    ("eleven fields", b"W,CPU1,A,,,,,,,,\n"),
+    ("a line of blanks", b"W,CPU1,A,,,,,,,\n \n"),
+];
+
+#[test]
+fn texts_of_other_records(rt: HostRuntime) -> Result<(), Fail> {
+    for (what, text) in NONE {
         let mut reader = Watched::new(text);
         let records = read_records(rt.alloc(), &mut reader)?;
         assert!(rt; records.is_none(), "{what}");
     }
-    Ok(())
-}
-
-#[test]
-fn pieces_of_any_size(rt: HostRuntime) -> Result<(), Fail> {
-    for step in [1, 2, 7, 8192] {
-        let mut reader = Pieces::new(DAY, step, 0);
-        let draft = read_plan(rt.alloc(), &mut reader)?;
-        assert!(rt; draft.is_some(), "in pieces of {step}");
-        assert!(rt; !reader.failed());
-    }
-    Ok(())
-}
-
-#[test]
-fn several_occurrences(rt: HostRuntime) -> Result<(), Fail> {
-    let mut reader = Watched::new(NIGHT);
-    let draft = read_plan(rt.alloc(), &mut reader)?.ok_or("no draft")?;
-    let contents = draft.contents();
-    let [(billing, due), (daily, late)] = contents.occurrences.as_slice() else {
-        return Err("two occurrences")?;
-    };
-    assert_eq!(rt; (due.priority, late.priority), (7, 5));
-    let [(_, first), (last, second), (other, third)] = contents.operations.as_slice() else {
-        return Err("three operations")?;
-    };
-    assert!(rt; last.occurrence == *billing && other.occurrence == *daily);
-    assert!(rt; first.deadline == due.deadline && second.deadline == due.deadline);
-    assert!(rt; third.deadline == late.deadline);
-    assert!(rt; contents.pairs.as_slice() == [(*last, *other)].as_slice());
-    Ok(())
-}
-
-#[test]
-fn several_workstations(rt: HostRuntime) -> Result<(), Fail> {
-    let mut reader = Watched::new(STATIONS);
-    let draft = read_plan(rt.alloc(), &mut reader)?.ok_or("no draft")?;
-    let contents = draft.contents();
-    let [cpu, setup] = contents.workstations.as_slice() else {
-        return Err("two workstations")?;
-    };
-    assert!(rt; cpu.attribute() == Attr::Automatic);
-    assert!(rt; setup.attribute() == Attr::StartAndCompletion);
-    let [(_, first), (_, second)] = contents.operations.as_slice() else {
-        return Err("two operations")?;
-    };
-    assert!(rt; first.workstation == setup.name() && second.workstation == cpu.name());
-    assert_eq!(rt; (first.r1, first.r2, second.r1, second.r2), (0, 0, 2, 1));
-    Ok(())
-}
-
-#[test]
-fn special_resource_and_descending_pair(rt: HostRuntime) -> Result<(), Fail> {
-    let mut reader = Watched::new(TAPES);
-    let draft = read_plan(rt.alloc(), &mut reader)?.ok_or("no draft")?;
-    let contents = draft.contents();
-    let [(_, available)] = contents.resources.as_slice() else {
-        return Err("one special resource")?;
-    };
-    assert!(rt; !*available);
-    let [(first, _), (second, _)] = contents.operations.as_slice() else {
-        return Err("two operations")?;
-    };
-    assert!(rt; contents.pairs.as_slice() == [(*second, *first)].as_slice());
-    Ok(())
-}
-
-#[test]
-fn texts_that_denote_no_plan(rt: HostRuntime) -> Result<(), Fail> {
-    let texts: [(&str, &[u8]); 6] = [
-        ("an empty text", b""),
-        (
-            "an occurrence without operations",
-            b"W,CPU1,A,,,,,,,
-I,CPU1,1972-01-01T00:00,2071-12-31T23:59,2,0,0,,,
-O,DAILY,2024-03-01T22:00,5,2024-03-02T05:00,,,,,
-P,DAILY,2024-03-01T22:00,10,CPU1,30,0,0,,
-O,BILLING,2024-03-01T23:00,7,2024-03-02T03:00,,,,,
-",
-        ),
-        (
-            "a need of an unknown special resource",
-            b"W,CPU1,A,,,,,,,
-O,DAILY,2024-03-01T22:00,5,2024-03-02T05:00,,,,,
-P,DAILY,2024-03-01T22:00,10,CPU1,30,0,0,,
-N,DAILY,2024-03-01T22:00,10,TAPE,X,K,,,
-",
-        ),
-        (
-            "a path that returns to its start",
-            b"W,CPU1,A,,,,,,,
-O,DAILY,2024-03-01T22:00,5,2024-03-02T05:00,,,,,
-P,DAILY,2024-03-01T22:00,10,CPU1,30,0,0,,
-P,DAILY,2024-03-01T22:00,20,CPU1,60,0,0,,
-D,DAILY,2024-03-01T22:00,10,DAILY,2024-03-01T22:00,20,,,
-D,DAILY,2024-03-01T22:00,20,DAILY,2024-03-01T22:00,10,,,
-",
-        ),
-        ("the byte 255 in a name", b"W,CP\xff1,A,,,,,,,\n"),
-        ("nine fields", b"W,CPU1,A,,,,,,\n"),
-    ];
-    for (what, text) in texts {
-        let mut reader = Watched::new(text);
-        let draft = read_plan(rt.alloc(), &mut reader)?;
-        assert!(rt; draft.is_none(), "{what}");
-    }
-    Ok(())
-}
-
-#[test]
-fn each_read_fails_once(rt: HostRuntime) -> Result<(), Fail> {
-    let calls = DAY.len() + 1;
-    for fault in 1..=calls {
-        let mut reader = Pieces::new(DAY, 1, fault);
-        let found = read_plan(rt.alloc(), &mut reader);
-        assert!(rt; reader.failed(), "at {fault}");
-        assert_eq!(rt; found.err(), Some(ImportFault::Reader), "at {fault}");
-    }
-    Ok(())
-}
-
-#[test]
-fn an_earlier_fault_is_cleared(rt: HostRuntime) -> Result<(), Fail> {
-    let mut reader = Pieces::new(DAY, 8192, 1);
-    let mut buf = [0u8; 4];
-    assert!(rt; reader.read(&mut buf).is_err());
-    let draft = read_plan(rt.alloc(), &mut reader)?;
-    assert!(rt; draft.is_some());
     Ok(())
 }

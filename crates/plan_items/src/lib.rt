@@ -28,8 +28,6 @@ mod kinds;
 mod letters;
 mod numbers;
 mod parts;
-#[cfg(test)]
-mod tests;
 
 use fields::{field, letter_of};
 use kinds::{

@@ -47,7 +47,7 @@ same_items (r ∷ rs) (x ∷ xs) [] h k = absurd k
 same_items (r ∷ rs) (x ∷ xs) (y ∷ ys) h k = ap₂ (λ z zs. z ∷ zs) (one_item r x y h.0 k.0) (same_items rs xs ys h.1 k.1)
 
 -- what is said is in range
-items_legal : (records : List Fields) (items : List Item) → AllZip Says records items → All IsItem items
+pub items_legal : (records : List Fields) (items : List Item) → AllZip Says records items → All IsItem items
 items_legal [] [] h = All-nil IsItem
 items_legal [] (y ∷ ys) h = absurd h
 items_legal (r ∷ rs) [] h = absurd h

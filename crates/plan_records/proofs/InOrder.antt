@@ -1,5 +1,5 @@
 -- Occurrences, operations and pairs of a plan, as they are said and in key order.
-use Rattle.std.proofs.Common.{◌≡◌, ◌≢◌, ◌↔◌, refl, true≢false, IsTrue, Option, is_some, sym, subst, ap, ap₂, ◌∙◌, ℕ, ◌<◌, ◌≤◌, true, false, List, map, length, All, Contains, Some, None, unwrap_or}
+use Rattle.std.proofs.Common.{arith, ◌≡◌, ◌≢◌, ◌↔◌, refl, true≢false, IsTrue, Option, is_some, sym, subst, ap, ap₂, ◌∙◌, ℕ, ◌<◌, ◌≤◌, true, false, List, map, length, All, Contains, Some, None, unwrap_or}
 use Rattle.std.specs.Prelude.{MatchOption}
 use Rattle.std.specs.List.Sorted.{IsPermutation, IsSorted, IsSortedByKey, IsStrictlySortedBy}
 use Rattle.std.specs.Map.{keys_of}
@@ -25,7 +25,8 @@ use Rattle.plan_records.proofs.Lists.{all_by_members, differ_from_pairs, pairs_f
 use Rattle.plan_records.proofs.Orders.{map_same}
 use Rattle.plan_records.proofs.Pairs.{pair_cmp_total, pair_cmp-IsAntisymmetric}
 use Rattle.plan_records.proofs.Tables.{no_some, in_set, key_found}
-use Rattle.plan_records.proofs.Terms.{terms_there}
+use Rattle.plan_records.proofs.Terms.{found_key, terms_there}
+use Rattle.plan_records.specs.Adding.{new_row}
 
 -- ---- occurrences
 pub occurrences_are :
@@ -38,7 +39,7 @@ occurrences_are said ordered some few same up =
 -- ---- the row of an operation
 
 -- an operation as its record says, with that deadline and those needs
-abbrev operation_with : OperationItem → ℕ → Usages → Operation
+abbrev pub operation_with : OperationItem → ℕ → Usages → Operation
 operation_with said due own = record { workstation = said.workstation; duration = said.duration; r1 = said.r1; r2 = said.r2; not_before = said.not_before; deadline = due; needs = own; mark = Unmarked; held = false; nop = false }
 
 abbrev Terms : Type 0
@@ -58,6 +59,18 @@ pub row_made :
 row_made occurrences needs said terms due own e is own_is =
     let found = ap (λ o. unwrap_or said.deadline (due_of (unwrap_or o (record { priority = 0; deadline = 0 })))) e in
     ap₂ (λ d u. (said.key, operation_with said d u)) (is ∙ sym found) own_is
+
+-- what its row tells of an operation whose occurrence and workstation are there
+pub row_told :
+    (names : List Name) (occurrences : Terms) (needs : Wants) (said : OperationItem) (terms : Occurrence) (found : Option (OpKey × Operation)) → Contains names said.workstation →
+    get {R = occurrence_cmp} (from_entries occurrences) said.key.occurrence ≡ Some terms →
+    MatchOption found (16 < length (needs_of said.key needs)) (λ row. (length (needs_of said.key needs) ≤ 16) × (row ≡ new_row terms needs said)) →
+    MatchOption found (¬ Fits names occurrences needs said) (λ row. Fits names occurrences needs said × (row ≡ row_of occurrences needs said))
+row_told names occurrences needs said terms None named e many = λ fits. let few = fits.few_needs in absurd (omega (arith, many, few))
+row_told names occurrences needs said terms (Some row) named e own = (
+  record { workstation = named; occurrence = found_key occurrences said.key.occurrence terms e; few_needs = own.0 },
+  own.1 ∙ row_made occurrences needs said terms (unwrap_or said.deadline terms.deadline) (usages_of (needs_of said.key needs)) e refl refl,
+)
 
 -- an operation of no occurrence doesn't fit
 pub unknown :

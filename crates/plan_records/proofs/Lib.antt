@@ -18,3 +18,7 @@ pub mod MadeEntries
 pub mod Keyed
 pub mod OwnNeeds
 pub mod InOrder
+pub mod NewParts
+pub mod MadeAdditions
+pub mod NeededAdditions
+pub mod DenotingAdditions

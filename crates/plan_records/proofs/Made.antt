@@ -37,7 +37,7 @@ use Rattle.plan_records.proofs.ItemKinds as kinds
 use Rattle.plan_records.proofs.ItemKinds.{key_out}
 
 -- items that tie in no kind differ in their keys
-combined :
+pub combined :
     (a b : Item) → Kept as_workstation (λ y z. y.0 ≢ z.0) a b → Kept as_interval (λ y z. kinds.interval_key y ≢ kinds.interval_key z) a b → Kept as_occurrence (λ y z. y.0 ≢ z.0) a b →
     Kept as_operation (λ y z. y.key ≢ z.key) a b → Kept as_pair (λ y z. y ≢ z) a b → Kept as_resource (λ y z. y.0 ≢ z.0) a b → Kept as_need (λ y z. need_key y ≢ need_key z) a b →
     key_of a ≢ key_of b

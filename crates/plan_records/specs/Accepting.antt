@@ -1,5 +1,5 @@
 -- When a request may be accepted: what has to be so, under the refusal that is given where it isn't.
-use Rattle.std.specs.Prelude.{◌≡◌, ◌≢◌, ◌⊎◌, ℕ, ◌≤◌, ℤ, pos, negsuc, ◌≤ℤ◌, Bool, true, false, List, length, Option, Some, None, is_some, AllPairs}
+use Rattle.std.specs.Prelude.{◌≡◌, ◌≢◌, ◌⊎◌, ℕ, ◌<◌, ◌≤◌, ℤ, pos, negsuc, ◌≤ℤ◌, Bool, true, false, List, length, Option, Some, None, is_some, AllPairs}
 use Rattle.std.specs.FinMap.{get, contains_key}
 use Rattle.plan_basics.specs.declared.Attr.{Attr}
 use Rattle.plan_basics.specs.declared.Attr.TheVariants as attribute
@@ -7,6 +7,7 @@ use Rattle.plan_basics.specs.declared.keys.OccKey.{OccKey}
 use Rattle.plan_basics.specs.declared.keys.OpKey.{OpKey}
 use Rattle.plan_basics.specs.declared.Refusal.{Refusal}
 use Rattle.plan_basics.specs.declared.Refusal.TheVariants as refusal
+use Rattle.plan_basics.specs.Refusals.{number_of}
 use Rattle.plan_basics.specs.Minutes.{IsMoment}
 use Rattle.plan_basics.specs.Intervals.{OpenInterval, AreApart}
 use Rattle.plan_basics.specs.Keys.{Name}
@@ -168,3 +169,11 @@ MayBeAccepted P q refusal.Past = pos P.clock ≤ℤ q.at
 MayBeAccepted P q refusal.MomentRange = (m : ℕ) × (q.at ≡ pos m) × IsMoment m
 MayBeAccepted P q refusal.NotLoaded = NeedsPlan q.what → P.loaded ≡ true
 MayBeAccepted P q r = MayBeDone P (minute_of q.at) q.what r
+
+-- none of these lines refuses
+abbrev pub AllHold : (Refusal → Type 0) → Type 0
+AllHold lines = (r : Refusal) → lines r
+
+-- of the lines that refuse, r's has the least number
+abbrev pub FailsFirstAt : (Refusal → Type 0) → Refusal → Type 0
+FailsFirstAt lines r = ¬ lines r × ((lower : Refusal) → number_of lower < number_of r → lines lower)

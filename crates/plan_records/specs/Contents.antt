@@ -11,13 +11,24 @@ use Rattle.plan_model.specs.declared.Occurrence.{Occurrence}
 use Rattle.plan_model.specs.Plan.{Plan, Operation, Supplement, pair_cmp}
 use Rattle.plan_model.specs.Valid.{IsValid}
 use Rattle.plan_records.specs.declared.contents.PlanContents.{PlanContents}
+use Rattle.plan_records.specs.declared.contents.NewOccurrence.{NewOccurrence}
 use Rattle.plan_graph.specs.PlanGraphs.{IsGraphOf}
 use Rattle.operation_graph.specs.Graphs.{Digraph}
-use Rattle.plan_records.specs.Drafts.{IsDraft}
+use Rattle.plan_records.specs.Drafts.{IsDraft, IsAddition}
 
 -- an occurrence with its operations and pairs
 abbrev pub supplement_of : OccKey → Occurrence → List (OpKey × Operation) → List (OpKey × OpKey) → Supplement
 supplement_of occurrence terms operations pairs = record { occurrences = map.insert map.empty occurrence terms; operations = map.from_entries operations; pairs = set.from_list pairs }
+
+-- what comes in of these parts
+abbrev pub incoming : NewOccurrence → Supplement
+incoming n = supplement_of n.key n.terms n.operations.items n.pairs.items
+
+-- operations by key, pairs by predecessor and then successor, each of them once, and they are an addition
+pub record AreAdditionParts (n : NewOccurrence) : Type 0 where
+  pub operations : IsStrictlySortedBy operation_cmp (keys_of n.operations.items)
+  pub pairs : IsStrictlySortedBy pair_cmp n.pairs.items
+  pub addition : IsAddition (incoming n)
 
 -- the loaded plan that holds this, at a clock
 abbrev pub plan_of : ℕ → PlanContents → Plan

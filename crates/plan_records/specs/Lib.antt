@@ -11,5 +11,6 @@ pub mod Work
 pub mod Laws
 pub mod Records
 pub mod Loading
+pub mod Adding
 pub mod Receipts
 pub mod Schedules

@@ -118,19 +118,22 @@ fn intervals(alloc: Global, items: &[Item]) -> Result<Vec<(WsName, Interval)>, A
     items.iter().filter_map(interval_of).collect(alloc)
 }
 
-fn occurrences(alloc: Global, items: &[Item]) -> Result<Vec<(OccKey, Occurrence)>, AllocError>
+// What the items say of occurrences.
+pub fn occurrences(alloc: Global, items: &[Item]) -> Result<Vec<(OccKey, Occurrence)>, AllocError>
     ensures { IfOk result (λ v. v.items ≡ filter_map as_occurrence items.now) }
 {
     items.iter().filter_map(occurrence_of).collect(alloc)
 }
 
-fn operations(alloc: Global, items: &[Item]) -> Result<Vec<OperationItem>, AllocError>
+// What the items say of operations.
+pub fn operations(alloc: Global, items: &[Item]) -> Result<Vec<OperationItem>, AllocError>
     ensures { IfOk result (λ v. v.items ≡ filter_map as_operation items.now) }
 {
     items.iter().filter_map(operation_of).collect(alloc)
 }
 
-fn pairs(alloc: Global, items: &[Item]) -> Result<Vec<(OpKey, OpKey)>, AllocError>
+// What the items say of pairs.
+pub fn pairs(alloc: Global, items: &[Item]) -> Result<Vec<(OpKey, OpKey)>, AllocError>
     ensures { IfOk result (λ v. v.items ≡ filter_map as_pair items.now) }
 {
     items.iter().filter_map(pair_of).collect(alloc)
@@ -142,7 +145,8 @@ fn resources(alloc: Global, items: &[Item]) -> Result<Vec<(ResName, bool)>, Allo
     items.iter().filter_map(resource_of).collect(alloc)
 }
 
-fn needs(alloc: Global, items: &[Item]) -> Result<Vec<(OpKey, Need)>, AllocError>
+// What the items say of needs.
+pub fn needs(alloc: Global, items: &[Item]) -> Result<Vec<(OpKey, Need)>, AllocError>
     ensures { IfOk result (λ v. v.items ≡ filter_map as_need items.now) }
 {
     items.iter().filter_map(need_of).collect(alloc)

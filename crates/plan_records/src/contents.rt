@@ -1,4 +1,4 @@
-// What a loaded plan holds.
+// What a loaded plan holds, and an occurrence that comes in.
 use plan_basics::{OccKey, OpKey, ResName};
 use plan_model::{Occurrence, OperationRecord};
 use workstations::Workstation;
@@ -12,6 +12,16 @@ pub struct PlanContents {
     pub resources: Vec<(ResName, bool)>,
     /// Each with its priority and deadline.
     pub occurrences: Vec<(OccKey, Occurrence)>,
+    pub operations: Vec<(OpKey, OperationRecord)>,
+    pub pairs: Vec<(OpKey, OpKey)>,
+}
+
+/// An occurrence that comes in: its key, priority and deadline; its operations in key order; and the pairs that come in with
+/// it, by predecessor and then successor.
+#[derive(Debug, Drop)]
+pub struct NewOccurrence {
+    pub key: OccKey,
+    pub terms: Occurrence,
     pub operations: Vec<(OpKey, OperationRecord)>,
     pub pairs: Vec<(OpKey, OpKey)>,
 }

@@ -1,14 +1,14 @@
 // What texts denote: a plan to be loaded, or an addition to one.
 ghost use Rattle.std.specs.Prelude.{◌≡◌, IfOk, IfErr, MatchOption};
 ghost use Rattle.plan_records.specs.Drafts.{IsDraft};
-ghost use Rattle.plan_records.specs.Contents.{plan_of, AreContents};
-ghost use Rattle.plan_records.specs.Records.{records_of, Denotes};
-ghost use Rattle.plan_model.specs.Plan.{Plan};
+ghost use Rattle.plan_records.specs.Contents.{plan_of, supplement_of, AreContents, AreAdditionParts};
+ghost use Rattle.plan_records.specs.Records.{records_of, Denotes, DenotesAddition};
+ghost use Rattle.plan_model.specs.Plan.{Plan, Supplement};
 
+use super::additions::parts_of;
 use super::building::{Record, contents_of, read_items};
-use super::contents::PlanContents;
-use plan_basics::{OccKey, OpKey, Refusal};
-use plan_model::{Occurrence, OperationRecord};
+use super::contents::{NewOccurrence, PlanContents};
+use plan_basics::Refusal;
 use std::marker::Model;
 
 /// The plan that a text denotes. Contracts see it as that plan.
@@ -67,26 +67,56 @@ impl PlanDraft {
     }
 }
 
-/// The occurrence that a text denotes, with its operations, in key order, and its pairs. Contracts see it as what comes in.
+/// The occurrence that a text denotes, with its operations and pairs. Contracts see it as what comes in.
 #[derive(Debug, Drop)]
 pub struct Addition {
-    occurrence: OccKey,
-    terms: Occurrence,
-    operations: Vec<(OpKey, OperationRecord)>,
-    pairs: Vec<(OpKey, OpKey)>,
+    parts: NewOccurrence,
 }
 
 impl Model for Addition {
     ghost use Rattle.plan_model.specs.Plan.{Supplement};
     ghost use Rattle.plan_model.specs.Code.{supplement_code};
-    ghost use Rattle.plan_records.specs.Drafts.{IsAddition};
-    ghost use Rattle.plan_records.specs.Contents.{supplement_of};
+    ghost use Rattle.plan_records.specs.Contents.{incoming, AreAdditionParts};
 
     ghost Value = { Supplement };
 
     ghost coded = { supplement_code };
 
-    ghost view = { λ a. supplement_of a.occurrence a.terms a.operations.items a.pairs.items };
+    ghost view = { λ a. incoming a.parts };
 
-    ghost invariant = { λ a. IsAddition (supplement_of a.occurrence a.terms a.operations.items a.pairs.items) };
+    ghost invariant = { λ a. AreAdditionParts a.parts };
+}
+
+impl Addition {
+    /// The addition that the records of a text denote; `None` where they denote none. There is one occurrence with at least
+    /// one operation, each of which may need R1, R2 and up to 16 special resources. Each pair has an end in the occurrence,
+    /// and its ends there are operations of the text; whatever else is named is looked up in the plan when the occurrence
+    /// comes in. The records may come in any order. The error is always `Memory`.
+    pub fn build(records: Vec<Record>) -> Result<Option<Addition>, Refusal>
+        ensures denoted { IfOk result (λ found. MatchOption found ((s : Supplement) → ¬ DenotesAddition (records_of records.items) s) (λ a. DenotesAddition (records_of records.items) a)) }
+        ensures memory { IfErr result (λ r. r ≡ Refusal.Memory) }
+    {
+        let alloc = *records.allocator();
+        let Ok(read) = read_items(alloc, &records) else {
+            return Err(Refusal::Memory);
+        };
+        let Some(items) = read else {
+            return Ok(None);
+        };
+        let Ok(found) = parts_of(alloc, &items) else {
+            return Err(Refusal::Memory);
+        };
+        let Some(parts) = found else {
+            return Ok(None);
+        };
+        Ok(Some(Addition { parts }))
+    }
+
+    /// What comes in.
+    pub fn parts(&self) -> &NewOccurrence
+        ensures view { self.now ≡ supplement_of result.now.key result.now.terms result.now.operations.items result.now.pairs.items }
+        ensures in_order { AreAdditionParts result.now }
+    {
+        &self.parts
+    }
 }

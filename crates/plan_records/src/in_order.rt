@@ -1,5 +1,5 @@
 // Occurrences, operations and pairs of a plan, put in key order.
-ghost use Rattle.std.specs.Prelude.{◌≡◌, ◌↔◌, map, All, Contains, IsTrue, IfOk, MatchOption};
+ghost use Rattle.std.specs.Prelude.{◌≡◌, ◌↔◌, ◌<◌, ◌≤◌, map, length, All, Contains, IsTrue, IfOk, MatchOption};
 ghost use Rattle.std.specs.FinMap.{get, from_entries};
 ghost use Rattle.std.specs.FinSet.{from_list};
 ghost use Rattle.std.specs.List.Sorted.{IsPermutation, IsSortedByKey, IsStrictlySortedBy};
@@ -8,7 +8,8 @@ ghost use Rattle.plan_basics.specs.Keys.{name_cmp, occurrence_cmp, operation_cmp
 ghost use Rattle.plan_model.specs.Plan.{pair_cmp};
 ghost use Rattle.plan_model.specs.Valid.{IsAcyclic};
 ghost use Rattle.plan_graph.specs.PlanGraphs.{AreAmong};
-ghost use Rattle.plan_records.specs.Loading.{row_of, occurrence_of, need_cmp, need_key, Fits, AreOccurrenceRows, AreOccurrencesInOrder, AreOperations, EachHasOperation, AreRowsOf, IsPairIn, ArePairs, ArePairsInOrder};
+ghost use Rattle.plan_records.specs.Adding.{new_row};
+ghost use Rattle.plan_records.specs.Loading.{row_of, occurrence_of, need_cmp, need_key, needs_of, Fits, AreOccurrenceRows, AreOccurrencesInOrder, AreOperations, EachHasOperation, AreRowsOf, IsPairIn, ArePairs, ArePairsInOrder};
 
 use super::needing::own_needs;
 use super::opening::is_named;
@@ -64,8 +65,33 @@ fn terms_of(occurrences: &[(OccKey, Occurrence)], key: &OccKey) -> Option<Occurr
     Some(occurrences[place].1)
 }
 
-// The row of an operation of one of these workstations and of one of these occurrences, with its own needs, which are 16
-// at most: nothing is reported of it, and its flags are clear.
+// The row of an operation whose occurrence has these terms, with its own needs, which are 16 at most: nothing is reported of
+// it, and its flags are clear.
+pub fn planned(
+    terms: &Occurrence,
+    needs: &[(OpKey, Need)],
+    said: &OperationItem,
+) -> Option<(OpKey, OperationRecord)>
+    requires { IsStrictlySortedBy need_cmp (map need_key needs.now) }
+    ensures { MatchOption result (16 < length (needs_of said.now.key needs.now)) (λ row. (length (needs_of said.now.key needs.now) ≤ 16) × (row ≡ new_row terms.now needs.now said.now)) }
+{
+    let needs = own_needs(needs, &said.key)?;
+    let operation = OperationRecord {
+        workstation: said.workstation,
+        duration: said.duration,
+        r1: said.r1,
+        r2: said.r2,
+        not_before: said.not_before,
+        deadline: said.deadline.unwrap_or(terms.deadline),
+        needs,
+        mark: Mark::Unmarked,
+        held: false,
+        nop: false,
+    };
+    Some((said.key, operation))
+}
+
+// The row of an operation of one of these workstations and of one of these occurrences, with its own needs.
 fn row(
     workstations: &[Workstation],
     occurrences: &[(OccKey, Occurrence)],
@@ -81,20 +107,7 @@ fn row(
     if !is_named(workstations, &said.workstation) {
         return None;
     }
-    let needs = own_needs(needs, &said.key)?;
-    let operation = OperationRecord {
-        workstation: said.workstation,
-        duration: said.duration,
-        r1: said.r1,
-        r2: said.r2,
-        not_before: said.not_before,
-        deadline: said.deadline.unwrap_or(terms.deadline),
-        needs,
-        mark: Mark::Unmarked,
-        held: false,
-        nop: false,
-    };
-    Some((said.key, operation))
+    planned(&terms, needs, said)
 }
 
 // The operations' rows, where each fits.

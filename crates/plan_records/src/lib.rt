@@ -3,6 +3,7 @@
 
 ghost use Rattle.plan_records.specs.Records.{OnePlan, OneAddition};
 
+mod additions;
 mod building;
 mod contents;
 mod drafts;
@@ -11,15 +12,9 @@ mod in_order;
 mod needing;
 mod opening;
 mod places;
-#[cfg(test)]
-mod resource_tests;
-#[cfg(test)]
-mod tests;
-#[cfg(test)]
-mod workstation_tests;
 
 pub use building::Record;
-pub use contents::PlanContents;
+pub use contents::{NewOccurrence, PlanContents};
 pub use drafts::{Addition, PlanDraft};
 pub use graphs::graph_for;
 pub use places::{

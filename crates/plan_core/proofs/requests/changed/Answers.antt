@@ -1,17 +1,19 @@
-use Rattle.std.proofs.Common.{◌≡◌, ◌∙◌, inl, inr, ap, subst, sym, arith, ℕ, All, IfOk}
+use Rattle.std.proofs.Common.{◌≡◌, ◌∙◌, refl, inl, inr, ap, subst, sym, arith, ℕ, All, Some, IfOk, option_copied}
 use Rattle.plan_basics.specs.Intervals.{IsInterval}
 use Rattle.plan_basics.specs.declared.Refusal.TheVariants as refusal
-use Rattle.plan_records.specs.Accepting.{MayBeOpenBy}
+use Rattle.plan_records.specs.Accepting.{MayBeOpenBy, AllHold}
 use Rattle.plan_records.specs.Changes.{marked}
 use Rattle.plan_records.specs.Contents.{plan_of}
 use Rattle.plan_records.specs.declared.What.TheVariants as what
 use Rattle.plan_records.specs.declared.contents.PlanContents.{PlanContents}
 use Rattle.status_rules.specs.declared.Mark.TheVariants as mark
-use Rattle.plan_core.specs.Requested.{AllHold, AreMadeBy}
-use Rattle.plan_core.proofs.Commanded.{opened}
-use Rattle.plan_core.proofs.Made.{clear_of, if_alike, if_made, if_marked, open_by}
+use Rattle.plan_core.specs.Requested.{AreMadeBy}
+use Rattle.plan_changes.proofs.Answered.{if_ok}
+use Rattle.plan_changes.proofs.Commanded.{opened}
+use Rattle.plan_core.proofs.Made.{clear_of, has_addition, if_alike, if_made, if_marked, open_by}
 use Rattle.plan_core.proofs.requests.changed.Goals as goal
-use Rattle.plan_core.proofs.requests.changed.Goals.{in-Tick, in-Started, in-Error, in-Interrupted, in-Unknown, in-Hold, in-Release, in-Nop, in-Unnop, in-DeleteOccurrence, in-SetAvailable, in-ReplaceIntervals, in-Ended2}
+use Rattle.plan_core.proofs.requests.changed.Goals.{in-Tick, in-Started, in-Ended2, in-Error, in-Interrupted, in-Unknown, in-Hold, in-Release, in-Nop, in-Unnop}
+use Rattle.plan_core.proofs.requests.changed.Goals.{in-DeleteOccurrence, in-AddOccurrence, in-AddDependency, in-SetAvailable, in-ReplaceIntervals}
 
 pub rerun-requires-clause-known : goal.rerun-requires-clause-known
 rerun-requires-clause-known c =
@@ -31,6 +33,18 @@ with_intervals-new-requires-clause-open c =
     let clear = clear_of c.args.loaded.now.contents c.args.what.now (what.ReplaceIntervals c.in-ReplaceIntervals.name c.in-ReplaceIntervals.intervals) c.in-ReplaceIntervals.is c.requires.clear in
     subst (λ items. AllHold (MayBeOpenBy plan c.in-ReplaceIntervals.name items)) (sym c.deref-in-ReplaceIntervals.ensures.value)
     (open_by plan c.in-ReplaceIntervals.name c.in-ReplaceIntervals.intervals.items clear.1)
+
+pub unwrap-requires : goal.unwrap-requires
+unwrap-requires c =
+    let old = c.args.loaded.now.contents in
+    let clear = clear_of old c.args.what.now (what.AddOccurrence c.in-AddOccurrence.addition) c.in-AddOccurrence.is c.requires.clear in
+    c.as_ref.ensures.variant ∙ has_addition (plan_of 0 old) clear.0 c.in-AddOccurrence.addition clear.1
+
+pub added-new-requires-clause-new : goal.added-new-requires-clause-new
+added-new-requires-clause-new c =
+    let w = what.AddOccurrence (Some c.unwrap.result.now) in
+    let is : c.args.what.now ≡ w = c.in-AddOccurrence.is ∙ ap what.AddOccurrence (sym c.as_ref.ensures.value ∙ ap option_copied c.unwrap.ensures) in
+    (clear_of c.args.loaded.now.contents c.args.what.now w is c.requires.clear).1 refusal.Duplicate (omega arith)
 
 pub returns-clause-made : goal.returns-clause-made
 returns-clause-made c =
@@ -81,6 +95,16 @@ returns-clause-made c =
       | in-DeleteOccurrence w ↦
           let new = w.deleted-new in
           subst (λ r. IfOk r is_made) (sym w.new-is) (if_made old (what.DeleteOccurrence w.in-DeleteOccurrence.key) tt v w.in-DeleteOccurrence.is new.result new.ensures.plan new.ensures.in_order)
+      | in-AddOccurrence w ↦
+          let new = w.added-new in
+          let s = w.unwrap.result.now in
+          let is : v ≡ what.AddOccurrence (Some s) = w.in-AddOccurrence.is ∙ ap what.AddOccurrence (sym w.as_ref.ensures.value ∙ ap option_copied w.unwrap.ensures) in
+          subst (λ r. IfOk r is_made) (sym w.new-is)
+          (if_made old (what.AddOccurrence (Some s)) new.ensures.legal v is new.result (if_ok new.result (λ x h clock. (s, refl, h clock)) new.ensures.plan) new.ensures.in_order)
+      | in-AddDependency w ↦
+          let new = w.with_pair-new in
+          subst (λ r. IfOk r is_made) (sym w.new-is)
+          (if_made old (what.AddDependency w.in-AddDependency.predecessor w.in-AddDependency.successor) tt v w.in-AddDependency.is new.result new.ensures.plan new.ensures.in_order)
       | in-SetAvailable w ↦
           let new = w.with_available-new in
           subst (λ r. IfOk r is_made) (sym w.new-is)

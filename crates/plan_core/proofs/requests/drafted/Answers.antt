@@ -1,4 +1,5 @@
-use Rattle.plan_core.proofs.Made.{if_ok, made_drafted}
+use Rattle.plan_changes.proofs.Answered.{if_ok}
+use Rattle.plan_core.proofs.Made.{made_drafted}
 use Rattle.plan_core.proofs.requests.drafted.Goals as goal
 
 pub returns : goal.returns

@@ -4,7 +4,7 @@ use Rattle.plan_model.specs.Plan.{Plan}
 use Rattle.plan_records.specs.Contents.{plan_of}
 use Rattle.plan_records.specs.declared.What.{What}
 use Rattle.plan_records.specs.declared.What.TheVariants as what
-use Rattle.plan_core.specs.Held.{plan_held}
+use Rattle.plan_checks.specs.Held.{plan_held}
 use Rattle.plan_core.specs.Requested.{IsFree, IsStopped}
 use Rattle.plan_core.specs.State.{PlanState}
 use Rattle.plan_core.proofs.Refusing.{held_loaded, if_err, if_refused, is_free, is_stopped, on_ok, or_memory}

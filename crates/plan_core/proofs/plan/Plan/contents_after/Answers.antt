@@ -4,7 +4,7 @@ use Rattle.plan_records.specs.Accepting.{NeedsPlan}
 use Rattle.plan_records.specs.Contents.{plan_of}
 use Rattle.plan_records.specs.declared.What.{What}
 use Rattle.plan_records.specs.declared.What.TheVariants as what
-use Rattle.plan_core.specs.Held.{IsHeld, plan_held}
+use Rattle.plan_checks.specs.Held.{IsHeld, plan_held}
 use Rattle.plan_core.specs.Requested.{AreMadeBy, IsFree}
 use Rattle.plan_core.specs.State.{PlanState}
 use Rattle.plan_core.proofs.Preparing.{clear_at, has_draft, has_plan, is_clear}
@@ -12,7 +12,7 @@ use Rattle.plan_core.proofs.Refusing.{held_loaded}
 use Rattle.plan_core.proofs.plan.Plan.contents_after.Goals as goal
 
 pub unwrap-requires : goal.unwrap-requires
-unwrap-requires c = c.as_ref.ensures.variant ∙ has_draft c.args.self.now.plan c.requires.free.0 c.args.what.now c.requires.free.1 c.in-Load.draft c.in-Load.is
+unwrap-requires c = c.as_ref.ensures.variant ∙ has_draft c.args.self.now.plan c.requires.0 c.args.what.now c.requires.1 c.in-Load.draft c.in-Load.is
 
 pub unwrap-requires-in_default : goal.unwrap-requires-in_default
 unwrap-requires-in_default c =
@@ -20,23 +20,22 @@ unwrap-requires-in_default c =
     c.as_ref-in_default.ensures.variant
     ∙ sym (held_loaded c.self.inside.clock c.self.inside.loaded)
     ∙ ap (λ (s : PlanState). s.plan.loaded) c.self.view_is
-    ∙ has_plan c.args.self.now.plan c.requires.free.0 c.args.what.now c.requires.free.1 needs
+    ∙ has_plan c.args.self.now.plan c.requires.0 c.args.what.now c.requires.1 needs
 
 pub changed-requires : goal.changed-requires
 changed-requires c =
     let w = c.args.what.now in
-    let m = c.requires.free.0 in
+    let m = c.requires.0 in
     let clock = c.self.inside.clock in
     let h = c.unwrap-in_default.result.now in
     let needs : NeedsPlan w = search rules in
     let some : Some h ≡ c.self.inside.loaded = ap option_copied (sym c.unwrap-in_default.ensures) ∙ c.as_ref-in_default.ensures.value in
     let same : plan_of clock h.contents ≡ c.args.self.now.plan = ap (plan_held clock) some ∙ ap (λ (s : PlanState). s.plan) c.self.view_is in
-    let free = subst (λ (P : Plan). IsFree P m w) (sym same) c.requires.free.1 in
+    let free = subst (λ (P : Plan). IsFree P m w) (sym same) c.requires.1 in
     record {
-      served = c.requires.served;
       needs = needs;
       held = (clock, subst (IsHeld clock) (sym some) c.self.invariant);
-      clear = (m, λ k. clear_at h.contents clock k m w c.requires.served (is_clear (plan_of clock h.contents) m w free));
+      clear = (m, λ k. clear_at h.contents clock k m w (is_clear (plan_of clock h.contents) m w free));
     }
 
 pub returns-in_ok-drafted-clause-made : goal.returns-in_ok-drafted-clause-made

@@ -13,7 +13,7 @@ use Rattle.workstations.specs.Workstations.{Workstation}
 use Rattle.plan_core.proofs.ReadyViews.{are_ready_views, of_listed}
 use Rattle.plan_core.proofs.plan.Plan.ready.Goals as goal
 use Rattle.plan_core.proofs.plan.Plan.ready.Goals.{In_ok-workstation_place}
-use Rattle.plan_core.specs.Held.{AreHeld, IsHeld, plan_held}
+use Rattle.plan_checks.specs.Held.{AreHeld, IsHeld, plan_held}
 use Rattle.plan_core.specs.Views.{AreReadyViews, ready_views}
 use Rattle.plan_core.specs.declared.views.OpView.{OpView}
 

@@ -5,7 +5,7 @@ use Rattle.plan_core.proofs.FromPlace.{no_occurrence}
 use Rattle.plan_core.proofs.OccViews.{occ_view_is, row_in_plan}
 use Rattle.plan_core.proofs.plan.Plan.view_occ.Goals as goal
 use Rattle.plan_core.proofs.plan.Plan.view_occ.Goals.{In_ok-place}
-use Rattle.plan_core.specs.Held.{AreHeld, IsHeld, plan_held}
+use Rattle.plan_checks.specs.Held.{AreHeld, IsHeld, plan_held}
 use Rattle.plan_core.specs.Views.{IsOccView}
 use Rattle.plan_core.specs.declared.views.OccView.{OccView}
 use Rattle.plan_model.specs.declared.Occurrence.{Occurrence}

@@ -4,7 +4,7 @@ use Rattle.plan_core.proofs.FromPlace.{no_operation}
 use Rattle.plan_core.proofs.OpViews.{op_view_is, row_in_plan}
 use Rattle.plan_core.proofs.plan.Plan.view_op.Goals as goal
 use Rattle.plan_core.proofs.plan.Plan.view_op.Goals.{In_ok-place}
-use Rattle.plan_core.specs.Held.{AreHeld, IsHeld, plan_held}
+use Rattle.plan_checks.specs.Held.{AreHeld, IsHeld, plan_held}
 use Rattle.plan_core.specs.Views.{IsOpView}
 use Rattle.plan_core.specs.declared.views.OpView.{OpView}
 use Rattle.plan_model.specs.Plan.{IsInPlan, Operation}

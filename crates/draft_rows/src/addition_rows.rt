@@ -1,0 +1,63 @@
+// Records that denote an occurrence that comes in, and records that denote none.
+use super::lines::{addition_of, check_no_additions, records, with_needs};
+use super::named::{need_of_file, operation};
+use special_resources::Mode;
+use std::test::Fail;
+
+// An occurrence of one operation, which needs a special resource and follows an operation of another occurrence.
+const BILLING: &str = "D,PAYROLL,2024-03-01T22:00,40,BILLING,2024-03-01T22:00,10,,,
+N,BILLING,2024-03-01T22:00,10,CUSTFILE,S,F,,,
+P,BILLING,2024-03-01T22:00,10,CPU1,30,0,0,,
+O,BILLING,2024-03-01T22:00,5,2024-03-02T03:00,,,,,
+";
+
+// What is wrong, the line that it is without, and the line that is added to it.
+const OTHERS: &str = "no occurrence|O,BILLING,2024-03-01T22:00,5,2024-03-02T03:00,,,,,|
+two occurrences||O,BILLING,2024-03-01T23:00,7,2024-03-02T03:00,,,,,
+a workstation||W,CPU1,A,,,,,,,
+an operation of another occurrence||P,PAYROLL,2024-03-01T22:00,40,CPU1,30,0,0,,
+a pair without an end in it||D,PAYROLL,2024-03-01T22:00,30,PAYROLL,2024-03-01T22:00,40,,,
+an end in it that no operation is||D,BILLING,2024-03-01T22:00,10,BILLING,2024-03-01T22:00,20,,,
+a need of another occurrence||N,PAYROLL,2024-03-01T22:00,40,CUSTFILE,S,F,,,
+an operation twice||P,BILLING,2024-03-01T22:00,10,CPU1,30,0,0,,
+a pair twice||D,PAYROLL,2024-03-01T22:00,40,BILLING,2024-03-01T22:00,10,,,
+a need twice||N,BILLING,2024-03-01T22:00,10,CUSTFILE,S,F,,,
+";
+
+#[test]
+fn builds_billing(rt: HostRuntime) -> Result<(), Fail> {
+    let text = records(&rt, rt.alloc(), BILLING, "", "")?;
+    let addition = addition_of(text)?.ok_or("no addition")?;
+    let parts = addition.parts();
+    let first = operation(&rt, b"BILLING/2024-03-01T22:00/010");
+    let last = operation(&rt, b"PAYROLL/2024-03-01T22:00/040");
+    assert!(rt; parts.key == first.occurrence);
+    assert_eq!(rt; parts.terms.priority, 5);
+    assert!(rt; parts.pairs.as_slice() == [(last, first)].as_slice());
+    let [(key, row)] = parts.operations.as_slice() else {
+        return Err("one operation")?;
+    };
+    assert!(rt; *key == first);
+    assert_eq!(rt; row.duration, 30);
+    assert!(rt; row.deadline == parts.terms.deadline);
+    let need = need_of_file(&rt, Mode::Shared, false);
+    assert!(rt; row.needs.as_slice() == [need].as_slice());
+    Ok(())
+}
+
+#[test]
+fn records_that_denote_no_addition(rt: HostRuntime) -> Result<(), Fail> {
+    check_no_additions(&rt, rt.alloc(), BILLING, OTHERS)
+}
+
+#[test]
+fn takes_sixteen_needs(rt: HostRuntime) -> Result<(), Fail> {
+    let alloc = rt.alloc();
+    let text = with_needs(alloc, BILLING, 15)?;
+    let full = addition_of(records(&rt, alloc, &text, "", "")?)?;
+    assert!(rt; full.is_some(), "16 needs");
+    let text = with_needs(alloc, BILLING, 16)?;
+    let above = addition_of(records(&rt, alloc, &text, "", "")?)?;
+    assert!(rt; above.is_none(), "17 needs");
+    Ok(())
+}

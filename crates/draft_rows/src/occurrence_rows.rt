@@ -1,0 +1,246 @@
+// Texts that denote an occurrence that comes in, and texts that denote none.
+use super::lines::{part, text_of, with_needs};
+use super::named::{moment, need_of_file, operation, resource, workstation};
+use plan_basics::{OpKey, Watched};
+use plan_import::read_occurrence;
+use plan_model::{Occurrence, OperationRecord};
+use plan_records::Addition;
+use special_resources::Mode;
+use std::alloc::Global;
+use std::process::Abort;
+use std::test::Fail;
+
+// An occurrence of one operation, which needs a special resource.
+const BILLING: &str = "O,BILLING,2024-03-01T22:00,5,2024-03-02T03:00,,,,,
+P,BILLING,2024-03-01T22:00,10,CPU1,30,0,0,,
+N,BILLING,2024-03-01T22:00,10,CUSTFILE,S,F,,,
+";
+
+fn read(alloc: Global, text: &[u8]) -> Result<Addition, Fail> {
+    let mut reader = Watched::new(text);
+    Ok(read_occurrence(alloc, &mut reader)?.ok_or("no addition")?)
+}
+
+// The operation of BILLING, with all that its records say.
+fn check_operation(rt: &impl Abort, row: &OperationRecord, what: &str) {
+    assert!(rt; row.workstation == workstation(rt, b"CPU1"), "{what}");
+    assert_eq!(rt; (row.duration, row.r1, row.r2), (30, 0, 0), "{what}");
+    assert_eq!(rt; row.not_before.minute(), 0, "{what}");
+    assert!(rt; row.deadline == moment(rt, b"2024-03-02T03:00"), "{what}");
+    let need = need_of_file(rt, Mode::Shared, false);
+    assert!(rt; row.needs.as_slice() == [need].as_slice(), "{what}");
+}
+
+// BILLING, with these pairs.
+fn check_billing(
+    rt: &impl Abort,
+    addition: &Addition,
+    pairs: &[(OpKey, OpKey)],
+    what: &str,
+) -> Result<(), Fail> {
+    let parts = addition.parts();
+    let first = operation(rt, b"BILLING/2024-03-01T22:00/010");
+    assert!(rt; parts.key == first.occurrence, "{what}");
+    let terms = Occurrence {
+        priority: 5,
+        deadline: moment(rt, b"2024-03-02T03:00"),
+    };
+    assert!(rt; parts.terms == terms, "{what}");
+    assert!(rt; parts.pairs.as_slice() == pairs, "{what}");
+    let [(key, row)] = parts.operations.as_slice() else {
+        return Err("one operation")?;
+    };
+    assert!(rt; *key == first, "{what}");
+    check_operation(rt, row, what);
+    Ok(())
+}
+
+#[test]
+fn reads_billing(rt: HostRuntime) -> Result<(), Fail> {
+    let addition = read(rt.alloc(), BILLING.as_bytes())?;
+    check_billing(&rt, &addition, &[], "O, P, N")
+}
+
+// The same occurrence, its records in each other order.
+const ORDERS: &str =
+    "O, N, P|O,BILLING,2024-03-01T22:00,5,2024-03-02T03:00,,,,,|N,BILLING,2024-03-01T22:00,10,CUSTFILE,S,F,,,|P,BILLING,2024-03-01T22:00,10,CPU1,30,0,0,,
+P, O, N|P,BILLING,2024-03-01T22:00,10,CPU1,30,0,0,,|O,BILLING,2024-03-01T22:00,5,2024-03-02T03:00,,,,,|N,BILLING,2024-03-01T22:00,10,CUSTFILE,S,F,,,
+P, N, O|P,BILLING,2024-03-01T22:00,10,CPU1,30,0,0,,|N,BILLING,2024-03-01T22:00,10,CUSTFILE,S,F,,,|O,BILLING,2024-03-01T22:00,5,2024-03-02T03:00,,,,,
+N, O, P|N,BILLING,2024-03-01T22:00,10,CUSTFILE,S,F,,,|O,BILLING,2024-03-01T22:00,5,2024-03-02T03:00,,,,,|P,BILLING,2024-03-01T22:00,10,CPU1,30,0,0,,
+N, P, O|N,BILLING,2024-03-01T22:00,10,CUSTFILE,S,F,,,|P,BILLING,2024-03-01T22:00,10,CPU1,30,0,0,,|O,BILLING,2024-03-01T22:00,5,2024-03-02T03:00,,,,,
+";
+
+#[test]
+fn reads_the_same_in_other_orders(rt: HostRuntime) -> Result<(), Fail> {
+    for case in ORDERS.lines() {
+        let text = text_of(rt.alloc(), "", case)?;
+        let addition = read(rt.alloc(), text.as_bytes())?;
+        check_billing(&rt, &addition, &[], case)?;
+    }
+    Ok(())
+}
+
+// The same, with other ends of lines.
+const RETURNS: &[u8] = b"O,BILLING,2024-03-01T22:00,5,2024-03-02T03:00,,,,,\r
+P,BILLING,2024-03-01T22:00,10,CPU1,30,0,0,,\r
+N,BILLING,2024-03-01T22:00,10,CUSTFILE,S,F,,,\r
+";
+
+// The same, with a byte order mark and an empty line, and without the last line end.
+const MARKED: &[u8] = b"\xef\xbb\xbfO,BILLING,2024-03-01T22:00,5,2024-03-02T03:00,,,,,
+
+P,BILLING,2024-03-01T22:00,10,CPU1,30,0,0,,
+N,BILLING,2024-03-01T22:00,10,CUSTFILE,S,F,,,";
+
+#[test]
+fn reads_the_same_with_other_ends_of_lines(rt: HostRuntime) -> Result<(), Fail> {
+    check_billing(&rt, &read(rt.alloc(), RETURNS)?, &[], "CR LF")?;
+    check_billing(&rt, &read(rt.alloc(), MARKED)?, &[], "a byte order mark")
+}
+
+// A pair before it: the record, the predecessor and the successor. Whether a path returns is for the plan to tell.
+const PAIRS: &str =
+    "D,PAYROLL,2024-03-01T22:00,40,BILLING,2024-03-01T22:00,10,,,|PAYROLL/2024-03-01T22:00/040|BILLING/2024-03-01T22:00/010
+D,BILLING,2024-03-01T22:00,10,PAYROLL,2024-03-01T22:00,40,,,|BILLING/2024-03-01T22:00/010|PAYROLL/2024-03-01T22:00/040
+D,BILLING,2024-03-01T22:00,10,BILLING,2024-03-01T22:00,10,,,|BILLING/2024-03-01T22:00/010|BILLING/2024-03-01T22:00/010
+";
+
+#[test]
+fn reads_its_pair(rt: HostRuntime) -> Result<(), Fail> {
+    for line in PAIRS.lines() {
+        let mut text = String::from_str(rt.alloc(), part(line, 0))?;
+        text.push('\n')?;
+        text.push_str(BILLING)?;
+        let first = operation(&rt, part(line, 1).as_bytes());
+        let second = operation(&rt, part(line, 2).as_bytes());
+        let addition = read(rt.alloc(), text.as_bytes())?;
+        check_billing(&rt, &addition, &[(first, second)], line)?;
+    }
+    Ok(())
+}
+
+// Two operations with a pair between them and two needs, from the greatest key down.
+const DESCENDING: &[u8] = b"D,BILLING,2024-03-01T22:00,20,PAYROLL,2024-03-01T22:00,40,,,
+D,BILLING,2024-03-01T22:00,10,BILLING,2024-03-01T22:00,20,,,
+N,BILLING,2024-03-01T22:00,20,TAPE,X,K,,,
+N,BILLING,2024-03-01T22:00,20,CUSTFILE,S,F,,,
+P,BILLING,2024-03-01T22:00,20,CPU1,45,1,2,2024-03-01T23:00,2024-03-02T02:00
+P,BILLING,2024-03-01T22:00,10,SETP,30,0,0,,
+O,BILLING,2024-03-01T22:00,7,2024-03-02T03:00,,,,,
+";
+
+#[test]
+fn reads_operations_and_pairs_in_order(rt: HostRuntime) -> Result<(), Fail> {
+    let addition = read(rt.alloc(), DESCENDING)?;
+    let parts = addition.parts();
+    let first = operation(&rt, b"BILLING/2024-03-01T22:00/010");
+    let second = operation(&rt, b"BILLING/2024-03-01T22:00/020");
+    let last = operation(&rt, b"PAYROLL/2024-03-01T22:00/040");
+    assert!(rt; parts.pairs.as_slice() == [(first, second), (second, last)].as_slice());
+    let [(early, row), (late, _)] = parts.operations.as_slice() else {
+        return Err("two operations")?;
+    };
+    assert!(rt; *early == first && *late == second);
+    assert!(rt; row.workstation == workstation(&rt, b"SETP"));
+    assert!(rt; row.deadline == parts.terms.deadline && row.needs.as_slice().is_empty());
+    Ok(())
+}
+
+#[test]
+fn reads_each_field(rt: HostRuntime) -> Result<(), Fail> {
+    let addition = read(rt.alloc(), DESCENDING)?;
+    let [_, (_, row)] = addition.parts().operations.as_slice() else {
+        return Err("two operations")?;
+    };
+    assert_eq!(rt; (row.duration, row.r1, row.r2), (45, 1, 2));
+    assert!(rt; row.not_before == moment(&rt, b"2024-03-01T23:00"));
+    assert!(rt; row.deadline == moment(&rt, b"2024-03-02T02:00"));
+    let [file, tape] = row.needs.as_slice() else {
+        return Err("two needs")?;
+    };
+    assert!(rt; file.name == resource(&rt, b"CUSTFILE") && tape.name == resource(&rt, b"TAPE"));
+    assert!(rt; tape.mode == Mode::Exclusive && tape.keep);
+    Ok(())
+}
+
+// Each case, which stands behind the same lines, denotes nothing.
+fn check_none(rt: &impl Abort, alloc: Global, front: &str, cases: &str) -> Result<(), Fail> {
+    for case in cases.lines() {
+        let text = text_of(alloc, front, case)?;
+        let mut reader = Watched::new(text.as_bytes());
+        assert!(rt; read_occurrence(alloc, &mut reader)?.is_none(), "{case}");
+    }
+    Ok(())
+}
+
+// Whole texts.
+const NO_OCCURRENCE: &str = "an empty text
+no O|P,BILLING,2024-03-01T22:00,10,CPU1,30,0,0,,|N,BILLING,2024-03-01T22:00,10,CUSTFILE,S,F,,,
+no P|O,BILLING,2024-03-01T22:00,5,2024-03-02T03:00,,,,,
+a P of nine fields|O,BILLING,2024-03-01T22:00,5,2024-03-02T03:00,,,,,|P,BILLING,2024-03-01T22:00,10,CPU1,30,0,0,
+an O of nine fields|O,BILLING,2024-03-01T22:00,5,2024-03-02T03:00,,,,|P,BILLING,2024-03-01T22:00,10,CPU1,30,0,0,,
+a kind of record that there isn't|O,BILLING,2024-03-01T22:00,5,2024-03-02T03:00,,,,,|P,BILLING,2024-03-01T22:00,10,CPU1,30,0,0,,|R,BILLING,2024-03-01T22:00,10,,,,,,
+";
+
+#[test]
+fn texts_of_no_occurrence(rt: HostRuntime) -> Result<(), Fail> {
+    check_none(&rt, rt.alloc(), "", NO_OCCURRENCE)
+}
+
+// Records after BILLING's that are of another occurrence, or of the plan.
+const OF_OTHERS: &str =
+    "two O|O,PAYROLL,2024-03-01T22:00,5,2024-03-02T05:00,,,,,|P,PAYROLL,2024-03-01T22:00,40,CPU1,20,0,0,,
+a W|W,CPU1,A,,,,,,,
+an I|I,CPU1,2024-03-01T22:00,2024-03-02T06:00,2,3,0,,,
+an X|X,CUSTFILE,Y,,,,,,,
+a P of another application|P,PAYROLL,2024-03-01T22:00,40,CPU1,20,0,0,,
+a P of another input arrival|P,BILLING,2024-03-01T23:00,20,CPU1,20,0,0,,
+an N of another occurrence|N,PAYROLL,2024-03-01T22:00,20,CUSTFILE,X,K,,,
+";
+
+#[test]
+fn records_of_others(rt: HostRuntime) -> Result<(), Fail> {
+    check_none(&rt, rt.alloc(), BILLING, OF_OTHERS)
+}
+
+// Records after BILLING's that name what they may not.
+const NAMING: &str =
+    "a D between two old operations|D,PAYROLL,2024-03-01T22:00,30,PAYROLL,2024-03-01T22:00,40,,,
+a D to an operation that no P defines|D,PAYROLL,2024-03-01T22:00,40,BILLING,2024-03-01T22:00,20,,,
+a D from an operation that no P defines|D,BILLING,2024-03-01T22:00,20,PAYROLL,2024-03-01T22:00,40,,,
+a D within, of which no P defines one end|D,BILLING,2024-03-01T22:00,10,BILLING,2024-03-01T22:00,20,,,
+an N of an operation that no P defines|N,BILLING,2024-03-01T22:00,20,CUSTFILE,S,F,,,
+";
+
+#[test]
+fn records_that_name_others(rt: HostRuntime) -> Result<(), Fail> {
+    check_none(&rt, rt.alloc(), BILLING, NAMING)
+}
+
+// Records after BILLING's, of which two have one key.
+const TWICE: &str = "the same O|O,BILLING,2024-03-01T22:00,5,2024-03-02T03:00,,,,,
+the same P|P,BILLING,2024-03-01T22:00,10,CPU1,30,0,0,,
+another P of that key|P,BILLING,2024-03-01T22:00,10,SETP,60,0,0,,
+the same N|N,BILLING,2024-03-01T22:00,10,CUSTFILE,S,F,,,
+another N of that key|N,BILLING,2024-03-01T22:00,10,CUSTFILE,X,K,,,
+the same D|D,PAYROLL,2024-03-01T22:00,40,BILLING,2024-03-01T22:00,10,,,|D,PAYROLL,2024-03-01T22:00,40,BILLING,2024-03-01T22:00,10,,,
+";
+
+#[test]
+fn records_given_twice(rt: HostRuntime) -> Result<(), Fail> {
+    check_none(&rt, rt.alloc(), BILLING, TWICE)
+}
+
+#[test]
+fn sixteen_needs_and_no_more(rt: HostRuntime) -> Result<(), Fail> {
+    let alloc = rt.alloc();
+    let full = read(alloc, with_needs(alloc, BILLING, 15)?.as_bytes())?;
+    let [(_, row)] = full.parts().operations.as_slice() else {
+        return Err("one operation")?;
+    };
+    assert_eq!(rt; row.needs.as_slice().len(), 16);
+    let text = with_needs(alloc, BILLING, 16)?;
+    let above = read_occurrence(alloc, &mut Watched::new(text.as_bytes()))?;
+    assert!(rt; above.is_none());
+    Ok(())
+}

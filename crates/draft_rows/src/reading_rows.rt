@@ -1,0 +1,211 @@
+// Texts of plans as the formats describe them, and readers that give them in pieces or fail.
+use super::lines::text_of;
+use plan_basics::{Attr, Watched};
+use plan_import::{ImportFault, read_plan};
+use plan_records::PlanDraft;
+use std::alloc::Global;
+use std::io;
+use std::io::Read;
+use std::process::Abort;
+use std::test::Fail;
+
+const DAY: &[u8] = b"W,CPU1,A,,,,,,,
+I,CPU1,1972-01-01T00:00,2071-12-31T23:59,2,0,0,,,
+O,DAILY,2024-03-01T22:00,5,2024-03-02T05:00,,,,,
+P,DAILY,2024-03-01T22:00,10,CPU1,30,0,0,,
+P,DAILY,2024-03-01T22:00,20,CPU1,60,0,0,,
+D,DAILY,2024-03-01T22:00,10,DAILY,2024-03-01T22:00,20,,,
+";
+
+// Two occurrences, and a pair that leads from one to the other.
+const NIGHT: &[u8] = b"W,CPU1,A,,,,,,,
+I,CPU1,1972-01-01T00:00,2071-12-31T23:59,2,0,0,,,
+O,DAILY,2024-03-01T22:00,5,2024-03-02T05:00,,,,,
+P,DAILY,2024-03-01T22:00,10,CPU1,30,0,0,,
+O,BILLING,2024-03-01T23:00,7,2024-03-02T03:00,,,,,
+P,BILLING,2024-03-01T23:00,10,CPU1,15,0,0,,
+P,BILLING,2024-03-01T23:00,20,CPU1,45,0,0,,
+D,BILLING,2024-03-01T23:00,20,DAILY,2024-03-01T22:00,10,,,
+";
+
+// Two workstations, one of them open in two intervals that touch, and an operation on each.
+const STATIONS: &[u8] = b"W,SETP,S,,,,,,,
+W,CPU1,A,,,,,,,
+I,CPU1,2024-03-02T06:00,2024-03-03T06:00,4,0,0,,,
+I,CPU1,2024-03-01T22:00,2024-03-02T06:00,2,3,1,,,
+O,DAILY,2024-03-01T22:00,5,2024-03-02T05:00,,,,,
+P,DAILY,2024-03-01T22:00,10,SETP,30,0,0,,
+P,DAILY,2024-03-01T22:00,20,CPU1,60,2,1,,
+";
+
+// A special resource, an operation that needs it, and a pair that leads to the operation of the smaller key.
+const TAPES: &[u8] = b"W,CPU1,A,,,,,,,
+X,TAPE,N,,,,,,,
+O,DAILY,2024-03-01T22:00,5,2024-03-02T05:00,,,,,
+P,DAILY,2024-03-01T22:00,10,CPU1,30,0,0,,
+P,DAILY,2024-03-01T22:00,20,CPU1,60,0,0,,
+N,DAILY,2024-03-01T22:00,20,TAPE,X,K,,,
+D,DAILY,2024-03-01T22:00,20,DAILY,2024-03-01T22:00,10,,,
+";
+
+/// Gives at most `step` bytes a call, and fails at the call `fault`; the calls are counted from 1.
+#[derive(Drop)]
+struct Pieces<'a> {
+    text: &'a [u8],
+    step: usize,
+    calls: usize,
+    fault: usize,
+}
+
+impl<'a> Pieces<'a> {
+    fn new(text: &'a [u8], step: usize, fault: usize) -> Watched<Pieces<'a>> {
+        Watched::new(Pieces {
+            text,
+            step,
+            calls: 0,
+            fault,
+        })
+    }
+}
+
+impl<'a> Read for Pieces<'a> {
+    fn read(&mut self, buf: &mut [u8]) -> io::Result<usize> {
+        self.calls = self.calls.saturating_add(1);
+        if self.calls == self.fault {
+            return Err(io::Error::from(io::ErrorKind::Interrupted));
+        }
+        let most = self.step.min(buf.len());
+        let mut place = &mut buf[..most];
+        let mut text = self.text;
+        let n = text.read(&mut place)?;
+        self.text = text;
+        Ok(n)
+    }
+}
+
+// The plan of a text.
+fn draft(alloc: Global, text: &[u8]) -> Result<PlanDraft, Fail> {
+    let mut reader = Watched::new(text);
+    Ok(read_plan(alloc, &mut reader)?.ok_or("no draft")?)
+}
+
+#[test]
+fn pieces_of_any_size(rt: HostRuntime) -> Result<(), Fail> {
+    for step in [1, 2, 7, 8192] {
+        let mut reader = Pieces::new(DAY, step, 0);
+        let draft = read_plan(rt.alloc(), &mut reader)?;
+        assert!(rt; draft.is_some(), "in pieces of {step}");
+        assert!(rt; !reader.failed());
+    }
+    Ok(())
+}
+
+#[test]
+fn several_occurrences(rt: HostRuntime) -> Result<(), Fail> {
+    let draft = draft(rt.alloc(), NIGHT)?;
+    let contents = draft.contents();
+    let [(billing, due), (daily, late)] = contents.occurrences.as_slice() else {
+        return Err("two occurrences")?;
+    };
+    assert_eq!(rt; (due.priority, late.priority), (7, 5));
+    let [(_, first), (last, second), (other, third)] = contents.operations.as_slice() else {
+        return Err("three operations")?;
+    };
+    assert!(rt; last.occurrence == *billing && other.occurrence == *daily);
+    assert!(rt; first.deadline == due.deadline && second.deadline == due.deadline);
+    assert!(rt; third.deadline == late.deadline);
+    assert!(rt; contents.pairs.as_slice() == [(*last, *other)].as_slice());
+    Ok(())
+}
+
+#[test]
+fn several_workstations(rt: HostRuntime) -> Result<(), Fail> {
+    let draft = draft(rt.alloc(), STATIONS)?;
+    let contents = draft.contents();
+    let [cpu, setup] = contents.workstations.as_slice() else {
+        return Err("two workstations")?;
+    };
+    assert!(rt; cpu.attribute() == Attr::Automatic);
+    assert!(rt; setup.attribute() == Attr::StartAndCompletion);
+    let [(_, first), (_, second)] = contents.operations.as_slice() else {
+        return Err("two operations")?;
+    };
+    assert!(rt; first.workstation == setup.name() && second.workstation == cpu.name());
+    assert_eq!(rt; (first.r1, first.r2, second.r1, second.r2), (0, 0, 2, 1));
+    Ok(())
+}
+
+#[test]
+fn special_resource_and_descending_pair(rt: HostRuntime) -> Result<(), Fail> {
+    let draft = draft(rt.alloc(), TAPES)?;
+    let contents = draft.contents();
+    let [(_, available)] = contents.resources.as_slice() else {
+        return Err("one special resource")?;
+    };
+    assert!(rt; !*available);
+    let [(first, _), (second, _)] = contents.operations.as_slice() else {
+        return Err("two operations")?;
+    };
+    assert!(rt; contents.pairs.as_slice() == [(*second, *first)].as_slice());
+    Ok(())
+}
+
+// Each case, which stands behind the same lines, denotes no plan.
+fn check_no_plans(rt: &impl Abort, alloc: Global, front: &str, cases: &str) -> Result<(), Fail> {
+    for case in cases.lines() {
+        let text = text_of(alloc, front, case)?;
+        let mut reader = Watched::new(text.as_bytes());
+        assert!(rt; read_plan(alloc, &mut reader)?.is_none(), "{case}");
+    }
+    Ok(())
+}
+
+// Whole texts.
+const NO_PLANS: &str = "an empty text
+nine fields|W,CPU1,A,,,,,,
+";
+
+// A plan of one operation.
+const DAILY: &str = "W,CPU1,A,,,,,,,
+O,DAILY,2024-03-01T22:00,5,2024-03-02T05:00,,,,,
+P,DAILY,2024-03-01T22:00,10,CPU1,30,0,0,,
+";
+
+// What is wrong, and the lines behind it.
+const AFTER_DAILY: &str =
+    "an occurrence without operations|I,CPU1,1972-01-01T00:00,2071-12-31T23:59,2,0,0,,,|O,BILLING,2024-03-01T23:00,7,2024-03-02T03:00,,,,,
+a need of an unknown special resource|N,DAILY,2024-03-01T22:00,10,TAPE,X,K,,,
+a path that returns to its start|P,DAILY,2024-03-01T22:00,20,CPU1,60,0,0,,|D,DAILY,2024-03-01T22:00,10,DAILY,2024-03-01T22:00,20,,,|D,DAILY,2024-03-01T22:00,20,DAILY,2024-03-01T22:00,10,,,
+";
+
+#[test]
+fn texts_that_denote_no_plan(rt: HostRuntime) -> Result<(), Fail> {
+    check_no_plans(&rt, rt.alloc(), "", NO_PLANS)?;
+    check_no_plans(&rt, rt.alloc(), DAILY, AFTER_DAILY)?;
+    let mut reader = Watched::new(b"W,CP\xff1,A,,,,,,,\n".as_slice());
+    let found = read_plan(rt.alloc(), &mut reader)?;
+    assert!(rt; found.is_none(), "the byte 255 in a name");
+    Ok(())
+}
+
+#[test]
+fn each_read_fails_once(rt: HostRuntime) -> Result<(), Fail> {
+    let calls = DAY.len() + 1;
+    for fault in 1..=calls {
+        let mut reader = Pieces::new(DAY, 1, fault);
+        let found = read_plan(rt.alloc(), &mut reader);
+        assert!(rt; reader.failed(), "at {fault}");
+        assert_eq!(rt; found.err(), Some(ImportFault::Reader), "at {fault}");
+    }
+    Ok(())
+}
+
+#[test]
+fn an_earlier_fault_is_cleared(rt: HostRuntime) -> Result<(), Fail> {
+    let mut reader = Pieces::new(DAY, 8192, 1);
+    let mut buf = [0u8; 4];
+    assert!(rt; reader.read(&mut buf).is_err());
+    let draft = read_plan(rt.alloc(), &mut reader)?;
+    assert!(rt; draft.is_some());
+    Ok(())
+}

@@ -1,0 +1,10 @@
+pub mod Answered
+pub mod AddedRows
+pub mod ComingApart
+pub mod Commanded
+pub mod InOccurrence
+pub mod MarkedRows
+pub mod Marks
+pub mod Merging
+pub mod OnePair
+pub mod OneRow

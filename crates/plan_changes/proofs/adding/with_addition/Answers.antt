@@ -1,0 +1,56 @@
+use Rattle.std.proofs.Common.{◌∙◌, sym, subst, ap, List}
+use Rattle.std.specs.FinMap.{from_entries}
+use Rattle.std.specs.FinSet as set
+use Rattle.plan_basics.specs.Keys.{operation_cmp}
+use Rattle.plan_basics.specs.declared.keys.OpKey.{OpKey}
+use Rattle.plan_model.specs.Plan.{Operation, pair_cmp}
+use Rattle.plan_model.specs.Revise.{joined}
+use Rattle.plan_changes.specs.Adding.{AreApart, HaveNoneOf}
+use Rattle.plan_changes.proofs.AddedRows.{copy_apart, plan_added}
+use Rattle.plan_changes.proofs.Merging.{single_up}
+use Rattle.plan_changes.proofs.adding.with_addition.Goals as goal
+
+pub add_occurrences-requires-clause-old : goal.add_occurrences-requires-clause-old
+add_occurrences-requires-clause-old c = ((c.in_ok-new.ensures 0).1 c.requires.in_order).occurrences
+
+pub add_occurrences-requires-clause-new : goal.add_occurrences-requires-clause-new
+add_occurrences-requires-clause-new c = single_up _ c.parts-parts.result.now.key
+
+pub add_occurrences-requires-clause-apart : goal.add_occurrences-requires-clause-apart
+add_occurrences-requires-clause-apart c = (copy_apart c.args.contents.now c.in_ok-new.new c.in_ok-new.ensures c.parts-parts.result.now c.args.addition.now c.parts-parts.ensures.view c.requires.apart).occurrences
+
+pub add_operations-requires-clause-old : goal.add_operations-requires-clause-old
+add_operations-requires-clause-old c = ((c.in_ok-new.ensures 0).1 c.requires.in_order).operations
+
+pub add_operations-requires-clause-apart : goal.add_operations-requires-clause-apart
+add_operations-requires-clause-apart c =
+    subst (λ (rows : List (OpKey × Operation)). AreApart {R = operation_cmp} (from_entries c.in_ok-new.new.operations.items) (from_entries rows)) (sym c.deref.ensures.value)
+    (copy_apart c.args.contents.now c.in_ok-new.new c.in_ok-new.ensures c.parts-parts.result.now c.args.addition.now c.parts-parts.ensures.view c.requires.apart).operations
+
+pub add_pairs-requires-clause-old : goal.add_pairs-requires-clause-old
+add_pairs-requires-clause-old c = ((c.in_ok-new.ensures 0).1 c.requires.in_order).pairs
+
+pub add_pairs-requires-clause-apart : goal.add_pairs-requires-clause-apart
+add_pairs-requires-clause-apart c =
+    subst (λ (pairs : List (OpKey × OpKey)). HaveNoneOf {R = pair_cmp} (set.from_list c.in_ok-new.new.pairs.items) (set.from_list pairs)) (sym c.deref-2.ensures.value)
+    (copy_apart c.args.contents.now c.in_ok-new.new c.in_ok-new.ensures c.parts-parts.result.now c.args.addition.now c.parts-parts.ensures.view c.requires.apart).pairs
+
+pub returns-clause-plan : goal.returns-clause-plan
+returns-clause-plan c =
+    let copy = c.in_ok-new.new in
+    plan_added c.args.contents.now copy c.in_ok-new.ensures c.parts-parts.result.now c.args.addition.now c.parts-parts.ensures.view
+    (record { workstations = copy.workstations; resources = copy.resources; occurrences = c.add_occurrences.new.rows; operations = c.add_operations.new.rows; pairs = c.add_pairs.new.pairs })
+    c.in_ok-add_occurrences.ensures.both
+    (c.in_ok-add_operations.ensures.both ∙ ap (λ (rows : List (OpKey × Operation)). joined {R = operation_cmp} (from_entries copy.operations.items) (from_entries rows)) c.deref.ensures.value)
+    (c.in_ok-add_pairs.ensures.both ∙ ap (λ (pairs : List (OpKey × OpKey)). set.union {R = pair_cmp} (set.from_list copy.pairs.items) (set.from_list pairs)) c.deref-2.ensures.value)
+
+pub returns-clause-in_order : goal.returns-clause-in_order
+returns-clause-in_order c =
+    let copied = (c.in_ok-new.ensures 0).1 c.requires.in_order in
+    record {
+      workstations = copied.workstations;
+      resources = copied.resources;
+      occurrences = c.in_ok-add_occurrences.ensures.in_order;
+      operations = c.in_ok-add_operations.ensures.in_order;
+      pairs = c.in_ok-add_pairs.ensures.in_order;
+    }

@@ -1,0 +1,33 @@
+-- What stands in the way of what comes in doesn't go by the plan's clock.
+use Rattle.std.proofs.Common.{ℕ}
+use Rattle.plan_basics.specs.declared.Refusal.{Refusal}
+use Rattle.plan_basics.specs.declared.Refusal.TheVariants as refusal
+use Rattle.plan_basics.specs.declared.keys.OpKey.{OpKey}
+use Rattle.plan_model.specs.Plan.{Supplement}
+use Rattle.plan_records.specs.Accepting.{FailsFirstAt, MayBeAdded, MayBePaired}
+use Rattle.plan_records.specs.Contents.{plan_of}
+use Rattle.plan_records.specs.declared.contents.PlanContents.{PlanContents}
+
+module _ (c : PlanContents) (s : Supplement) (k clock : ℕ) where
+  pub added_at : (r : Refusal) → MayBeAdded (plan_of k c) s r → MayBeAdded (plan_of clock c) s r
+  added_at refusal.UnknownOperation h = h
+  added_at refusal.UnknownWorkstation h = h
+  added_at refusal.UnknownResource h = h
+  added_at refusal.WrongStatus h = h
+  added_at refusal.Duplicate h = h
+  added_at refusal.Cycle h = h
+  added_at refusal.Limit h = record { workstations = h.workstations; resources = h.resources; occurrences = h.occurrences; operations = h.operations; pairs = h.pairs }
+  added_at r h = tt
+
+module _ (c : PlanContents) (s : Supplement) (clock : ℕ) where
+  pub fails_added_at : (r : Refusal) → FailsFirstAt (MayBeAdded (plan_of 0 c) s) r → FailsFirstAt (MayBeAdded (plan_of clock c) s) r
+  fails_added_at r h = (λ may. h.0 (added_at c s clock 0 r may), λ lower less. added_at c s 0 clock lower (h.1 lower less))
+
+module _ (c : PlanContents) (p s : OpKey) (k clock : ℕ) where
+  pub paired_at : (r : Refusal) → MayBePaired (plan_of k c) p s r → MayBePaired (plan_of clock c) p s r
+  paired_at refusal.UnknownOperation h = h
+  paired_at refusal.WrongStatus h = h
+  paired_at refusal.Duplicate h = h
+  paired_at refusal.Cycle h = h
+  paired_at refusal.Limit h = record { workstations = h.workstations; resources = h.resources; occurrences = h.occurrences; operations = h.operations; pairs = h.pairs }
+  paired_at r h = tt

@@ -1,0 +1,232 @@
+-- What the status of an operation says of the commands that it is open to.
+use Rattle.std.proofs.Common.{◌≡◌, ◌≢◌, ◌⊎◌, inl, inr, refl, sym, subst, ◌∙◌, arith, ◌<◌, Bool, true, false, true≢false, List}
+use Rattle.std.specs.FinMap.{contains_key}
+use Rattle.plan_basics.specs.declared.Refusal.{Refusal}
+use Rattle.plan_basics.specs.declared.Refusal.TheVariants as refusal
+use Rattle.plan_basics.specs.declared.keys.OccKey.{OccKey}
+use Rattle.plan_basics.specs.declared.keys.OpKey.{OpKey}
+use Rattle.plan_basics.specs.Intervals.{OpenInterval}
+use Rattle.plan_basics.specs.Keys.{Name}
+use Rattle.plan_basics.specs.Refusals.{number_of}
+use Rattle.plan_model.specs.Plan.{Operation, Plan}
+use Rattle.plan_model.specs.Starting.{Reaches}
+use Rattle.plan_model.specs.Status.{EachOperation, HasOccurrenceStatus, HasStatus, IsReady, IsUnderWay, IsWaitingOrReady}
+use Rattle.plan_records.specs.Accepting.{MayBeCompleted, MayBeDeleted, MayBeFlagged, MayBeOpenBy, MayBeRerun, MayBeSetAvailable, AllHold, FailsFirstAt}
+use Rattle.status_rules.specs.declared.OccStatus.{OccStatus}
+use Rattle.status_rules.specs.declared.OccStatus.TheVariants as occurrence
+use Rattle.status_rules.specs.declared.Status.{Status}
+use Rattle.status_rules.specs.declared.Status.TheVariants as status
+use Rattle.plan_checks.specs.Commanding.{is_under_way_status, may_be_completed, may_be_rerun, waits_or_is_ready}
+use Rattle.plan_checks.specs.Barring.{FailsPastKeys}
+use Rattle.workstations.specs.Timetables.{IsLeastRefusal, MayBeTaken}
+
+module _ (P : Plan) (o : OpKey) where
+  -- an operation may be completed in these statuses
+  abbrev pub IsCompletable : Type 0
+  IsCompletable = IsReady P o ⊎ IsUnderWay P o ⊎ HasStatus P o status.Error
+
+  -- and run again in these
+  abbrev pub IsRerunnable : Type 0
+  IsRerunnable = HasStatus P o status.Interrupted ⊎ HasStatus P o status.Complete ⊎ HasStatus P o status.Error ⊎ HasStatus P o status.Undecided
+
+  pub waits_by : (s : Status) → HasStatus P o s → waits_or_is_ready s ≡ true → IsWaitingOrReady P o
+  waits_by status.Waiting h e = inl h
+  waits_by status.Arriving h e = inr (inl h)
+  waits_by status.ReadyAfterNonreporting h e = inr (inr (inl h))
+  waits_by status.Ready h e = inr (inr (inr h))
+  waits_by s h e = absurd (cc)
+
+  pub under_way_by : (s : Status) → HasStatus P o s → is_under_way_status s ≡ true → IsUnderWay P o
+  under_way_by status.Started h e = inl h
+  under_way_by status.Interrupted h e = inr (inl h)
+  under_way_by status.Undecided h e = inr (inr h)
+  under_way_by s h e = absurd (cc)
+
+  pub completable_by : (s : Status) → HasStatus P o s → may_be_completed s ≡ true → IsCompletable
+  completable_by status.Arriving h e = inl (inl h)
+  completable_by status.ReadyAfterNonreporting h e = inl (inr (inl h))
+  completable_by status.Ready h e = inl (inr (inr h))
+  completable_by status.Started h e = inr (inl (inl h))
+  completable_by status.Interrupted h e = inr (inl (inr (inl h)))
+  completable_by status.Undecided h e = inr (inl (inr (inr h)))
+  completable_by status.Error h e = inr (inr h)
+  completable_by s h e = absurd (cc)
+
+  pub rerunnable_by : (s : Status) → HasStatus P o s → may_be_rerun s ≡ true → IsRerunnable
+  rerunnable_by status.Interrupted h e = inl h
+  rerunnable_by status.Complete h e = inr (inl h)
+  rerunnable_by status.Error h e = inr (inr (inl h))
+  rerunnable_by status.Undecided h e = inr (inr (inr h))
+  rerunnable_by s h e = absurd (cc)
+
+  -- the operation has this status alone
+  module _ (s : Status) (alone : (t : Status) → HasStatus P o t → t ≡ s) where
+    passes : (test : Status → Bool) (t : Status) → test t ≡ true → HasStatus P o t → test s ≡ true
+    passes test t e h = subst (λ z. test z ≡ true) (alone t h) e
+
+    waits_told : IsWaitingOrReady P o → waits_or_is_ready s ≡ true
+    waits_told (inl h) = passes waits_or_is_ready status.Waiting refl h
+    waits_told (inr (inl h)) = passes waits_or_is_ready status.Arriving refl h
+    waits_told (inr (inr (inl h))) = passes waits_or_is_ready status.ReadyAfterNonreporting refl h
+    waits_told (inr (inr (inr h))) = passes waits_or_is_ready status.Ready refl h
+
+    pub under_way_told : IsUnderWay P o → is_under_way_status s ≡ true
+    under_way_told (inl h) = passes is_under_way_status status.Started refl h
+    under_way_told (inr (inl h)) = passes is_under_way_status status.Interrupted refl h
+    under_way_told (inr (inr h)) = passes is_under_way_status status.Undecided refl h
+
+    completable_told : IsCompletable → may_be_completed s ≡ true
+    completable_told (inl (inl h)) = passes may_be_completed status.Arriving refl h
+    completable_told (inl (inr (inl h))) = passes may_be_completed status.ReadyAfterNonreporting refl h
+    completable_told (inl (inr (inr h))) = passes may_be_completed status.Ready refl h
+    completable_told (inr (inl (inl h))) = passes may_be_completed status.Started refl h
+    completable_told (inr (inl (inr (inl h)))) = passes may_be_completed status.Interrupted refl h
+    completable_told (inr (inl (inr (inr h)))) = passes may_be_completed status.Undecided refl h
+    completable_told (inr (inr h)) = passes may_be_completed status.Error refl h
+
+    rerunnable_told : IsRerunnable → may_be_rerun s ≡ true
+    rerunnable_told (inl h) = passes may_be_rerun status.Interrupted refl h
+    rerunnable_told (inr (inl h)) = passes may_be_rerun status.Complete refl h
+    rerunnable_told (inr (inr (inl h))) = passes may_be_rerun status.Error refl h
+    rerunnable_told (inr (inr (inr h))) = passes may_be_rerun status.Undecided refl h
+
+    pub not_waiting_or_ready : waits_or_is_ready s ≡ false → ¬ IsWaitingOrReady P o
+    not_waiting_or_ready e h = true≢false (sym (waits_told h) ∙ e)
+
+    pub not_completable : may_be_completed s ≡ false → ¬ IsCompletable
+    not_completable e h = true≢false (sym (completable_told h) ∙ e)
+
+    pub not_rerunnable : may_be_rerun s ≡ false → ¬ IsRerunnable
+    not_rerunnable e h = true≢false (sym (rerunnable_told h) ∙ e)
+
+  -- ---- a hold, a release, a NOP and its end
+
+  pub flagged : IsWaitingOrReady P o → AllHold (MayBeFlagged P o)
+  flagged waits refusal.WrongStatus = waits
+  flagged waits r = tt
+
+  before_flagged : (lower : Refusal) → number_of lower < 9 → MayBeFlagged P o lower
+  before_flagged refusal.WrongStatus less = absurd (omega (arith, less))
+  before_flagged r less = tt
+
+  pub not_flagged : ¬ IsWaitingOrReady P o → FailsFirstAt (MayBeFlagged P o) refusal.WrongStatus
+  not_flagged never = (never, before_flagged)
+
+  -- ---- a completion
+
+  module _ (op : Operation) where
+    pub completed : IsCompletable → op.held ≡ false → AllHold (MayBeCompleted P o op)
+    completed may free refusal.WrongStatus = may
+    completed may free refusal.Held = free
+    completed may free r = tt
+
+    before_completed : (lower : Refusal) → number_of lower < 9 → MayBeCompleted P o op lower
+    before_completed refusal.WrongStatus less = absurd (omega (arith, less))
+    before_completed refusal.Held less = absurd (omega (arith, less))
+    before_completed r less = tt
+
+    pub not_completed : ¬ IsCompletable → FailsFirstAt (MayBeCompleted P o op) refusal.WrongStatus
+    not_completed never = (never, before_completed)
+
+    before_held : IsCompletable → (lower : Refusal) → number_of lower < 11 → MayBeCompleted P o op lower
+    before_held may refusal.WrongStatus less = may
+    before_held may refusal.Held less = absurd (omega (arith, less))
+    before_held may r less = tt
+
+    pub held_at_completion : IsCompletable → op.held ≡ true → FailsFirstAt (MayBeCompleted P o op) refusal.Held
+    held_at_completion may held = (λ free. true≢false (sym held ∙ free), before_held may)
+
+  -- ---- a rerun
+
+  pub rerun : IsRerunnable → ((q : OpKey) → q ≢ o → Reaches P o q → ¬ IsUnderWay P q) → AllHold (MayBeRerun P o)
+  rerun may none refusal.WrongStatus = may
+  rerun may none refusal.Running = none
+  rerun may none r = tt
+
+  before_rerun : (lower : Refusal) → number_of lower < 9 → MayBeRerun P o lower
+  before_rerun refusal.WrongStatus less = absurd (omega (arith, less))
+  before_rerun refusal.Running less = absurd (omega (arith, less))
+  before_rerun r less = tt
+
+  pub not_rerun : ¬ IsRerunnable → FailsFirstAt (MayBeRerun P o) refusal.WrongStatus
+  not_rerun never = (never, before_rerun)
+
+  before_running : IsRerunnable → (lower : Refusal) → number_of lower < 17 → MayBeRerun P o lower
+  before_running may refusal.WrongStatus less = may
+  before_running may refusal.Running less = absurd (omega (arith, less))
+  before_running may r less = tt
+
+  pub running_at_rerun : IsRerunnable → (q : OpKey) → q ≢ o → Reaches P o q → IsUnderWay P q → FailsFirstAt (MayBeRerun P o) refusal.Running
+  running_at_rerun may q apart reached under_way = (λ none. none q apart reached under_way, before_running may)
+
+-- ---- the deletion of an occurrence
+
+module _ (P : Plan) (c : OccKey) where
+  pub unknown_at_deletion : ¬ (contains_key P.occurrences c ≡ true) → FailsFirstAt (MayBeDeleted P c) refusal.UnknownOccurrence
+  unknown_at_deletion never = (never, before)
+    where
+      before : (lower : Refusal) → number_of lower < 6 → MayBeDeleted P c lower
+      before refusal.UnknownOccurrence less = absurd (omega (arith, less))
+      before refusal.WrongStatus less = absurd (omega (arith, less))
+      before refusal.Running less = absurd (omega (arith, less))
+      before r less = tt
+
+  module _ (known : contains_key P.occurrences c ≡ true) where
+    pub deleted_twice : EachOperation P c status.Deleted → FailsFirstAt (MayBeDeleted P c) refusal.WrongStatus
+    deleted_twice each = (λ never. never each, before)
+      where
+        before : (lower : Refusal) → number_of lower < 9 → MayBeDeleted P c lower
+        before refusal.UnknownOccurrence less = known
+        before refusal.WrongStatus less = absurd (omega (arith, less))
+        before refusal.Running less = absurd (omega (arith, less))
+        before r less = tt
+
+    module _ (never : ¬ EachOperation P c status.Deleted) where
+      pub running_at_deletion : (o : OpKey) → o.occurrence ≡ c → IsUnderWay P o → FailsFirstAt (MayBeDeleted P c) refusal.Running
+      running_at_deletion o its under_way = (λ none. none o its under_way, before)
+        where
+          before : (lower : Refusal) → number_of lower < 17 → MayBeDeleted P c lower
+          before refusal.UnknownOccurrence less = known
+          before refusal.WrongStatus less = never
+          before refusal.Running less = absurd (omega (arith, less))
+          before r less = tt
+
+      pub deleted : ((o : OpKey) → o.occurrence ≡ c → ¬ IsUnderWay P o) → AllHold (MayBeDeleted P c)
+      deleted none refusal.UnknownOccurrence = known
+      deleted none refusal.WrongStatus = never
+      deleted none refusal.Running = none
+      deleted none r = tt
+
+  -- an occurrence whose status is another isn't deleted
+  pub not_all_deleted : (s : OccStatus) → HasOccurrenceStatus P c s → s ≢ occurrence.Deleted → ¬ EachOperation P c status.Deleted
+  not_all_deleted occurrence.Deleted h other = absurd (other refl)
+  not_all_deleted occurrence.Error h other = h.1 occurrence.Deleted (omega arith)
+  not_all_deleted occurrence.Undecided h other = h.1 occurrence.Deleted (omega arith)
+  not_all_deleted occurrence.Complete h other = h.1 occurrence.Deleted (omega arith)
+  not_all_deleted occurrence.Started h other = h.1 occurrence.Deleted (omega arith)
+  not_all_deleted occurrence.Waiting h other = h.1 occurrence.Deleted (omega arith)
+
+-- ---- special resources and open intervals
+
+module _ (P : Plan) (n : Name) where
+  pub available : contains_key P.resources n ≡ true → AllHold (MayBeSetAvailable P n)
+  available known refusal.UnknownResource = known
+  available known r = tt
+
+  module _ (items : List OpenInterval) (known : contains_key P.workstations n ≡ true) where
+    pub open_by : ((r : Refusal) → MayBeTaken items r) → AllHold (MayBeOpenBy P n items)
+    open_by taken refusal.UnknownWorkstation = known
+    open_by taken refusal.Limit = taken refusal.Limit
+    open_by taken refusal.BadPlan = taken refusal.BadPlan
+    open_by taken r = tt
+
+    open_below : (r : Refusal) → ((s : Refusal) → number_of s < number_of r → MayBeTaken items s) → (lower : Refusal) → number_of lower < number_of r → MayBeOpenBy P n items lower
+    open_below r least refusal.UnknownWorkstation less = known
+    open_below r least refusal.Limit less = least refusal.Limit less
+    open_below r least refusal.BadPlan less = least refusal.BadPlan less
+    open_below r least lower less = tt
+
+    pub not_open_by : (r : Refusal) → IsLeastRefusal (MayBeTaken items) r → FailsPastKeys (MayBeOpenBy P n items) r
+    not_open_by refusal.Limit h = (omega arith, (h.0, open_below refusal.Limit h.1))
+    not_open_by refusal.BadPlan h = (omega arith, (h.0, open_below refusal.BadPlan h.1))
+    not_open_by r h = absurd (h.0 tt)

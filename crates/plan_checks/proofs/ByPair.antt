@@ -1,0 +1,164 @@
+-- What stands in the way of a dependency that comes in.
+use Rattle.std.proofs.Common.{◌≡◌, ◌≢◌, ◌⊎◌, inl, inr, refl, sym, subst, arith, ℕ, ◌<◌, length, slice_get, Some, Result, Ok, Err, IfErr}
+use Rattle.std.specs.Result.{IsErrAnd}
+use Rattle.operation_graph.specs.Graphs.{MayTakeEdge}
+use Rattle.plan_basics.specs.declared.Refusal.{Refusal}
+use Rattle.plan_basics.specs.declared.Refusal.TheVariants as refusal
+use Rattle.plan_basics.specs.declared.keys.OpKey.{OpKey}
+use Rattle.plan_basics.specs.Refusals.{number_of}
+use Rattle.plan_model.specs.Plan.{IsInPlan, Operation, Plan, Precedes}
+use Rattle.plan_model.specs.Status.{HasStatus, IsWaitingOrReady}
+use Rattle.plan_model.specs.Valid.{IsAcyclic, IsWithinLimits}
+use Rattle.plan_records.specs.Accepting.{MayBeFlagged, MayBePaired, AllHold, FailsFirstAt}
+use Rattle.plan_records.specs.Changes.{with_pair}
+use Rattle.plan_records.specs.Contents.{plan_of}
+use Rattle.status_rules.specs.declared.Status.TheVariants as status
+use Rattle.plan_checks.proofs.PairedPlaces.{acyclic_with, both_known, edge_by_pair, has_no_room, has_room, pair_by_edge, returning_with}
+use Rattle.plan_checks.specs.Held.{AreHeld}
+use Rattle.plan_checks.specs.Pairing.{IsEdgeRefusal}
+use Rattle.plan_checks.specs.Barring.{FailsAt, IsReported, MeetsAll}
+use Rattle.plan_checks.specs.declared.checks.Reported.{Reported}
+use Rattle.plan_checks.specs.declared.loaded.LoadedPlan.{LoadedPlan}
+
+module _ (P : Plan) (p s : OpKey) where
+  -- both ends are operations of the plan
+  abbrev pub AreKnown : Type 0
+  AreKnown = IsInPlan P p × IsInPlan P s
+
+  -- they have statuses between which a dependency may come in
+  abbrev pub MayBeJoined : Type 0
+  MayBeJoined = ¬ HasStatus P p status.Deleted × IsWaitingOrReady P s
+
+  module _ (known : AreKnown) where
+    pub not_joined : ¬ MayBeJoined → FailsFirstAt (MayBePaired P p s) refusal.WrongStatus
+    not_joined never = (never, before)
+      where
+        before : (lower : Refusal) → number_of lower < 9 → MayBePaired P p s lower
+        before refusal.UnknownOperation less = known
+        before refusal.WrongStatus less = absurd (omega (arith, less))
+        before refusal.Duplicate less = absurd (omega (arith, less))
+        before refusal.Cycle less = absurd (omega (arith, less))
+        before refusal.Limit less = absurd (omega (arith, less))
+        before r less = tt
+
+    module _ (may : MayBeJoined) where
+      pub paired_twice : Precedes P p s → FailsFirstAt (MayBePaired P p s) refusal.Duplicate
+      paired_twice there = (λ new. new there, before)
+        where
+          before : (lower : Refusal) → number_of lower < 18 → MayBePaired P p s lower
+          before refusal.UnknownOperation less = known
+          before refusal.WrongStatus less = may
+          before refusal.Duplicate less = absurd (omega (arith, less))
+          before refusal.Cycle less = absurd (omega (arith, less))
+          before refusal.Limit less = absurd (omega (arith, less))
+          before r less = tt
+
+      module _ (new : ¬ Precedes P p s) where
+        pub closing : ¬ IsAcyclic (with_pair P p s).pairs → FailsFirstAt (MayBePaired P p s) refusal.Cycle
+        closing returns = (returns, before)
+          where
+            before : (lower : Refusal) → number_of lower < 19 → MayBePaired P p s lower
+            before refusal.UnknownOperation less = known
+            before refusal.WrongStatus less = may
+            before refusal.Duplicate less = new
+            before refusal.Cycle less = absurd (omega (arith, less))
+            before refusal.Limit less = absurd (omega (arith, less))
+            before r less = tt
+
+        module _ (acyclic : IsAcyclic (with_pair P p s).pairs) where
+          pub one_too_many : ¬ IsWithinLimits (with_pair P p s) → FailsFirstAt (MayBePaired P p s) refusal.Limit
+          one_too_many full = (full, before)
+            where
+              before : (lower : Refusal) → number_of lower < 20 → MayBePaired P p s lower
+              before refusal.UnknownOperation less = known
+              before refusal.WrongStatus less = may
+              before refusal.Duplicate less = new
+              before refusal.Cycle less = acyclic
+              before refusal.Limit less = absurd (omega (arith, less))
+              before r less = tt
+
+          pub paired : IsWithinLimits (with_pair P p s) → AllHold (MayBePaired P p s)
+          paired room refusal.UnknownOperation = known
+          paired room refusal.WrongStatus = may
+          paired room refusal.Duplicate = new
+          paired room refusal.Cycle = acyclic
+          paired room refusal.Limit = room
+          paired room r = tt
+
+-- an error that is handed on
+pub handed_on : {T E : Type 0} (A : E → Type 0) (r : Result T E) (e : E) → IsErrAnd r (λ y. y ≡ e) → A e → IfErr r A
+handed_on A (Ok x) e same a = tt
+handed_on A (Err y) e same a = subst A (sym same) a
+
+-- ---- in the plan that is held
+
+-- the row at this place is of o
+abbrev pub HasRow : LoadedPlan → ℕ → OpKey → Type 0
+HasRow h i o = (op : Operation) × (slice_get h.contents.operations.items i ≡ Some (o, op))
+
+-- x is what is reported of o, at each clock
+abbrev pub IsTold : LoadedPlan → OpKey → Reported → Type 0
+IsTold h o x = (clock : ℕ) → IsReported (plan_of clock h.contents) o x
+
+-- of what a dependency of s on p asks of the plan at this clock, r's line is the first that fails
+abbrev pub IsBarredAt : LoadedPlan → OpKey → OpKey → ℕ → Refusal → Type 0
+IsBarredAt h p s clock r = (3 < number_of r) × FailsFirstAt (MayBePaired (plan_of clock h.contents) p s) r
+
+-- so it is at each clock, or no memory was found to tell
+abbrev pub IsBarredPair : LoadedPlan → OpKey → OpKey → Refusal → Type 0
+IsBarredPair h p s r = (r ≡ refusal.Memory) ⊎ ((clock : ℕ) → IsBarredAt h p s clock r)
+
+not_flagged : (P : Plan) (o : OpKey) (r : Refusal) → ¬ MayBeFlagged P o r → (r ≡ refusal.WrongStatus) × ¬ IsWaitingOrReady P o
+not_flagged P o refusal.WrongStatus never = (refl, never)
+not_flagged P o r never = absurd (never tt)
+
+module _ (at : ℕ) (h : LoadedPlan) (held : AreHeld at h) (i j : ℕ) (p s : OpKey) (a : HasRow h i p) (b : HasRow h j s) (x y : Reported) (first : IsTold h p x) (second : IsTold h s y) where
+  known : (clock : ℕ) → AreKnown (plan_of clock h.contents) p s
+  known = both_known at h held i j p s a.0 b.0 a.1 b.1
+
+  barred_by_status : (clock : ℕ) (r : Refusal) → r ≡ refusal.WrongStatus → ¬ MayBeJoined (plan_of clock h.contents) p s → IsBarredAt h p s clock r
+  barred_by_status clock r is never = subst (IsBarredAt h p s clock) (sym is) (omega arith, not_joined (plan_of clock h.contents) p s (known clock) never)
+
+  -- by the statuses
+  pub barred_by_ends : (r : Refusal) → ((r ≡ refusal.WrongStatus) × (x.status ≡ status.Deleted)) ⊎ FailsAt y MayBeFlagged r → IsBarredPair h p s r
+  barred_by_ends r (inl deleted) = inr (λ clock.
+      barred_by_status clock r deleted.0 (λ may. may.0 (subst (HasStatus (plan_of clock h.contents) p) deleted.1 (first clock).status)))
+  barred_by_ends r (inr fails) = inr (λ clock.
+      let told = not_flagged (plan_of clock h.contents) s r (fails.1 (plan_of clock h.contents) s (second clock)).0 in
+      barred_by_status clock r told.0 (λ may. told.1 may.1))
+
+  module _ (live : x.status ≢ status.Deleted) (clear : MeetsAll y MayBeFlagged) where
+    joined : (clock : ℕ) → MayBeJoined (plan_of clock h.contents) p s
+    joined clock = (
+      λ deleted. live (sym ((first clock).alone status.Deleted deleted)),
+      clear (plan_of clock h.contents) s (second clock) refusal.WrongStatus,
+    )
+
+    -- by the graph
+    pub barred_by_edge : (r : Refusal) → IsEdgeRefusal h.graph i j r → IsBarredPair h p s r
+    barred_by_edge refusal.Duplicate there = inr (λ clock. (
+      omega arith,
+      paired_twice (plan_of clock h.contents) p s (known clock) (joined clock) (pair_by_edge at h held i j p s a.0 b.0 a.1 b.1 there),
+    ))
+    barred_by_edge refusal.Cycle closes = inr (λ clock. (
+      omega arith,
+      closing (plan_of clock h.contents) p s (known clock) (joined clock) (λ pair. closes.0 (edge_by_pair at h held i j p s a.0 b.0 a.1 b.1 pair))
+          (returning_with at h held i j p s a.0 b.0 a.1 b.1 closes.1),
+    ))
+    barred_by_edge refusal.Memory none = inl refl
+    barred_by_edge r never = absurd never
+
+    module _ (may : MayTakeEdge h.graph i j) where
+      new : ¬ Precedes (plan_of 0 h.contents) p s
+      new pair = may.0 (edge_by_pair at h held i j p s a.0 b.0 a.1 b.1 pair)
+
+      -- by the room
+      pub barred_by_room : ¬ (length h.contents.pairs.items < 100000) → IsBarredPair h p s refusal.Limit
+      barred_by_room full = inr (λ clock. (
+        omega arith,
+        one_too_many (plan_of clock h.contents) p s (known clock) (joined clock) new (acyclic_with at h held i j p s a.0 b.0 a.1 b.1 may.1) (has_no_room at h held p s new clock full),
+      ))
+
+      pub may_be_paired : length h.contents.pairs.items < 100000 → (clock : ℕ) → AllHold (MayBePaired (plan_of clock h.contents) p s)
+      may_be_paired room clock =
+          paired (plan_of clock h.contents) p s (known clock) (joined clock) new (acyclic_with at h held i j p s a.0 b.0 a.1 b.1 may.1) (has_room at h held p s new clock room)

@@ -1,0 +1,130 @@
+-- What comes in, by the rows and pairs in which it stands.
+use Rattle.std.proofs.Common.{◌≡◌, ◌≢◌, inl, inr, refl, sym, subst, ap, ◌∙◌, ℕ, ◌<◌, Bool, true, false, not, true≢false}
+use Rattle.std.proofs.Common.{List, length, get_or, slice_get, All, Contains, Option, Some, None, is_some, IfSome, IsNone, Decides}
+use Rattle.std.specs.Cmp.{IsTotalOrder}
+use Rattle.std.specs.declared.cmp.Ordering.{Ordering}
+use Rattle.std.specs.FinMap.{IsAntisymmetric, contains_key, empty, from_entries, get, insert}
+use Rattle.std.specs.FinSet.{from_list}
+use Rattle.std.specs.List.Sorted.{IsStrictlySortedBy}
+use Rattle.std.specs.Map.{keys_of}
+use Rattle.std.proofs.lemmas.List.Elements.{All-contains}
+use Rattle.plan_basics.specs.Keys.{occurrence_cmp}
+use Rattle.plan_basics.specs.declared.keys.OccKey.{OccKey}
+use Rattle.plan_basics.specs.declared.keys.OpKey.{OpKey}
+use Rattle.plan_model.specs.Plan.{IsPairOf, Occurrences, Operation, Plan}
+use Rattle.plan_model.specs.declared.Occurrence.{Occurrence}
+use Rattle.plan_records.specs.Accepting.{IsNew}
+use Rattle.plan_records.specs.Contents.{AreAdditionParts, incoming}
+use Rattle.plan_records.specs.Drafts.{IsOwn}
+use Rattle.plan_records.specs.declared.contents.NewOccurrence.{NewOccurrence}
+use Rattle.special_resources.specs.Holdings.{usage_of}
+use Rattle.special_resources.specs.Needs.{AreInNameOrder, usages_of}
+use Rattle.special_resources.specs.declared.Need.{Need}
+use Rattle.special_resources.proofs.MoreNeeds.{need_by_usage, usage_by_need}
+use Rattle.plan_laws.proofs.Pairs.{pair_cmp_total, pair_cmp-IsAntisymmetric}
+use Rattle.plan_records.proofs.MadeAdditions.{sole_got, sole_key}
+use Rattle.plan_records.proofs.Tables.{from_set, get_row, in_set, is_found, row_found, rows_apart, some_is}
+use Rattle.plan_checks.proofs.Searching.{row_known}
+use Rattle.plan_checks.specs.Adding.{HasResources, IsKnown}
+
+-- ---- a place that is looked up
+
+module _ {K X : Type 0} {R : K → K → Ordering} (total : IsTotalOrder R) (exact : IsAntisymmetric R) where
+  module _ (seen rows : List (K × X)) (same : seen ≡ rows) (up : IsStrictlySortedBy R (keys_of rows)) (k : K) where
+    place_in_rows : (place : Option ℕ) → IfSome place (λ i. (x : X) × (slice_get rows i ≡ Some (k, x))) → (IsNone place → get {R = R} (from_entries rows) k ≡ None)
+        → Decides (is_some place) (contains_key (from_entries {R = R} rows) k ≡ true)
+    place_in_rows (Some i) (x, at) absent = (λ _. row_known total exact rows up i k x at, λ _. refl)
+    place_in_rows None found absent = (λ e. absurd (true≢false (sym e)), λ h. absurd (true≢false (sym h ∙ ap is_some (absent refl))))
+
+    -- whether there is one tells whether the key is there
+    pub place_told : (place : Option ℕ) → IfSome place (λ i. (x : X) × (slice_get seen i ≡ Some (k, x))) → (IsNone place → get {R = R} (from_entries seen) k ≡ None)
+        → (b : Bool) → b ≡ is_some place → Decides b (contains_key (from_entries {R = R} rows) k ≡ true)
+    place_told place found absent b is =
+        subst (λ t. Decides t (contains_key (from_entries {R = R} rows) k ≡ true)) (sym is)
+        (place_in_rows place
+        (subst (λ (xs : List (K × X)). IfSome place (λ i. (x : X) × (slice_get xs i ≡ Some (k, x)))) same found)
+        (subst (λ (xs : List (K × X)). IsNone place → get {R = R} (from_entries xs) k ≡ None) same absent))
+
+-- where this tells whether there is one, its opposite tells whether there is none
+pub missing_told : (b has : Bool) → Decides (not b) (has ≡ true) → Decides b (has ≡ false)
+missing_told true true told = absurd (true≢false (sym (told.1 refl)))
+missing_told true false told = (λ _. refl, λ _. refl)
+missing_told false true told = (λ e. absurd (true≢false (sym e)), λ e. absurd (true≢false e))
+missing_told false false told = absurd (true≢false (sym (told.0 refl)))
+
+-- ---- the occurrence
+
+-- a map of one entry has its key, and no other
+pub only_key : (k q : OccKey) (x : Occurrence) → contains_key (insert {R = occurrence_cmp} empty k x) q ≡ true → q ≡ k
+only_key k q x known = let found = is_found (get {R = occurrence_cmp} (insert empty k x) q) known in (sole_key k x q found.0 found.1).0
+
+pub own_key : (k q : OccKey) (x : Occurrence) → q ≡ k → contains_key (insert {R = occurrence_cmp} empty k x) q ≡ true
+own_key k q x same = some_is (get {R = occurrence_cmp} (insert empty k x) q) x (subst (λ z. get {R = occurrence_cmp} (insert empty k x) z ≡ Some x) (sym same) (sole_got k x))
+
+-- what comes in is new where its key is
+pub new_told : (key : OccKey) (terms : Occurrence) (there : Occurrences) (b : Bool) → Decides b (contains_key there key ≡ false)
+    → Decides b ((c : OccKey) → contains_key (insert {R = occurrence_cmp} empty key terms) c ≡ true → contains_key there c ≡ false)
+new_told key terms there b told = (
+  λ yes c known. subst (λ z. contains_key there z ≡ false) (sym (only_key key c terms known)) (told.0 yes),
+  λ all. told.1 (all key (own_key key key terms refl)),
+)
+
+-- ---- an end of a pair
+
+module _ (parts : NewOccurrence) (are : AreAdditionParts parts) (P : Plan) (o : OpKey) where
+  own : o.occurrence ≡ parts.key → IsOwn (incoming parts) o
+  own same = own_key parts.key o.occurrence parts.terms same
+
+  own_told : IsOwn (incoming parts) o → o.occurrence ≡ parts.key
+  own_told is = only_key parts.key o.occurrence parts.terms is
+
+  new_is_own : IsNew (incoming parts) o → IsOwn (incoming parts) o
+  new_is_own new = let found = is_found (get (incoming parts).operations o) new in (are.addition.occurrences.each_operation o found.0 found.1).1
+
+  pub known_own : o.occurrence ≡ parts.key → (b : Bool) → Decides b (IsNew (incoming parts) o) → Decides b (IsKnown P (incoming parts) o)
+  known_own same b told = (
+    λ yes. inl (told.0 yes),
+    λ known. elim known [
+      | inl new ↦ told.1 new
+      | inr old ↦ absurd (old.1 (own same))
+    ],
+  )
+
+  pub known_other : o.occurrence ≢ parts.key → (b : Bool) → Decides b (contains_key P.operations o ≡ true) → Decides b (IsKnown P (incoming parts) o)
+  known_other other b told = (
+    λ yes. let found = is_found (get P.operations o) (told.0 yes) in inr ((found.0, found.1, tt), λ is. other (own_told is)),
+    λ known. elim known [
+      | inl new ↦ absurd (other (own_told (new_is_own new)))
+      | inr old ↦ told.1 (some_is (get P.operations o) old.0.0 old.0.1)
+    ],
+  )
+
+-- ---- all pairs, and all rows
+
+module _ (items pairs : List (OpKey × OpKey)) (same : items ≡ pairs) where
+  -- what is so of each pair in the list is so of each in the set, which has them all
+  pub pairs_told : (Q : OpKey × OpKey → Type 0) → All Q items → (p o : OpKey) → IsPairOf (from_list pairs) p o → Q (p, o)
+  pairs_told Q all p o is = All-contains Q pairs (p, o) (subst (All Q) same all) (from_set pair_cmp_total pair_cmp-IsAntisymmetric pairs (p, o) is)
+
+  pub pair_read : (i : ℕ) (pair : OpKey × OpKey) → i < length items → pair ≡ get_or items i pair → IsPairOf (from_list pairs) pair.0 pair.1
+  pair_read i pair lt is = in_set pair_cmp_total pair_cmp-IsAntisymmetric pairs pair (subst (λ (xs : List (OpKey × OpKey)). Contains xs pair) same (i, lt, sym is))
+
+module _ {K X : Type 0} {R : K → K → Ordering} (total : IsTotalOrder R) (exact : IsAntisymmetric R) (items rows : List (K × X)) (same : items ≡ rows) where
+  -- what is so of each row is so of each value in the map, which has them all
+  pub rows_told : (Q : X → Type 0) → All (λ row. Q row.1) items → (k : K) (x : X) → get {R = R} (from_entries rows) k ≡ Some x → Q x
+  rows_told Q all k x is = All-contains (λ (row : K × X). Q row.1) rows (k, x) (subst (λ (xs : List (K × X)). All (λ row. Q row.1) xs) same all) (row_found total exact rows k x is)
+
+  pub row_read : IsStrictlySortedBy R (keys_of rows) → (i : ℕ) (row : K × X) → i < length items → row ≡ get_or items i row → get {R = R} (from_entries rows) row.0 ≡ Some row.1
+  row_read up i row lt is = get_row total exact rows row.0 row.1 (rows_apart total exact rows up) (subst (λ (xs : List (K × X)). Contains xs row) same (i, lt, sym is))
+
+-- ---- the special resources of an operation
+
+module _ (P : Plan) (op : Operation) (needs : List Need) (same : op.needs ≡ usages_of needs) (sorted : AreInNameOrder needs) where
+  -- they are in the plan where that of each need in the list is
+  pub resources_told : All (λ need. contains_key P.resources need.name ≡ true) needs → HasResources P op
+  resources_told all r usage is =
+      let n = need_by_usage needs sorted r usage (subst (λ u. get u r ≡ Some usage) same is) in
+      subst (λ z. contains_key P.resources z ≡ true) n.2 (All-contains (λ (need : Need). contains_key P.resources need.name ≡ true) needs n.0 all n.1)
+
+  pub resource_read : HasResources P op → (i : ℕ) (need : Need) → i < length needs → need ≡ get_or needs i need → contains_key P.resources need.name ≡ true
+  resource_read has i need lt is = has need.name (usage_of need) (subst (λ u. get u need.name ≡ Some (usage_of need)) (sym same) (usage_by_need needs sorted need (i, lt, sym is)))

@@ -1,0 +1,14 @@
+pub mod AdditionLines
+pub mod AtClock
+pub mod ByCommand
+pub mod ByPair
+pub mod ComingIn
+pub mod Grown
+pub mod HeldRows
+pub mod Limits
+pub mod OpenEnds
+pub mod PairedPlaces
+pub mod Permitting
+pub mod ReachedKeys
+pub mod Reporting
+pub mod Searching

@@ -1,0 +1,24 @@
+-- Whether operations of the plan's other occurrences are open to a pair that comes in, by their statuses.
+use Rattle.std.proofs.Common.{◌≡◌, ◌≢◌, sym, subst, Decides}
+use Rattle.std.proofs.lemmas.Bool.{true_from_ne_false}
+use Rattle.plan_basics.specs.declared.keys.OpKey.{OpKey}
+use Rattle.plan_model.specs.Plan.{Plan, Supplement}
+use Rattle.plan_model.specs.Status.{HasStatus}
+use Rattle.status_rules.specs.declared.Status.{Status}
+use Rattle.status_rules.specs.declared.Status.TheVariants as status
+use Rattle.plan_checks.proofs.ByCommand.{not_waiting_or_ready, waits_by}
+use Rattle.plan_checks.specs.Adding.{IsOldWith, MayPrecede, MaySucceed}
+use Rattle.plan_checks.specs.Commanding.{waits_or_is_ready}
+
+module _ (P : Plan) (s : Supplement) (o : OpKey) (x : Status) (is : IsOldWith P s o x) where
+  pub succeeds_told : Decides (waits_or_is_ready x) (MaySucceed P s o)
+  succeeds_told = (
+    λ yes old. waits_by P o x is.1 yes,
+    λ may. true_from_ne_false (waits_or_is_ready x) (λ no. not_waiting_or_ready P o x is.2 no (may is.0)),
+  )
+
+  pub live_precedes : x ≢ status.Deleted → MayPrecede P s o
+  live_precedes live old deleted = live (sym (is.2 status.Deleted deleted))
+
+  pub deleted_bars : x ≡ status.Deleted → ¬ MayPrecede P s o
+  deleted_bars deleted may = may is.0 (subst (HasStatus P o) deleted is.1)

@@ -1,0 +1,147 @@
+-- What the status of a reported operation says of the lines that its report goes by.
+use Rattle.std.proofs.Common.{◌≡◌, ◌⊎◌, inl, inr, refl, sym, ap, subst, ◌∙◌, arith, ℕ, ◌<◌, true, false, true≢false, Some}
+use Rattle.plan_basics.specs.declared.Attr.{Attr}
+use Rattle.plan_basics.specs.declared.Attr.TheVariants as attribute
+use Rattle.plan_basics.specs.declared.Refusal.{Refusal}
+use Rattle.plan_basics.specs.declared.Refusal.TheVariants as refusal
+use Rattle.plan_basics.specs.declared.keys.OpKey.{OpKey}
+use Rattle.plan_basics.specs.Refusals.{number_of}
+use Rattle.plan_model.specs.Holdings.{given_out, holds_server, takes}
+use Rattle.plan_model.specs.Plan.{HasAttribute, Operation, Plan}
+use Rattle.plan_model.specs.Starting.{MayStart}
+use Rattle.plan_model.specs.Status.{HasStatus, IsReady}
+use Rattle.plan_records.specs.Accepting.{MayBeEnded, MayBeInterrupted, MayBeUndecided, AllHold, FailsFirstAt}
+use Rattle.plan_records.specs.Contents.{plan_of}
+use Rattle.plan_records.specs.declared.contents.PlanContents.{PlanContents}
+use Rattle.special_resources.specs.Holdings.{Held}
+use Rattle.status_rules.specs.declared.Status.{Status}
+use Rattle.status_rules.specs.declared.Status.TheVariants as status
+use Rattle.workstations.specs.declared.Capacity.{Capacity}
+use Rattle.plan_choice.specs.Choosing.{AreHeldIn, HasTaken, IsStartLine, is_ready_status}
+use Rattle.plan_checks.specs.Barring.{IsReported}
+use Rattle.plan_checks.specs.declared.checks.Reported.{Reported}
+
+-- the status is one of those that may be started where starts are reported
+abbrev pub IsStartable : Status → Type 0
+IsStartable s = (is_ready_status s ≡ true) ⊎ (s ≡ status.Interrupted)
+
+module _ (P : Plan) (o : OpKey) where
+  running_by : (s : Status) → HasStatus P o s → holds_server (Some s) ≡ true → HasStatus P o status.Started ⊎ HasStatus P o status.Undecided
+  running_by status.Started h e = inl h
+  running_by status.Undecided h e = inr h
+  running_by s h e = absurd (cc)
+
+  ready_by : (s : Status) → HasStatus P o s → is_ready_status s ≡ true → IsReady P o
+  ready_by status.Arriving h e = inl h
+  ready_by status.ReadyAfterNonreporting h e = inr (inl h)
+  ready_by status.Ready h e = inr (inr h)
+  ready_by s h e = absurd (cc)
+
+  module _ (x : Reported) (is : IsReported P o x) where
+    pub is_running : holds_server (Some x.status) ≡ true → HasStatus P o status.Started ⊎ HasStatus P o status.Undecided
+    is_running = running_by x.status is.status
+
+    pub not_running : holds_server (Some x.status) ≡ false → ¬ (HasStatus P o status.Started ⊎ HasStatus P o status.Undecided)
+    not_running e (inl h) = true≢false (subst (λ s. holds_server (Some s) ≡ false) (sym (is.alone status.Started h)) e)
+    not_running e (inr h) = true≢false (subst (λ s. holds_server (Some s) ≡ false) (sym (is.alone status.Undecided h)) e)
+
+    pub is_ready : is_ready_status x.status ≡ true → IsReady P o
+    is_ready = ready_by x.status is.status
+
+    ready_told : IsReady P o → is_ready_status x.status ≡ true
+    ready_told (inl h) = subst (λ s. is_ready_status s ≡ true) (is.alone status.Arriving h) refl
+    ready_told (inr (inl h)) = subst (λ s. is_ready_status s ≡ true) (is.alone status.ReadyAfterNonreporting h) refl
+    ready_told (inr (inr h)) = subst (λ s. is_ready_status s ≡ true) (is.alone status.Ready h) refl
+
+    pub not_ready : is_ready_status x.status ≡ false → ¬ IsReady P o
+    not_ready e h = true≢false (sym (ready_told h) ∙ e)
+
+    -- what may be started where starts are reported
+    pub startable : (m : ℕ) → x.attribute ≡ attribute.StartAndCompletion → IsStartable x.status → MayStart P o x.operation m refusal.WrongStatus
+    startable m on (inl e) = inl (is_ready e)
+    startable m on (inr e) = inr (subst (HasStatus P o) e is.status, is.attribute ∙ ap Some on)
+
+    pub startable_told : (m : ℕ) → MayStart P o x.operation m refusal.WrongStatus → IsStartable x.status
+    startable_told m (inl h) = inl (ready_told h)
+    startable_told m (inr h) = inr (sym (is.alone status.Interrupted h.0))
+
+  -- ---- an end or an error
+
+  module _ (op : Operation) where
+    pub ended_after_start : (a : Attr) → takes (Some a) ≡ true → HasStatus P o status.Started ⊎ HasStatus P o status.Undecided → AllHold (MayBeEnded P o op (Some a))
+    ended_after_start attribute.Automatic t run refusal.WrongStatus = run
+    ended_after_start attribute.Automatic t run r = tt
+    ended_after_start attribute.StartAndCompletion t run refusal.WrongStatus = run
+    ended_after_start attribute.StartAndCompletion t run r = tt
+    ended_after_start a t run r = absurd (cc)
+
+    pub ended_without_start : IsReady P o → op.held ≡ false → AllHold (MayBeEnded P o op (Some attribute.CompletionOnly))
+    ended_without_start ready free refusal.WrongStatus = ready
+    ended_without_start ready free refusal.Held = free
+    ended_without_start ready free r = tt
+
+    before_held : IsReady P o → (lower : Refusal) → number_of lower < 11 → MayBeEnded P o op (Some attribute.CompletionOnly) lower
+    before_held ready refusal.WrongStatus less = ready
+    before_held ready refusal.Held less = absurd (omega (arith, less))
+    before_held ready r less = tt
+
+    pub held_at_end : IsReady P o → op.held ≡ true → FailsFirstAt (MayBeEnded P o op (Some attribute.CompletionOnly)) refusal.Held
+    held_at_end ready held = (λ free. true≢false (sym held ∙ free), before_held ready)
+
+  -- ---- an interruption or an unknown outcome
+
+  pub interrupted : (op : Operation) → HasStatus P o status.Started → HasAttribute P op.workstation attribute.StartAndCompletion → AllHold (MayBeInterrupted P o op)
+  interrupted op started on refusal.WrongStatus = started
+  interrupted op started on refusal.WrongWorkstation = on
+  interrupted op started on r = tt
+
+  before_workstation : (op : Operation) → HasStatus P o status.Started → (lower : Refusal) → number_of lower < 10 → MayBeInterrupted P o op lower
+  before_workstation op started refusal.WrongStatus less = started
+  before_workstation op started refusal.WrongWorkstation less = absurd (omega (arith, less))
+  before_workstation op started r less = tt
+
+  pub not_interrupted : (op : Operation) → HasStatus P o status.Started → ¬ HasAttribute P op.workstation attribute.StartAndCompletion → FailsFirstAt (MayBeInterrupted P o op) refusal.WrongWorkstation
+  not_interrupted op started other = (other, before_workstation op started)
+
+  pub undecided : HasStatus P o status.Started → AllHold (MayBeUndecided P o)
+  undecided started refusal.WrongStatus = started
+  undecided started r = tt
+
+  -- ---- a start where starts are reported
+
+  -- a line that fails has a number past that of an unknown operation
+  pub start_number : (op : Operation) (m : ℕ) (r : Refusal) → ¬ MayStart P o op m r → 5 < number_of r
+  start_number op m refusal.WrongStatus never = omega arith
+  start_number op m refusal.Held never = omega arith
+  start_number op m refusal.TooEarly never = omega arith
+  start_number op m refusal.Closed never = omega arith
+  start_number op m refusal.NoServer never = omega arith
+  start_number op m refusal.NoFixed never = omega arith
+  start_number op m refusal.ResourceBusy never = omega arith
+  start_number op m r never = absurd (never tt)
+
+-- what is given out at its workstation, and what is held, as its plan stands
+pub has_taken : (c : PlanContents) (clock : ℕ) (op : Operation) (taken : Capacity) (held : Held) → given_out (plan_of clock c) op.workstation ≡ taken → AreHeldIn (plan_of clock c) held
+    → HasTaken (plan_of clock c) c op taken held
+has_taken c clock op taken held given holders = record { workstations = refl; resources = refl; given = given; holders = holders }
+
+-- what its status allows, and all other lines
+pub line_by_line : (P : Plan) (o : OpKey) (op : Operation) (m : ℕ) (Q : Refusal → Type 0) → MayStart P o op m refusal.WrongStatus → ((r : Refusal) → IsStartLine r → Q r → MayStart P o op m r)
+    → (r : Refusal) → Q r → MayStart P o op m r
+line_by_line P o op m Q may lines refusal.WrongStatus q = may
+line_by_line P o op m Q may lines r q = lines r tt q
+
+-- before its workstation is looked at
+pub before_line : (P : Plan) (o : OpKey) (op : Operation) (m : ℕ) (lower : Refusal) → number_of lower < 9 → MayStart P o op m lower
+before_line P o op m refusal.WrongStatus less = absurd (omega (arith, less))
+before_line P o op m refusal.Held less = absurd (omega (arith, less))
+before_line P o op m refusal.TooEarly less = absurd (omega (arith, less))
+before_line P o op m refusal.Closed less = absurd (omega (arith, less))
+before_line P o op m refusal.NoServer less = absurd (omega (arith, less))
+before_line P o op m refusal.NoFixed less = absurd (omega (arith, less))
+before_line P o op m refusal.ResourceBusy less = absurd (omega (arith, less))
+before_line P o op m r less = tt
+
+-- what is reported of an operation at one clock is so at each
+pub reported_at : (c : PlanContents) (o : OpKey) (x : Reported) → IsReported (plan_of 0 c) o x → (clock : ℕ) → IsReported (plan_of clock c) o x
+reported_at c o x is clock = record { operation = is.operation; attribute = is.attribute; status = is.status; alone = is.alone }

@@ -1,0 +1,22 @@
+use Rattle.std.proofs.Common.{◌≡◌, subst, ℕ, Option, Some, IfSome, slice_get}
+use Rattle.std.proofs.lemmas.Option.{slice_get_within}
+use Rattle.plan_model.specs.Plan.{Operation}
+use Rattle.plan_checks.proofs.checks.reported_of.Goals as goal
+use Rattle.plan_checks.proofs.checks.reported_of.Goals.{In_ok-place}
+
+-- the row at the place that is found
+row : (c : In_ok-place) → (op : Operation) × (slice_get c.args.loaded.now.contents.operations.items c.in_ok-place.place ≡ Some (c.args.key.now, op))
+row c =
+    let key = c.args.key.now in
+    let found = subst (λ (x : Option ℕ). IfSome x (λ i. (op : Operation) × (slice_get c.deref.result.now i ≡ Some (key, op)))) c.in_ok-place.ensures.ok_part c.place_of.ensures.found in
+    subst (λ rs. (op : Operation) × (slice_get rs c.in_ok-place.place ≡ Some (key, op))) c.deref.ensures.value found
+
+pub reported_at-requires-clause-within : goal.reported_at-requires-clause-within
+reported_at-requires-clause-within c =
+    let at = row (goal.at.reported_at-requires-clause-within c).In_ok-place in
+    slice_get_within c.args.loaded.now.contents.operations.items c.in_ok-place.place (c.args.key.now, at.0) at.1
+
+pub returns-clause-found : goal.returns-clause-found
+returns-clause-found c clock =
+    let at = row (goal.at.returns-clause-found c).In_ok-place in
+    c.reported_at.ensures c.args.key.now at.0 at.1 clock

@@ -1,0 +1,52 @@
+-- What an occurrence that comes in asks of the plan, pair by pair and operation by operation.
+use Rattle.std.specs.Prelude.{◌≡◌, ◌⊎◌, true, Some}
+use Rattle.std.specs.FinMap.{contains_key, get}
+use Rattle.plan_basics.specs.Keys.{Name}
+use Rattle.plan_basics.specs.declared.Refusal.{Refusal}
+use Rattle.plan_basics.specs.declared.Refusal.TheVariants as refusal
+use Rattle.plan_basics.specs.declared.keys.OpKey.{OpKey}
+use Rattle.plan_model.specs.Plan.{Plan, Operation, Supplement}
+use Rattle.plan_model.specs.Status.{HasStatus, IsWaitingOrReady}
+use Rattle.plan_records.specs.Accepting.{IsNew, IsOld, MayBeAdded}
+use Rattle.special_resources.specs.Holders.{Usage}
+use Rattle.status_rules.specs.declared.Status.{Status}
+use Rattle.status_rules.specs.declared.Status.TheVariants as status
+
+-- o comes in, or is an operation of another occurrence of the plan
+abbrev pub IsKnown : Plan → Supplement → OpKey → Type 0
+IsKnown P s o = IsNew s o ⊎ IsOld P s o
+
+-- so are both ends of the pair
+abbrev pub IsKnownPair : Plan → Supplement → OpKey × OpKey → Type 0
+IsKnownPair P s pair = IsKnown P s pair.0 × IsKnown P s pair.1
+
+-- o is an operation of another occurrence of the plan, and has this status alone
+abbrev pub IsOldWith : Plan → Supplement → OpKey → Status → Type 0
+IsOldWith P s o x = IsOld P s o × HasStatus P o x × ((t : Status) → HasStatus P o t → t ≡ x)
+
+-- a pair that comes in may lead to o: where o is there, it waits or is ready
+abbrev pub MaySucceed : Plan → Supplement → OpKey → Type 0
+MaySucceed P s o = IsOld P s o → IsWaitingOrReady P o
+
+-- one may lead from o: where o is there, it isn't deleted
+abbrev pub MayPrecede : Plan → Supplement → OpKey → Type 0
+MayPrecede P s o = IsOld P s o → ¬ HasStatus P o status.Deleted
+
+-- the pair's ends are open to it
+abbrev pub IsOpenPair : Plan → Supplement → OpKey × OpKey → Type 0
+IsOpenPair P s pair = MaySucceed P s pair.1 × MayPrecede P s pair.0
+
+-- its workstation is in the plan
+abbrev pub HasWorkstation : Plan → Operation → Type 0
+HasWorkstation P op = contains_key P.workstations op.workstation ≡ true
+
+-- so are the special resources that it needs
+abbrev pub HasResources : Plan → Operation → Type 0
+HasResources P op = (r : Name) (usage : Usage) → get op.needs r ≡ Some usage → contains_key P.resources r ≡ true
+
+-- what a refusal says of the plan with what comes in: a path returns, or none does and it holds too much; memory may lack at any time
+abbrev pub IsGrowthRefusal : Plan → Supplement → Refusal → Type 0
+IsGrowthRefusal P s refusal.Cycle = ¬ MayBeAdded P s refusal.Cycle
+IsGrowthRefusal P s refusal.Limit = MayBeAdded P s refusal.Cycle × ¬ MayBeAdded P s refusal.Limit
+IsGrowthRefusal P s refusal.Memory = Unit {0}
+IsGrowthRefusal P s _ = ⊥

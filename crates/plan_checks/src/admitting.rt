@@ -1,0 +1,154 @@
+// What stands in the way of an occurrence that comes in.
+ghost use Rattle.std.specs.Prelude.{◌≡◌, ◌<◌, ◌⊎◌, ℕ, Decides, IfErr, IfOk, MatchOption, OnOk};
+ghost use Rattle.std.specs.Map.{keys_of};
+ghost use Rattle.plan_basics.specs.Refusals.{number_of};
+ghost use Rattle.plan_basics.specs.declared.Refusal.{Refusal};
+ghost use Rattle.plan_graph.specs.PlanGraphs.{AreAmong};
+ghost use Rattle.plan_model.specs.Valid.{IsAcyclic, IsWithinLimits};
+ghost use Rattle.plan_records.specs.Accepting.{AllHold, FailsFirstAt, IsOld, MayBeAdded};
+ghost use Rattle.plan_records.specs.Contents.{plan_of, incoming, AreContents, AreValidContents};
+ghost use Rattle.plan_records.specs.Drafts.{IsAddition};
+ghost use Rattle.plan_checks.specs.Adding.{IsGrowthRefusal, IsOldWith, IsOpenPair, MayPrecede, MaySucceed};
+ghost use Rattle.plan_checks.specs.Held.{IsHeldAtSome};
+
+use super::checks::reported_at;
+use super::commands::is_waiting_or_ready;
+use super::known::{
+    are_ends_known, are_resources_known, are_workstations_known, is_new_occurrence,
+};
+use super::loaded::LoadedPlan;
+use plan_basics::{OpKey, Refusal};
+use plan_changes::with_addition;
+use plan_graph::graph_of;
+use plan_model::OperationRecord;
+use plan_records::{Addition, NewOccurrence, PlanContents, place_of};
+use status_rules::Status;
+use std::alloc::{AllocError, Global};
+
+// The status of an operation of the plan's other occurrences.
+fn old_status(loaded: &LoadedPlan, parts: &NewOccurrence, key: &OpKey) -> Option<Status>
+    requires { IsHeldAtSome loaded.now }
+    ensures { MatchOption result (¬ IsOld (plan_of 0 loaded.now.contents) (incoming parts.now) key.now) (IsOldWith (plan_of 0 loaded.now.contents) (incoming parts.now) key.now) }
+{
+    if key.occurrence == parts.key {
+        return None;
+    }
+    let place = place_of(&loaded.contents.operations, key)?;
+    Some(reported_at(loaded, place).status)
+}
+
+// Whether a pair that comes in may lead to this operation: where it is there, it waits or is ready.
+fn may_succeed(loaded: &LoadedPlan, parts: &NewOccurrence, key: &OpKey) -> bool
+    requires { IsHeldAtSome loaded.now }
+    ensures { Decides result (MaySucceed (plan_of 0 loaded.now.contents) (incoming parts.now) key.now) }
+{
+    match old_status(loaded, parts, key) {
+        Some(status) => is_waiting_or_ready(status),
+        None => true,
+    }
+}
+
+// Whether one may lead from it: where it is there, it isn't deleted.
+fn may_precede(loaded: &LoadedPlan, parts: &NewOccurrence, key: &OpKey) -> bool
+    requires { IsHeldAtSome loaded.now }
+    ensures { Decides result (MayPrecede (plan_of 0 loaded.now.contents) (incoming parts.now) key.now) }
+{
+    match old_status(loaded, parts, key) {
+        Some(status) => status != Status::Deleted,
+        None => true,
+    }
+}
+
+// Whether a pair's ends are open to it.
+fn is_open_pair(loaded: &LoadedPlan, parts: &NewOccurrence, pair: &(OpKey, OpKey)) -> bool
+    requires { IsHeldAtSome loaded.now }
+    ensures { Decides result (IsOpenPair (plan_of 0 loaded.now.contents) (incoming parts.now) pair.now) }
+{
+    may_succeed(loaded, parts, &pair.1) && may_precede(loaded, parts, &pair.0)
+}
+
+// Whether those of all pairs are.
+fn are_pairs_open(loaded: &LoadedPlan, parts: &NewOccurrence) -> bool
+    requires { IsHeldAtSome loaded.now }
+    ensures { Decides result (MayBeAdded (plan_of 0 loaded.now.contents) (incoming parts.now) Refusal.WrongStatus) }
+{
+    for pair in &parts.pairs {
+        if !is_open_pair(loaded, parts, pair) {
+            return false;
+        }
+    }
+    true
+}
+
+// The rows' keys.
+fn keys(alloc: Global, rows: &[(OpKey, OperationRecord)]) -> Result<Vec<OpKey>, AllocError>
+    ensures { IfOk result (λ v. v.items ≡ keys_of rows.now) }
+{
+    rows.iter().map(|row| row.0).collect(alloc)
+}
+
+// Whether no path of pairs returns to its start.
+fn is_acyclic(alloc: Global, contents: &PlanContents) -> Result<bool, AllocError>
+    requires in_order { AreContents contents.now }
+    requires ends { AreAmong (keys_of contents.now.operations.items) contents.now.pairs.items }
+    ensures { IfOk result (λ told. Decides told (IsAcyclic (plan_of 0 contents.now).pairs)) }
+{
+    let keys = keys(alloc, &contents.operations)?;
+    let graph = graph_of(alloc, &keys, &contents.pairs)?;
+    Ok(graph.is_some())
+}
+
+// Whether they are no more than a plan may hold.
+fn is_within_limits(contents: &PlanContents) -> bool
+    requires { AreContents contents.now }
+    ensures { Decides result (IsWithinLimits (plan_of 0 contents.now)) }
+{
+    contents.workstations.len() <= 99
+        && contents.resources.len() <= 999
+        && contents.occurrences.len() <= 5_000
+        && contents.operations.len() <= 20_000
+        && contents.pairs.len() <= 100_000
+}
+
+// With what comes in, no path of pairs returns to its start, and the plan holds no more than it may.
+fn check_grown(alloc: Global, contents: &PlanContents, addition: &Addition) -> Result<(), Refusal>
+    requires contents { AreValidContents contents.now }
+    requires addition { IsAddition addition.now }
+    requires known { MayBeAdded (plan_of 0 contents.now) addition.now Refusal.UnknownOperation }
+    requires new { MayBeAdded (plan_of 0 contents.now) addition.now Refusal.Duplicate }
+    ensures ok { OnOk result (MayBeAdded (plan_of 0 contents.now) addition.now Refusal.Cycle × MayBeAdded (plan_of 0 contents.now) addition.now Refusal.Limit) }
+    ensures refused { IfErr result (IsGrowthRefusal (plan_of 0 contents.now) addition.now) }
+{
+    let grown = with_addition(alloc, contents, addition)?;
+    if !is_acyclic(alloc, &grown)? {
+        Err(Refusal::Cycle)
+    } else if !is_within_limits(&grown) {
+        Err(Refusal::Limit)
+    } else {
+        Ok(())
+    }
+}
+
+/// An occurrence may be added that isn't in the plan, whose operations find all that they name, precede only what waits or is
+/// ready, and close no path, where there is room. The error is the first that applies, by number, or `Memory`.
+pub fn check_added(alloc: Global, loaded: &LoadedPlan, addition: &Addition) -> Result<(), Refusal>
+    requires { IsHeldAtSome loaded.now }
+    ensures ok { OnOk result ((clock : ℕ) → AllHold (MayBeAdded (plan_of clock loaded.now.contents) addition.now)) }
+    ensures refused { IfErr result (λ r. (r ≡ Refusal.Memory) ⊎ ((clock : ℕ) → (3 < number_of r) × FailsFirstAt (MayBeAdded (plan_of clock loaded.now.contents) addition.now) r)) }
+{
+    let contents = &loaded.contents;
+    let parts = addition.parts();
+    if !are_ends_known(contents, parts) {
+        Err(Refusal::UnknownOperation)
+    } else if !are_workstations_known(contents, parts) {
+        Err(Refusal::UnknownWorkstation)
+    } else if !are_resources_known(contents, parts) {
+        Err(Refusal::UnknownResource)
+    } else if !are_pairs_open(loaded, parts) {
+        Err(Refusal::WrongStatus)
+    } else if !is_new_occurrence(contents, parts) {
+        Err(Refusal::Duplicate)
+    } else {
+        check_grown(alloc, contents, addition)
+    }
+}

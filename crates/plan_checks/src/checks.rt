@@ -1,0 +1,279 @@
+// What stands in the way of a request.
+ghost use Rattle.std.specs.Prelude.{◌≡◌, ◌⊎◌, ◌<◌, ℕ, true, Some, None, length, slice_get, IfOk, IfErr, OnOk, Decides};
+ghost use Rattle.std.specs.FinMap.{get};
+ghost use Rattle.plan_basics.specs.declared.keys.OpKey.{OpKey};
+ghost use Rattle.plan_choice.specs.Choosing.{is_ready_status};
+ghost use Rattle.plan_records.specs.Accepting.{AllHold, MayBeEnded, MayBeInterrupted, MayBeStarted, MayBeUndecided, NeedsPlan};
+ghost use Rattle.plan_checks.specs.Barring.{FailsAt, FailsPastKeys, IsBarred, IsPermitted, IsReported, MeetsAll};
+ghost use Rattle.plan_checks.specs.Held.{IsHeldAtSome};
+ghost use Rattle.plan_model.specs.Holdings.{given_out, holds_server, takes};
+ghost use Rattle.plan_model.specs.Plan.{Operation, Plan};
+ghost use Rattle.plan_records.specs.Contents.{plan_of, AreValidContents};
+ghost use Rattle.plan_records.specs.declared.What.{What};
+
+use super::admitting::check_added;
+use super::commands::{
+    check_available, check_completed, check_deleted, check_flagged, check_open_by, check_rerun,
+};
+use super::loaded::LoadedPlan;
+use super::pairing::check_paired;
+use plan_basics::{Attr, Moment, OpKey, Refusal};
+use plan_choice::{check_start, given_out_of, holdings_of};
+use plan_model::OperationRecord;
+use plan_records::{PlanContents, PlanDraft, What, known_workstation, place_of};
+use plan_status::{attribute_of, status_with};
+use status_rules::{Mark, Status};
+use std::alloc::{AllocError, Global};
+use workstations::Capacity;
+
+/// An operation of which something is reported, with what is read off the plan for it.
+#[derive(Clone, Copy)]
+pub struct Reported {
+    pub operation: OperationRecord,
+    /// How its workstation reports.
+    pub attribute: Attr,
+    pub status: Status,
+}
+
+/// The operation at a place, with what is read off the plan for it.
+pub fn reported_at(loaded: &LoadedPlan, place: usize) -> Reported
+    requires held { IsHeldAtSome loaded.now }
+    requires within { place < length loaded.now.contents.operations.items }
+    ensures { (o : OpKey) → (op : Operation) → slice_get loaded.now.contents.operations.items place ≡ Some (o, op) → (clock : ℕ) → IsReported (plan_of clock loaded.now.contents) o result }
+{
+    let operation = loaded.contents.operations[place].1;
+    let attribute = attribute_of(&loaded.contents, &operation);
+    let status = status_with(&operation, attribute, &loaded.standings[place]);
+    Reported {
+        operation,
+        attribute,
+        status,
+    }
+}
+
+// The operation of a key, if it is in the plan.
+fn reported_of(loaded: &LoadedPlan, key: &OpKey) -> Result<Reported, Refusal>
+    requires { IsHeldAtSome loaded.now }
+    ensures found { IfOk result (λ x. (clock : ℕ) → IsReported (plan_of clock loaded.now.contents) key.now x) }
+    ensures unknown { IfErr result (λ r. (r ≡ Refusal.UnknownOperation) × (get (plan_of 0 loaded.now.contents).operations key.now ≡ None)) }
+{
+    let place = place_of(&loaded.contents.operations, key).ok_or(Refusal::UnknownOperation)?;
+    Ok(reported_at(loaded, place))
+}
+
+// Whether operations of this status are ready.
+fn is_ready(status: Status) -> bool
+    ensures { result ≡ is_ready_status status }
+{
+    matches!(
+        status,
+        Status::Arriving | Status::ReadyAfterNonreporting | Status::Ready
+    )
+}
+
+// Whether operations of this status may be started where starts are reported: they are ready or interrupted.
+fn is_startable(status: Status) -> bool
+    ensures { Decides result ((is_ready_status status ≡ true) ⊎ (status ≡ Status.Interrupted)) }
+{
+    is_ready(status) || status == Status::Interrupted
+}
+
+// Whether operations of this status are started or undecided.
+fn is_running(status: Status) -> bool
+    ensures { result ≡ holds_server (Some status) }
+{
+    matches!(status, Status::Started | Status::Undecided)
+}
+
+// What a workstation has given out.
+fn given_out_at(
+    alloc: Global,
+    contents: &PlanContents,
+    operation: &OperationRecord,
+) -> Result<Capacity, AllocError>
+    requires contents { AreValidContents contents.now }
+    requires operation { (o : OpKey) × (get (plan_of 0 contents.now).operations o ≡ Some operation.now) }
+    ensures { IfOk result (λ taken. (clock : ℕ) → given_out (plan_of clock contents.now) operation.now.workstation ≡ taken) }
+{
+    let given_out = given_out_of(alloc, contents)?;
+    let place = known_workstation(&contents.workstations, &operation.workstation);
+    Ok(given_out[place])
+}
+
+// On an automatic workstation a start may be reported of what is named.
+fn check_started_on_automatic(reported: &Reported) -> Result<(), Refusal>
+    requires { reported.now.attribute ≡ Attr.Automatic }
+    ensures ok { (m : ℕ) → OnOk result (MeetsAll reported.now (λ P o. MayBeStarted P m o reported.now.operation (Some reported.now.attribute))) }
+    ensures refused { (m : ℕ) → IfErr result (FailsAt reported.now (λ P o. MayBeStarted P m o reported.now.operation (Some reported.now.attribute))) }
+{
+    if reported.operation.mark == Mark::Named {
+        Ok(())
+    } else {
+        Err(Refusal::WrongStatus)
+    }
+}
+
+// Where starts are reported, a start may be reported of what is allowed to start: it is ready or interrupted, and its
+// workstation and the special resources that it needs are free for it.
+fn check_started_where_reported(
+    alloc: Global,
+    contents: &PlanContents,
+    key: &OpKey,
+    reported: &Reported,
+    at: Moment,
+) -> Result<(), Refusal>
+    requires contents { AreValidContents contents.now }
+    requires operation { IsReported (plan_of 0 contents.now) key.now reported.now }
+    requires attribute { reported.now.attribute ≡ Attr.StartAndCompletion }
+    ensures ok { OnOk result ((clock : ℕ) → AllHold (MayBeStarted (plan_of clock contents.now) at key.now reported.now.operation (Some reported.now.attribute))) }
+    ensures refused { IfErr result (λ r. (r ≡ Refusal.Memory) ⊎ ((clock : ℕ) → FailsPastKeys (MayBeStarted (plan_of clock contents.now) at key.now reported.now.operation (Some reported.now.attribute)) r)) }
+{
+    if !is_startable(reported.status) {
+        return Err(Refusal::WrongStatus);
+    }
+    let taken = given_out_at(alloc, contents, &reported.operation)?;
+    let holdings = holdings_of(alloc, contents)?;
+    check_start(contents, key, &reported.operation, &taken, &holdings, at)
+}
+
+// What stands in the way of a start.
+fn check_started(
+    alloc: Global,
+    contents: &PlanContents,
+    key: &OpKey,
+    reported: &Reported,
+    at: Moment,
+) -> Result<(), Refusal>
+    requires contents { AreValidContents contents.now }
+    requires operation { IsReported (plan_of 0 contents.now) key.now reported.now }
+    ensures ok { OnOk result ((clock : ℕ) → AllHold (MayBeStarted (plan_of clock contents.now) at key.now reported.now.operation (Some reported.now.attribute))) }
+    ensures refused { IfErr result (λ r. (r ≡ Refusal.Memory) ⊎ ((clock : ℕ) → FailsPastKeys (MayBeStarted (plan_of clock contents.now) at key.now reported.now.operation (Some reported.now.attribute)) r)) }
+{
+    match reported.attribute {
+        Attr::Automatic => check_started_on_automatic(reported),
+        Attr::StartAndCompletion => check_started_where_reported(
+            alloc, contents, key, reported, at,
+        ),
+        Attr::CompletionOnly | Attr::Nonreporting => Err(Refusal::WrongWorkstation),
+    }
+}
+
+// Where starts are reported, an end or an error may be reported of what is started or undecided.
+fn check_ended_after_start(reported: &Reported) -> Result<(), Refusal>
+    requires { takes (Some reported.now.attribute) ≡ true }
+    ensures ok { OnOk result (MeetsAll reported.now (λ P o. MayBeEnded P o reported.now.operation (Some reported.now.attribute))) }
+    ensures refused { IfErr result (FailsAt reported.now (λ P o. MayBeEnded P o reported.now.operation (Some reported.now.attribute))) }
+{
+    if is_running(reported.status) {
+        Ok(())
+    } else {
+        Err(Refusal::WrongStatus)
+    }
+}
+
+// Where only ends are reported, an end or an error may be reported of what is ready and not held.
+fn check_ended_without_start(reported: &Reported) -> Result<(), Refusal>
+    requires { reported.now.attribute ≡ Attr.CompletionOnly }
+    ensures ok { OnOk result (MeetsAll reported.now (λ P o. MayBeEnded P o reported.now.operation (Some reported.now.attribute))) }
+    ensures refused { IfErr result (FailsAt reported.now (λ P o. MayBeEnded P o reported.now.operation (Some reported.now.attribute))) }
+{
+    if !is_ready(reported.status) {
+        Err(Refusal::WrongStatus)
+    } else if reported.operation.held {
+        Err(Refusal::Held)
+    } else {
+        Ok(())
+    }
+}
+
+// What stands in the way of an end or an error.
+fn check_ended(reported: &Reported) -> Result<(), Refusal>
+    ensures ok { OnOk result (MeetsAll reported.now (λ P o. MayBeEnded P o reported.now.operation (Some reported.now.attribute))) }
+    ensures refused { IfErr result (FailsAt reported.now (λ P o. MayBeEnded P o reported.now.operation (Some reported.now.attribute))) }
+{
+    match reported.attribute {
+        Attr::Automatic | Attr::StartAndCompletion => check_ended_after_start(reported),
+        Attr::CompletionOnly => check_ended_without_start(reported),
+        Attr::Nonreporting => Err(Refusal::WrongWorkstation),
+    }
+}
+
+// An interruption may be reported of what is started where starts are reported.
+fn check_interrupted(reported: &Reported) -> Result<(), Refusal>
+    ensures ok { OnOk result (MeetsAll reported.now (λ P o. MayBeInterrupted P o reported.now.operation)) }
+    ensures refused { IfErr result (FailsAt reported.now (λ P o. MayBeInterrupted P o reported.now.operation)) }
+{
+    if reported.status != Status::Started {
+        Err(Refusal::WrongStatus)
+    } else if reported.attribute != Attr::StartAndCompletion {
+        Err(Refusal::WrongWorkstation)
+    } else {
+        Ok(())
+    }
+}
+
+// An unknown outcome may be reported of what is started.
+fn check_undecided(reported: &Reported) -> Result<(), Refusal>
+    ensures ok { OnOk result (MeetsAll reported.now MayBeUndecided) }
+    ensures refused { IfErr result (FailsAt reported.now MayBeUndecided) }
+{
+    if reported.status == Status::Started {
+        Ok(())
+    } else {
+        Err(Refusal::WrongStatus)
+    }
+}
+
+/// What stands in the way of a request other than a load that is made at a moment, but for that moment; or no memory is
+/// found to tell.
+pub fn check_report(
+    alloc: Global,
+    loaded: &LoadedPlan,
+    what: &What,
+    at: Moment,
+) -> Result<(), Refusal>
+    requires needs { NeedsPlan what.now }
+    requires held { IsHeldAtSome loaded.now }
+    ensures ok { OnOk result ((clock : ℕ) → IsPermitted (plan_of clock loaded.now.contents) at what.now) }
+    ensures refused { IfErr result (λ r. (r ≡ Refusal.Memory) ⊎ ((clock : ℕ) → IsBarred (plan_of clock loaded.now.contents) at what.now r)) }
+{
+    let contents = &loaded.contents;
+    match what {
+        What::Tick => Ok(()),
+        What::Started(key) => {
+            check_started(alloc, contents, key, &reported_of(loaded, key)?, at)
+        }
+        What::Ended(key) | What::Error(key, _) => check_ended(&reported_of(loaded, key)?),
+        What::Interrupted(key) => check_interrupted(&reported_of(loaded, key)?),
+        What::Unknown(key) => check_undecided(&reported_of(loaded, key)?),
+        What::Hold(key) | What::Release(key) | What::Nop(key) | What::Unnop(key) => {
+            check_flagged(&reported_of(loaded, key)?)
+        }
+        What::Rerun(key) => check_rerun(alloc, loaded, key, &reported_of(loaded, key)?),
+        What::Complete(key) => check_completed(&reported_of(loaded, key)?),
+        What::DeleteOccurrence(key) => check_deleted(loaded, key),
+        What::AddOccurrence(addition) => {
+            check_added(alloc, loaded, addition.as_ref().ok_or(Refusal::BadPlan)?)
+        }
+        What::AddDependency(predecessor, successor) => {
+            check_paired(loaded, predecessor, successor)
+        }
+        What::SetAvailable(name, _) => check_available(contents, name),
+        What::ReplaceIntervals(name, intervals) => check_open_by(alloc, contents, name, intervals),
+        What::Load(_) => unreachable!(),
+    }
+}
+
+/// What stands in the way of a load, but for its moment: a plan that is loaded, or a text that denotes none.
+pub fn check_load(loaded: bool, draft: &Option<PlanDraft>) -> Result<(), Refusal>
+    ensures ok { OnOk result ((P : Plan) → P.loaded ≡ loaded → (m : ℕ) → IsPermitted P m (What.Load draft.now)) }
+    ensures refused { IfErr result (λ r. (P : Plan) → P.loaded ≡ loaded → (m : ℕ) → IsBarred P m (What.Load draft.now) r) }
+{
+    if loaded {
+        Err(Refusal::Loaded)
+    } else if draft.is_none() {
+        Err(Refusal::BadPlan)
+    } else {
+        Ok(())
+    }
+}

@@ -1,0 +1,152 @@
+// What stands in the way of an operator's command.
+ghost use Rattle.std.specs.Prelude.{◌≡◌, ◌⊎◌, ℕ, OnOk, IfErr};
+ghost use Rattle.plan_basics.specs.declared.Refusal.{Refusal};
+ghost use Rattle.plan_records.specs.Accepting.{MayBeCompleted, MayBeDeleted, MayBeFlagged, MayBeOpenBy, MayBeRerun, MayBeSetAvailable, AllHold};
+ghost use Rattle.plan_records.specs.Contents.{plan_of, AreValidContents};
+ghost use Rattle.plan_checks.specs.Commanding.{may_be_completed, may_be_rerun, waits_or_is_ready};
+ghost use Rattle.plan_checks.specs.Barring.{FailsAt, FailsPastKeys, IsReported, MeetsAll};
+ghost use Rattle.plan_checks.specs.Held.{IsHeldAtSome};
+
+use super::checks::Reported;
+use super::loaded::LoadedPlan;
+use super::reaching::reached_keys;
+use super::under_way::{is_another_under_way, is_occurrence_under_way};
+use plan_basics::{Interval, OccKey, OpKey, Refusal, ResName, WsName};
+use plan_records::{PlanContents, occurrence_place, resource_place, workstation_place};
+use plan_status::occurrence_status_with;
+use status_rules::{OccStatus, Status};
+use std::alloc::Global;
+
+/// Whether operations of this status wait or are ready.
+pub fn is_waiting_or_ready(status: Status) -> bool
+    ensures { result ≡ waits_or_is_ready status }
+{
+    matches!(
+        status,
+        Status::Waiting | Status::Arriving | Status::ReadyAfterNonreporting | Status::Ready
+    )
+}
+
+// Whether operations of this status may be completed: they are ready, under way or in error.
+fn is_completable(status: Status) -> bool
+    ensures { result ≡ may_be_completed status }
+{
+    matches!(
+        status,
+        Status::Arriving
+            | Status::ReadyAfterNonreporting
+            | Status::Ready
+            | Status::Started
+            | Status::Interrupted
+            | Status::Undecided
+            | Status::Error
+    )
+}
+
+// Whether operations of this status may be run again: they are interrupted, complete, in error or undecided.
+fn is_rerunnable(status: Status) -> bool
+    ensures { result ≡ may_be_rerun status }
+{
+    matches!(
+        status,
+        Status::Interrupted | Status::Complete | Status::Error | Status::Undecided
+    )
+}
+
+/// A hold, a release, a NOP and its end may be commanded of what waits or is ready.
+pub fn check_flagged(reported: &Reported) -> Result<(), Refusal>
+    ensures ok { OnOk result (MeetsAll reported.now MayBeFlagged) }
+    ensures refused { IfErr result (FailsAt reported.now MayBeFlagged) }
+{
+    if is_waiting_or_ready(reported.status) {
+        Ok(())
+    } else {
+        Err(Refusal::WrongStatus)
+    }
+}
+
+/// A completion may be commanded of what is ready, under way or in error, and not held.
+pub fn check_completed(reported: &Reported) -> Result<(), Refusal>
+    ensures ok { OnOk result (MeetsAll reported.now (λ P o. MayBeCompleted P o reported.now.operation)) }
+    ensures refused { IfErr result (FailsAt reported.now (λ P o. MayBeCompleted P o reported.now.operation)) }
+{
+    if !is_completable(reported.status) {
+        Err(Refusal::WrongStatus)
+    } else if reported.operation.held {
+        Err(Refusal::Held)
+    } else {
+        Ok(())
+    }
+}
+
+/// A rerun may be commanded of what is interrupted, complete, in error or undecided, where nothing else that it reaches is
+/// under way.
+pub fn check_rerun(
+    alloc: Global,
+    loaded: &LoadedPlan,
+    key: &OpKey,
+    reported: &Reported,
+) -> Result<(), Refusal>
+    requires held { IsHeldAtSome loaded.now }
+    requires operation { IsReported (plan_of 0 loaded.now.contents) key.now reported.now }
+    ensures ok { OnOk result ((clock : ℕ) → AllHold (MayBeRerun (plan_of clock loaded.now.contents) key.now)) }
+    ensures refused { IfErr result (λ r. (r ≡ Refusal.Memory) ⊎ ((clock : ℕ) → FailsPastKeys (MayBeRerun (plan_of clock loaded.now.contents) key.now) r)) }
+{
+    if !is_rerunnable(reported.status) {
+        return Err(Refusal::WrongStatus);
+    }
+    let reached = reached_keys(alloc, loaded, key)?;
+    if is_another_under_way(loaded, key, &reached) {
+        Err(Refusal::Running)
+    } else {
+        Ok(())
+    }
+}
+
+/// The deletion of an occurrence may be commanded where it isn't deleted, and none of its operations is under way.
+pub fn check_deleted(loaded: &LoadedPlan, occurrence: &OccKey) -> Result<(), Refusal>
+    requires { IsHeldAtSome loaded.now }
+    ensures ok { OnOk result ((clock : ℕ) → AllHold (MayBeDeleted (plan_of clock loaded.now.contents) occurrence.now)) }
+    ensures refused { IfErr result (λ r. (clock : ℕ) → FailsPastKeys (MayBeDeleted (plan_of clock loaded.now.contents) occurrence.now) r) }
+{
+    let contents = &loaded.contents;
+    let place = occurrence_place(&contents.occurrences, occurrence).ok_or(
+        Refusal::UnknownOccurrence,
+    )?;
+    if occurrence_status_with(loaded.tallies[place]) == OccStatus::Deleted {
+        return Err(Refusal::WrongStatus);
+    }
+    if is_occurrence_under_way(loaded, occurrence) {
+        Err(Refusal::Running)
+    } else {
+        Ok(())
+    }
+}
+
+/// Whether a special resource is available may be told of one in the plan.
+pub fn check_available(contents: &PlanContents, name: &ResName) -> Result<(), Refusal>
+    requires { AreValidContents contents.now }
+    ensures ok { OnOk result ((clock : ℕ) → AllHold (MayBeSetAvailable (plan_of clock contents.now) name.now)) }
+    ensures refused { IfErr result (λ r. (clock : ℕ) → FailsPastKeys (MayBeSetAvailable (plan_of clock contents.now) name.now) r) }
+{
+    match resource_place(&contents.resources, name) {
+        Some(_) => Ok(()),
+        None => Err(Refusal::UnknownResource),
+    }
+}
+
+/// The open intervals may be replaced of a workstation in the plan: by 400 at most, of which no two overlap.
+pub fn check_open_by(
+    alloc: Global,
+    contents: &PlanContents,
+    name: &WsName,
+    intervals: &[Interval],
+) -> Result<(), Refusal>
+    requires { AreValidContents contents.now }
+    ensures ok { OnOk result ((clock : ℕ) → AllHold (MayBeOpenBy (plan_of clock contents.now) name.now intervals.now)) }
+    ensures refused { IfErr result (λ r. (r ≡ Refusal.Memory) ⊎ ((clock : ℕ) → FailsPastKeys (MayBeOpenBy (plan_of clock contents.now) name.now intervals.now) r)) }
+{
+    let place = workstation_place(&contents.workstations, name).ok_or(Refusal::UnknownWorkstation)?;
+    let mut workstation = contents.workstations[place].try_clone()?;
+    workstation.replace_intervals(Vec::from_slice(alloc, intervals)?)
+}

@@ -1,0 +1,105 @@
+// Whether the plan has what an occurrence that comes in names.
+ghost use Rattle.std.specs.Prelude.{◌≡◌, Decides};
+ghost use Rattle.plan_basics.specs.declared.Refusal.{Refusal};
+ghost use Rattle.plan_records.specs.Accepting.{MayBeAdded};
+ghost use Rattle.plan_records.specs.Contents.{plan_of, incoming, AreAdditionParts, AreContents};
+ghost use Rattle.plan_checks.specs.Adding.{HasResources, HasWorkstation, IsKnown, IsKnownPair};
+
+use plan_basics::OpKey;
+use plan_model::OperationRecord;
+use plan_records::{
+    NewOccurrence, PlanContents, occurrence_place, place_of, resource_place, workstation_place,
+};
+
+// Whether an operation comes in, or is one of the plan's other occurrences.
+fn is_known(contents: &PlanContents, parts: &NewOccurrence, key: &OpKey) -> bool
+    requires in_order { AreContents contents.now }
+    requires parts { AreAdditionParts parts.now }
+    ensures { Decides result (IsKnown (plan_of 0 contents.now) (incoming parts.now) key.now) }
+{
+    if key.occurrence == parts.key {
+        place_of(&parts.operations, key).is_some()
+    } else {
+        place_of(&contents.operations, key).is_some()
+    }
+}
+
+// Whether both ends of a pair are.
+fn is_known_pair(contents: &PlanContents, parts: &NewOccurrence, pair: &(OpKey, OpKey)) -> bool
+    requires in_order { AreContents contents.now }
+    requires parts { AreAdditionParts parts.now }
+    ensures { Decides result (IsKnownPair (plan_of 0 contents.now) (incoming parts.now) pair.now) }
+{
+    is_known(contents, parts, &pair.0) && is_known(contents, parts, &pair.1)
+}
+
+/// Whether all operations that pairs name come in or are there.
+pub fn are_ends_known(contents: &PlanContents, parts: &NewOccurrence) -> bool
+    requires in_order { AreContents contents.now }
+    requires parts { AreAdditionParts parts.now }
+    ensures { Decides result (MayBeAdded (plan_of 0 contents.now) (incoming parts.now) Refusal.UnknownOperation) }
+{
+    for pair in &parts.pairs {
+        if !is_known_pair(contents, parts, pair) {
+            return false;
+        }
+    }
+    true
+}
+
+// Whether the operation's workstation is in the plan.
+fn has_workstation(contents: &PlanContents, operation: &OperationRecord) -> bool
+    requires { AreContents contents.now }
+    ensures { Decides result (HasWorkstation (plan_of 0 contents.now) operation.now) }
+{
+    workstation_place(&contents.workstations, &operation.workstation).is_some()
+}
+
+/// Whether the workstations of all operations that come in are.
+pub fn are_workstations_known(contents: &PlanContents, parts: &NewOccurrence) -> bool
+    requires in_order { AreContents contents.now }
+    requires parts { AreAdditionParts parts.now }
+    ensures { Decides result (MayBeAdded (plan_of 0 contents.now) (incoming parts.now) Refusal.UnknownWorkstation) }
+{
+    for row in &parts.operations {
+        if !has_workstation(contents, &row.1) {
+            return false;
+        }
+    }
+    true
+}
+
+// Whether the special resources that the operation needs are in the plan.
+fn has_resources(contents: &PlanContents, operation: &OperationRecord) -> bool
+    requires { AreContents contents.now }
+    ensures { Decides result (HasResources (plan_of 0 contents.now) operation.now) }
+{
+    for need in operation.needs.as_slice() {
+        if resource_place(&contents.resources, &need.name).is_none() {
+            return false;
+        }
+    }
+    true
+}
+
+/// Whether those of all operations that come in are.
+pub fn are_resources_known(contents: &PlanContents, parts: &NewOccurrence) -> bool
+    requires in_order { AreContents contents.now }
+    requires parts { AreAdditionParts parts.now }
+    ensures { Decides result (MayBeAdded (plan_of 0 contents.now) (incoming parts.now) Refusal.UnknownResource) }
+{
+    for row in &parts.operations {
+        if !has_resources(contents, &row.1) {
+            return false;
+        }
+    }
+    true
+}
+
+/// Whether the plan has no occurrence of its key.
+pub fn is_new_occurrence(contents: &PlanContents, parts: &NewOccurrence) -> bool
+    requires { AreContents contents.now }
+    ensures { Decides result (MayBeAdded (plan_of 0 contents.now) (incoming parts.now) Refusal.Duplicate) }
+{
+    occurrence_place(&contents.occurrences, &parts.key).is_none()
+}
