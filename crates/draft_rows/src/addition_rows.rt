@@ -2,7 +2,6 @@
 use super::lines::{addition_of, check_no_additions, records, with_needs};
 use super::named::{need_of_file, operation};
 use special_resources::Mode;
-use std::test::Fail;
 
 // An occurrence of one operation, which needs a special resource and follows an operation of another occurrence.
 const BILLING: &str = "D,PAYROLL,2024-03-01T22:00,40,BILLING,2024-03-01T22:00,10,,,
@@ -25,9 +24,9 @@ a need twice||N,BILLING,2024-03-01T22:00,10,CUSTFILE,S,F,,,
 ";
 
 #[test]
-fn builds_billing(rt: HostRuntime) -> Result<(), Fail> {
-    let text = records(&rt, rt.alloc(), BILLING, "", "")?;
-    let addition = addition_of(text)?.ok_or("no addition")?;
+fn builds_billing(rt: HostRuntime) {
+    let text = records(&rt, rt.alloc(), BILLING, "", "");
+    let addition = addition_of(&rt, text).expect(&rt, "an addition");
     let parts = addition.parts();
     let first = operation(&rt, b"BILLING/2024-03-01T22:00/010");
     let last = operation(&rt, b"PAYROLL/2024-03-01T22:00/040");
@@ -35,29 +34,27 @@ fn builds_billing(rt: HostRuntime) -> Result<(), Fail> {
     assert_eq!(rt; parts.terms.priority, 5);
     assert!(rt; parts.pairs.as_slice() == [(last, first)].as_slice());
     let [(key, row)] = parts.operations.as_slice() else {
-        return Err("one operation")?;
+        panic!(rt; "one operation");
     };
     assert!(rt; *key == first);
     assert_eq!(rt; row.duration, 30);
     assert!(rt; row.deadline == parts.terms.deadline);
     let need = need_of_file(&rt, Mode::Shared, false);
     assert!(rt; row.needs.as_slice() == [need].as_slice());
-    Ok(())
 }
 
 #[test]
-fn records_that_denote_no_addition(rt: HostRuntime) -> Result<(), Fail> {
-    check_no_additions(&rt, rt.alloc(), BILLING, OTHERS)
+fn records_that_denote_no_addition(rt: HostRuntime) {
+    check_no_additions(&rt, rt.alloc(), BILLING, OTHERS);
 }
 
 #[test]
-fn takes_sixteen_needs(rt: HostRuntime) -> Result<(), Fail> {
+fn takes_sixteen_needs(rt: HostRuntime) {
     let alloc = rt.alloc();
-    let text = with_needs(alloc, BILLING, 15)?;
-    let full = addition_of(records(&rt, alloc, &text, "", "")?)?;
+    let text = with_needs(alloc, BILLING, 15).expect(&rt, "memory");
+    let full = addition_of(&rt, records(&rt, alloc, &text, "", ""));
     assert!(rt; full.is_some(), "16 needs");
-    let text = with_needs(alloc, BILLING, 16)?;
-    let above = addition_of(records(&rt, alloc, &text, "", "")?)?;
+    let text = with_needs(alloc, BILLING, 16).expect(&rt, "memory");
+    let above = addition_of(&rt, records(&rt, alloc, &text, "", ""));
     assert!(rt; above.is_none(), "17 needs");
-    Ok(())
 }

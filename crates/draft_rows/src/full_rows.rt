@@ -2,7 +2,6 @@
 use super::lines::{draft, is_plan, push_between, push_lines, push_number, with_lines};
 use std::alloc::{AllocError, Global};
 use std::ops::Range;
-use std::test::Fail;
 
 // A workstation, its interval and an occurrence.
 const OCCURRENCE: &str = "W,CPU1,A,,,,,,,
@@ -19,17 +18,18 @@ fn push_pairs_to(alloc: Global, text: &mut String, later: u16) -> Result<(), All
 
 // The most that one occurrence can hold: 255 operations, and each pair of them that ascends.
 #[test]
-fn builds_a_full_occurrence(rt: HostRuntime) -> Result<(), Fail> {
+fn builds_a_full_occurrence(rt: HostRuntime) {
     let alloc = rt.alloc();
     let front = "P,PAYROLL,2024-03-01T22:00,";
-    let mut text = with_lines(alloc, OCCURRENCE, front, 1..256, ",CPU1,1,0,0,,\n")?;
+    let mut text = with_lines(alloc, OCCURRENCE, front, 1..256, ",CPU1,1,0,0,,\n").expect(
+        &rt, "memory",
+    );
     for later in 1..256 {
-        push_pairs_to(alloc, &mut text, later)?;
+        push_pairs_to(alloc, &mut text, later).expect(&rt, "memory");
     }
-    let draft = draft(&rt, alloc, &text)?;
+    let draft = draft(&rt, alloc, &text);
     assert_eq!(rt; draft.contents().operations.len(), 255);
     assert_eq!(rt; draft.contents().pairs.len(), 32_385);
-    Ok(())
 }
 
 // A workstation and its interval.
@@ -84,21 +84,19 @@ fn crowd(alloc: Global, applications: Range<u16>, each: u16) -> Result<String, A
 
 // The most occurrences and operations that a plan can hold.
 #[test]
-fn builds_a_full_plan(rt: HostRuntime) -> Result<(), Fail> {
-    let text = crowd(rt.alloc(), 1_000..6_000, 4)?;
-    let draft = draft(&rt, rt.alloc(), &text)?;
+fn builds_a_full_plan(rt: HostRuntime) {
+    let text = crowd(rt.alloc(), 1_000..6_000, 4).expect(&rt, "memory");
+    let draft = draft(&rt, rt.alloc(), &text);
     assert_eq!(rt; draft.contents().occurrences.len(), 5_000);
     assert_eq!(rt; draft.contents().operations.len(), 20_000);
     assert_eq!(rt; draft.contents().pairs.len(), 99_940);
-    Ok(())
 }
 
 // The most occurrences, and one more.
 #[test]
-fn takes_no_more_occurrences(rt: HostRuntime) -> Result<(), Fail> {
-    let full = crowd(rt.alloc(), 1_000..6_000, 1)?;
-    assert!(rt; is_plan(&rt, rt.alloc(), &full)?, "5,000 occurrences");
-    let above = crowd(rt.alloc(), 1_000..6_001, 1)?;
-    assert!(rt; !is_plan(&rt, rt.alloc(), &above)?, "5,001 occurrences");
-    Ok(())
+fn takes_no_more_occurrences(rt: HostRuntime) {
+    let full = crowd(rt.alloc(), 1_000..6_000, 1).expect(&rt, "memory");
+    assert!(rt; is_plan(&rt, rt.alloc(), &full), "5,000 occurrences");
+    let above = crowd(rt.alloc(), 1_000..6_001, 1).expect(&rt, "memory");
+    assert!(rt; !is_plan(&rt, rt.alloc(), &above), "5,001 occurrences");
 }

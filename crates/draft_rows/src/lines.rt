@@ -4,17 +4,27 @@ use std::alloc::{AllocError, Global};
 use std::array;
 use std::ops::Range;
 use std::process::Abort;
-use std::test::Fail;
 
 // The fields of a line without quotes.
-fn record(rt: &impl Abort, alloc: Global, line: &str) -> Result<Record, AllocError> {
-    assert_eq!(rt; line.split(',').count(), 10, "fields of {line}");
+fn record(alloc: Global, line: &str) -> Result<Record, AllocError> {
     array::try_from_fn(|place| line
         .split(',')
         .nth(place)
         .unwrap_or("")
         .as_bytes()
         .to_vec(alloc))
+}
+
+// One more record, of a line.
+fn push_record(
+    rt: &impl Abort,
+    alloc: Global,
+    records: &mut Vec<Record>,
+    line: &str,
+) -> Result<(), AllocError> {
+    assert_eq!(rt; line.split(',').count(), 10, "fields of {line}");
+    records.push(record(alloc, line)?)?;
+    Ok(())
 }
 
 // The records of a text's lines, without the line `left_out`, and with another at the end.
@@ -24,37 +34,37 @@ pub fn records(
     text: &str,
     left_out: &str,
     added: &str,
-) -> Result<Vec<Record>, AllocError> {
+) -> Vec<Record> {
     let mut records = Vec::new(alloc);
     for line in text.lines() {
         if line != left_out {
-            records.push(record(rt, alloc, line)?)?;
+            push_record(rt, alloc, &mut records, line).expect(rt, "memory");
         }
     }
     if !added.is_empty() {
-        records.push(record(rt, alloc, added)?)?;
+        push_record(rt, alloc, &mut records, added).expect(rt, "memory");
     }
-    Ok(records)
+    records
 }
 
 // The plan that records denote, if they denote one.
-pub fn draft_of(records: Vec<Record>) -> Result<Option<PlanDraft>, Fail> {
-    Ok(PlanDraft::build(records).ok().ok_or("no memory")?)
+pub fn draft_of(rt: &impl Abort, records: Vec<Record>) -> Option<PlanDraft> {
+    PlanDraft::build(records).expect(rt, "memory")
 }
 
 // The plan of a text's lines.
-pub fn draft(rt: &impl Abort, alloc: Global, text: &str) -> Result<PlanDraft, Fail> {
-    Ok(draft_of(records(rt, alloc, text, "", "")?)?.ok_or("no draft")?)
+pub fn draft(rt: &impl Abort, alloc: Global, text: &str) -> PlanDraft {
+    draft_of(rt, records(rt, alloc, text, "", "")).expect(rt, "a draft")
 }
 
 // Whether the lines of a text denote a plan.
-pub fn is_plan(rt: &impl Abort, alloc: Global, text: &str) -> Result<bool, Fail> {
-    Ok(draft_of(records(rt, alloc, text, "", "")?)?.is_some())
+pub fn is_plan(rt: &impl Abort, alloc: Global, text: &str) -> bool {
+    draft_of(rt, records(rt, alloc, text, "", "")).is_some()
 }
 
 // The occurrence that records denote, if they denote one.
-pub fn addition_of(records: Vec<Record>) -> Result<Option<Addition>, Fail> {
-    Ok(Addition::build(records).ok().ok_or("no memory")?)
+pub fn addition_of(rt: &impl Abort, records: Vec<Record>) -> Option<Addition> {
+    Addition::build(records).expect(rt, "memory")
 }
 
 // One of the parts of a line, with bars between them.
@@ -63,12 +73,7 @@ pub fn part(line: &str, place: usize) -> &str {
 }
 
 // The records of a text's lines in a case: what it is, the line that is left out, and the line that is added.
-fn records_in(
-    rt: &impl Abort,
-    alloc: Global,
-    text: &str,
-    case: &str,
-) -> Result<Vec<Record>, AllocError> {
+fn records_in(rt: &impl Abort, alloc: Global, text: &str, case: &str) -> Vec<Record> {
     assert_eq!(rt; case.split('|').count(), 3, "parts of {case}");
     let left_out = part(case, 1);
     let is_there = text.lines().any(|line| line == left_out);
@@ -77,32 +82,19 @@ fn records_in(
 }
 
 // The lines of a text denote a plan in each of these cases, or in none of them.
-pub fn check_plans(
-    rt: &impl Abort,
-    alloc: Global,
-    text: &str,
-    cases: &str,
-    fits: bool,
-) -> Result<(), Fail> {
+pub fn check_plans(rt: &impl Abort, alloc: Global, text: &str, cases: &str, fits: bool) {
     for case in cases.lines() {
-        let found = draft_of(records_in(rt, alloc, text, case)?)?;
+        let found = draft_of(rt, records_in(rt, alloc, text, case));
         assert_eq!(rt; found.is_some(), fits, "{case}");
     }
-    Ok(())
 }
 
 // The lines of a text denote no occurrence in each of these cases.
-pub fn check_no_additions(
-    rt: &impl Abort,
-    alloc: Global,
-    text: &str,
-    cases: &str,
-) -> Result<(), Fail> {
+pub fn check_no_additions(rt: &impl Abort, alloc: Global, text: &str, cases: &str) {
     for case in cases.lines() {
-        let found = addition_of(records_in(rt, alloc, text, case)?)?;
+        let found = addition_of(rt, records_in(rt, alloc, text, case));
         assert!(rt; found.is_none(), "{case}");
     }
-    Ok(())
 }
 
 fn push_digit(text: &mut String, number: u16) -> Result<(), AllocError> {

@@ -6,9 +6,8 @@ use plan_import::read_occurrence;
 use plan_model::{Occurrence, OperationRecord};
 use plan_records::Addition;
 use special_resources::Mode;
-use std::alloc::Global;
+use std::alloc::{AllocError, Global};
 use std::process::Abort;
-use std::test::Fail;
 
 // An occurrence of one operation, which needs a special resource.
 const BILLING: &str = "O,BILLING,2024-03-01T22:00,5,2024-03-02T03:00,,,,,
@@ -16,9 +15,14 @@ P,BILLING,2024-03-01T22:00,10,CPU1,30,0,0,,
 N,BILLING,2024-03-01T22:00,10,CUSTFILE,S,F,,,
 ";
 
-fn read(alloc: Global, text: &[u8]) -> Result<Addition, Fail> {
+// The occurrence of a text, if it denotes one.
+fn found(rt: &impl Abort, alloc: Global, text: &[u8]) -> Option<Addition> {
     let mut reader = Watched::new(text);
-    Ok(read_occurrence(alloc, &mut reader)?.ok_or("no addition")?)
+    read_occurrence(alloc, &mut reader).expect(rt, "an answer")
+}
+
+fn read(rt: &impl Abort, alloc: Global, text: &[u8]) -> Addition {
+    found(rt, alloc, text).expect(rt, "an addition")
 }
 
 // The operation of BILLING, with all that its records say.
@@ -32,12 +36,7 @@ fn check_operation(rt: &impl Abort, row: &OperationRecord, what: &str) {
 }
 
 // BILLING, with these pairs.
-fn check_billing(
-    rt: &impl Abort,
-    addition: &Addition,
-    pairs: &[(OpKey, OpKey)],
-    what: &str,
-) -> Result<(), Fail> {
+fn check_billing(rt: &impl Abort, addition: &Addition, pairs: &[(OpKey, OpKey)], what: &str) {
     let parts = addition.parts();
     let first = operation(rt, b"BILLING/2024-03-01T22:00/010");
     assert!(rt; parts.key == first.occurrence, "{what}");
@@ -48,17 +47,16 @@ fn check_billing(
     assert!(rt; parts.terms == terms, "{what}");
     assert!(rt; parts.pairs.as_slice() == pairs, "{what}");
     let [(key, row)] = parts.operations.as_slice() else {
-        return Err("one operation")?;
+        panic!(rt; "one operation");
     };
     assert!(rt; *key == first, "{what}");
     check_operation(rt, row, what);
-    Ok(())
 }
 
 #[test]
-fn reads_billing(rt: HostRuntime) -> Result<(), Fail> {
-    let addition = read(rt.alloc(), BILLING.as_bytes())?;
-    check_billing(&rt, &addition, &[], "O, P, N")
+fn reads_billing(rt: HostRuntime) {
+    let addition = read(&rt, rt.alloc(), BILLING.as_bytes());
+    check_billing(&rt, &addition, &[], "O, P, N");
 }
 
 // The same occurrence, its records in each other order.
@@ -71,13 +69,12 @@ N, P, O|N,BILLING,2024-03-01T22:00,10,CUSTFILE,S,F,,,|P,BILLING,2024-03-01T22:00
 ";
 
 #[test]
-fn reads_the_same_in_other_orders(rt: HostRuntime) -> Result<(), Fail> {
+fn reads_the_same_in_other_orders(rt: HostRuntime) {
     for case in ORDERS.lines() {
-        let text = text_of(rt.alloc(), "", case)?;
-        let addition = read(rt.alloc(), text.as_bytes())?;
-        check_billing(&rt, &addition, &[], case)?;
+        let text = text_of(rt.alloc(), "", case).expect(&rt, "memory");
+        let addition = read(&rt, rt.alloc(), text.as_bytes());
+        check_billing(&rt, &addition, &[], case);
     }
-    Ok(())
 }
 
 // The same, with other ends of lines.
@@ -93,9 +90,22 @@ P,BILLING,2024-03-01T22:00,10,CPU1,30,0,0,,
 N,BILLING,2024-03-01T22:00,10,CUSTFILE,S,F,,,";
 
 #[test]
-fn reads_the_same_with_other_ends_of_lines(rt: HostRuntime) -> Result<(), Fail> {
-    check_billing(&rt, &read(rt.alloc(), RETURNS)?, &[], "CR LF")?;
-    check_billing(&rt, &read(rt.alloc(), MARKED)?, &[], "a byte order mark")
+fn reads_the_same_with_other_ends_of_lines(rt: HostRuntime) {
+    check_billing(&rt, &read(&rt, rt.alloc(), RETURNS), &[], "CR LF");
+    check_billing(
+        &rt,
+        &read(&rt, rt.alloc(), MARKED),
+        &[],
+        "a byte order mark",
+    );
+}
+
+// A text with a line before it.
+fn with_line(alloc: Global, line: &str, text: &str) -> Result<String, AllocError> {
+    let mut all = String::from_str(alloc, line)?;
+    all.push('\n')?;
+    all.push_str(text)?;
+    Ok(all)
 }
 
 // A pair before it: the record, the predecessor and the successor. Whether a path returns is for the plan to tell.
@@ -106,17 +116,14 @@ D,BILLING,2024-03-01T22:00,10,BILLING,2024-03-01T22:00,10,,,|BILLING/2024-03-01T
 ";
 
 #[test]
-fn reads_its_pair(rt: HostRuntime) -> Result<(), Fail> {
+fn reads_its_pair(rt: HostRuntime) {
     for line in PAIRS.lines() {
-        let mut text = String::from_str(rt.alloc(), part(line, 0))?;
-        text.push('\n')?;
-        text.push_str(BILLING)?;
+        let text = with_line(rt.alloc(), part(line, 0), BILLING).expect(&rt, "memory");
         let first = operation(&rt, part(line, 1).as_bytes());
         let second = operation(&rt, part(line, 2).as_bytes());
-        let addition = read(rt.alloc(), text.as_bytes())?;
-        check_billing(&rt, &addition, &[(first, second)], line)?;
+        let addition = read(&rt, rt.alloc(), text.as_bytes());
+        check_billing(&rt, &addition, &[(first, second)], line);
     }
-    Ok(())
 }
 
 // Two operations with a pair between them and two needs, from the greatest key down.
@@ -130,47 +137,43 @@ O,BILLING,2024-03-01T22:00,7,2024-03-02T03:00,,,,,
 ";
 
 #[test]
-fn reads_operations_and_pairs_in_order(rt: HostRuntime) -> Result<(), Fail> {
-    let addition = read(rt.alloc(), DESCENDING)?;
+fn reads_operations_and_pairs_in_order(rt: HostRuntime) {
+    let addition = read(&rt, rt.alloc(), DESCENDING);
     let parts = addition.parts();
     let first = operation(&rt, b"BILLING/2024-03-01T22:00/010");
     let second = operation(&rt, b"BILLING/2024-03-01T22:00/020");
     let last = operation(&rt, b"PAYROLL/2024-03-01T22:00/040");
     assert!(rt; parts.pairs.as_slice() == [(first, second), (second, last)].as_slice());
     let [(early, row), (late, _)] = parts.operations.as_slice() else {
-        return Err("two operations")?;
+        panic!(rt; "two operations");
     };
     assert!(rt; *early == first && *late == second);
     assert!(rt; row.workstation == workstation(&rt, b"SETP"));
     assert!(rt; row.deadline == parts.terms.deadline && row.needs.as_slice().is_empty());
-    Ok(())
 }
 
 #[test]
-fn reads_each_field(rt: HostRuntime) -> Result<(), Fail> {
-    let addition = read(rt.alloc(), DESCENDING)?;
+fn reads_each_field(rt: HostRuntime) {
+    let addition = read(&rt, rt.alloc(), DESCENDING);
     let [_, (_, row)] = addition.parts().operations.as_slice() else {
-        return Err("two operations")?;
+        panic!(rt; "two operations");
     };
     assert_eq!(rt; (row.duration, row.r1, row.r2), (45, 1, 2));
     assert!(rt; row.not_before == moment(&rt, b"2024-03-01T23:00"));
     assert!(rt; row.deadline == moment(&rt, b"2024-03-02T02:00"));
     let [file, tape] = row.needs.as_slice() else {
-        return Err("two needs")?;
+        panic!(rt; "two needs");
     };
     assert!(rt; file.name == resource(&rt, b"CUSTFILE") && tape.name == resource(&rt, b"TAPE"));
     assert!(rt; tape.mode == Mode::Exclusive && tape.keep);
-    Ok(())
 }
 
 // Each case, which stands behind the same lines, denotes nothing.
-fn check_none(rt: &impl Abort, alloc: Global, front: &str, cases: &str) -> Result<(), Fail> {
+fn check_none(rt: &impl Abort, alloc: Global, front: &str, cases: &str) {
     for case in cases.lines() {
-        let text = text_of(alloc, front, case)?;
-        let mut reader = Watched::new(text.as_bytes());
-        assert!(rt; read_occurrence(alloc, &mut reader)?.is_none(), "{case}");
+        let text = text_of(alloc, front, case).expect(rt, "memory");
+        assert!(rt; found(rt, alloc, text.as_bytes()).is_none(), "{case}");
     }
-    Ok(())
 }
 
 // Whole texts.
@@ -183,8 +186,8 @@ a kind of record that there isn't|O,BILLING,2024-03-01T22:00,5,2024-03-02T03:00,
 ";
 
 #[test]
-fn texts_of_no_occurrence(rt: HostRuntime) -> Result<(), Fail> {
-    check_none(&rt, rt.alloc(), "", NO_OCCURRENCE)
+fn texts_of_no_occurrence(rt: HostRuntime) {
+    check_none(&rt, rt.alloc(), "", NO_OCCURRENCE);
 }
 
 // Records after BILLING's that are of another occurrence, or of the plan.
@@ -199,8 +202,8 @@ an N of another occurrence|N,PAYROLL,2024-03-01T22:00,20,CUSTFILE,X,K,,,
 ";
 
 #[test]
-fn records_of_others(rt: HostRuntime) -> Result<(), Fail> {
-    check_none(&rt, rt.alloc(), BILLING, OF_OTHERS)
+fn records_of_others(rt: HostRuntime) {
+    check_none(&rt, rt.alloc(), BILLING, OF_OTHERS);
 }
 
 // Records after BILLING's that name what they may not.
@@ -213,8 +216,8 @@ an N of an operation that no P defines|N,BILLING,2024-03-01T22:00,20,CUSTFILE,S,
 ";
 
 #[test]
-fn records_that_name_others(rt: HostRuntime) -> Result<(), Fail> {
-    check_none(&rt, rt.alloc(), BILLING, NAMING)
+fn records_that_name_others(rt: HostRuntime) {
+    check_none(&rt, rt.alloc(), BILLING, NAMING);
 }
 
 // Records after BILLING's, of which two have one key.
@@ -227,20 +230,19 @@ the same D|D,PAYROLL,2024-03-01T22:00,40,BILLING,2024-03-01T22:00,10,,,|D,PAYROL
 ";
 
 #[test]
-fn records_given_twice(rt: HostRuntime) -> Result<(), Fail> {
-    check_none(&rt, rt.alloc(), BILLING, TWICE)
+fn records_given_twice(rt: HostRuntime) {
+    check_none(&rt, rt.alloc(), BILLING, TWICE);
 }
 
 #[test]
-fn sixteen_needs_and_no_more(rt: HostRuntime) -> Result<(), Fail> {
+fn sixteen_needs_and_no_more(rt: HostRuntime) {
     let alloc = rt.alloc();
-    let full = read(alloc, with_needs(alloc, BILLING, 15)?.as_bytes())?;
+    let text = with_needs(alloc, BILLING, 15).expect(&rt, "memory");
+    let full = read(&rt, alloc, text.as_bytes());
     let [(_, row)] = full.parts().operations.as_slice() else {
-        return Err("one operation")?;
+        panic!(rt; "one operation");
     };
     assert_eq!(rt; row.needs.as_slice().len(), 16);
-    let text = with_needs(alloc, BILLING, 16)?;
-    let above = read_occurrence(alloc, &mut Watched::new(text.as_bytes()))?;
-    assert!(rt; above.is_none());
-    Ok(())
+    let text = with_needs(alloc, BILLING, 16).expect(&rt, "memory");
+    assert!(rt; found(&rt, alloc, text.as_bytes()).is_none());
 }

@@ -6,7 +6,6 @@ use plan_model::{Occurrence, OperationRecord};
 use plan_records::Record;
 use status_rules::Mark;
 use std::process::Abort;
-use std::test::Fail;
 
 // A day of one automatic workstation: one occurrence, two operations and their pair, in no order.
 const DAY: &str = "P,PAYROLL,2024-03-01T22:00,20,CPU1,60,0,0,,
@@ -39,15 +38,15 @@ fn check_times(rt: &impl Abort, early: &OperationRecord, late: &OperationRecord,
 }
 
 #[test]
-fn builds_the_day(rt: HostRuntime) -> Result<(), Fail> {
-    let draft = draft(&rt, rt.alloc(), DAY)?;
+fn builds_the_day(rt: HostRuntime) {
+    let draft = draft(&rt, rt.alloc(), DAY);
     let contents = draft.contents();
     let first = operation(&rt, b"PAYROLL/2024-03-01T22:00/010");
     let second = operation(&rt, b"PAYROLL/2024-03-01T22:00/020");
     let deadline = moment(&rt, b"2024-03-02T05:00");
     let cpu = workstation(&rt, b"CPU1");
     let [workstation] = contents.workstations.as_slice() else {
-        return Err("one workstation")?;
+        panic!(rt; "one workstation");
     };
     assert!(rt; workstation.name() == cpu);
     let terms = Occurrence {
@@ -57,13 +56,12 @@ fn builds_the_day(rt: HostRuntime) -> Result<(), Fail> {
     assert!(rt; contents.occurrences.as_slice() == [(first.occurrence, terms)].as_slice());
     assert!(rt; contents.pairs.as_slice() == [(first, second)].as_slice());
     let [(a, early), (b, late)] = contents.operations.as_slice() else {
-        return Err("two operations")?;
+        panic!(rt; "two operations");
     };
     assert!(rt; *a == first && *b == second);
     assert!(rt; early.workstation == cpu && late.workstation == cpu);
     check_times(&rt, early, late, deadline.minute());
     assert!(rt; early.mark == Mark::Unmarked && !early.held && !early.nop);
-    Ok(())
 }
 
 // The night's occurrences, in key order.
@@ -82,12 +80,12 @@ fn check_terms(rt: &impl Abort, occurrences: &[(OccKey, Occurrence)]) {
 }
 
 // The contents of the night.
-fn check_night(rt: &impl Abort, text: Vec<Record>) -> Result<(), Fail> {
-    let draft = draft_of(text)?.ok_or("no draft")?;
+fn check_night(rt: &impl Abort, text: Vec<Record>) {
+    let draft = draft_of(rt, text).expect(rt, "a draft");
     let contents = draft.contents();
     check_terms(rt, &contents.occurrences);
     let [(a, first), (b, second), (c, third)] = contents.operations.as_slice() else {
-        return Err("three operations")?;
+        panic!(rt; "three operations");
     };
     assert!(rt; *a == operation(rt, b"BILLING/2024-03-01T23:00/010"));
     assert!(rt; *b == operation(rt, b"BILLING/2024-03-01T23:00/020"));
@@ -100,30 +98,28 @@ fn check_night(rt: &impl Abort, text: Vec<Record>) -> Result<(), Fail> {
     let late = moment(rt, b"2024-03-02T05:00");
     assert!(rt; third.deadline == late, "the deadline of PAYROLL");
     assert!(rt; contents.pairs.as_slice() == [(*b, *c)].as_slice());
-    Ok(())
 }
 
 #[test]
-fn builds_two_occurrences_from_records_in_any_order(rt: HostRuntime) -> Result<(), Fail> {
-    let mut text = records(&rt, rt.alloc(), NIGHT, "", "")?;
+fn builds_two_occurrences_from_records_in_any_order(rt: HostRuntime) {
+    let mut text = records(&rt, rt.alloc(), NIGHT, "", "");
     text.reverse();
-    check_night(&rt, text)?;
-    check_night(&rt, records(&rt, rt.alloc(), NIGHT, "", "")?)
+    check_night(&rt, text);
+    check_night(&rt, records(&rt, rt.alloc(), NIGHT, "", ""));
 }
 
 // A pair that leads back to the first operation of the other occurrence.
 const BACK: &str = "D,PAYROLL,2024-03-01T22:00,10,BILLING,2024-03-01T23:00,10,,,";
 
 #[test]
-fn builds_pairs_that_lead_either_way(rt: HostRuntime) -> Result<(), Fail> {
-    let text = records(&rt, rt.alloc(), NIGHT, "", BACK)?;
-    let draft = draft_of(text)?.ok_or("no draft")?;
+fn builds_pairs_that_lead_either_way(rt: HostRuntime) {
+    let text = records(&rt, rt.alloc(), NIGHT, "", BACK);
+    let draft = draft_of(&rt, text).expect(&rt, "a draft");
     let contents = draft.contents();
     let [(a, _), (b, _), (c, _)] = contents.operations.as_slice() else {
-        return Err("three operations")?;
+        panic!(rt; "three operations");
     };
     assert!(rt; contents.pairs.as_slice() == [(*b, *c), (*c, *a)].as_slice());
-    Ok(())
 }
 
 // The day's pair is left out, and added the other way.
@@ -131,8 +127,8 @@ const TURNED: &str =
     "one descending pair|D,PAYROLL,2024-03-01T22:00,10,PAYROLL,2024-03-01T22:00,20,,,|D,PAYROLL,2024-03-01T22:00,20,PAYROLL,2024-03-01T22:00,10,,,";
 
 #[test]
-fn builds_a_descending_pair_alone(rt: HostRuntime) -> Result<(), Fail> {
-    check_plans(&rt, rt.alloc(), DAY, TURNED, true)
+fn builds_a_descending_pair_alone(rt: HostRuntime) {
+    check_plans(&rt, rt.alloc(), DAY, TURNED, true);
 }
 
 // What is wrong, the line that the night is without, and the line that is added to it.
@@ -147,8 +143,8 @@ a closed path across occurrences||D,PAYROLL,2024-03-01T22:00,10,BILLING,2024-03-
 ";
 
 #[test]
-fn refuses_occurrences_that_do_not_fit(rt: HostRuntime) -> Result<(), Fail> {
-    check_plans(&rt, rt.alloc(), NIGHT, MISFITS, false)
+fn refuses_occurrences_that_do_not_fit(rt: HostRuntime) {
+    check_plans(&rt, rt.alloc(), NIGHT, MISFITS, false);
 }
 
 // What is wrong, the line that the day is without, and the line that is added to it.
@@ -180,9 +176,8 @@ I,CPU1,2024-03-01T22:00,2024-03-02T06:00,2,3,0,,,
 ";
 
 #[test]
-fn refuses_what_is_no_such_plan(rt: HostRuntime) -> Result<(), Fail> {
-    check_plans(&rt, rt.alloc(), DAY, NO_PLANS, false)?;
-    assert!(rt; !is_plan(&rt, rt.alloc(), IDLE)?, "no operation");
-    assert!(rt; draft_of(Vec::new(rt.alloc()))?.is_none(), "no record");
-    Ok(())
+fn refuses_what_is_no_such_plan(rt: HostRuntime) {
+    check_plans(&rt, rt.alloc(), DAY, NO_PLANS, false);
+    assert!(rt; !is_plan(&rt, rt.alloc(), IDLE), "no operation");
+    assert!(rt; draft_of(&rt, Vec::new(rt.alloc())).is_none(), "no record");
 }

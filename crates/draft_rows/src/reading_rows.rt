@@ -1,5 +1,6 @@
 // Texts of plans as the formats describe them, and readers that give them in pieces or fail.
 use super::lines::text_of;
+use super::named::{operation, workstation};
 use plan_basics::{Attr, Watched};
 use plan_import::{ImportFault, read_plan};
 use plan_records::PlanDraft;
@@ -7,7 +8,6 @@ use std::alloc::Global;
 use std::io;
 use std::io::Read;
 use std::process::Abort;
-use std::test::Fail;
 
 const DAY: &[u8] = b"W,CPU1,A,,,,,,,
 I,CPU1,1972-01-01T00:00,2071-12-31T23:59,2,0,0,,,
@@ -83,81 +83,80 @@ impl<'a> Read for Pieces<'a> {
     }
 }
 
+// The plan that a reader gives, if it gives one.
+fn found<R: Read>(rt: &impl Abort, alloc: Global, reader: &mut Watched<R>) -> Option<PlanDraft> {
+    read_plan(alloc, reader).expect(rt, "an answer")
+}
+
 // The plan of a text.
-fn draft(alloc: Global, text: &[u8]) -> Result<PlanDraft, Fail> {
-    let mut reader = Watched::new(text);
-    Ok(read_plan(alloc, &mut reader)?.ok_or("no draft")?)
+fn draft(rt: &impl Abort, alloc: Global, text: &[u8]) -> PlanDraft {
+    found(rt, alloc, &mut Watched::new(text)).expect(rt, "a draft")
 }
 
 #[test]
-fn pieces_of_any_size(rt: HostRuntime) -> Result<(), Fail> {
+fn pieces_of_any_size(rt: HostRuntime) {
     for step in [1, 2, 7, 8192] {
         let mut reader = Pieces::new(DAY, step, 0);
-        let draft = read_plan(rt.alloc(), &mut reader)?;
+        let draft = found(&rt, rt.alloc(), &mut reader);
         assert!(rt; draft.is_some(), "in pieces of {step}");
         assert!(rt; !reader.failed());
     }
-    Ok(())
 }
 
 #[test]
-fn several_occurrences(rt: HostRuntime) -> Result<(), Fail> {
-    let draft = draft(rt.alloc(), NIGHT)?;
+fn several_occurrences(rt: HostRuntime) {
+    let draft = draft(&rt, rt.alloc(), NIGHT);
     let contents = draft.contents();
     let [(billing, due), (daily, late)] = contents.occurrences.as_slice() else {
-        return Err("two occurrences")?;
+        panic!(rt; "two occurrences");
     };
     assert_eq!(rt; (due.priority, late.priority), (7, 5));
     let [(_, first), (last, second), (other, third)] = contents.operations.as_slice() else {
-        return Err("three operations")?;
+        panic!(rt; "three operations");
     };
     assert!(rt; last.occurrence == *billing && other.occurrence == *daily);
     assert!(rt; first.deadline == due.deadline && second.deadline == due.deadline);
     assert!(rt; third.deadline == late.deadline);
     assert!(rt; contents.pairs.as_slice() == [(*last, *other)].as_slice());
-    Ok(())
 }
 
 #[test]
-fn several_workstations(rt: HostRuntime) -> Result<(), Fail> {
-    let draft = draft(rt.alloc(), STATIONS)?;
+fn several_workstations(rt: HostRuntime) {
+    let draft = draft(&rt, rt.alloc(), STATIONS);
     let contents = draft.contents();
     let [cpu, setup] = contents.workstations.as_slice() else {
-        return Err("two workstations")?;
+        panic!(rt; "two workstations");
     };
     assert!(rt; cpu.attribute() == Attr::Automatic);
     assert!(rt; setup.attribute() == Attr::StartAndCompletion);
     let [(_, first), (_, second)] = contents.operations.as_slice() else {
-        return Err("two operations")?;
+        panic!(rt; "two operations");
     };
     assert!(rt; first.workstation == setup.name() && second.workstation == cpu.name());
     assert_eq!(rt; (first.r1, first.r2, second.r1, second.r2), (0, 0, 2, 1));
-    Ok(())
 }
 
 #[test]
-fn special_resource_and_descending_pair(rt: HostRuntime) -> Result<(), Fail> {
-    let draft = draft(rt.alloc(), TAPES)?;
+fn special_resource_and_descending_pair(rt: HostRuntime) {
+    let draft = draft(&rt, rt.alloc(), TAPES);
     let contents = draft.contents();
     let [(_, available)] = contents.resources.as_slice() else {
-        return Err("one special resource")?;
+        panic!(rt; "one special resource");
     };
     assert!(rt; !*available);
     let [(first, _), (second, _)] = contents.operations.as_slice() else {
-        return Err("two operations")?;
+        panic!(rt; "two operations");
     };
     assert!(rt; contents.pairs.as_slice() == [(*second, *first)].as_slice());
-    Ok(())
 }
 
 // Each case, which stands behind the same lines, denotes no plan.
-fn check_no_plans(rt: &impl Abort, alloc: Global, front: &str, cases: &str) -> Result<(), Fail> {
+fn check_no_plans(rt: &impl Abort, alloc: Global, front: &str, cases: &str) {
     for case in cases.lines() {
-        let text = text_of(alloc, front, case)?;
+        let text = text_of(alloc, front, case).expect(rt, "memory");
         let mut reader = Watched::new(text.as_bytes());
-        assert!(rt; read_plan(alloc, &mut reader)?.is_none(), "{case}");
+        assert!(rt; found(rt, alloc, &mut reader).is_none(), "{case}");
     }
-    Ok(())
 }
 
 // Whole texts.
@@ -172,24 +171,71 @@ P,DAILY,2024-03-01T22:00,10,CPU1,30,0,0,,
 ";
 
 // What is wrong, and the lines behind it.
-const AFTER_DAILY: &str =
-    "an occurrence without operations|I,CPU1,1972-01-01T00:00,2071-12-31T23:59,2,0,0,,,|O,BILLING,2024-03-01T23:00,7,2024-03-02T03:00,,,,,
+const AFTER_DAILY: &str = "nine fields|X,TAPE,Y,,,,,,
+eleven fields|X,TAPE,Y,,,,,,,,
+a line of blanks| |
+blanks about a name|W, CPU2 ,A,,,,,,,
+a comma and quotes in a name|W,\"CP,\"\"1\",A,,,,,,,
+an occurrence without operations|I,CPU1,1972-01-01T00:00,2071-12-31T23:59,2,0,0,,,|O,BILLING,2024-03-01T23:00,7,2024-03-02T03:00,,,,,
 a need of an unknown special resource|N,DAILY,2024-03-01T22:00,10,TAPE,X,K,,,
 a path that returns to its start|P,DAILY,2024-03-01T22:00,20,CPU1,60,0,0,,|D,DAILY,2024-03-01T22:00,10,DAILY,2024-03-01T22:00,20,,,|D,DAILY,2024-03-01T22:00,20,DAILY,2024-03-01T22:00,10,,,
 ";
 
-#[test]
-fn texts_that_denote_no_plan(rt: HostRuntime) -> Result<(), Fail> {
-    check_no_plans(&rt, rt.alloc(), "", NO_PLANS)?;
-    check_no_plans(&rt, rt.alloc(), DAILY, AFTER_DAILY)?;
-    let mut reader = Watched::new(b"W,CP\xff1,A,,,,,,,\n".as_slice());
-    let found = read_plan(rt.alloc(), &mut reader)?;
-    assert!(rt; found.is_none(), "the byte 255 in a name");
-    Ok(())
+// The plan of one operation in other forms: CR LF; a byte order mark, an empty line, and no last line end; quoted fields.
+const RETURNS: &[u8] = b"W,CPU1,A,,,,,,,\r
+O,DAILY,2024-03-01T22:00,5,2024-03-02T05:00,,,,,\r
+P,DAILY,2024-03-01T22:00,10,CPU1,30,0,0,,\r
+";
+
+const MARKED: &[u8] = b"\xef\xbb\xbfW,CPU1,A,,,,,,,
+
+O,DAILY,2024-03-01T22:00,5,2024-03-02T05:00,,,,,
+P,DAILY,2024-03-01T22:00,10,CPU1,30,0,0,,";
+
+const QUOTED: &[u8] = b"\"W\",\"CPU1\",A,,,,,,,
+O,DAILY,2024-03-01T22:00,5,2024-03-02T05:00,,,,,
+P,DAILY,2024-03-01T22:00,\"10\",CPU1,30,0,0,\"\",
+";
+
+// The text is of the plan of one operation.
+fn check_daily(rt: &impl Abort, alloc: Global, text: &[u8], what: &str) {
+    let draft = draft(rt, alloc, text);
+    let [station] = draft.contents().workstations.as_slice() else {
+        panic!(rt; "one workstation");
+    };
+    assert!(rt; station.name() == workstation(rt, b"CPU1"), "{what}");
+    let [(key, row)] = draft.contents().operations.as_slice() else {
+        panic!(rt; "one operation");
+    };
+    assert!(rt;
+        *key == operation(rt, b"DAILY/2024-03-01T22:00/010"),
+        "{what}"
+    );
+    assert!(rt;
+        row.duration == 30 && row.not_before.minute() == 0,
+        "{what}"
+    );
 }
 
 #[test]
-fn each_read_fails_once(rt: HostRuntime) -> Result<(), Fail> {
+fn reads_the_same_in_other_forms(rt: HostRuntime) {
+    check_daily(&rt, rt.alloc(), DAILY.as_bytes(), "line feeds");
+    check_daily(&rt, rt.alloc(), RETURNS, "CR LF");
+    check_daily(&rt, rt.alloc(), MARKED, "a byte order mark");
+    check_daily(&rt, rt.alloc(), QUOTED, "quoted fields");
+}
+
+#[test]
+fn texts_that_denote_no_plan(rt: HostRuntime) {
+    check_no_plans(&rt, rt.alloc(), "", NO_PLANS);
+    check_no_plans(&rt, rt.alloc(), DAILY, AFTER_DAILY);
+    let mut reader = Watched::new(b"W,CP\xff1,A,,,,,,,\n".as_slice());
+    let found = found(&rt, rt.alloc(), &mut reader);
+    assert!(rt; found.is_none(), "the byte 255 in a name");
+}
+
+#[test]
+fn each_read_fails_once(rt: HostRuntime) {
     let calls = DAY.len() + 1;
     for fault in 1..=calls {
         let mut reader = Pieces::new(DAY, 1, fault);
@@ -197,15 +243,13 @@ fn each_read_fails_once(rt: HostRuntime) -> Result<(), Fail> {
         assert!(rt; reader.failed(), "at {fault}");
         assert_eq!(rt; found.err(), Some(ImportFault::Reader), "at {fault}");
     }
-    Ok(())
 }
 
 #[test]
-fn an_earlier_fault_is_cleared(rt: HostRuntime) -> Result<(), Fail> {
+fn an_earlier_fault_is_cleared(rt: HostRuntime) {
     let mut reader = Pieces::new(DAY, 8192, 1);
     let mut buf = [0u8; 4];
     assert!(rt; reader.read(&mut buf).is_err());
-    let draft = read_plan(rt.alloc(), &mut reader)?;
+    let draft = found(&rt, rt.alloc(), &mut reader);
     assert!(rt; draft.is_some());
-    Ok(())
 }

@@ -3,7 +3,6 @@ use super::lines::{check_plans, draft, is_plan, push_lines, with_lines};
 use super::named::{need_of_file, operation, resource};
 use special_resources::Mode;
 use std::alloc::{AllocError, Global};
-use std::test::Fail;
 
 // A night of payroll: a chain of five operations, of which one needs a special resource.
 const PAYROLL: &str = "W,CPU1,A,,,,,,,
@@ -27,8 +26,8 @@ D,PAYROLL,2024-03-01T22:00,30,PAYROLL,2024-03-01T22:00,40,,,
 ";
 
 #[test]
-fn builds_the_night_of_payroll(rt: HostRuntime) -> Result<(), Fail> {
-    let draft = draft(&rt, rt.alloc(), PAYROLL)?;
+fn builds_the_night_of_payroll(rt: HostRuntime) {
+    let draft = draft(&rt, rt.alloc(), PAYROLL);
     let contents = draft.contents();
     let file = resource(&rt, b"CUSTFILE");
     assert!(rt; contents.resources.as_slice() == [(file, true)].as_slice());
@@ -36,14 +35,13 @@ fn builds_the_night_of_payroll(rt: HostRuntime) -> Result<(), Fail> {
     assert_eq!(rt; contents.occurrences.len(), 1);
     assert_eq!(rt; contents.pairs.len(), 4);
     let [(_, a), (_, b), (key, c), (_, d), (_, e)] = contents.operations.as_slice() else {
-        return Err("five operations")?;
+        panic!(rt; "five operations");
     };
     assert!(rt; *key == operation(&rt, b"PAYROLL/2024-03-01T22:00/020"));
     let need = need_of_file(&rt, Mode::Exclusive, true);
     assert!(rt; c.needs.as_slice() == [need].as_slice());
     assert!(rt; a.needs.as_slice().is_empty() && b.needs.as_slice().is_empty());
     assert!(rt; d.needs.as_slice().is_empty() && e.needs.as_slice().is_empty());
-    Ok(())
 }
 
 // What is so, the line that the night is without, and the line that is added to it.
@@ -66,9 +64,9 @@ a closed path||D,PAYROLL,2024-03-01T22:00,40,PAYROLL,2024-03-01T22:00,5,,,
 ";
 
 #[test]
-fn tells_resources_and_needs_that_fit(rt: HostRuntime) -> Result<(), Fail> {
-    check_plans(&rt, rt.alloc(), PAYROLL, PLANS, true)?;
-    check_plans(&rt, rt.alloc(), PAYROLL, NO_PLANS, false)
+fn tells_resources_and_needs_that_fit(rt: HostRuntime) {
+    check_plans(&rt, rt.alloc(), PAYROLL, PLANS, true);
+    check_plans(&rt, rt.alloc(), PAYROLL, NO_PLANS, false);
 }
 
 // The night, with one pair that leads from the last operation to the first in place of its chain.
@@ -90,24 +88,22 @@ D,PAYROLL,2024-03-01T22:00,40,PAYROLL,2024-03-01T22:00,5,,,
 ";
 
 #[test]
-fn builds_the_night_with_one_pair_that_leads_back(rt: HostRuntime) -> Result<(), Fail> {
-    let draft = draft(&rt, rt.alloc(), BACK)?;
+fn builds_the_night_with_one_pair_that_leads_back(rt: HostRuntime) {
+    let draft = draft(&rt, rt.alloc(), BACK);
     let first = operation(&rt, b"PAYROLL/2024-03-01T22:00/005");
     let last = operation(&rt, b"PAYROLL/2024-03-01T22:00/040");
     assert!(rt; draft.contents().pairs.as_slice() == [(last, first)].as_slice());
     assert_eq!(rt; draft.contents().operations.len(), 5);
-    Ok(())
 }
 
 #[test]
-fn takes_as_many_resources_as_a_plan_may_hold(rt: HostRuntime) -> Result<(), Fail> {
+fn takes_as_many_resources_as_a_plan_may_hold(rt: HostRuntime) {
     let alloc = rt.alloc();
-    let full = with_lines(alloc, PAYROLL, "X,TAPE.", 0..998, ",Y,,,,,,,\n")?;
-    let draft = draft(&rt, alloc, &full)?;
+    let full = with_lines(alloc, PAYROLL, "X,TAPE.", 0..998, ",Y,,,,,,,\n").expect(&rt, "memory");
+    let draft = draft(&rt, alloc, &full);
     assert_eq!(rt; draft.contents().resources.len(), 999);
-    let above = with_lines(alloc, PAYROLL, "X,TAPE.", 0..999, ",Y,,,,,,,\n")?;
-    assert!(rt; !is_plan(&rt, alloc, &above)?, "1,000 special resources");
-    Ok(())
+    let above = with_lines(alloc, PAYROLL, "X,TAPE.", 0..999, ",Y,,,,,,,\n").expect(&rt, "memory");
+    assert!(rt; !is_plan(&rt, alloc, &above), "1,000 special resources");
 }
 
 // The night, with so many special resources more, and a need of each of these of the operation that has one already.
@@ -119,13 +115,13 @@ fn with_needs(alloc: Global, count: u16) -> Result<String, AllocError> {
 }
 
 #[test]
-fn takes_as_many_needs_as_an_operation_may_have(rt: HostRuntime) -> Result<(), Fail> {
-    let draft = draft(&rt, rt.alloc(), &with_needs(rt.alloc(), 15)?)?;
+fn takes_as_many_needs_as_an_operation_may_have(rt: HostRuntime) {
+    let text = with_needs(rt.alloc(), 15).expect(&rt, "memory");
+    let draft = draft(&rt, rt.alloc(), &text);
     let [_, _, (_, needy), _, _] = draft.contents().operations.as_slice() else {
-        return Err("five operations")?;
+        panic!(rt; "five operations");
     };
     assert_eq!(rt; needy.needs.as_slice().len(), 16);
-    let above = with_needs(rt.alloc(), 16)?;
-    assert!(rt; !is_plan(&rt, rt.alloc(), &above)?, "17 needs");
-    Ok(())
+    let above = with_needs(rt.alloc(), 16).expect(&rt, "memory");
+    assert!(rt; !is_plan(&rt, rt.alloc(), &above), "17 needs");
 }

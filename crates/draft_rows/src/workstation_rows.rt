@@ -4,7 +4,6 @@ use super::named::{moment, workstation};
 use plan_basics::Attr;
 use std::alloc::{AllocError, Global};
 use std::process::Abort;
-use std::test::Fail;
 use workstations::{Capacity, Workstation};
 
 // A night of four workstations, one of each attribute; two of them are open.
@@ -34,10 +33,10 @@ fn is(rt: &impl Abort, station: &Workstation, name: &[u8], attribute: Attr) {
 }
 
 #[test]
-fn builds_workstations_of_each_attribute(rt: HostRuntime) -> Result<(), Fail> {
-    let draft = draft(&rt, rt.alloc(), HALL)?;
+fn builds_workstations_of_each_attribute(rt: HostRuntime) {
+    let draft = draft(&rt, rt.alloc(), HALL);
     let [cpu, printer, setup, wait] = draft.contents().workstations.as_slice() else {
-        return Err("four workstations")?;
+        panic!(rt; "four workstations");
     };
     is(&rt, cpu, b"CPU1", Attr::Automatic);
     is(&rt, printer, b"PRT1", Attr::CompletionOnly);
@@ -51,14 +50,13 @@ fn builds_workstations_of_each_attribute(rt: HostRuntime) -> Result<(), Fail> {
     assert_eq!(rt; offered(&rt, printer, b"2024-03-01T23:00"), Some((1, 0, 5)));
     assert_eq!(rt; offered(&rt, setup, first), None);
     assert_eq!(rt; offered(&rt, wait, first), None);
-    Ok(())
 }
 
 #[test]
-fn builds_operations_on_each(rt: HostRuntime) -> Result<(), Fail> {
-    let draft = draft(&rt, rt.alloc(), HALL)?;
+fn builds_operations_on_each(rt: HostRuntime) {
+    let draft = draft(&rt, rt.alloc(), HALL);
     let [(_, a), (_, b), (_, c), (_, d)] = draft.contents().operations.as_slice() else {
-        return Err("four operations")?;
+        panic!(rt; "four operations");
     };
     assert!(rt; a.workstation == workstation(&rt, b"SETP"));
     assert!(rt; b.workstation == workstation(&rt, b"CPU1"));
@@ -66,7 +64,6 @@ fn builds_operations_on_each(rt: HostRuntime) -> Result<(), Fail> {
     assert!(rt; d.workstation == workstation(&rt, b"WAIT"));
     assert_eq!(rt; (a.r1, a.r2, b.r1, b.r2), (99, 99, 2, 1));
     assert_eq!(rt; (c.r1, c.r2, d.r1, d.r2), (0, 4, 0, 0));
-    Ok(())
 }
 
 // What is so, the line that the hall is without, and the line that is added to it.
@@ -92,9 +89,9 @@ an operation that takes 100 of R2||P,PAYROLL,2024-03-01T22:00,50,CPU1,60,0,100,,
 ";
 
 #[test]
-fn tells_workstations_and_intervals_that_fit(rt: HostRuntime) -> Result<(), Fail> {
-    check_plans(&rt, rt.alloc(), HALL, PLANS, true)?;
-    check_plans(&rt, rt.alloc(), HALL, NO_PLANS, false)
+fn tells_workstations_and_intervals_that_fit(rt: HostRuntime) {
+    check_plans(&rt, rt.alloc(), HALL, PLANS, true);
+    check_plans(&rt, rt.alloc(), HALL, NO_PLANS, false);
 }
 
 // Puts behind a text an interval of SETP of a minute; those of one hour touch.
@@ -117,26 +114,25 @@ fn with_intervals(alloc: Global, count: u16) -> Result<String, AllocError> {
 }
 
 #[test]
-fn takes_as_many_intervals_as_a_workstation_may_hold(rt: HostRuntime) -> Result<(), Fail> {
-    let draft = draft(&rt, rt.alloc(), &with_intervals(rt.alloc(), 400)?)?;
+fn takes_as_many_intervals_as_a_workstation_may_hold(rt: HostRuntime) {
+    let text = with_intervals(rt.alloc(), 400).expect(&rt, "memory");
+    let draft = draft(&rt, rt.alloc(), &text);
     let [_, _, setup, _] = draft.contents().workstations.as_slice() else {
-        return Err("four workstations")?;
+        panic!(rt; "four workstations");
     };
     assert_eq!(rt; offered(&rt, setup, b"2024-03-01T10:10"), Some((1, 0, 0)));
     assert_eq!(rt; offered(&rt, setup, b"2024-03-01T18:17"), Some((1, 0, 0)));
     assert_eq!(rt; offered(&rt, setup, b"2024-03-01T18:18"), None);
-    let above = with_intervals(rt.alloc(), 401)?;
-    assert!(rt; !is_plan(&rt, rt.alloc(), &above)?, "401 intervals");
-    Ok(())
+    let above = with_intervals(rt.alloc(), 401).expect(&rt, "memory");
+    assert!(rt; !is_plan(&rt, rt.alloc(), &above), "401 intervals");
 }
 
 #[test]
-fn takes_as_many_workstations_as_a_plan_may_hold(rt: HostRuntime) -> Result<(), Fail> {
+fn takes_as_many_workstations_as_a_plan_may_hold(rt: HostRuntime) {
     let alloc = rt.alloc();
-    let full = with_lines(alloc, HALL, "W,A", 100..195, ",S,,,,,,,\n")?;
-    let draft = draft(&rt, alloc, &full)?;
+    let full = with_lines(alloc, HALL, "W,A", 100..195, ",S,,,,,,,\n").expect(&rt, "memory");
+    let draft = draft(&rt, alloc, &full);
     assert_eq!(rt; draft.contents().workstations.len(), 99);
-    let above = with_lines(alloc, HALL, "W,A", 100..196, ",S,,,,,,,\n")?;
-    assert!(rt; !is_plan(&rt, alloc, &above)?, "100 workstations");
-    Ok(())
+    let above = with_lines(alloc, HALL, "W,A", 100..196, ",S,,,,,,,\n").expect(&rt, "memory");
+    assert!(rt; !is_plan(&rt, alloc, &above), "100 workstations");
 }

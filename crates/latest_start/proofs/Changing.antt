@@ -20,9 +20,6 @@ pub record AreNewStartsTo (old new : List ℤ) (k : ℕ) (values : List (ℕ × 
   pub once : AreDifferent (map (λ (p : ℕ × ℤ). p.0) values)
 
 module _ (old new : List ℤ) where
-  pub new_begin : AreNewStartsTo old new 0 []
-  new_begin = record { listed = λ n v. (λ h. absurd (contains_none (n, v) h), λ h. absurd (let lt = h.0 in omega (arith, lt))); once = λ i j d lt within same. omega (arith, within) }
-
   module _ (k : ℕ) (values : List Value) (so_far : AreNewStartsTo old new k values) (v : ℤ) (at : slice_get new k ≡ Some v) where
     pub new_passed : slice_get old k ≡ Some v → AreNewStartsTo old new (k + 1) values
     new_passed kept = record {

@@ -24,9 +24,6 @@ pub one_of_two : (x y : ℤ) → (int_min x y ≡ x) ⊎ (int_min x y ≡ y)
 one_of_two x y = elim (int_lt y x) as (λ b. (cond b y x ≡ x) ⊎ (cond b y x ≡ y)) [ true ↦ inr refl | false ↦ inl refl ]
 
 module _ (items : List Item) (starts : List ℤ) (n : ℕ) (succs : List ℕ) where
-  pub end_begin : (end : ℤ) → end ≡ pos (deadline_by items n) → IsEndSoFar items starts n succs 0 end
-  end_begin end is = record { one = inl is; own = omega (arith, ints, is); next = λ v h. absurd (let lt = h.2 in omega (arith, lt)) }
-
   module _ (i b : ℕ) (at : slice_get succs i ≡ Some b) where
     further : (v : ℤ) → IsNextTo items starts succs i v → IsNextTo items starts succs (i + 1) v
     further v (h, m, lt, there, live, is) = (h, m, omega (arith, lt), there, live, is)

@@ -49,9 +49,6 @@ pub record AreStartsSoFar (g : Digraph) (items : List Item) (order : List ℕ) (
   pub each : (h n : ℕ) (v : ℤ) → h < i → slice_get order h ≡ Some n → slice_get starts n ≡ Some v → IsLatestStartOf g items n v
 
 module _ (g : Digraph) (items : List Item) (order : List ℕ) where
-  pub pass_begin : (starts : List ℤ) → length starts ≡ g.nodes → AreStartsSoFar g items order 0 starts
-  pass_begin starts size = record { size = size; each = λ h n v lt at is. absurd (omega (arith, lt)) }
-
   pub pass_more : (i n : ℕ) (starts : List ℤ) (v : ℤ) → slice_get order i ≡ Some n → n < g.nodes → IsLatestStartOf g items n v → AreStartsSoFar g items order i starts
       → AreStartsSoFar g items order (i + 1) (set starts n v)
   pass_more i n starts v at within right so_far = record {

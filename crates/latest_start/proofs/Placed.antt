@@ -1,5 +1,5 @@
 -- What stands at a place of a list.
-use Rattle.std.proofs.Common.{◌≡◌, ◌≢◌, ◌⊎◌, inl, inr, refl, ap, arith, ℕ, zero, suc, ◌<◌, ◌≤◌, List, [], ◌∷◌, ◌++◌, length, set, slice_get, Some, Contains, ℤ, pos, negsuc}
+use Rattle.std.proofs.Common.{◌≡◌, ◌≢◌, ◌⊎◌, inl, inr, refl, ap, arith, ℕ, zero, suc, ◌<◌, ◌≤◌, List, [], ◌∷◌, length, set, slice_get, Some, Contains, ℤ, pos, negsuc}
 use Rattle.std.proofs.lemmas.Bool.{cases_eq}
 
 module _ {X : Type 0} where
@@ -14,17 +14,6 @@ module _ {X : Type 0} where
   at_other (y ∷ xs) zero (suc m) x h = refl
   at_other (y ∷ xs) (suc i) zero x h = refl
   at_other (y ∷ xs) (suc i) (suc m) x h = at_other xs i m x (λ e. h (ap suc e))
-
-  pub at_before : (xs : List X) (m : ℕ) (x : X) → m < length xs → slice_get (xs ++ x ∷ []) m ≡ slice_get xs m
-  at_before [] m x h = absurd (omega (arith, h))
-  at_before (y ∷ xs) zero x h = refl
-  at_before (y ∷ xs) (suc m) x h = at_before xs m x (omega (arith, h))
-
-  pub at_end : (xs : List X) (m : ℕ) (x : X) → length xs ≡ m → slice_get (xs ++ x ∷ []) m ≡ Some x
-  at_end [] zero x h = refl
-  at_end [] (suc m) x h = absurd (omega (arith, h))
-  at_end (y ∷ xs) zero x h = absurd (omega (arith, h))
-  at_end (y ∷ xs) (suc m) x h = at_end xs m x (omega (arith, h))
 
   -- an element stands at some place
   pub place_of : (xs : List X) (x : X) → Contains xs x → (i : ℕ) × (slice_get xs i ≡ Some x)

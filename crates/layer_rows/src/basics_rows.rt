@@ -4,7 +4,6 @@ use plan_basics::{
     AppId, Attr, ErrCode, Interval, Moment, OccKey, OpKey, Refusal, ResName, TrackerName, WsName,
     minute_of_text, minute_text,
 };
-use std::test::Fail;
 
 const MINUTES_OF_TEXTS: [(&str, Option<i64>); 14] = [
     ("1972-01-01T00:00", Some(0)),
@@ -107,12 +106,12 @@ const NO_KEYS: [&str; 8] = [
 ];
 
 #[test]
-fn texts_of_keys(rt: HostRuntime) -> Result<(), Fail> {
+fn texts_of_keys(rt: HostRuntime) {
     for text in KEYS {
         let key = OpKey::from_text(text.as_bytes()).expect(&rt, "a key");
-        assert_eq!(rt; format!(in rt.alloc(); "{key}")?.as_str(), text);
+        let shown = format!(in rt.alloc(); "{key}").expect(&rt, "memory");
+        assert_eq!(rt; shown.as_str(), text);
     }
-    Ok(())
 }
 
 #[test]
@@ -123,18 +122,19 @@ fn texts_of_no_keys(rt: HostRuntime) {
 }
 
 #[test]
-fn texts_as_printed(rt: HostRuntime) -> Result<(), Fail> {
+fn texts_as_printed(rt: HostRuntime) {
     let key = OccKey::from_text(b"BILLING/2024-03-01T22:00").expect(&rt, "a key");
     assert_eq!(rt; key.arrival.minute(), 27_437_640);
     let leap_day = moment(&rt, b"2000-02-29T23:59");
-    let shown = format!(in rt.alloc(); "{key} {} {leap_day}", key.app)?;
+    let shown = format!(in rt.alloc(); "{key} {} {leap_day}", key.app).expect(&rt, "memory");
     assert_eq!(rt;
         shown.as_str(),
         "BILLING/2024-03-01T22:00 BILLING 2000-02-29T23:59"
     );
-    let refusals = format!(in rt.alloc(); "{}, {}", Refusal::Closed, Refusal::Damaged)?;
+    let refusals = format!(in rt.alloc(); "{}, {}", Refusal::Closed, Refusal::Damaged).expect(
+        &rt, "memory",
+    );
     assert_eq!(rt; refusals.as_str(), "13 Closed, 28 Damaged");
-    Ok(())
 }
 
 #[test]

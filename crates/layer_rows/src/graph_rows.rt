@@ -46,11 +46,20 @@ fn nodes_by_number(rt: HostRuntime) {
     }
 }
 
+// Whether the rows at the ends of a graph of five nodes are those of the diamond with its tail.
+fn is_drawn_as_a_diamond(graph: &Graph) -> bool
+    requires { graph.now.nodes ≡ 5 }
+{
+    graph.succs(0) == [1, 2].as_slice()
+        && graph.preds(3) == [1, 2].as_slice()
+        && graph.preds(0).is_empty()
+        && graph.succs(4).is_empty()
+}
+
 #[test]
 fn a_diamond_with_a_tail(rt: HostRuntime) {
     let graph = graph_of(&rt, rt.alloc(), 5, &DIAMOND);
-    assert!(rt; graph.succs(0) == [1, 2].as_slice() && graph.preds(3) == [1, 2].as_slice());
-    assert!(rt; graph.preds(0).is_empty() && graph.succs(4).is_empty());
+    assert!(rt; is_drawn_as_a_diamond(&graph));
     for (before, after) in DIAMOND {
         assert!(rt; before < 5 && after < 5);
         assert!(rt; graph.rank(before) < graph.rank(after), "{before} {after}");

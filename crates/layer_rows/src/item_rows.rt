@@ -6,11 +6,9 @@ use special_resources::{Mode, Need};
 use std::alloc::{AllocError, Global};
 use std::array;
 use std::process::Abort;
-use std::test::Fail;
 
 // The fields of a line without quotes.
-fn record(rt: &impl Abort, alloc: Global, line: &str) -> Result<[Vec<u8>; 10], AllocError> {
-    assert_eq!(rt; line.split(',').count(), 10, "fields of {line}");
+fn record(alloc: Global, line: &str) -> Result<[Vec<u8>; 10], AllocError> {
     array::try_from_fn(|place| line
         .split(',')
         .nth(place)
@@ -19,13 +17,14 @@ fn record(rt: &impl Abort, alloc: Global, line: &str) -> Result<[Vec<u8>; 10], A
         .to_vec(alloc))
 }
 
-fn reads(rt: &impl Abort, alloc: Global, line: &str, item: Item) -> Result<(), AllocError> {
-    assert_eq!(rt;
-        read_item(&record(rt, alloc, line)?),
-        Some(item),
-        "at {line}"
-    );
-    Ok(())
+// The item of a line, if it says one.
+fn item_of(rt: &impl Abort, alloc: Global, line: &str) -> Option<Item> {
+    assert_eq!(rt; line.split(',').count(), 10, "fields of {line}");
+    read_item(&record(alloc, line).expect(rt, "memory"))
+}
+
+fn reads(rt: &impl Abort, alloc: Global, line: &str, item: Item) {
+    assert!(rt; item_of(rt, alloc, line) == Some(item), "at {line}");
 }
 
 const WORKSTATIONS: [(&str, &[u8], Attr); 4] = [
@@ -36,12 +35,11 @@ const WORKSTATIONS: [(&str, &[u8], Attr); 4] = [
 ];
 
 #[test]
-fn reads_workstations(rt: HostRuntime) -> Result<(), Fail> {
+fn reads_workstations(rt: HostRuntime) {
     for (line, name, attribute) in WORKSTATIONS {
         let name = workstation(&rt, name);
-        reads(&rt, rt.alloc(), line, Item::Workstation { name, attribute })?;
+        reads(&rt, rt.alloc(), line, Item::Workstation { name, attribute });
     }
-    Ok(())
 }
 
 // Lines, workstations, ends, servers, and R1.
@@ -63,7 +61,7 @@ const INTERVALS: [(&str, &[u8], &[u8], u8, u8); 2] = [
 ];
 
 #[test]
-fn reads_intervals(rt: HostRuntime) -> Result<(), Fail> {
+fn reads_intervals(rt: HostRuntime) {
     for (line, name, end, servers, r1) in INTERVALS {
         let workstation = workstation(&rt, name);
         let (from, end) = (moment(&rt, EVENING), moment(&rt, end));
@@ -72,9 +70,8 @@ fn reads_intervals(rt: HostRuntime) -> Result<(), Fail> {
             workstation,
             interval,
         };
-        reads(&rt, rt.alloc(), line, item)?;
+        reads(&rt, rt.alloc(), line, item);
     }
-    Ok(())
 }
 
 const RESOURCES: [(&str, bool); 2] = [
@@ -83,12 +80,11 @@ const RESOURCES: [(&str, bool); 2] = [
 ];
 
 #[test]
-fn reads_resources(rt: HostRuntime) -> Result<(), Fail> {
+fn reads_resources(rt: HostRuntime) {
     for (line, available) in RESOURCES {
         let name = resource(&rt, b"CUSTFILE");
-        reads(&rt, rt.alloc(), line, Item::Resource { name, available })?;
+        reads(&rt, rt.alloc(), line, Item::Resource { name, available });
     }
-    Ok(())
 }
 
 // Operations, their workstations, and their durations.
@@ -157,16 +153,15 @@ fn operation_item(
 }
 
 #[test]
-fn reads_operations(rt: HostRuntime) -> Result<(), Fail> {
+fn reads_operations(rt: HostRuntime) {
     for (line, application, number, name, duration) in OPERATIONS {
         let item = operation_item(&rt, application, number, name, duration);
-        reads(&rt, rt.alloc(), line, Item::Operation(item))?;
+        reads(&rt, rt.alloc(), line, Item::Operation(item));
     }
-    Ok(())
 }
 
 #[test]
-fn reads_operations_of_their_own_moments(rt: HostRuntime) -> Result<(), Fail> {
+fn reads_operations_of_their_own_moments(rt: HostRuntime) {
     let line = "P,PAYROLL,2024-03-01T22:00,255,CPU1,5999,99,1,2024-03-01T23:00,2024-03-02T04:00";
     let item = OperationItem {
         r1: 99,
@@ -175,8 +170,7 @@ fn reads_operations_of_their_own_moments(rt: HostRuntime) -> Result<(), Fail> {
         deadline: Some(moment(&rt, b"2024-03-02T04:00")),
         ..operation_item(&rt, b"PAYROLL", 255, b"CPU1", 5999)
     };
-    reads(&rt, rt.alloc(), line, Item::Operation(item))?;
-    Ok(())
+    reads(&rt, rt.alloc(), line, Item::Operation(item));
 }
 
 // Occurrences of priority 5, and their deadlines.
@@ -194,16 +188,15 @@ const OCCURRENCES: [(&str, &[u8], &[u8]); 2] = [
 ];
 
 #[test]
-fn reads_occurrences(rt: HostRuntime) -> Result<(), Fail> {
+fn reads_occurrences(rt: HostRuntime) {
     for (line, application, deadline) in OCCURRENCES {
         let item = Item::Occurrence {
             key: occurrence(&rt, application),
             priority: 5,
             deadline: moment(&rt, deadline),
         };
-        reads(&rt, rt.alloc(), line, item)?;
+        reads(&rt, rt.alloc(), line, item);
     }
-    Ok(())
 }
 
 // Operations that need the file, how, and whether an error keeps it.
@@ -225,16 +218,15 @@ const NEEDS: [(&str, &[u8], u8, Mode, bool); 2] = [
 ];
 
 #[test]
-fn reads_needs(rt: HostRuntime) -> Result<(), Fail> {
+fn reads_needs(rt: HostRuntime) {
     for (line, application, number, mode, keep) in NEEDS {
         let name = resource(&rt, b"CUSTFILE");
         let item = Item::Need {
             operation: operation(&rt, application, number),
             need: Need { name, mode, keep },
         };
-        reads(&rt, rt.alloc(), line, item)?;
+        reads(&rt, rt.alloc(), line, item);
     }
-    Ok(())
 }
 
 // An operation of PAYROLL, and the one that comes after it.
@@ -272,59 +264,55 @@ const DEPENDENCIES: [(&str, u8, &[u8], u8); 5] = [
 ];
 
 #[test]
-fn reads_dependencies(rt: HostRuntime) -> Result<(), Fail> {
+fn reads_dependencies(rt: HostRuntime) {
     for (line, number, later, later_number) in DEPENDENCIES {
         let item = Item::Dependency {
             predecessor: operation(&rt, b"PAYROLL", number),
             successor: operation(&rt, later, later_number),
         };
-        reads(&rt, rt.alloc(), line, item)?;
+        reads(&rt, rt.alloc(), line, item);
     }
-    Ok(())
 }
 
-const OTHER_FORMS: [&str; 34] = [
-    "P,PAYROLL,2024-03-01T22:00,256,CPU1,30,0,0,,",
-    "P,PAYROLL,2024-03-01T22:00,0,CPU1,30,0,0,,",
-    "P,PAYROLL,2024-03-01T22:00,005,CPU1,30,0,0,,",
-    "P,PAYROLL,2024-03-01T22:00,+5,CPU1,30,0,0,,",
-    "P,PAYROLL,2024-03-01T22:00,,CPU1,30,0,0,,",
-    "P,PAYROLL,2024-03-01T22:00,5,CPU1,6000,0,0,,",
-    "P,PAYROLL,2024-03-01T22:00,5,CPU1,0,0,0,,",
-    "P,PAYROLL,2024-03-01T22:00,5,CPU1,30,100,0,,",
-    "P,PAYROLL,2024-02-30T00:00,5,CPU1,30,0,0,,",
-    "P,PAYROLL,2024-03-01T22:00,5,CPU1,30,0,0, ,",
-    "O,PAYROLL,2024-03-01T22:00,10,2024-03-02T05:00,,,,,",
-    "O,PAYROLL,2024-03-01T22:00,0,2024-03-02T05:00,,,,,",
-    "O,PAYROLL,2024-03-01T22:00,5,,,,,,",
-    "O,PAYROLL,2024-03-01T22:00,5,2072-01-01T00:00,,,,,",
-    "O,PAYROLL,1971-12-31T23:59,5,2024-03-02T05:00,,,,,",
-    "O,ABCDEFGHIJKLMNOPQ,2024-03-01T22:00,5,2024-03-02T05:00,,,,,",
-    "O,payroll,2024-03-01T22:00,5,2024-03-02T05:00,,,,,",
-    "N,PAYROLL,2024-03-01T22:00,20,CUSTFILE,Y,K,,,",
-    "N,PAYROLL,2024-03-01T22:00,20,CUSTFILE,X,X,,,",
-    "N,PAYROLL,2024-03-01T22:00,20,,X,K,,,",
-    "X,CUSTFILE,Y,,,, ,,,",
-    "X,CUSTFILE,YES,,,,,,,",
-    "W,CPU12,A,,,,,,,",
-    "W,CPU1,B,,,,,,,",
-    "W,CPU1,A, ,,,,,,",
-    "w,CPU1,A,,,,,,,",
-    "WS,CPU1,A,,,,,,,",
-    ",,,,,,,,,",
-    "I,CPU1,2024-03-01T22:00,2024-03-01T22:00,2,3,0,,,",
-    "I,CPU1,2024-03-02T06:00,2024-03-01T22:00,2,3,0,,,",
-    "I,CPU1,2024-03-01T22:00,2024-03-02T06:00,100,3,0,,,",
-    "I,CPU1,2024-03-01T22:00,2072-01-01T00:00,2,3,0,,,",
-    "D,PAYROLL,2024-03-01T22:00,5,PAYROLL,2024-03-01T22:00,,,,",
-    "D,PAYROLL,2024-03-01T22:00,5,PAYROLL,2024-03-01T22:00,10,,,x",
-];
+const OTHER_FORMS: &str = "P,PAYROLL,2024-03-01T22:00,256,CPU1,30,0,0,,
+P,PAYROLL,2024-03-01T22:00,0,CPU1,30,0,0,,
+P,PAYROLL,2024-03-01T22:00,005,CPU1,30,0,0,,
+P,PAYROLL,2024-03-01T22:00,+5,CPU1,30,0,0,,
+P,PAYROLL,2024-03-01T22:00,,CPU1,30,0,0,,
+P,PAYROLL,2024-03-01T22:00,5,CPU1,6000,0,0,,
+P,PAYROLL,2024-03-01T22:00,5,CPU1,0,0,0,,
+P,PAYROLL,2024-03-01T22:00,5,CPU1,30,100,0,,
+P,PAYROLL,2024-02-30T00:00,5,CPU1,30,0,0,,
+P,PAYROLL,2024-03-01T22:00,5,CPU1,30,0,0, ,
+O,PAYROLL,2024-03-01T22:00,10,2024-03-02T05:00,,,,,
+O,PAYROLL,2024-03-01T22:00,0,2024-03-02T05:00,,,,,
+O,PAYROLL,2024-03-01T22:00,5,,,,,,
+O,PAYROLL,2024-03-01T22:00,5,2072-01-01T00:00,,,,,
+O,PAYROLL,1971-12-31T23:59,5,2024-03-02T05:00,,,,,
+O,ABCDEFGHIJKLMNOPQ,2024-03-01T22:00,5,2024-03-02T05:00,,,,,
+O,payroll,2024-03-01T22:00,5,2024-03-02T05:00,,,,,
+N,PAYROLL,2024-03-01T22:00,20,CUSTFILE,Y,K,,,
+N,PAYROLL,2024-03-01T22:00,20,CUSTFILE,X,X,,,
+N,PAYROLL,2024-03-01T22:00,20,,X,K,,,
+X,CUSTFILE,Y,,,, ,,,
+X,CUSTFILE,YES,,,,,,,
+W,CPU12,A,,,,,,,
+W,CPU1,B,,,,,,,
+W,CPU1,A, ,,,,,,
+w,CPU1,A,,,,,,,
+WS,CPU1,A,,,,,,,
+,,,,,,,,,
+I,CPU1,2024-03-01T22:00,2024-03-01T22:00,2,3,0,,,
+I,CPU1,2024-03-02T06:00,2024-03-01T22:00,2,3,0,,,
+I,CPU1,2024-03-01T22:00,2024-03-02T06:00,100,3,0,,,
+I,CPU1,2024-03-01T22:00,2072-01-01T00:00,2,3,0,,,
+D,PAYROLL,2024-03-01T22:00,5,PAYROLL,2024-03-01T22:00,,,,
+D,PAYROLL,2024-03-01T22:00,5,PAYROLL,2024-03-01T22:00,10,,,x
+";
 
 #[test]
-fn refuses_other_forms(rt: HostRuntime) -> Result<(), Fail> {
-    for line in OTHER_FORMS {
-        let record = record(&rt, rt.alloc(), line)?;
-        assert_eq!(rt; read_item(&record), None, "at {line}");
+fn refuses_other_forms(rt: HostRuntime) {
+    for line in OTHER_FORMS.lines() {
+        assert!(rt; item_of(&rt, rt.alloc(), line).is_none(), "at {line}");
     }
-    Ok(())
 }

@@ -6,7 +6,6 @@ use operation_graph::Graph;
 use plan_basics::Moment;
 use std::alloc::{AllocError, Global};
 use std::process::Abort;
-use std::test::Fail;
 
 // Duration, deadline, and whether the operation isn't deleted.
 type Terms = (u16, i64, bool);
@@ -46,12 +45,12 @@ fn starts_kept(alloc: Global, latest: &Latest, nodes: usize) -> Result<Vec<i64>,
 }
 
 // The latest starts of a table.
-fn starts_of(rt: &impl Abort, alloc: Global, table: &Table) -> Result<Vec<i64>, AllocError> {
+fn starts_of(rt: &impl Abort, alloc: Global, table: &Table) -> Vec<i64> {
     let (edges, terms) = *table;
-    let items = items(rt, alloc, terms)?;
+    let items = items(rt, alloc, terms).expect(rt, "memory");
     let graph = graph_of(rt, alloc, items.len(), edges);
     let latest = Latest::build(alloc, &graph, &items).expect(rt, "latest starts");
-    starts_kept(alloc, &latest, items.len())
+    starts_kept(alloc, &latest, items.len()).expect(rt, "memory")
 }
 
 const CHAIN: &[(usize, usize)] = &[(0, 1), (1, 2)];
@@ -94,12 +93,11 @@ const STARTS: [(Table, &[i64]); 7] = [
 ];
 
 #[test]
-fn leaves_time_for_all_that_follow(rt: HostRuntime) -> Result<(), Fail> {
+fn leaves_time_for_all_that_follow(rt: HostRuntime) {
     for (table, wanted) in STARTS {
-        let starts = starts_of(&rt, rt.alloc(), &table)?;
+        let starts = starts_of(&rt, rt.alloc(), &table);
         assert_eq!(rt; starts.as_slice(), wanted);
     }
-    Ok(())
 }
 
 // The starts that change from one table to the other, and all starts then.
@@ -108,19 +106,19 @@ fn change(
     alloc: Global,
     from: &Table,
     to: &Table,
-) -> Result<(Vec<(usize, i64)>, Vec<i64>), AllocError> {
-    let before = items(rt, alloc, from.1)?;
+) -> (Vec<(usize, i64)>, Vec<i64>) {
+    let before = items(rt, alloc, from.1).expect(rt, "memory");
     let graph = graph_of(rt, alloc, before.len(), from.0);
     let mut latest = Latest::build(alloc, &graph, &before).expect(rt, "latest starts");
-    let after = items(rt, alloc, to.1)?;
+    let after = items(rt, alloc, to.1).expect(rt, "memory");
     assert!(rt; before.len() <= after.len());
     let graph = graph_of(rt, alloc, after.len(), to.0);
     let values = latest
         .after_change(&graph, &after, &[])
         .expect(rt, "values");
     latest.update(&values);
-    let starts = starts_kept(alloc, &latest, after.len())?;
-    Ok((values, starts))
+    let starts = starts_kept(alloc, &latest, after.len()).expect(rt, "memory");
+    (values, starts)
 }
 
 const FIRST_PAIR: Table = (&[(0, 1)], EVEN);
@@ -156,11 +154,10 @@ const CHANGES: [(Table, Table, &[(usize, i64)], &[i64]); 4] = [
 ];
 
 #[test]
-fn changes_what_comes_before(rt: HostRuntime) -> Result<(), Fail> {
+fn changes_what_comes_before(rt: HostRuntime) {
     for (from, to, changed, wanted) in CHANGES {
-        let (values, starts) = change(&rt, rt.alloc(), &from, &to)?;
+        let (values, starts) = change(&rt, rt.alloc(), &from, &to);
         assert_eq!(rt; values.as_slice(), changed);
         assert_eq!(rt; starts.as_slice(), wanted);
     }
-    Ok(())
 }

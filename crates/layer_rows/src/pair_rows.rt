@@ -7,7 +7,6 @@ use operation_graph::Graph;
 use plan_basics::{OccKey, OpKey};
 use plan_graph::graph_of;
 use std::alloc::{AllocError, Global};
-use std::test::Fail;
 
 // An operation of an occurrence.
 fn operation(occurrence: &OccKey, number: u8) -> OpKey
@@ -69,9 +68,11 @@ fn chain_back(alloc: Global, occurrence: &OccKey, number: u8) -> Result<Option<G
 }
 
 #[test]
-fn a_chain_by_its_places(rt: HostRuntime) -> Result<(), Fail> {
+fn a_chain_by_its_places(rt: HostRuntime) {
     let occurrence = named::occurrence(&rt, b"PAYROLL");
-    let graph = chain(rt.alloc(), &occurrence)?.expect(&rt, "a graph");
+    let graph = chain(rt.alloc(), &occurrence)
+        .expect(&rt, "memory")
+        .expect(&rt, "a graph");
     for place in 0..4 {
         assert!(rt;
             graph.succs(place) == [place + 1].as_slice(),
@@ -83,14 +84,14 @@ fn a_chain_by_its_places(rt: HostRuntime) -> Result<(), Fail> {
         );
     }
     assert!(rt; graph.preds(0).is_empty() && graph.succs(4).is_empty());
-    Ok(())
 }
 
 // To the first operation, and to itself.
 #[test]
-fn a_pair_back_closes_a_path(rt: HostRuntime) -> Result<(), Fail> {
+fn a_pair_back_closes_a_path(rt: HostRuntime) {
     let occurrence = named::occurrence(&rt, b"PAYROLL");
-    assert!(rt; chain_back(rt.alloc(), &occurrence, 5)?.is_none());
-    assert!(rt; chain_back(rt.alloc(), &occurrence, 40)?.is_none());
-    Ok(())
+    let found = chain_back(rt.alloc(), &occurrence, 5).expect(&rt, "memory");
+    assert!(rt; found.is_none());
+    let found = chain_back(rt.alloc(), &occurrence, 40).expect(&rt, "memory");
+    assert!(rt; found.is_none());
 }

@@ -3,7 +3,6 @@ use super::named::{EVENING, moment, workstation};
 use plan_basics::{Attr, Interval, Refusal};
 use std::alloc::{AllocError, Global};
 use std::process::Abort;
-use std::test::Fail;
 use workstations::{Capacity, Workstation};
 
 const NOTHING: Capacity = Capacity {
@@ -39,17 +38,16 @@ const WHILE_OPEN: [(&[u8], Result<(), Refusal>); 4] = [
 ];
 
 #[test]
-fn is_open_from_its_first_minute_to_its_end(rt: HostRuntime) -> Result<(), Fail> {
+fn is_open_from_its_first_minute_to_its_end(rt: HostRuntime) {
     let name = workstation(&rt, b"SETP");
     let mut station = Workstation::new(rt.alloc(), name, Attr::StartAndCompletion);
-    let night = intervals(&rt, rt.alloc(), &SETUP)?;
+    let night = intervals(&rt, rt.alloc(), &SETUP).expect(&rt, "memory");
     assert_eq!(rt; station.replace_intervals(night), Ok(()));
     for (text, answer) in WHILE_OPEN {
         assert_eq!(rt; station.fits(moment(&rt, text), &NOTHING, 0, 0), answer);
     }
     assert_eq!(rt; station.name(), name);
     assert_eq!(rt; station.attribute(), Attr::StartAndCompletion);
-    Ok(())
 }
 
 const RUNS: [Open; 1] = [(EVENING, b"2024-03-02T06:00", 2, 3)];
@@ -65,10 +63,10 @@ const ROOM: [(u32, u32, u32, u32, Result<(), Refusal>); 6] = [
 ];
 
 #[test]
-fn gives_out_what_is_left(rt: HostRuntime) -> Result<(), Fail> {
+fn gives_out_what_is_left(rt: HostRuntime) {
     let name = workstation(&rt, b"CPU1");
     let mut station = Workstation::new(rt.alloc(), name, Attr::Automatic);
-    let night = intervals(&rt, rt.alloc(), &RUNS)?;
+    let night = intervals(&rt, rt.alloc(), &RUNS).expect(&rt, "memory");
     assert_eq!(rt; station.replace_intervals(night), Ok(()));
     let begin = moment(&rt, EVENING);
     for (servers, taken_r1, r1, r2, answer) in ROOM {
@@ -79,7 +77,6 @@ fn gives_out_what_is_left(rt: HostRuntime) -> Result<(), Fail> {
         };
         assert_eq!(rt; station.fits(begin, &taken, r1, r2), answer);
     }
-    Ok(())
 }
 
 const EARLY: Open = (EVENING, b"2024-03-01T23:00", 1, 0);
@@ -107,30 +104,26 @@ const REPLACED: [(&[Open], Result<(), Refusal>, Option<Capacity>); 4] = [
 ];
 
 #[test]
-fn takes_intervals_in_any_order(rt: HostRuntime) -> Result<(), Fail> {
+fn takes_intervals_in_any_order(rt: HostRuntime) {
     let name = workstation(&rt, b"CPU1");
     let mut station = Workstation::new(rt.alloc(), name, Attr::Automatic);
     let eleven = moment(&rt, b"2024-03-01T23:00");
     for (open, answer, offered) in REPLACED {
-        let given = intervals(&rt, rt.alloc(), open)?;
+        let given = intervals(&rt, rt.alloc(), open).expect(&rt, "memory");
         assert_eq!(rt; station.replace_intervals(given), answer);
         assert_eq!(rt; station.capacity_at(eleven), offered);
     }
-    Ok(())
 }
 
 #[test]
-fn takes_no_more_than_400_intervals(rt: HostRuntime) -> Result<(), Fail> {
+fn takes_no_more_than_400_intervals(rt: HostRuntime) {
     let name = workstation(&rt, b"CPU1");
     let mut station = Workstation::new(rt.alloc(), name, Attr::Automatic);
     let late = interval(&rt, &LATE);
-    assert_eq!(rt;
-        station.replace_intervals(vec![in rt.alloc(); late]?),
-        Ok(())
-    );
-    let too_many = vec![in rt.alloc(); late; 401]?;
+    let one = vec![in rt.alloc(); late].expect(&rt, "memory");
+    assert_eq!(rt; station.replace_intervals(one), Ok(()));
+    let too_many = vec![in rt.alloc(); late; 401].expect(&rt, "memory");
     assert_eq!(rt; station.replace_intervals(too_many), Err(Refusal::Limit));
     let eleven = moment(&rt, b"2024-03-01T23:00");
     assert_eq!(rt; station.capacity_at(eleven), Some(LATE_CAPACITY));
-    Ok(())
 }

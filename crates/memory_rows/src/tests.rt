@@ -1,14 +1,15 @@
 // Each call that can want memory, without any and with a little.
 use super::taking::take_all;
-use plan_basics::{Moment, OpKey, Refusal, Watched};
+use plan_basics::{OpKey, Refusal, Watched};
 use plan_core::Plan;
 use plan_import::{ImportFault, read_plan};
-use plan_records::{PlanDraft, Record, Reply, Request, What};
+use plan_records::{Addition, PlanDraft, Record, Reply, Request, What};
 use std::alloc::{AllocError, Global};
 use std::array;
+use std::process::Abort;
 use std::test::Fail;
 
-const DAY: &[u8] = b"W,CPU1,A,,,,,,,
+const DAY: &str = "W,CPU1,A,,,,,,,
 I,CPU1,1972-01-01T00:00,2071-12-31T23:59,2,0,0,,,
 O,DAILY,2024-03-01T22:00,5,2024-03-02T05:00,,,,,
 P,DAILY,2024-03-01T22:00,10,CPU1,30,0,0,,
@@ -20,42 +21,30 @@ D,DAILY,2024-03-01T22:00,10,DAILY,2024-03-01T22:00,20,,,
 const EVENING: i64 = 27_437_640;
 
 fn day(alloc: Global) -> Result<Option<PlanDraft>, ImportFault> {
-    let mut reader = Watched::new(DAY);
-    read_plan(alloc, &mut reader)
+    read_plan(alloc, &mut Watched::new(DAY.as_bytes()))
 }
 
-fn load(draft: Option<PlanDraft>) -> Request {
-    Request {
-        at: EVENING,
-        what: What::Load(draft),
+/// Whether the day's text is read; or it is answered want of memory.
+fn is_read(alloc: Global) -> Result<bool, &'static str> {
+    match day(alloc) {
+        Ok(Some(_)) => Ok(true),
+        Ok(None) => Err("the text denotes no plan"),
+        Err(ImportFault::Memory) => Ok(false),
+        Err(ImportFault::Reader) => Err("the reader failed"),
     }
-}
-
-fn key(text: &[u8]) -> Result<OpKey, &'static str> {
-    OpKey::from_text(text).ok_or("no key")
 }
 
 #[test]
 fn an_import_without_memory_answers_so(rt: HostRuntime) -> Result<(), Fail> {
     let held = take_all(rt.alloc())?;
     let refused = Vec::<u8>::with_capacity(rt.alloc(), 1).is_err();
-    let without = day(rt.alloc());
+    let without = is_read(rt.alloc());
     drop(held);
     assert!(rt; refused);
-    assert!(rt; matches!(without, Err(ImportFault::Memory)));
-    assert!(rt; matches!(day(rt.alloc()), Ok(Some(_))));
+    assert_eq!(rt; without, Ok(false));
+    assert_eq!(rt; is_read(rt.alloc()), Ok(true));
     Ok(())
 }
-
-/// The records of the day's text.
-const LINES: [&str; 6] = [
-    "W,CPU1,A,,,,,,,",
-    "I,CPU1,1972-01-01T00:00,2071-12-31T23:59,2,0,0,,,",
-    "O,DAILY,2024-03-01T22:00,5,2024-03-02T05:00,,,,,",
-    "P,DAILY,2024-03-01T22:00,10,CPU1,30,0,0,,",
-    "P,DAILY,2024-03-01T22:00,20,CPU1,60,0,0,,",
-    "D,DAILY,2024-03-01T22:00,10,DAILY,2024-03-01T22:00,20,,,",
-];
 
 /// The fields of a line without quotes.
 fn record(alloc: Global, line: &str) -> Result<Record, AllocError> {
@@ -67,24 +56,88 @@ fn record(alloc: Global, line: &str) -> Result<Record, AllocError> {
         .to_vec(alloc))
 }
 
-fn records(alloc: Global) -> Result<Vec<Record>, AllocError> {
+/// The records of the day's text, without so many of its first lines.
+fn records(alloc: Global, without: usize) -> Result<Vec<Record>, AllocError> {
     let mut all = Vec::new(alloc);
-    for line in LINES {
+    for line in DAY.lines().skip(without) {
         all.push(record(alloc, line)?)?;
     }
     Ok(all)
 }
 
+/// Whether records are built into a draft; or it is refused for want of memory.
+fn is_built(records: Vec<Record>) -> Result<bool, &'static str> {
+    match PlanDraft::build(records) {
+        Ok(Some(_)) => Ok(true),
+        Ok(None) => Err("the records denote no plan"),
+        Err(Refusal::Memory) => Ok(false),
+        Err(_) => Err("another refusal"),
+    }
+}
+
+/// The same while all memory is taken.
+fn is_built_without_memory(alloc: Global) -> Result<bool, &'static str> {
+    let records = records(alloc, 0).or(Err("no memory for records"))?;
+    let held = take_all(alloc).or(Err("no memory to begin with"))?;
+    let is_built = is_built(records);
+    drop(held);
+    is_built
+}
+
 #[test]
 fn a_draft_without_memory_is_refused(rt: HostRuntime) -> Result<(), Fail> {
-    let first = records(rt.alloc())?;
-    let second = records(rt.alloc())?;
-    let held = take_all(rt.alloc())?;
-    let without = PlanDraft::build(first).err();
-    drop(held);
-    assert_eq!(rt; without, Some(Refusal::Memory));
-    assert!(rt; matches!(PlanDraft::build(second), Ok(Some(_))));
+    assert_eq!(rt; is_built_without_memory(rt.alloc()), Ok(false));
+    assert_eq!(rt; is_built(records(rt.alloc(), 0)?), Ok(true));
     Ok(())
+}
+
+/// Whether records are built into an occurrence that comes in; or it is refused for want of memory.
+fn is_added(records: Vec<Record>) -> Result<bool, &'static str> {
+    match Addition::build(records) {
+        Ok(Some(_)) => Ok(true),
+        Ok(None) => Err("the records denote no occurrence"),
+        Err(Refusal::Memory) => Ok(false),
+        Err(_) => Err("another refusal"),
+    }
+}
+
+/// The same while all memory is taken, of the day without its workstation and interval.
+fn is_added_without_memory(alloc: Global) -> Result<bool, &'static str> {
+    let records = records(alloc, 2).or(Err("no memory for records"))?;
+    let held = take_all(alloc).or(Err("no memory to begin with"))?;
+    let is_added = is_added(records);
+    drop(held);
+    is_added
+}
+
+#[test]
+fn an_addition_without_memory_is_refused(rt: HostRuntime) -> Result<(), Fail> {
+    assert_eq!(rt; is_added_without_memory(rt.alloc()), Ok(false));
+    assert_eq!(rt; is_added(records(rt.alloc(), 2)?), Ok(true));
+    Ok(())
+}
+
+/// The load of the day in the evening.
+fn load(alloc: Global) -> Result<Request, &'static str> {
+    let draft = day(alloc).or(Err("the day isn't read"))?;
+    Ok(Request {
+        at: EVENING,
+        what: What::Load(draft),
+    })
+}
+
+fn first() -> Result<OpKey, &'static str> {
+    OpKey::from_text(b"DAILY/2024-03-01T22:00/010").ok_or("no key")
+}
+
+/// Whether nothing has come in, and the clock stands at its first minute.
+fn is_empty(plan: &Plan, first: &OpKey) -> bool {
+    !plan.is_loaded() && plan.clock().minute() == 0 && plan.view_op(first).is_none()
+}
+
+/// Whether the day is loaded in the evening.
+fn holds_day(plan: &Plan, first: &OpKey) -> bool {
+    plan.is_loaded() && plan.clock().minute() == EVENING && plan.view_op(first).is_some()
 }
 
 /// What a request is refused for while all memory is taken, if it is.
@@ -99,45 +152,47 @@ fn refused_without_memory(
     Ok(refusal)
 }
 
-/// The operations that a request names, if it isn't refused. It is prepared with memory, and applied while all is taken.
-fn applied_without_memory(
+/// Whether a request that is prepared with memory, and applied while all is taken, names this operation alone.
+fn names_without_memory(
     alloc: Global,
     plan: &mut Plan,
     request: &Request,
-) -> Result<Option<Vec<OpKey>>, AllocError> {
+    first: &OpKey,
+) -> Result<bool, AllocError> {
     let Ok(prepared) = plan.prepare(request) else {
-        return Ok(None);
+        return Ok(false);
     };
     let held = take_all(alloc)?;
     let named = plan.apply(prepared);
     drop(held);
-    Ok(Some(named))
+    Ok(named.as_slice() == [*first].as_slice())
 }
 
-/// Whether nothing has come in, and the clock stands at its first minute.
-fn is_empty(plan: &Plan, first: &OpKey) -> bool {
-    !plan.is_loaded() && plan.clock().minute() == 0 && plan.view_op(first).is_none()
-}
-
-/// Whether the day is loaded in the evening.
-fn holds_day(plan: &Plan, first: &OpKey) -> bool {
-    plan.is_loaded() && plan.clock().minute() == EVENING && plan.view_op(first).is_some()
+/// A load is refused while all memory is taken, and changes nothing; then it is carried out.
+fn check_load(alloc: Global, plan: &mut Plan, request: &Request) -> Result<(), &'static str> {
+    let first = first()?;
+    if refused_without_memory(alloc, plan, request) != Ok(Some(Refusal::Memory)) {
+        return Err("isn't refused for want of memory");
+    }
+    if !is_empty(plan, &first) {
+        return Err("a load that is refused changed the plan");
+    }
+    if names_without_memory(alloc, plan, request, &first) != Ok(true) {
+        return Err("doesn't name the first operation alone");
+    }
+    if holds_day(plan, &first) {
+        Ok(())
+    } else {
+        Err("the day isn't loaded")
+    }
 }
 
 #[test]
 fn a_load_without_memory_changes_nothing(rt: HostRuntime) -> Result<(), Fail> {
-    let first = key(b"DAILY/2024-03-01T22:00/010")?;
-    let request = load(day(rt.alloc()).ok().ok_or("no memory")?);
+    let request = load(rt.alloc())?;
     let mut plan = Plan::empty(rt.alloc());
-    let without = refused_without_memory(rt.alloc(), &mut plan, &request)?;
-    assert_eq!(rt; without, Some(Refusal::Memory));
-    assert!(rt; is_empty(&plan, &first));
-    let named = applied_without_memory(rt.alloc(), &mut plan, &request)?;
-    assert_eq!(rt;
-        named.ok_or("refused with memory")?.as_slice(),
-        [first].as_slice()
-    );
-    assert!(rt; holds_day(&plan, &first));
+    let checked = check_load(rt.alloc(), &mut plan, &request);
+    assert_eq!(rt; checked, Ok(()));
     Ok(())
 }
 
@@ -153,25 +208,42 @@ fn run_without_memory(
     Ok(refusal)
 }
 
-/// Whether the one reply names this operation alone.
-fn names_alone(replies: &[Reply], key: &OpKey) -> bool {
-    let [Reply::Accepted { named }] = replies else {
+/// Whether a run has one reply, which names this operation alone.
+fn names_alone(plan: &mut Plan, requests: &[Request], key: &OpKey) -> bool {
+    let Ok(replies) = plan.run(requests) else {
         return false;
     };
-    named.as_slice() == [*key].as_slice()
+    match replies.as_slice() {
+        [Reply::Accepted { named }] => named.as_slice() == [*key].as_slice(),
+        _ => false,
+    }
+}
+
+/// A run of one load is refused while all memory is taken, and changes nothing; then it is carried out.
+fn check_run(alloc: Global, plan: &mut Plan, requests: &[Request]) -> Result<(), &'static str> {
+    let first = first()?;
+    if run_without_memory(alloc, plan, requests) != Ok(Some(Refusal::Memory)) {
+        return Err("isn't refused for want of memory");
+    }
+    if !is_empty(plan, &first) {
+        return Err("a run that is refused changed the plan");
+    }
+    if !names_alone(plan, requests, &first) {
+        return Err("doesn't name the first operation alone");
+    }
+    if holds_day(plan, &first) {
+        Ok(())
+    } else {
+        Err("the day isn't loaded")
+    }
 }
 
 #[test]
 fn a_run_without_memory_changes_nothing(rt: HostRuntime) -> Result<(), Fail> {
-    let first = key(b"DAILY/2024-03-01T22:00/010")?;
-    let requests = [load(day(rt.alloc()).ok().ok_or("no memory")?)];
+    let requests = [load(rt.alloc())?];
     let mut plan = Plan::empty(rt.alloc());
-    let without = run_without_memory(rt.alloc(), &mut plan, &requests)?;
-    assert_eq!(rt; without, Some(Refusal::Memory));
-    assert!(rt; is_empty(&plan, &first));
-    let replies = plan.run(&requests).ok().ok_or("no memory for the replies")?;
-    assert!(rt; names_alone(&replies, &first));
-    assert!(rt; holds_day(&plan, &first));
+    let checked = check_run(rt.alloc(), &mut plan, &requests);
+    assert_eq!(rt; checked, Ok(()));
     Ok(())
 }
 
@@ -190,13 +262,72 @@ fn spare_blocks(alloc: Global) -> Result<Vec<Vec<u8>>, AllocError> {
     Ok(spares)
 }
 
-/// Whether the day's text is read; or it is answered want of memory.
-fn is_read(alloc: Global) -> Result<bool, &'static str> {
-    match day(alloc) {
-        Ok(Some(_)) => Ok(true),
-        Ok(None) => Err("the text denotes no plan"),
-        Err(ImportFault::Memory) => Ok(false),
-        Err(ImportFault::Reader) => Err("the reader failed"),
+/// What is tried again and again: it is carried out, or it answers want of memory.
+trait Tried {
+    fn is_carried_out(&mut self) -> Result<bool, &'static str>;
+}
+
+/// How often it was carried out, and how often it was refused.
+#[derive(Debug, Drop)]
+struct Times {
+    done: u64,
+    refused: u64,
+}
+
+/// Tries with room for ever more bytes: later and later growths are the first one refused.
+fn growth_by_growth<T: Tried>(alloc: Global, tried: &mut T) -> Result<Times, &'static str> {
+    let mut times = Times {
+        done: 0,
+        refused: 0,
+    };
+    let mut spares = spare_blocks(alloc).or(Err("no memory for spares"))?;
+    let held = take_all(alloc).or(Err("no memory to begin with"))?;
+    for _ in 0..SPARES {
+        drop(spares.pop());
+        if tried.is_carried_out()? {
+            times.done = times.done.saturating_add(1);
+        } else {
+            times.refused = times.refused.saturating_add(1);
+        }
+    }
+    drop(held);
+    Ok(times)
+}
+
+#[derive(Drop)]
+struct ImportTried {
+    alloc: Global,
+}
+
+impl Tried for ImportTried {
+    fn is_carried_out(&mut self) -> Result<bool, &'static str> {
+        is_read(self.alloc)
+    }
+}
+
+/// It is refused more than five times, and carried out more than five times.
+fn check_growths<T: Tried>(rt: &impl Abort, alloc: Global, tried: &mut T) {
+    let times = growth_by_growth(alloc, tried).expect(rt, "tries");
+    assert!(rt; times.done > 5 && times.refused > 5, "{times:?}");
+}
+
+#[test]
+fn imports_are_refused_growth_by_growth(rt: HostRuntime) {
+    let alloc = rt.alloc();
+    check_growths(&rt, alloc, &mut ImportTried { alloc });
+}
+
+/// A load of an empty plan, which is only prepared.
+#[derive(Drop)]
+struct LoadTried {
+    plan: Plan,
+    request: Request,
+    first: OpKey,
+}
+
+impl Tried for LoadTried {
+    fn is_carried_out(&mut self) -> Result<bool, &'static str> {
+        is_loaded(&mut self.plan, &self.request, &self.first)
     }
 }
 
@@ -214,47 +345,18 @@ fn is_loaded(plan: &mut Plan, request: &Request, first: &OpKey) -> Result<bool, 
     }
 }
 
-/// Room for ever more bytes: later and later growths of the import are the first one refused.
-#[test]
-fn imports_are_refused_growth_by_growth(rt: HostRuntime) -> Result<(), Fail> {
-    let mut read = 0u64;
-    let mut refused = 0u64;
-    let mut spares = spare_blocks(rt.alloc())?;
-    let held = take_all(rt.alloc())?;
-    for _ in 0..SPARES {
-        drop(spares.pop());
-        if is_read(rt.alloc())? {
-            read = read.saturating_add(1);
-        } else {
-            refused = refused.saturating_add(1);
-        }
-    }
-    drop(held);
-    assert!(rt; refused > 5, "read {read}, refused {refused}");
-    assert!(rt; read > 5, "read {read}, refused {refused}");
-    Ok(())
+fn tried_load(alloc: Global) -> Result<LoadTried, &'static str> {
+    let first = first()?;
+    let request = load(alloc)?;
+    Ok(LoadTried {
+        plan: Plan::empty(alloc),
+        request,
+        first,
+    })
 }
 
-/// The same of a load's growths.
 #[test]
-fn loads_are_refused_growth_by_growth(rt: HostRuntime) -> Result<(), Fail> {
-    let first = key(b"DAILY/2024-03-01T22:00/010")?;
-    let request = load(day(rt.alloc()).ok().ok_or("no memory")?);
-    let mut plan = Plan::empty(rt.alloc());
-    let mut loaded = 0u64;
-    let mut refused = 0u64;
-    let mut spares = spare_blocks(rt.alloc())?;
-    let held = take_all(rt.alloc())?;
-    for _ in 0..SPARES {
-        drop(spares.pop());
-        if is_loaded(&mut plan, &request, &first)? {
-            loaded = loaded.saturating_add(1);
-        } else {
-            refused = refused.saturating_add(1);
-        }
-    }
-    drop(held);
-    assert!(rt; refused > 5, "loaded {loaded}, refused {refused}");
-    assert!(rt; loaded > 5, "loaded {loaded}, refused {refused}");
-    Ok(())
+fn loads_are_refused_growth_by_growth(rt: HostRuntime) {
+    let mut tried = tried_load(rt.alloc()).expect(&rt, "a load");
+    check_growths(&rt, rt.alloc(), &mut tried);
 }

@@ -3,7 +3,7 @@ use Rattle.std.proofs.Common.{◌≡◌, ◌≢◌, ◌⊎◌, ◌↔◌, inl, i
 use Rattle.std.specs.FinSet.{contains, insert, same_set}
 use Rattle.std.proofs.lemmas.Bool.{cases_eq}
 use Rattle.operation_graph.specs.Paths.{IsAcyclicBy, IsRankBy, LeadsBy, by_edge, by_more}
-use Rattle.operation_graph.specs.Graphs.{Digraph, Edges, HasEdge, IsEdgeOf, IsGraph, rank_of, edges_of}
+use Rattle.operation_graph.specs.Graphs.{Edges, IsEdgeOf, edges_of}
 use Rattle.operation_graph.proofs.EdgeSets.{edge_cmp_total, edge_cmp-IsAntisymmetric, edge_cases, edge_stays, edge_added, edge_listed, listed_edge}
 use Rattle.operation_graph.proofs.Ranks.{AreEdges, told_leads}
 use Rattle.operation_graph.proofs.Joining.{stays_acyclic}
@@ -16,9 +16,6 @@ rank_leads edge rank rises {a} {b = c} (by_more {b = b} e rest) = omega (arith, 
 -- where ranks rise no path returns
 pub acyclic_of_rank : {K : Type 0} (edge : K → K → Type 0) (rank : K → ℕ) → IsRankBy edge rank → IsAcyclicBy edge
 acyclic_of_rank edge rank rises a path = omega (arith, rank_leads edge rank rises path)
-
-pub graph_acyclic : (g : Digraph) → IsGraph g → IsAcyclicBy (HasEdge g)
-graph_acyclic g h = acyclic_of_rank (HasEdge g) (rank_of g) h.ranked
 
 same_bool : (x y : Bool) → (x ≡ true → y ≡ true) → (y ≡ true → x ≡ true) → x ≡ y
 same_bool true true f g = refl

@@ -1,14 +1,15 @@
 -- The set of edges that rows of successors hold.
-use Rattle.std.proofs.Common.{◌≡◌, ◌⊎◌, inl, inr, refl, sym, ap, subst, ◌∙◌, true≢false, arith, ℕ, zero, suc, ◌+◌, Bool, true, false, ◌||◌, List, [], ◌∷◌, ◌++◌, map, Contains, zero-add, add-zero}
-use Rattle.std.specs.Cmp.{IsTotalOrder, Equal-is, eq_by_cmp_equiv, nat_cmp_total, on_total, then_total}
+use Rattle.std.proofs.Common.{◌≡◌, ◌⊎◌, inl, inr, refl, sym, ap, subst, ◌∙◌, arith, ℕ, zero, suc, ◌+◌, List, [], ◌∷◌, ◌++◌, map, Contains, zero-add, add-zero}
+use Rattle.std.specs.Cmp.{IsTotalOrder, nat_cmp_total, on_total, then_total}
 use Rattle.std.specs.FinMap.{IsAntisymmetric, nat_cmp-IsAntisymmetric}
-use Rattle.std.specs.FinSet.{contains, contains-empty, contains-insert, insert}
-use Rattle.std.specs.Ordering.{eq_by_cmp, nat_cmp}
+use Rattle.std.specs.FinSet.{insert}
+use Rattle.std.specs.Ordering.{nat_cmp}
 use Rattle.std.proofs.lemmas.List.Elements.{Contains-append_left, Contains-append_right, Contains-append_cases}
 use Rattle.plan_basics.specs.Keys.{then_IsAntisymmetric}
 use Rattle.operation_graph.specs.Graphs.{Edges, IsEdgeOf, edge_cmp, edges_of}
 use Rattle.operation_graph.specs.Adjacency.{Rows, row, pairs_from, edges_in}
-use Rattle.operation_graph.proofs.Members.{contains_head, contains_later, contains_cases, contains_none, contains_mapped, mapped_contains}
+use Rattle.operation_graph.proofs.Members.{contains_none, contains_mapped, mapped_contains}
+use Rattle.operation_graph.proofs.SetMembers.{in_listed, listed_in, member_added, member_cases, member_stays}
 
 abbrev Pair : Type 0
 Pair = ℕ × ℕ
@@ -19,41 +20,22 @@ edge_cmp_total = then_total (on_total (λ (x : Pair). x.0) nat_cmp_total) (on_to
 pub edge_cmp-IsAntisymmetric : IsAntisymmetric edge_cmp
 edge_cmp-IsAntisymmetric = then_IsAntisymmetric {R = nat_cmp} {S = nat_cmp} (λ (x : Pair). x.0) (λ (x : Pair). x.1) (λ x y p q i. (p i, q i)) nat_cmp-IsAntisymmetric nat_cmp-IsAntisymmetric
 
-or_cases : (a b : Bool) → (a || b) ≡ true → (a ≡ true) ⊎ (b ≡ true)
-or_cases true b e = inl refl
-or_cases false b e = inr e
-
-or_right : (a b : Bool) → b ≡ true → (a || b) ≡ true
-or_right true b e = refl
-or_right false b e = e
-
 -- the edges with one more are that one and the others
 pub edge_cases : (edges : Edges) (x : Pair) (a b : ℕ) → IsEdgeOf (insert edges x) a b → (x ≡ (a, b)) ⊎ IsEdgeOf edges a b
-edge_cases edges x a b h = elim (or_cases (eq_by_cmp edge_cmp (a, b) x) (contains edges (a, b)) (sym (contains-insert edge_cmp_total edges x (a, b)) ∙ h)) [
-  | inl is ↦ inl (sym (edge_cmp-IsAntisymmetric (a, b) x ((Equal-is (edge_cmp (a, b) x)).0 is)))
-  | inr old ↦ inr old
-]
+edge_cases edges x a b h = member_cases edge_cmp_total edge_cmp-IsAntisymmetric edges x (a, b) h
 
 pub edge_stays : (edges : Edges) (x : Pair) (a b : ℕ) → IsEdgeOf edges a b → IsEdgeOf (insert edges x) a b
-edge_stays edges x a b h = contains-insert edge_cmp_total edges x (a, b) ∙ or_right (eq_by_cmp edge_cmp (a, b) x) _ h
+edge_stays edges x a b h = member_stays edge_cmp_total edge_cmp-IsAntisymmetric edges x (a, b) h
 
 pub edge_added : (edges : Edges) (x : Pair) → IsEdgeOf (insert edges x) x.0 x.1
-edge_added edges x = contains-insert edge_cmp_total edges x x ∙ ap (λ b. b || contains edges x) ((eq_by_cmp_equiv edge_cmp_total).refl x)
+edge_added edges x = member_added edge_cmp_total edge_cmp-IsAntisymmetric edges x
 
 -- the edges of a list are its elements
 pub listed_edge : (pairs : List Pair) (a b : ℕ) → Contains pairs (a, b) → IsEdgeOf (edges_of pairs) a b
-listed_edge [] a b h = absurd (contains_none _ h)
-listed_edge (x ∷ pairs) a b h = elim (contains_cases x pairs (a, b) h) [
-  | inl e ↦ subst (λ (z : Pair). IsEdgeOf (edges_of (x ∷ pairs)) z.0 z.1) e (edge_added (edges_of pairs) x)
-  | inr later ↦ edge_stays (edges_of pairs) x a b (listed_edge pairs a b later)
-]
+listed_edge pairs a b h = in_listed edge_cmp_total edge_cmp-IsAntisymmetric pairs (a, b) h
 
 pub edge_listed : (pairs : List Pair) (a b : ℕ) → IsEdgeOf (edges_of pairs) a b → Contains pairs (a, b)
-edge_listed [] a b h = absurd (true≢false (sym h ∙ contains-empty edge_cmp (a, b)))
-edge_listed (x ∷ pairs) a b h = elim (edge_cases (edges_of pairs) x a b h) [
-  | inl e ↦ subst (λ z. Contains (x ∷ pairs) z) e (contains_head x pairs)
-  | inr old ↦ contains_later x pairs (a, b) (edge_listed pairs a b old)
-]
+edge_listed pairs a b h = listed_in edge_cmp_total edge_cmp-IsAntisymmetric pairs (a, b) h
 
 in_rows : (k : ℕ) (rows : Rows) (i b : ℕ) → Contains (row rows i) b → Contains (pairs_from k rows) (k + i, b)
 in_rows k [] i b h = absurd (contains_none b h)

@@ -1,5 +1,6 @@
 pub mod Members
 pub mod Counts
+pub mod SetMembers
 pub mod EdgeSets
 pub mod Keeping
 pub mod Opened

@@ -1,5 +1,5 @@
 -- Edges of a list, by their ends.
-use Rattle.std.proofs.Common.{◌≡◌, ◌≢◌, ◌⊎◌, inl, inr, refl, sym, ap, subst, ◌∙◌, arith, ℕ, zero, suc, ◌+◌, ◌<◌, ◌≤◌, cond, Bool, List, [], ◌∷◌, ◌++◌, length, get_or, replicate, Contains}
+use Rattle.std.proofs.Common.{◌≡◌, ◌≢◌, ◌⊎◌, inl, inr, refl, sym, ap, subst, ◌∙◌, arith, ℕ, zero, suc, ◌+◌, ◌<◌, ◌≤◌, cond, Bool, List, [], ◌∷◌, ◌++◌, length, get_or, Contains}
 use Rattle.std.proofs.lemmas.Bool.{cases_eq}
 use Rattle.operation_graph.specs.Graphs.{AreDifferent}
 use Rattle.operation_graph.specs.Adjacency.{Rows, row, count_of, ends_at, successors_in, predecessors_in, HoldRows, joined}
@@ -128,15 +128,3 @@ counted_once (e ∷ edges) different a b =
         ]
       ]
     ]
-
--- empty rows hold no edge
-pub hold_none : (n : ℕ) (f g : Pair → ℕ) → HoldRows n (ends_at f g []) (replicate n [])
-hold_none n f g = (none_len n, λ a. none_row n a) where
-  none_len : (k : ℕ) → length (replicate {A = List ℕ} k []) ≡ k
-  none_len zero = refl
-  none_len (suc k) = omega (arith, none_len k)
-
-  none_row : (k a : ℕ) → row (replicate k []) a ≡ []
-  none_row zero a = refl
-  none_row (suc k) zero = refl
-  none_row (suc k) (suc a) = none_row k a

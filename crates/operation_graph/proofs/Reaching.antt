@@ -6,7 +6,7 @@ use Rattle.std.proofs.lemmas.List.Elements.{Contains-append_left, Contains-push,
 use Rattle.operation_graph.specs.Paths.{IsPathBy, ReachesBy, end_of}
 use Rattle.operation_graph.specs.Graphs.{IsSet, AreExactly}
 use Rattle.operation_graph.specs.Adjacency.{Rows, row, count_of}
-use Rattle.operation_graph.specs.Walks.{IsSuccessor, IsReached, AreNodes, unset_count, IsWalk, IsVisit}
+use Rattle.operation_graph.specs.Walks.{IsSuccessor, IsReached, AreNodes, unset_count, IsWalk}
 use Rattle.operation_graph.proofs.Members.{contains_head, contains_later, contains_cases, contains_none}
 use Rattle.operation_graph.proofs.Counts.{count_head, count_other, count_append, counted_contains, different_if_once}
 
@@ -73,6 +73,13 @@ none_set (suc k) (suc n) h = none_set k n h
 
 -- ---- the walk
 
+-- the successors of the one at that place are being seen, up to the rest
+pub record IsVisit (succs : Rows) (live : List Bool) (from : ℕ) (seen : List Bool) (found : List ℕ) (place : ℕ) (rest : List ℕ) : Type 0 where
+  pub walk : IsWalk succs live from seen found place
+  pub there : place < length found
+  pub some : (b : ℕ) → Contains rest b → IsSuccessor succs (get_or found place 0) b
+  pub others : (b : ℕ) → IsSuccessor succs (get_or found place 0) b → IsSet live b → IsSet seen b ⊎ Contains rest b
+
 module _ (succs : Rows) (live : List Bool) (from : ℕ) where
   pub walk_begun : (n : ℕ) → n ≡ length succs → AreNodes succs → length live ≡ length succs → from < length succs → IsWalk succs live from (set (replicate n false) from true) (from ∷ []) 0
   walk_begun n is nodes live_size lt =
@@ -94,11 +101,7 @@ module _ (succs : Rows) (live : List Bool) (from : ℕ) where
         within = omega arith;
       }
 
-  -- the node at a place is visited
-  pub visit_begun : (seen : List Bool) (found : List ℕ) (place : ℕ) → place < length found → IsWalk succs live from seen found place
-      → IsVisit succs live from seen found place (row succs (get_or found place 0))
-  visit_begun seen found place there w = record { walk = w; there = there; some = λ b has. has; others = λ b has l. inr has }
-
+  -- the node at a place was visited
   pub visit_ended : (seen : List Bool) (found : List ℕ) (place : ℕ) → IsVisit succs live from seen found place [] → IsWalk succs live from seen found (place + 1)
   visit_ended seen found place v = record {
     nodes = v.walk.nodes;

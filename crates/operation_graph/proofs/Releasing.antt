@@ -59,9 +59,6 @@ module _ (waiting ready ranks : List ℕ) (next s : ℕ) (counted : IsCounting w
     within = λ n has. omega (arith, counted.within n has, length-set waiting s w);
   }
 
-  pub rank_left : next < length waiting
-  rank_left = omega (arith, counted.room, count_set waiting s 0 lt, waits)
-
   pub counted_last : w ≡ 0 → IsCounting (set waiting s w) (ready ++ s ∷ []) (set ranks s next) (next + 1)
   counted_last none = record {
     size = omega (arith, counted.size, length-set waiting s w, length-set ranks s next);

@@ -5,7 +5,7 @@ use Rattle.std.proofs.lemmas.Bool.{cases_eq}
 use Rattle.std.specs.declared.vec.Vec.{Vec}
 use Rattle.std.specs.declared.alloc.Global.{Global}
 use Rattle.operation_graph.specs.Adjacency.{Rows, row, rows_of, count_of, IsMirror}
-use Rattle.operation_graph.specs.Rankings.{waiting_among, waiting_count, owed, numbers_from, IsCounted, IsRankingOf, IsFresh}
+use Rattle.operation_graph.specs.Rankings.{waiting_among, waiting_count, owed, IsCounted, IsRankingOf, IsFresh}
 use Rattle.operation_graph.specs.declared.ranking.Ranking.{Ranking}
 use Rattle.operation_graph.proofs.Members.{contains_head, contains_later, contains_none}
 use Rattle.operation_graph.proofs.Counts.{count_head, count_other}
@@ -17,6 +17,11 @@ waits_are [] = refl
 waits_are (v ∷ vectors) =
     let e : vec_len v + 1 ≡ length v.items + 1 = ap (λ k. k + 1) v.ok.0 in
     ap (λ k. k ∷ map (λ u. vec_len u + 1) vectors) e ∙ ap (λ ks. (length v.items + 1) ∷ ks) (waits_are vectors)
+
+-- so many numbers in order, from the first
+abbrev pub numbers_from : ℕ → ℕ → List ℕ
+numbers_from n zero = []
+numbers_from n (suc k) = n ∷ numbers_from (suc n) k
 
 count_below : (n a k : ℕ) → n < a → count_of n (numbers_from a k) ≡ 0
 count_below n a zero lt = refl

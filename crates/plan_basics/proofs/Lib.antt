@@ -5,3 +5,4 @@ pub mod OptionLemmas
 pub mod YearLemmas
 pub mod KeyLaws
 pub mod PaddingLemmas
+pub mod NameTexts

@@ -210,6 +210,11 @@ impl Refusal {
 
 /// Writes number and name, with a blank between them.
 impl fmt::Display for Refusal {
+    ghost use Rattle.std.specs.Prelude.{Some, ◌++◌, codes, decimal};
+    ghost use Rattle.plan_basics.specs.Refusals.{number_of, name_of};
+
+    ghost output = { λ refusal. Some (decimal (number_of refusal) ++ codes " " ++ name_of refusal) };
+
     fn fmt<W: fmt::Write>(&self, f: &mut fmt::Formatter<W>) -> fmt::Result {
         write!(f, "{} {}", self.number(), self.name())
     }

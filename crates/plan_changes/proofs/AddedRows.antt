@@ -9,11 +9,11 @@ use Rattle.plan_records.specs.Changes.{with_supplement}
 use Rattle.plan_records.specs.Contents.{AreContents, incoming, plan_of}
 use Rattle.plan_records.specs.declared.contents.PlanContents.{PlanContents}
 use Rattle.plan_records.specs.declared.contents.NewOccurrence.{NewOccurrence}
-use Rattle.plan_changes.specs.Adding.{ComesApart}
+use Rattle.plan_changes.specs.Adding.{HasNothingOf}
 
 module _ (old copy : PlanContents) (copied : (clock : ℕ) → (plan_of clock copy ≡ plan_of clock old) × (AreContents old → AreContents copy)) (parts : NewOccurrence) (s : Supplement) (view : s ≡ incoming parts) where
-  pub copy_apart : ComesApart (plan_of 0 old) s → ComesApart (plan_of 0 copy) (incoming parts)
-  copy_apart apart = subst (ComesApart (plan_of 0 copy)) view (subst (λ P. ComesApart P s) (sym (copied 0).0) apart)
+  pub copy_apart : HasNothingOf (plan_of 0 old) s → HasNothingOf (plan_of 0 copy) (incoming parts)
+  copy_apart apart = subst (HasNothingOf (plan_of 0 copy)) view (subst (λ P. HasNothingOf P s) (sym (copied 0).0) apart)
 
   module _ (new : PlanContents)
       (occurrences : from_entries {R = occurrence_cmp} new.occurrences.items ≡ joined (from_entries copy.occurrences.items) (incoming parts).occurrences)

@@ -8,7 +8,7 @@ use Rattle.plan_model.specs.Valid.{IsValid}
 use Rattle.plan_records.specs.Accepting.{MayBeAdded}
 use Rattle.plan_records.specs.Drafts.{IsAddition, IsOwn}
 use Rattle.plan_records.proofs.Tables.{is_found}
-use Rattle.plan_changes.specs.Adding.{ComesApart}
+use Rattle.plan_changes.specs.Adding.{HasNothingOf}
 
 not_true : (b : Bool) → (b ≡ true → ⊥) → b ≡ false
 not_true true h = absurd (h refl)
@@ -33,7 +33,7 @@ module _ (P : Plan) (valid : IsValid P) (s : Supplement) (addition : IsAddition 
         | inr own ↦ not_own o ends.1 own
       ]
 
-  pub comes_apart : ComesApart P s
+  pub comes_apart : HasNothingOf P s
   comes_apart = record {
     occurrences = λ c there. not_true (contains_key s.occurrences c) (λ comes. true≢false (sym there ∙ new c comes));
     operations = λ o there. not_true (contains_key s.operations o) (not_both o there);

@@ -1,5 +1,5 @@
 -- Contents of which one row is another.
-use Rattle.std.proofs.Common.{◌≡◌, refl, sym, true≢false, ap, subst, ◌∙◌, ℕ, Bool, true, false, cond, Some, None, is_some, List, get_or, set, slice_get, Vec, Global, Result, Ok, Err, IfErr}
+use Rattle.std.proofs.Common.{◌≡◌, refl, sym, true≢false, ap, subst, ◌∙◌, ℕ, Bool, true, false, Some, None, is_some, List, get_or, set, slice_get, Vec, Global, Result, Ok, Err, IfErr}
 use Rattle.std.specs.Result.{IsOk, OnOk}
 use Rattle.plan_basics.specs.declared.Refusal.{Refusal}
 use Rattle.plan_basics.specs.declared.Refusal.TheVariants as refusal
@@ -9,17 +9,16 @@ use Rattle.std.proofs.lemmas.Option.{get_or_from_slice_get}
 use Rattle.std.specs.FinMap.{from_entries, get, contains_key, insert}
 use Rattle.std.specs.List.Sorted.{IsStrictlySortedBy}
 use Rattle.std.specs.Map.{keys_of}
-use Rattle.std.specs.Ordering.{eq_by_cmp}
 use Rattle.plan_basics.specs.Keys.{Name, name_cmp, name_cmp_total, name_cmp-IsAntisymmetric, operation_cmp, operation_cmp_total, operation_cmp-IsAntisymmetric}
 use Rattle.plan_basics.specs.Intervals.{OpenInterval}
 use Rattle.plan_basics.specs.declared.keys.OpKey.{OpKey}
 use Rattle.workstations.specs.Workstations.{Workstation, with_intervals}
 use Rattle.plan_model.specs.Plan.{Operation, Plan}
-use Rattle.plan_model.specs.Revise.{revise}
 use Rattle.plan_records.specs.Changes.{is_at, revised}
 use Rattle.plan_records.specs.Contents.{AreContents, plan_of}
 use Rattle.plan_records.specs.declared.contents.PlanContents.{PlanContents}
 use Rattle.plan_records.proofs.RowPlaces.{get_at}
+use Rattle.plan_changes.specs.Opening.{opened}
 use Rattle.plan_changes.proofs.OneRow.{from_set, insert_known, keys-set, unrevised}
 
 module _ (c : PlanContents) (order : AreContents c) where
@@ -70,7 +69,7 @@ module _ (c : PlanContents) (order : AreContents c) where
 
   module _ (k : Name) (items : List OpenInterval) (rows : Vec (Name × Workstation) Global) (i : ℕ) (was : Workstation)
       (at : slice_get c.workstations.items i ≡ Some (k, was)) (is : rows.items ≡ set c.workstations.items i (k, with_intervals items was)) where
-    pub workstation_changed : (clock : ℕ) → plan_of clock (record c { workstations = rows }) ≡ record (plan_of clock c) { workstations = revise (λ v ws. cond (eq_by_cmp name_cmp v k) (with_intervals items ws) ws) (plan_of clock c).workstations }
+    pub workstation_changed : (clock : ℕ) → plan_of clock (record c { workstations = rows }) ≡ opened k items (plan_of clock c)
     workstation_changed clock = ap (λ m. record (plan_of clock c) { workstations = m }) (
         ap (from_entries {R = name_cmp}) is
         ∙ from_set name_cmp name_cmp_total name_cmp-IsAntisymmetric k (with_intervals items) c.workstations.items order.workstations i was at)
@@ -87,7 +86,7 @@ module _ (c : PlanContents) (order : AreContents c) where
 
   -- where no workstation has the name
   pub workstation_absent : (k : Name) (items : List OpenInterval) → get {R = name_cmp} (from_entries c.workstations.items) k ≡ None
-      → (clock : ℕ) → plan_of clock c ≡ record (plan_of clock c) { workstations = revise (λ v ws. cond (eq_by_cmp name_cmp v k) (with_intervals items ws) ws) (plan_of clock c).workstations }
+      → (clock : ℕ) → plan_of clock c ≡ opened k items (plan_of clock c)
   workstation_absent k items none clock = ap (λ m. record (plan_of clock c) { workstations = m }) (unrevised name_cmp name_cmp_total name_cmp-IsAntisymmetric k (with_intervals items) (from_entries c.workstations.items) none)
 
 -- ---- a copy of which one row is set
@@ -99,10 +98,6 @@ found_in ds rows i k is found = (found.0, subst (λ zs. slice_get zs i ≡ Some 
 -- what is read there
 read_there : {K X : Type 0} (rows : List (K × X)) (i : ℕ) (k : K) (x : X) (read : K × X) → slice_get rows i ≡ Some (k, x) → read ≡ get_or rows i read → read.1 ≡ x
 read_there rows i k x read at is = ap (λ r. r.1) (is ∙ get_or_from_slice_get rows i (k, x) read at)
-
--- the plan with a workstation open in these intervals
-abbrev pub opened : Name → List OpenInterval → Plan → Plan
-opened k items P = record P { workstations = revise (λ v ws. cond (eq_by_cmp name_cmp v k) (with_intervals items ws) ws) P.workstations }
 
 -- the new contents are in order, of the old plan so changed
 abbrev pub IsChanged : PlanContents → PlanContents → (Plan → Plan) → Type 0

@@ -1,19 +1,21 @@
 -- Rows and keys of two lists, put in order.
-use Rattle.std.proofs.Common.{◌≡◌, ◌≢◌, ◌⊎◌, inl, inr, refl, sym, subst, ap, ◌∙◌, true, false, true≢false, Bool, ◌||◌, List, [], ◌∷◌, ◌++◌, Contains, Option, Some, None}
+use Rattle.std.proofs.Common.{◌≡◌, ◌≢◌, ◌⊎◌, inl, inr, sym, subst, ap, ◌∙◌, true≢false, ◌||◌, List, [], ◌∷◌, ◌++◌, Contains, Option, Some, None}
 use Rattle.std.specs.Cmp.{IsTotalOrder}
 use Rattle.std.specs.declared.cmp.Ordering.{Ordering}
 use Rattle.std.specs.FinMap.{IsAntisymmetric, get, from_entries}
 use Rattle.std.specs.FinSet as set
 use Rattle.std.specs.List.Sorted.{IsPermutation, IsSortedByKey, IsStrictlySortedBy}
 use Rattle.std.specs.Map.{keys_of}
+use Rattle.std.proofs.lemmas.Bool.{or_cases, or_left, or_right}
 use Rattle.std.proofs.lemmas.List.Elements.{All-contains, Contains-append_left, Contains-append_right, Contains-append_cases}
 use Rattle.std.proofs.lemmas.List.Sorted.{Contains-permutation, IsPermutation-sym}
+use Rattle.plan_laws.proofs.Single.{same_bool}
 use Rattle.plan_model.specs.Revise.{get-joined, joined, or_else}
 use Rattle.plan_records.proofs.Keyed.{ascend_by}
 use Rattle.plan_records.proofs.Lists.{Differ, all_by_members, contains_head, contains_later, pairs_from_differ}
 use Rattle.plan_records.proofs.Orders.{map_same}
 use Rattle.plan_records.proofs.Tables.{from_set, get_row, in_set, is_none, no_some, row_found, rows_apart, same_entries, some_is, sorted_apart}
-use Rattle.plan_changes.specs.Adding.{AreApart, HaveNoneOf}
+use Rattle.plan_changes.specs.Adding.{ShareNoKey, ShareNoMember}
 
 -- one key is in order
 pub single_up : {K : Type 0} (R : K → K → Ordering) (k : K) → IsStrictlySortedBy R (k ∷ [])
@@ -32,7 +34,7 @@ differ_both S (x ∷ xs) ys one two across = (
 )
 
 module _ {K X : Type 0} {R : K → K → Ordering} (total : IsTotalOrder R) (exact : IsAntisymmetric R) (old new made : List (K × X)) (same : IsPermutation (old ++ new) made)
-    (old_up : IsStrictlySortedBy R (keys_of old)) (new_up : IsStrictlySortedBy R (keys_of new)) (apart : AreApart {R = R} (from_entries old) (from_entries new)) where
+    (old_up : IsStrictlySortedBy R (keys_of old)) (new_up : IsStrictlySortedBy R (keys_of new)) (apart : ShareNoKey {R = R} (from_entries old) (from_entries new)) where
   in_old : (k : K) (x : X) → Contains old (k, x) → get {R = R} (from_entries old) k ≡ Some x
   in_old k x has = get_row total exact old k x (rows_apart total exact old old_up) has
 
@@ -82,35 +84,19 @@ module _ {K X : Type 0} {R : K → K → Ordering} (total : IsTotalOrder R) (exa
 
 module _ {K : Type 0} {R : K → K → Ordering} (total : IsTotalOrder R) (exact : IsAntisymmetric R) (old new made : List K) (same : IsPermutation (old ++ new) made) where
   -- keys, by their order, with none twice
-  pub keys_merged_up : IsStrictlySortedBy R old → IsStrictlySortedBy R new → HaveNoneOf {R = R} (set.from_list old) (set.from_list new) → IsSortedByKey (λ k. k) R made → IsStrictlySortedBy R made
+  pub keys_merged_up : IsStrictlySortedBy R old → IsStrictlySortedBy R new → ShareNoMember {R = R} (set.from_list old) (set.from_list new) → IsSortedByKey (λ k. k) R made → IsStrictlySortedBy R made
   keys_merged_up old_up new_up apart sorted =
       subst (IsStrictlySortedBy R) (map_same made)
       (ascend_by total exact (λ (k : K). k) (old ++ new) made same sorted
       (pairs_from_differ (λ a b. a ≢ b) (old ++ new) (differ_both (λ a b. a ≢ b) old new (sorted_apart total exact old old_up) (sorted_apart total exact new new_up)
       (λ a b in_a in_b e. true≢false (sym (in_set total exact new b in_b) ∙ ap (set.contains {R = R} (set.from_list new)) (sym e) ∙ apart a (in_set total exact old a in_a))))))
 
-  or_left : (a b : Bool) → a ≡ true → (a || b) ≡ true
-  or_left a b e = ap (λ z. z || b) e
-
-  or_right : (a b : Bool) → b ≡ true → (a || b) ≡ true
-  or_right true b e = refl
-  or_right false b e = e
-
-  or_cases : (a b : Bool) → (a || b) ≡ true → (a ≡ true) ⊎ (b ≡ true)
-  or_cases true b e = inl refl
-  or_cases false b e = inr e
-
-  same_truth : (a b : Bool) → (a ≡ true → b ≡ true) → (b ≡ true → a ≡ true) → a ≡ b
-  same_truth true b f g = sym (f refl)
-  same_truth false true f g = g refl
-  same_truth false false f g = refl
-
   -- the keys of both are the set of both
   pub from_keys_merged : set.from_list {R = R} made ≡ set.union (set.from_list old) (set.from_list new)
   from_keys_merged = set.same_set total exact (set.from_list made) (set.union (set.from_list old) (set.from_list new)) (λ k.
       let a = set.contains {R = R} (set.from_list old) k in
       let b = set.contains {R = R} (set.from_list new) k in
-      same_truth (set.contains {R = R} (set.from_list made) k) (a || b)
+      same_bool (set.contains {R = R} (set.from_list made) k) (a || b)
       (λ e. elim (Contains-append_cases old new k (Contains-permutation made (old ++ new) k (IsPermutation-sym (old ++ new) made same) (from_set total exact made k e))) [
         | inl first ↦ or_left a b (in_set total exact old k first)
         | inr second ↦ or_right a b (in_set total exact new k second)

@@ -12,6 +12,7 @@ use Rattle.std.specs.declared.cmp.Ordering.TheVariants.{Less, Greater}
 use Rattle.plan_basics.specs.declared.keys.OpKey.{OpKey}
 use Rattle.plan_graph.proofs.KeyPlaces.{in_listed, listed_in}
 use Rattle.plan_laws.proofs.Pairs.{pair_cmp_total, pair_cmp-IsAntisymmetric}
+use Rattle.plan_laws.proofs.Single.{same_bool}
 use Rattle.plan_model.specs.Plan.{pair_cmp}
 use Rattle.plan_records.proofs.MadeEntries.{key_of}
 use Rattle.plan_records.specs.Changes.{with_pair}
@@ -67,14 +68,9 @@ module _ {K : Type 0} {R : K → K → Ordering} (total : IsTotalOrder R) (exact
       above (y ∷ ys) h = (total.antisymm k y ∙ ap ordering_reverse h.0, above ys h.1)
 
   -- the set that it makes has one element more
-  told_alike : (a b : Bool) → (a ≡ true → b ≡ true) → (b ≡ true → a ≡ true) → a ≡ b
-  told_alike true b there back = sym (there refl)
-  told_alike false true there back = back refl
-  told_alike false false there back = refl
-
   pub inserted_set : (xs : List K) (k : K) (i : ℕ) → set.from_list {R = R} (insert xs i k) ≡ set.insert (set.from_list xs) k
   inserted_set xs k i = set.same_set total exact (set.from_list (insert xs i k)) (set.from_list (k ∷ xs)) (λ q.
-      told_alike (set.contains (set.from_list (insert xs i k)) q) (set.contains (set.from_list (k ∷ xs)) q)
+      same_bool (set.contains (set.from_list (insert xs i k)) q) (set.contains (set.from_list (k ∷ xs)) q)
       (λ h. in_listed total exact (k ∷ xs) q (Contains-permutation (insert xs i k) (k ∷ xs) q (IsPermutation-sym (k ∷ xs) (insert xs i k) (IsPermutation-insert xs i k)) (listed_in total exact (insert xs i k) q h)))
       (λ h. in_listed total exact (insert xs i k) q (Contains-permutation (k ∷ xs) (insert xs i k) q (IsPermutation-insert xs i k) (listed_in total exact (k ∷ xs) q h))))
 

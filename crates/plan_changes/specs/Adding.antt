@@ -1,4 +1,4 @@
--- What comes in is apart from what a plan holds.
+-- What comes in, of which a plan holds nothing yet.
 use Rattle.std.specs.Prelude.{◌≡◌, true, false}
 use Rattle.std.specs.declared.cmp.Ordering.{Ordering}
 use Rattle.std.specs.FinMap.{FinMap, contains_key}
@@ -6,15 +6,15 @@ use Rattle.std.specs.FinSet.{FinSet, contains}
 use Rattle.plan_model.specs.Plan.{Plan, Supplement}
 
 -- no key is in both
-abbrev pub AreApart : {K X : Type 0} {R : K → K → Ordering} → FinMap R X → FinMap R X → Type 0
-AreApart m n = (k : _) → contains_key m k ≡ true → contains_key n k ≡ false
+abbrev pub ShareNoKey : {K X : Type 0} {R : K → K → Ordering} → FinMap R X → FinMap R X → Type 0
+ShareNoKey m n = (k : _) → contains_key m k ≡ true → contains_key n k ≡ false
 
--- so of sets
-abbrev pub HaveNoneOf : {K : Type 0} {R : K → K → Ordering} → FinSet R → FinSet R → Type 0
-HaveNoneOf s t = (k : _) → contains s k ≡ true → contains t k ≡ false
+-- no member is in both
+abbrev pub ShareNoMember : {K : Type 0} {R : K → K → Ordering} → FinSet R → FinSet R → Type 0
+ShareNoMember s t = (k : _) → contains s k ≡ true → contains t k ≡ false
 
--- of what comes in the plan has nothing yet
-pub record ComesApart (P : Plan) (s : Supplement) : Type 0 where
-  pub occurrences : AreApart P.occurrences s.occurrences
-  pub operations : AreApart P.operations s.operations
-  pub pairs : HaveNoneOf P.pairs s.pairs
+-- the plan has no occurrence, no operation and no pair of what comes in
+pub record HasNothingOf (P : Plan) (s : Supplement) : Type 0 where
+  pub occurrences : ShareNoKey P.occurrences s.occurrences
+  pub operations : ShareNoKey P.operations s.operations
+  pub pairs : ShareNoMember P.pairs s.pairs

@@ -10,6 +10,6 @@ use Rattle.plan_model.specs.Ready.{with_mark}
 abbrev pub marked_row : List OpKey → Mark → OpKey × Operation → OpKey × Operation
 marked_row os mark row = (row.0, cond (is_among os row.0) (with_mark mark row.1) row.1)
 
--- so each row
+-- the rows, each with the mark where its key is among these
 abbrev pub marked_rows : List OpKey → Mark → List (OpKey × Operation) → List (OpKey × Operation)
 marked_rows os mark rows = map (marked_row os mark) rows

@@ -9,7 +9,7 @@ ghost use Rattle.plan_model.specs.Plan.{pair_cmp};
 ghost use Rattle.plan_model.specs.Revise.{joined};
 ghost use Rattle.plan_records.specs.Changes.{with_pair as with_pair_of, with_supplement};
 ghost use Rattle.plan_records.specs.Contents.{plan_of, AreContents};
-ghost use Rattle.plan_changes.specs.Adding.{AreApart, ComesApart, HaveNoneOf};
+ghost use Rattle.plan_changes.specs.Adding.{HasNothingOf, ShareNoKey, ShareNoMember};
 
 use super::marking::copy_of;
 use plan_basics::{OccKey, OpKey};
@@ -24,7 +24,7 @@ fn add_operations(
 ) -> Result<(), AllocError>
     requires old { IsStrictlySortedBy operation_cmp (keys_of rows.old.items) }
     requires new { IsStrictlySortedBy operation_cmp (keys_of new.now) }
-    requires apart { AreApart {R = operation_cmp} (from_entries rows.old.items) (from_entries new.now) }
+    requires apart { ShareNoKey {R = operation_cmp} (from_entries rows.old.items) (from_entries new.now) }
     ensures both { OnOk result (from_entries {R = operation_cmp} rows.new.items ≡ joined (from_entries rows.old.items) (from_entries new.now)) }
     ensures in_order { OnOk result (IsStrictlySortedBy operation_cmp (keys_of rows.new.items)) }
 {
@@ -40,7 +40,7 @@ fn add_occurrences(
 ) -> Result<(), AllocError>
     requires old { IsStrictlySortedBy occurrence_cmp (keys_of rows.old.items) }
     requires new { IsStrictlySortedBy occurrence_cmp (keys_of new.now) }
-    requires apart { AreApart {R = occurrence_cmp} (from_entries rows.old.items) (from_entries new.now) }
+    requires apart { ShareNoKey {R = occurrence_cmp} (from_entries rows.old.items) (from_entries new.now) }
     ensures both { OnOk result (from_entries {R = occurrence_cmp} rows.new.items ≡ joined (from_entries rows.old.items) (from_entries new.now)) }
     ensures in_order { OnOk result (IsStrictlySortedBy occurrence_cmp (keys_of rows.new.items)) }
 {
@@ -53,7 +53,7 @@ fn add_occurrences(
 fn add_pairs(pairs: &mut Vec<(OpKey, OpKey)>, new: &[(OpKey, OpKey)]) -> Result<(), AllocError>
     requires old { IsStrictlySortedBy pair_cmp pairs.old.items }
     requires new { IsStrictlySortedBy pair_cmp new.now }
-    requires apart { HaveNoneOf {R = pair_cmp} (set.from_list pairs.old.items) (set.from_list new.now) }
+    requires apart { ShareNoMember {R = pair_cmp} (set.from_list pairs.old.items) (set.from_list new.now) }
     ensures both { OnOk result (set.from_list {R = pair_cmp} pairs.new.items ≡ set.union (set.from_list pairs.old.items) (set.from_list new.now)) }
     ensures in_order { OnOk result (IsStrictlySortedBy pair_cmp pairs.new.items) }
 {
@@ -69,7 +69,7 @@ pub fn with_addition(
     addition: &Addition,
 ) -> Result<PlanContents, AllocError>
     requires in_order { AreContents contents.now }
-    requires apart { ComesApart (plan_of 0 contents.now) addition.now }
+    requires apart { HasNothingOf (plan_of 0 contents.now) addition.now }
     ensures plan { IfOk result (λ new. (clock : ℕ) → plan_of clock new ≡ with_supplement (plan_of clock contents.now) addition.now) }
     ensures in_order { IfOk result (λ new. AreContents new) }
 {

@@ -1,17 +1,16 @@
 // What operators' commands change of what the plan holds.
-ghost use Rattle.std.specs.Prelude.{◌≡◌, ℕ, IfOk, true, cond};
+ghost use Rattle.std.specs.Prelude.{◌≡◌, ℕ, IfOk, true};
 ghost use Rattle.std.specs.FinMap.{insert, contains_key};
 ghost use Rattle.std.specs.Ordering.{eq_by_cmp};
-ghost use Rattle.plan_basics.specs.Keys.{name_cmp, occurrence_cmp};
+ghost use Rattle.plan_basics.specs.Keys.{occurrence_cmp};
 ghost use Rattle.plan_basics.specs.declared.keys.OpKey.{OpKey as OpKeyValue};
 ghost use Rattle.plan_model.specs.Plan.{IsInPlan};
-ghost use Rattle.plan_model.specs.Revise.{revise};
-ghost use Rattle.workstations.specs.Workstations.{with_intervals as reopened_in};
 ghost use Rattle.ready_list.specs.Choice.{is_among};
 ghost use Rattle.plan_records.specs.Accepting.{MayBeOpenBy, AllHold};
 ghost use Rattle.plan_records.specs.Changes.{Changes, is_at, revised};
 ghost use Rattle.plan_records.specs.Contents.{plan_of, AreContents};
 ghost use Rattle.plan_records.specs.declared.What.TheVariants as what;
+ghost use Rattle.plan_changes.specs.Opening.{opened};
 
 use super::marking::{copy_of, with_marks};
 use plan_basics::{Interval, OccKey, OpKey, ResName, WsName};
@@ -100,7 +99,7 @@ pub fn with_intervals(
 ) -> Result<PlanContents, AllocError>
     requires in_order { AreContents contents.now }
     requires open { AllHold (MayBeOpenBy (plan_of 0 contents.now) name.now intervals.now) }
-    ensures plan { IfOk result (λ new. (clock : ℕ) → plan_of clock new ≡ record (plan_of clock contents.now) { workstations = revise (λ v ws. cond (eq_by_cmp name_cmp v name.now) (reopened_in intervals.now ws) ws) (plan_of clock contents.now).workstations }) }
+    ensures plan { IfOk result (λ new. (clock : ℕ) → plan_of clock new ≡ opened name.now intervals.now (plan_of clock contents.now)) }
     ensures in_order { IfOk result (λ new. AreContents new) }
 {
     let mut new = copy_of(alloc, contents)?;

@@ -1,5 +1,6 @@
 -- A plan with an occurrence that comes in.
 use Rattle.std.proofs.Common.{◌≡◌, ◌⊎◌, inl, inr, refl, sym, ap, subst, ◌∙◌, true, true≢false, Contains, Option, Some, None, is_some}
+use Rattle.std.proofs.lemmas.Bool.{or_cases}
 use Rattle.std.specs.FinMap.{contains_key, get}
 use Rattle.std.specs.FinSet as set
 use Rattle.std.specs.Map.{keys_of}
@@ -7,7 +8,6 @@ use Rattle.plan_basics.specs.Keys.{operation_cmp_total, operation_cmp-IsAntisymm
 use Rattle.plan_basics.specs.declared.Refusal.TheVariants as refusal
 use Rattle.plan_basics.specs.declared.keys.OpKey.{OpKey}
 use Rattle.plan_graph.specs.PlanGraphs.{AreAmong}
-use Rattle.plan_laws.proofs.ComingIn.{or_cases}
 use Rattle.plan_laws.proofs.Pairs.{pair_cmp_total, pair_cmp-IsAntisymmetric}
 use Rattle.plan_model.specs.Plan.{IsPairOf, Plan, Supplement}
 use Rattle.plan_model.specs.Revise.{get-joined, or_else}

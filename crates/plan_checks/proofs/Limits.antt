@@ -37,7 +37,7 @@ module _ (c : PlanContents) (in_order : AreContents c) where
   operations_counted : len (plan_of 0 c).operations ≡ length c.operations.items
   operations_counted = rows_counted operation_cmp_total operation_cmp-IsAntisymmetric c.operations.items in_order.operations
 
-  pairs_counted : set.len (plan_of 0 c).pairs ≡ length c.pairs.items
+  pub pairs_counted : set.len (plan_of 0 c).pairs ≡ length c.pairs.items
   pairs_counted = len_set pair_cmp_total pair_cmp-IsAntisymmetric c.pairs.items (sorted_apart pair_cmp_total pair_cmp-IsAntisymmetric c.pairs.items in_order.pairs)
 
   pub within_limits : AreFew c → IsWithinLimits (plan_of 0 c)

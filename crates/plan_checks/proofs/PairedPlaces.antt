@@ -1,46 +1,26 @@
 -- What the graph of a plan that is held says of a pair that comes in between the operations at two places.
-use Rattle.std.proofs.Common.{◌≡◌, ◌⊎◌, inl, inr, refl, sym, ap, subst, ◌∙◌, arith, ℕ, ◌+◌, ◌<◌, Bool, true, false, cond, List, [], ◌∷◌, length, slice_get, Some}
+use Rattle.std.proofs.Common.{◌≡◌, ◌↔◌, inl, inr, refl, sym, ap, subst, ◌∙◌, arith, ℕ, ◌+◌, ◌<◌, Bool, true, false, cond, List, [], ◌∷◌, length, slice_get, Some}
 use Rattle.std.proofs.lemmas.Option.{slice_get_within}
 use Rattle.std.specs.FinSet as set
 use Rattle.std.specs.Map.{keys_of}
 use Rattle.operation_graph.specs.Graphs.{Closes, HasEdge}
-use Rattle.operation_graph.specs.Paths.{IsPathBy, LeadsBy, ReachesBy, by_edge, by_more, end_of}
+use Rattle.operation_graph.specs.Paths.{LeadsBy}
 use Rattle.plan_basics.specs.Keys.{operation_cmp, operation_cmp_total, operation_cmp-IsAntisymmetric}
 use Rattle.plan_basics.specs.declared.keys.OpKey.{OpKey}
 use Rattle.plan_graph.proofs.KeyPlaces.{one_place}
-use Rattle.plan_graph.proofs.PairEdges.{same_key}
-use Rattle.plan_graph.proofs.PlacePaths.{reach_alike}
-use Rattle.plan_graph.specs.PlanGraphs.{ReachAlike}
+use Rattle.plan_graph.proofs.PairEdges.{leads_alike, same_key}
 use Rattle.plan_laws.proofs.Closing.{pair_closes_a_path}
-use Rattle.plan_laws.proofs.Pairs.{pair_cmp_total, pair_cmp-IsAntisymmetric}
+use Rattle.plan_laws.proofs.Pairs.{pair_cmp_total}
 use Rattle.plan_model.specs.Plan.{IsInPlan, IsPairOf, Operation, Pairs}
 use Rattle.plan_model.specs.Valid.{IsAcyclic, IsWithinLimits}
 use Rattle.plan_records.proofs.RowPlaces.{get_at}
-use Rattle.plan_records.proofs.Tables.{key_found, len_set, sorted_apart}
+use Rattle.plan_records.proofs.Tables.{key_found}
 use Rattle.plan_records.specs.Changes.{with_pair}
 use Rattle.plan_records.specs.Contents.{plan_of}
+use Rattle.plan_checks.proofs.Limits.{pairs_counted}
 use Rattle.plan_checks.proofs.ReachedKeys.{as_many, row_key}
 use Rattle.plan_checks.specs.Held.{AreHeld}
 use Rattle.plan_checks.specs.declared.loaded.LoadedPlan.{LoadedPlan}
-
--- ---- a path, and what is reached where all is live
-
-module _ {K : Type 0} (edge : K → K → Type 0) where
-  reaches_by : {a b : K} → LeadsBy edge a b → ReachesBy edge (λ _. Unit {0}) a b
-  reaches_by {b = b} (by_edge e) = (b ∷ [], (e, tt, tt), refl)
-  reaches_by (by_more {b = b} e rest) = let r = reaches_by rest in (b ∷ r.0, (e, tt, r.1), r.2)
-
-  leads_along : (a : K) (rest : List K) → IsPathBy edge (λ _. Unit {0}) a rest → (a ≡ end_of a rest) ⊎ LeadsBy edge a (end_of a rest)
-  leads_along a [] path = inl refl
-  leads_along a (b ∷ rest) (e, live, path) = elim (leads_along b rest path) [
-    | inl same ↦ inr (by_edge (subst (edge a) same e))
-    | inr on ↦ inr (by_more e on)
-  ]
-
-  leads_or_same : (a b : K) → ReachesBy edge (λ _. Unit {0}) a b → (a ≡ b) ⊎ LeadsBy edge a b
-  leads_or_same a b (rest, path, is) = subst (λ z. (a ≡ z) ⊎ LeadsBy edge a z) is (leads_along a rest path)
-
--- ---- the operations at two places
 
 one_more : (b : Bool) (n : ℕ) → ¬ (b ≡ true) → cond b n (n + 1) ≡ n + 1
 one_more true n never = absurd (never refl)
@@ -53,26 +33,18 @@ module _ (at : ℕ) (h : LoadedPlan) (held : AreHeld at h) where
   abbrev pairs : Pairs
   pairs = set.from_list h.contents.pairs.items
 
-  joined_alike : ReachAlike keys pairs h.graph (λ _. Unit {0}) (λ _. Unit {0})
-  joined_alike = reach_alike keys pairs h.graph held.graph (λ _. Unit {0}) (λ _. Unit {0}) (λ i o e. (λ _. tt, λ _. tt))
-      (λ p o pair.
+  led_alike : (i j : ℕ) (p o : OpKey) → slice_get keys i ≡ Some p → slice_get keys j ≡ Some o → LeadsBy (HasEdge h.graph) i j ↔ LeadsBy (IsPairOf pairs) p o
+  led_alike = leads_alike keys pairs (HasEdge h.graph) held.graph.edges held.in_order.operations (λ p o pair.
       let ends = held.sound.valid.pairs p o pair in
       let found = key_found operation_cmp_total operation_cmp-IsAntisymmetric h.contents.operations.items in
       (found p ends.0, found o ends.1))
-      held.in_order.operations
-
-  -- as many pairs as rows of pairs
-  as_many_pairs : set.len pairs ≡ length h.contents.pairs.items
-  as_many_pairs =
-      let rows = h.contents.pairs.items in
-      len_set pair_cmp_total pair_cmp-IsAntisymmetric rows (sorted_apart pair_cmp_total pair_cmp-IsAntisymmetric rows held.in_order.pairs)
 
   pub node_within : (i : ℕ) (o : OpKey) (op : Operation) → slice_get h.contents.operations.items i ≡ Some (o, op) → i < h.graph.nodes
   node_within i o op row = let lt = slice_get_within h.contents.operations.items i (o, op) row in omega (arith, lt, as_many at h held)
 
   module _ (p s : OpKey) (new : ¬ IsPairOf pairs p s) (clock : ℕ) where
     pairs_more : set.len (set.insert pairs (p, s)) ≡ length h.contents.pairs.items + 1
-    pairs_more = set.len-insert pair_cmp_total pairs (p, s) ∙ one_more (set.contains pairs (p, s)) (set.len pairs) new ∙ ap (λ n. n + 1) as_many_pairs
+    pairs_more = set.len-insert pair_cmp_total pairs (p, s) ∙ one_more (set.contains pairs (p, s)) (set.len pairs) new ∙ ap (λ n. n + 1) (pairs_counted h.contents held.in_order)
 
     pub has_room : length h.contents.pairs.items < 100000 → IsWithinLimits (with_pair (plan_of clock h.contents) p s)
     has_room room =
@@ -115,7 +87,7 @@ module _ (at : ℕ) (h : LoadedPlan) (held : AreHeld at h) where
     pub acyclic_with : ¬ Closes h.graph i j → IsAcyclic (set.insert pairs (p, s))
     acyclic_with clear = (pair_closes_a_path pairs p s held.sound.valid.acyclic).1 (
       λ same. clear (inl (one_place operation_cmp_total keys held.in_order.operations j i s second_key (first_key ∙ ap Some same))),
-      λ back. clear (leads_or_same (HasEdge h.graph) j i ((joined_alike j i s p second_key first_key).1 (reaches_by (IsPairOf pairs) back))),
+      λ back. clear (inr ((led_alike j i s p second_key first_key).1 back)),
     )
 
     pub returning_with : Closes h.graph i j → ¬ IsAcyclic (set.insert pairs (p, s))
@@ -123,8 +95,5 @@ module _ (at : ℕ) (h : LoadedPlan) (held : AreHeld at h) where
         let ends = (pair_closes_a_path pairs p s held.sound.valid.acyclic).0 acyclic in
         elim closes [
           | inl same ↦ ends.0 (same_key keys i p s first_key (ap (slice_get keys) (sym same) ∙ second_key))
-          | inr back ↦ elim (leads_or_same (IsPairOf pairs) s p ((joined_alike j i s p second_key first_key).0 (reaches_by (HasEdge h.graph) back))) [
-            | inl same ↦ ends.0 (sym same)
-            | inr on ↦ ends.1 on
-          ]
+          | inr back ↦ ends.1 ((led_alike j i s p second_key first_key).0 back)
         ]

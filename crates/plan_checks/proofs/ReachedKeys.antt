@@ -23,7 +23,8 @@ use Rattle.ready_list.specs.Choice.{is_among}
 use Rattle.status_rules.specs.declared.Mark.{Mark}
 use Rattle.status_rules.specs.declared.Mark.TheVariants as mark
 use Rattle.plan_checks.specs.Held.{AreHeld}
-use Rattle.plan_checks.specs.Reaching.{is_live_mark, is_live_row}
+use Rattle.plan_choice.specs.StartItems.{is_live_mark}
+use Rattle.plan_checks.specs.Reaching.{is_live_row}
 use Rattle.plan_checks.specs.declared.loaded.LoadedPlan.{LoadedPlan}
 
 live_if : (m : Mark) → is_live_mark m ≡ true → m ≢ mark.Deleted

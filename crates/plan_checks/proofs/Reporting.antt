@@ -39,55 +39,58 @@ module _ (c : PlanContents) (o : OpKey) (x : Reported) (lines : Plan → OpKey �
 
 -- ---- the request
 
--- a request that asks these lines of the operation o, by its workstation's attribute
-module _ (c : PlanContents) (m : ℕ) (w : What) (o : OpKey) (lines : Plan → OpKey → Option Attr → Operation → Refusal → Type 0) where
+-- what a request asks of its operation, by its workstation's attribute
+abbrev pub AsksOf : Type 1
+AsksOf = Plan → OpKey → Option Attr → Operation → Refusal → Type 0
+
+-- the request w, which v is, asks these lines of the operation o, of which x is known
+module _ (c : PlanContents) (m : ℕ) (lines : AsksOf) {v w : What} (is : v ≡ w) {o : OpKey} {x : Reported} (known : (clock : ℕ) → IsReported (plan_of clock c) o x) where
   abbrev rest : Plan → Operation → Refusal → Type 0
   rest P op = lines P o (attribute_at P op.workstation) op
 
   abbrev at : ℕ → Plan
   at clock = plan_of clock c
 
-  module _ (asks : (P : Plan) (r : Refusal) → OfOperation P o (rest P) r ↔ MayBeDone P m w r) (v : What) (is : v ≡ w) where
-    module _ (x : Reported) (known : (clock : ℕ) → IsReported (plan_of clock c) o x) where
-      abbrev its : Plan → OpKey → Refusal → Type 0
-      its P q = lines P q (Some x.attribute) x.operation
+  abbrev its : Plan → OpKey → Refusal → Type 0
+  its P q = lines P q (Some x.attribute) x.operation
 
-      permitted : (clock : ℕ) → AllHold (its (at clock) o) → IsPermitted (at clock) m v
-      permitted clock all = subst (IsPermitted (at clock) m) (sym is) (λ r. (asks (at clock) r).0
-          (of_found (at clock) o (rest (at clock)) x.operation (known clock).operation r (subst (λ a. lines (at clock) o a x.operation r) (sym (known clock).attribute) (all r))))
+  module _ (asks : (P : Plan) (r : Refusal) → OfOperation P o (rest P) r ↔ MayBeDone P m w r) where
+    permitted : (clock : ℕ) → AllHold (its (at clock) o) → IsPermitted (at clock) m v
+    permitted clock all = subst (IsPermitted (at clock) m) (sym is) (λ r. (asks (at clock) r).0
+        (of_found (at clock) o (rest (at clock)) x.operation (known clock).operation r (subst (λ a. lines (at clock) o a x.operation r) (sym (known clock).attribute) (all r))))
 
-      barred : (clock : ℕ) (r : Refusal) → 5 < number_of r → FailsFirstAt (its (at clock) o) r → IsBarred (at clock) m v r
-      barred clock r past first =
-          let on = sym (known clock).attribute in
-          let fails = subst (λ a. FailsFirstAt (lines (at clock) o a x.operation) r) on first in
-          subst (λ z. IsBarred (at clock) m z r) (sym is) (
-            omega (arith, past),
-            (
-              λ may. not_of_found (at clock) o (rest (at clock)) x.operation (known clock).operation r past fails.0 ((asks (at clock) r).1 may),
-              λ lower less. (asks (at clock) lower).0 (of_found (at clock) o (rest (at clock)) x.operation (known clock).operation lower (fails.1 lower less)),
-            ),
-          )
+    barred : (clock : ℕ) (r : Refusal) → 5 < number_of r → FailsFirstAt (its (at clock) o) r → IsBarred (at clock) m v r
+    barred clock r past first =
+        let on = sym (known clock).attribute in
+        let fails = subst (λ a. FailsFirstAt (lines (at clock) o a x.operation) r) on first in
+        subst (λ z. IsBarred (at clock) m z r) (sym is) (
+          omega (arith, past),
+          (
+            λ may. not_of_found (at clock) o (rest (at clock)) x.operation (known clock).operation r past fails.0 ((asks (at clock) r).1 may),
+            λ lower less. (asks (at clock) lower).0 (of_found (at clock) o (rest (at clock)) x.operation (known clock).operation lower (fails.1 lower less)),
+          ),
+        )
 
-      pub if_met : {T : Type 0} (answer : Result T Refusal) → OnOk answer ((clock : ℕ) → AllHold (its (plan_of clock c) o)) → OnOk answer ((clock : ℕ) → IsPermitted (plan_of clock c) m v)
-      if_met (Ok t) all = λ clock. permitted clock (all clock)
-      if_met (Err e) all = tt
+    pub if_met : {T : Type 0} (answer : Result T Refusal) → OnOk answer ((clock : ℕ) → AllHold (its (plan_of clock c) o)) → OnOk answer ((clock : ℕ) → IsPermitted (plan_of clock c) m v)
+    if_met (Ok t) all = λ clock. permitted clock (all clock)
+    if_met (Err e) all = tt
 
-      pub if_failed : {T : Type 0} (answer : Result T Refusal) → IfErr answer (λ r. (r ≡ refusal.Memory) ⊎ ((clock : ℕ) → FailsPastKeys (its (plan_of clock c) o) r))
-          → IfErr answer (λ r. (r ≡ refusal.Memory) ⊎ ((clock : ℕ) → IsBarred (plan_of clock c) m v r))
-      if_failed (Ok t) h = tt
-      if_failed (Err e) (inl memory) = inl memory
-      if_failed (Err e) (inr h) = inr (λ clock. barred clock e (h clock).0 (h clock).1)
+    pub if_failed : {T : Type 0} (answer : Result T Refusal) → IfErr answer (λ r. (r ≡ refusal.Memory) ⊎ ((clock : ℕ) → FailsPastKeys (its (plan_of clock c) o) r))
+        → IfErr answer (λ r. (r ≡ refusal.Memory) ⊎ ((clock : ℕ) → IsBarred (plan_of clock c) m v r))
+    if_failed (Ok t) h = tt
+    if_failed (Err e) (inl memory) = inl memory
+    if_failed (Err e) (inr h) = inr (λ clock. barred clock e (h clock).0 (h clock).1)
 
-      -- what all plans say
-      pub report_met : {T : Type 0} (answer : Result T Refusal) → OnOk answer (MeetsAll x its) → OnOk answer ((clock : ℕ) → IsPermitted (plan_of clock c) m v)
-      report_met answer h = if_met answer (met_at c o x its known answer h)
+    -- what all plans say
+    pub report_met : {T : Type 0} (answer : Result T Refusal) → OnOk answer (MeetsAll x its) → OnOk answer ((clock : ℕ) → IsPermitted (plan_of clock c) m v)
+    report_met answer h = if_met answer (met_at c o x its known answer h)
 
-      pub report_failed : {T : Type 0} (answer : Result T Refusal) → IfErr answer (FailsAt x its) → IfErr answer (λ r. (r ≡ refusal.Memory) ⊎ ((clock : ℕ) → IsBarred (plan_of clock c) m v r))
-      report_failed answer h = if_failed answer (failed_at c o x its known answer h)
+    pub report_failed : {T : Type 0} (answer : Result T Refusal) → IfErr answer (FailsAt x its) → IfErr answer (λ r. (r ≡ refusal.Memory) ⊎ ((clock : ℕ) → IsBarred (plan_of clock c) m v r))
+    report_failed answer h = if_failed answer (failed_at c o x its known answer h)
 
 -- ---- a request that asks these lines of the plan
 
-module _ (c : PlanContents) (m : ℕ) (w : What) (v : What) (is : v ≡ w) where
+module _ (c : PlanContents) (m : ℕ) {v w : What} (is : v ≡ w) where
   pub if_all_hold : {T : Type 0} (answer : Result T Refusal) → OnOk answer ((clock : ℕ) → AllHold (MayBeDone (plan_of clock c) m w)) → OnOk answer ((clock : ℕ) → IsPermitted (plan_of clock c) m v)
   if_all_hold (Ok t) all = λ clock. subst (IsPermitted (plan_of clock c) m) (sym is) (all clock)
   if_all_hold (Err e) all = tt

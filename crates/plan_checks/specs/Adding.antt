@@ -16,7 +16,7 @@ use Rattle.status_rules.specs.declared.Status.TheVariants as status
 abbrev pub IsKnown : Plan → Supplement → OpKey → Type 0
 IsKnown P s o = IsNew s o ⊎ IsOld P s o
 
--- so are both ends of the pair
+-- both ends of the pair come in, or are operations of other occurrences of the plan
 abbrev pub IsKnownPair : Plan → Supplement → OpKey × OpKey → Type 0
 IsKnownPair P s pair = IsKnown P s pair.0 × IsKnown P s pair.1
 
@@ -28,7 +28,7 @@ IsOldWith P s o x = IsOld P s o × HasStatus P o x × ((t : Status) → HasStatu
 abbrev pub MaySucceed : Plan → Supplement → OpKey → Type 0
 MaySucceed P s o = IsOld P s o → IsWaitingOrReady P o
 
--- one may lead from o: where o is there, it isn't deleted
+-- a pair that comes in may lead from o: where o is there, it isn't deleted
 abbrev pub MayPrecede : Plan → Supplement → OpKey → Type 0
 MayPrecede P s o = IsOld P s o → ¬ HasStatus P o status.Deleted
 
@@ -36,11 +36,11 @@ MayPrecede P s o = IsOld P s o → ¬ HasStatus P o status.Deleted
 abbrev pub IsOpenPair : Plan → Supplement → OpKey × OpKey → Type 0
 IsOpenPair P s pair = MaySucceed P s pair.1 × MayPrecede P s pair.0
 
--- its workstation is in the plan
+-- the operation's workstation is in the plan
 abbrev pub HasWorkstation : Plan → Operation → Type 0
 HasWorkstation P op = contains_key P.workstations op.workstation ≡ true
 
--- so are the special resources that it needs
+-- the special resources that the operation needs are in the plan
 abbrev pub HasResources : Plan → Operation → Type 0
 HasResources P op = (r : Name) (usage : Usage) → get op.needs r ≡ Some usage → contains_key P.resources r ≡ true
 

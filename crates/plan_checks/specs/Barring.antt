@@ -6,7 +6,7 @@ use Rattle.plan_basics.specs.declared.keys.OpKey.{OpKey}
 use Rattle.plan_basics.specs.Refusals.{number_of}
 use Rattle.plan_model.specs.Plan.{Plan, HasAttribute}
 use Rattle.plan_model.specs.Status.{HasStatus}
-use Rattle.plan_records.specs.Accepting.{AllHold, FailsFirstAt, MayBeDone}
+use Rattle.plan_records.specs.Accepting.{AllHold, FailsFirstAt, MayBeDone, MayBeStarted}
 use Rattle.plan_records.specs.declared.What.{What}
 use Rattle.plan_checks.specs.declared.checks.Reported.{Reported}
 use Rattle.status_rules.specs.declared.Status.{Status}
@@ -33,6 +33,10 @@ pub record IsReported (P : Plan) (o : OpKey) (x : Reported) : Type 0 where
   pub attribute : HasAttribute P x.operation.workstation x.attribute
   pub status : HasStatus P o x.status
   pub alone : (s : Status) → HasStatus P o s → s ≡ x.status
+
+-- what a start at minute m asks of the plan, of an operation that is reported so
+abbrev pub MayBeStartedAt : Reported → ℕ → Plan → OpKey → Refusal → Type 0
+MayBeStartedAt x m P o = MayBeStarted P m o x.operation (Some x.attribute)
 
 -- in any plan where a report of this operation is made, none of these lines refuses
 abbrev pub MeetsAll : Reported → (Plan → OpKey → Refusal → Type 0) → Type 0

@@ -15,14 +15,14 @@ waits_or_is_ready status.ReadyAfterNonreporting = true
 waits_or_is_ready status.Ready = true
 waits_or_is_ready _ = false
 
--- whether they are started, interrupted or undecided
+-- whether operations of this status are under way: started, interrupted or undecided
 abbrev pub is_under_way_status : Status → Bool
 is_under_way_status status.Started = true
 is_under_way_status status.Interrupted = true
 is_under_way_status status.Undecided = true
 is_under_way_status _ = false
 
--- whether they are ready, under way or in error
+-- whether operations of this status may be completed: ready, under way or in error
 abbrev pub may_be_completed : Status → Bool
 may_be_completed status.Arriving = true
 may_be_completed status.ReadyAfterNonreporting = true
@@ -33,7 +33,7 @@ may_be_completed status.Undecided = true
 may_be_completed status.Error = true
 may_be_completed _ = false
 
--- whether they are interrupted, complete, in error or undecided
+-- whether operations of this status may be run again: interrupted, complete, in error or undecided
 abbrev pub may_be_rerun : Status → Bool
 may_be_rerun status.Interrupted = true
 may_be_rerun status.Complete = true

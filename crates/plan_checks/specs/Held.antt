@@ -7,12 +7,12 @@ use Rattle.plan_choice.specs.Choosing.{AreLatestStarts, AreReadyEntries}
 use Rattle.plan_status.specs.Standings.{AreStandings, AreTallies}
 use Rattle.plan_checks.specs.declared.loaded.LoadedPlan.{LoadedPlan}
 
--- none before one is loaded
+-- the plan that is held at this clock: none before one is loaded
 abbrev pub plan_held : ℕ → Option LoadedPlan → Plan
 plan_held clock None = record no_plan { clock = clock }
 plan_held clock (Some h) = plan_of clock h.contents
 
--- contents in order, of a sound plan, with what is read off it
+-- its contents are in order and of a sound plan, and with them stands what is read off that plan
 pub record AreHeld (clock : ℕ) (h : LoadedPlan) : Type 0 where
   pub in_order : AreContents h.contents
   pub sound : IsSound (plan_of clock h.contents)

@@ -48,7 +48,7 @@ fn may_succeed(loaded: &LoadedPlan, parts: &NewOccurrence, key: &OpKey) -> bool
     }
 }
 
-// Whether one may lead from it: where it is there, it isn't deleted.
+// Whether a pair that comes in may lead from this operation: where it is there, it isn't deleted.
 fn may_precede(loaded: &LoadedPlan, parts: &NewOccurrence, key: &OpKey) -> bool
     requires { IsHeldAtSome loaded.now }
     ensures { Decides result (MayPrecede (plan_of 0 loaded.now.contents) (incoming parts.now) key.now) }
@@ -67,7 +67,7 @@ fn is_open_pair(loaded: &LoadedPlan, parts: &NewOccurrence, pair: &(OpKey, OpKey
     may_succeed(loaded, parts, &pair.1) && may_precede(loaded, parts, &pair.0)
 }
 
-// Whether those of all pairs are.
+// Whether the ends of all pairs that come in are open to them.
 fn are_pairs_open(loaded: &LoadedPlan, parts: &NewOccurrence) -> bool
     requires { IsHeldAtSome loaded.now }
     ensures { Decides result (MayBeAdded (plan_of 0 loaded.now.contents) (incoming parts.now) Refusal.WrongStatus) }
@@ -98,7 +98,7 @@ fn is_acyclic(alloc: Global, contents: &PlanContents) -> Result<bool, AllocError
     Ok(graph.is_some())
 }
 
-// Whether they are no more than a plan may hold.
+// Whether the contents are no more than a plan may hold.
 fn is_within_limits(contents: &PlanContents) -> bool
     requires { AreContents contents.now }
     ensures { Decides result (IsWithinLimits (plan_of 0 contents.now)) }

@@ -3,8 +3,8 @@ ghost use Rattle.std.specs.Prelude.{◌≡◌, ◌⊎◌, ◌<◌, ℕ, true, So
 ghost use Rattle.std.specs.FinMap.{get};
 ghost use Rattle.plan_basics.specs.declared.keys.OpKey.{OpKey};
 ghost use Rattle.plan_choice.specs.Choosing.{is_ready_status};
-ghost use Rattle.plan_records.specs.Accepting.{AllHold, MayBeEnded, MayBeInterrupted, MayBeStarted, MayBeUndecided, NeedsPlan};
-ghost use Rattle.plan_checks.specs.Barring.{FailsAt, FailsPastKeys, IsBarred, IsPermitted, IsReported, MeetsAll};
+ghost use Rattle.plan_records.specs.Accepting.{AllHold, MayBeEnded, MayBeInterrupted, MayBeUndecided, NeedsPlan};
+ghost use Rattle.plan_checks.specs.Barring.{FailsAt, FailsPastKeys, IsBarred, IsPermitted, IsReported, MayBeStartedAt, MeetsAll};
 ghost use Rattle.plan_checks.specs.Held.{IsHeldAtSome};
 ghost use Rattle.plan_model.specs.Holdings.{given_out, holds_server, takes};
 ghost use Rattle.plan_model.specs.Plan.{Operation, Plan};
@@ -18,7 +18,7 @@ use super::commands::{
 use super::loaded::LoadedPlan;
 use super::pairing::check_paired;
 use plan_basics::{Attr, Moment, OpKey, Refusal};
-use plan_choice::{check_start, given_out_of, holdings_of};
+use plan_choice::{check_start, given_out_of, holdings_of, is_ready};
 use plan_model::OperationRecord;
 use plan_records::{PlanContents, PlanDraft, What, known_workstation, place_of};
 use plan_status::{attribute_of, status_with};
@@ -61,16 +61,6 @@ fn reported_of(loaded: &LoadedPlan, key: &OpKey) -> Result<Reported, Refusal>
     Ok(reported_at(loaded, place))
 }
 
-// Whether operations of this status are ready.
-fn is_ready(status: Status) -> bool
-    ensures { result ≡ is_ready_status status }
-{
-    matches!(
-        status,
-        Status::Arriving | Status::ReadyAfterNonreporting | Status::Ready
-    )
-}
-
 // Whether operations of this status may be started where starts are reported: they are ready or interrupted.
 fn is_startable(status: Status) -> bool
     ensures { Decides result ((is_ready_status status ≡ true) ⊎ (status ≡ Status.Interrupted)) }
@@ -103,8 +93,8 @@ fn given_out_at(
 // On an automatic workstation a start may be reported of what is named.
 fn check_started_on_automatic(reported: &Reported) -> Result<(), Refusal>
     requires { reported.now.attribute ≡ Attr.Automatic }
-    ensures ok { (m : ℕ) → OnOk result (MeetsAll reported.now (λ P o. MayBeStarted P m o reported.now.operation (Some reported.now.attribute))) }
-    ensures refused { (m : ℕ) → IfErr result (FailsAt reported.now (λ P o. MayBeStarted P m o reported.now.operation (Some reported.now.attribute))) }
+    ensures ok { (m : ℕ) → OnOk result (MeetsAll reported.now (MayBeStartedAt reported.now m)) }
+    ensures refused { (m : ℕ) → IfErr result (FailsAt reported.now (MayBeStartedAt reported.now m)) }
 {
     if reported.operation.mark == Mark::Named {
         Ok(())
@@ -125,8 +115,8 @@ fn check_started_where_reported(
     requires contents { AreValidContents contents.now }
     requires operation { IsReported (plan_of 0 contents.now) key.now reported.now }
     requires attribute { reported.now.attribute ≡ Attr.StartAndCompletion }
-    ensures ok { OnOk result ((clock : ℕ) → AllHold (MayBeStarted (plan_of clock contents.now) at key.now reported.now.operation (Some reported.now.attribute))) }
-    ensures refused { IfErr result (λ r. (r ≡ Refusal.Memory) ⊎ ((clock : ℕ) → FailsPastKeys (MayBeStarted (plan_of clock contents.now) at key.now reported.now.operation (Some reported.now.attribute)) r)) }
+    ensures ok { OnOk result ((clock : ℕ) → AllHold (MayBeStartedAt reported.now at (plan_of clock contents.now) key.now)) }
+    ensures refused { IfErr result (λ r. (r ≡ Refusal.Memory) ⊎ ((clock : ℕ) → FailsPastKeys (MayBeStartedAt reported.now at (plan_of clock contents.now) key.now) r)) }
 {
     if !is_startable(reported.status) {
         return Err(Refusal::WrongStatus);
@@ -146,8 +136,8 @@ fn check_started(
 ) -> Result<(), Refusal>
     requires contents { AreValidContents contents.now }
     requires operation { IsReported (plan_of 0 contents.now) key.now reported.now }
-    ensures ok { OnOk result ((clock : ℕ) → AllHold (MayBeStarted (plan_of clock contents.now) at key.now reported.now.operation (Some reported.now.attribute))) }
-    ensures refused { IfErr result (λ r. (r ≡ Refusal.Memory) ⊎ ((clock : ℕ) → FailsPastKeys (MayBeStarted (plan_of clock contents.now) at key.now reported.now.operation (Some reported.now.attribute)) r)) }
+    ensures ok { OnOk result ((clock : ℕ) → AllHold (MayBeStartedAt reported.now at (plan_of clock contents.now) key.now)) }
+    ensures refused { IfErr result (λ r. (r ≡ Refusal.Memory) ⊎ ((clock : ℕ) → FailsPastKeys (MayBeStartedAt reported.now at (plan_of clock contents.now) key.now) r)) }
 {
     match reported.attribute {
         Attr::Automatic => check_started_on_automatic(reported),

@@ -24,7 +24,7 @@ fn is_known(contents: &PlanContents, parts: &NewOccurrence, key: &OpKey) -> bool
     }
 }
 
-// Whether both ends of a pair are.
+// Whether both ends of a pair come in, or are operations of the plan's other occurrences.
 fn is_known_pair(contents: &PlanContents, parts: &NewOccurrence, pair: &(OpKey, OpKey)) -> bool
     requires in_order { AreContents contents.now }
     requires parts { AreAdditionParts parts.now }
@@ -55,7 +55,7 @@ fn has_workstation(contents: &PlanContents, operation: &OperationRecord) -> bool
     workstation_place(&contents.workstations, &operation.workstation).is_some()
 }
 
-/// Whether the workstations of all operations that come in are.
+/// Whether the plan has the workstations of all operations that come in.
 pub fn are_workstations_known(contents: &PlanContents, parts: &NewOccurrence) -> bool
     requires in_order { AreContents contents.now }
     requires parts { AreAdditionParts parts.now }
@@ -82,7 +82,7 @@ fn has_resources(contents: &PlanContents, operation: &OperationRecord) -> bool
     true
 }
 
-/// Whether those of all operations that come in are.
+/// Whether the plan has the special resources that the operations that come in need.
 pub fn are_resources_known(contents: &PlanContents, parts: &NewOccurrence) -> bool
     requires in_order { AreContents contents.now }
     requires parts { AreAdditionParts parts.now }
@@ -96,7 +96,7 @@ pub fn are_resources_known(contents: &PlanContents, parts: &NewOccurrence) -> bo
     true
 }
 
-/// Whether the plan has no occurrence of its key.
+/// Whether the plan has no occurrence of the key of what comes in.
 pub fn is_new_occurrence(contents: &PlanContents, parts: &NewOccurrence) -> bool
     requires { AreContents contents.now }
     ensures { Decides result (MayBeAdded (plan_of 0 contents.now) (incoming parts.now) Refusal.Duplicate) }

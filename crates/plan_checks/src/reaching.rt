@@ -8,7 +8,8 @@ ghost use Rattle.plan_model.specs.Plan.{IsInPlan};
 ghost use Rattle.plan_model.specs.Starting.{Reaches};
 ghost use Rattle.plan_records.specs.Contents.{plan_of};
 ghost use Rattle.ready_list.specs.Choice.{is_among};
-ghost use Rattle.plan_checks.specs.Reaching.{is_live_mark, is_live_row};
+ghost use Rattle.plan_choice.specs.StartItems.{is_live_mark};
+ghost use Rattle.plan_checks.specs.Reaching.{is_live_row};
 ghost use Rattle.plan_checks.specs.Held.{IsHeldAtSome};
 
 use super::loaded::LoadedPlan;

@@ -13,18 +13,18 @@ use Rattle.plan_model.specs.Holdings.{Holds}
 use Rattle.plan_model.specs.Plan.{Operation, Plan, Resources}
 use Rattle.plan_model.specs.Starting.{MayStart}
 use Rattle.plan_choice.specs.Choosing.{AreHeldIn}
-use Rattle.plan_choice.specs.Taking.{AreFree, CanUse, IsFree}
+use Rattle.plan_choice.specs.Taking.{CanMeetNeeds, CanUse, CanMeetNeed}
 
 module _ (resources : Resources) (held : Held) (o : OpKey) (needs : List Need) (sorted : AreInNameOrder needs) where
   -- where each need can be met, all can
-  pub all_free : ((k : ℕ) (d : Need) → k < length needs → IsFree resources held o (get_or needs k d)) → AreFree resources held o (usages_of needs)
+  pub all_free : ((k : ℕ) (d : Need) → k < length needs → CanMeetNeed resources held o (get_or needs k d)) → CanMeetNeeds resources held o (usages_of needs)
   all_free each r usage is =
       let there = need_by_usage needs sorted r usage is in
-      let at : IsFree resources held o there.0 = subst (IsFree resources held o) there.1.2 (each there.1.0 there.0 there.1.1) in
+      let at : CanMeetNeed resources held o there.0 = subst (CanMeetNeed resources held o) there.1.2 (each there.1.0 there.0 there.1.1) in
       subst (λ (u : Usage). CanUse resources held o r u) there.3 (subst (λ name. CanUse resources held o name (usage_of there.0)) there.2 at)
 
   -- where one can't, not all can
-  pub one_busy : (n : Need) → Contains needs n → ¬ IsFree resources held o n → ¬ AreFree resources held o (usages_of needs)
+  pub one_busy : (n : Need) → Contains needs n → ¬ CanMeetNeed resources held o n → ¬ CanMeetNeeds resources held o (usages_of needs)
   one_busy n has busy free = busy (free n.name (usage_of n) (usage_by_need needs sorted n has))
 
 -- by the holders, and by what is held
@@ -36,5 +36,5 @@ module _ (P : Plan) (held : Held) (holders : AreHeldIn P held) (o : OpKey) where
   shared_by_held r usage may = (may.0, λ other u differs at. let holds = (holders other r u.mode).0 at in may.1 other (record { mode = u.mode; keep = holds.0 }) differs holds.1)
 
   -- the line on special resources
-  pub may_start_by_free : (op : Operation) (m : ℕ) → AreFree P.resources held o op.needs ↔ MayStart P o op m ResourceBusy
+  pub may_start_by_free : (op : Operation) (m : ℕ) → CanMeetNeeds P.resources held o op.needs ↔ MayStart P o op m ResourceBusy
   may_start_by_free op m = (λ free r usage is. shared_by_holders r usage (free r usage is), λ may r usage is. shared_by_held r usage (may r usage is))

@@ -1,6 +1,6 @@
 -- What workstations have given out, at their rows' places.
-use Rattle.std.proofs.Common.{◌≡◌, ◌≢◌, inl, inr, refl, sym, ap, subst, ◌∙◌, arith, ℕ, zero, suc, ◌<◌, List, get_or, length, replicate, set, slice_get, Some}
-use Rattle.std.proofs.lemmas.List.{length-replicate, length-set}
+use Rattle.std.proofs.Common.{◌≡◌, ◌≢◌, inl, inr, refl, sym, ap, subst, ◌∙◌, arith, ℕ, ◌<◌, List, get_or, length, set, slice_get, Some}
+use Rattle.std.proofs.lemmas.List.{length-set}
 use Rattle.std.proofs.lemmas.Option.{slice_get_read, some_pair_parts}
 use Rattle.std.specs.List.Sorted.{IsStrictlySortedBy}
 use Rattle.std.specs.Map.{keys_of}
@@ -16,21 +16,6 @@ use Rattle.plan_choice.specs.Taking.{with_one_more}
 -- at each workstation's place, what the function has at its name
 abbrev pub AreAt : List NamedWorkstation → List Capacity → (Name → Capacity) → Type 0
 AreAt rows given at = AreByPlace rows given (λ w capacity. capacity ≡ at w)
-
-abbrev pub nothing : Capacity
-nothing = record { servers = 0; r1 = 0; r2 = 0 }
-
-all_alike : {X : Type 0} (n i : ℕ) (x y : X) → slice_get (replicate n x) i ≡ Some y → y ≡ x
-all_alike zero i x y e = cc
-all_alike (suc n) zero x y e = cc
-all_alike (suc n) (suc i) x y e = all_alike n i x y e
-
-pub begins_at : (rows : List NamedWorkstation) (n : ℕ) (given : List Capacity) (at : Name → Capacity) → n ≡ length rows → given ≡ replicate n nothing
-    → ((w : Name) → at w ≡ nothing) → AreAt rows given at
-begins_at rows n given at e is none = record {
-  size = ap length is ∙ length-replicate n nothing ∙ e;
-  each = λ i w ws x row found. all_alike n i nothing x (ap (λ xs. slice_get xs i) (sym is) ∙ found) ∙ sym (none w);
-}
 
 pub same_at : (rows : List NamedWorkstation) (given : List Capacity) (old new : Name → Capacity) → ((w : Name) → new w ≡ old w) → AreAt rows given old → AreAt rows given new
 same_at rows given old new same are = record { size = are.size; each = λ i w ws x row found. are.each i w ws x row found ∙ sym (same w) }

@@ -20,7 +20,7 @@ use Rattle.plan_records.proofs.RowPlaces.{get_at}
 use Rattle.plan_records.proofs.Tables.{key_found}
 use Rattle.plan_laws.proofs.Looks.{same_some}
 use Rattle.plan_choice.specs.Choosing.{AreLatestStarts}
-use Rattle.plan_choice.proofs.RowKeys.{key_of_row, row_of_key}
+use Rattle.plan_status.proofs.RowKeys.{key_of_row, row_of_key}
 use Rattle.plan_choice.specs.StartItems.{is_live_mark, start_item}
 
 live_mark : (m : Mark) → is_live_mark m ≡ true → m ≢ mark.Deleted

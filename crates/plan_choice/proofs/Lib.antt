@@ -15,4 +15,3 @@ pub mod NamedHolders
 pub mod NeedsTaken
 pub mod Readied
 pub mod ReadyLists
-pub mod RowKeys

@@ -1,9 +1,9 @@
 -- What is ready among the rows of loaded contents, row by row.
-use Rattle.std.proofs.Common.{is_some, ◌≡◌, inl, inr, sym, ap, subst, ◌∙◌, true≢false, arith, ℕ, ◌+◌, ◌≤◌, true, false, List, ◌++◌, ◌∷◌, [], length, slice_get, Some, ℤ}
-use Rattle.std.specs.FinMap.{from_entries, get}
+use Rattle.std.proofs.Common.{◌≡◌, inl, inr, sym, ap, subst, ◌∙◌, true≢false, arith, ℕ, ◌+◌, ◌≤◌, true, false, List, ◌++◌, ◌∷◌, [], length, slice_get, Some, ℤ}
+use Rattle.std.specs.FinMap.{get}
 use Rattle.std.proofs.lemmas.Option.{slice_get_within}
 use Rattle.plan_basics.specs.declared.Attr.{Attr}
-use Rattle.plan_basics.specs.Keys.{Name, occurrence_cmp, operation_cmp, operation_cmp_total, operation_cmp-IsAntisymmetric}
+use Rattle.plan_basics.specs.Keys.{Name, operation_cmp, operation_cmp_total, operation_cmp-IsAntisymmetric}
 use Rattle.plan_basics.specs.declared.keys.OpKey.{OpKey}
 use Rattle.ready_list.specs.declared.entry.ReadyEntry.{ReadyEntry}
 use Rattle.status_rules.specs.declared.Status.{Status}
@@ -16,7 +16,7 @@ use Rattle.plan_model.specs.declared.Occurrence.{Occurrence}
 use Rattle.plan_records.specs.Contents.{AreValidContents, plan_of}
 use Rattle.plan_records.specs.Places.{AreStatuses}
 use Rattle.plan_records.specs.declared.contents.PlanContents.{PlanContents}
-use Rattle.plan_records.proofs.RowPlaces.{get_at, place_of_found}
+use Rattle.plan_records.proofs.RowPlaces.{place_of_found}
 use Rattle.plan_laws.proofs.Looks.{found_key}
 use Rattle.plan_laws.proofs.Standing.{one_status}
 use Rattle.plan_choice.specs.Choosing.{AreLatestStarts, is_ready_status}
@@ -47,13 +47,6 @@ ready_in_plan P o (inr (inr h)) = (h.0, h.1)
 module _ (c : PlanContents) (h : AreValidContents c) where
   abbrev P : Plan
   P = plan_of 0 c
-
-  pub row_found : (i : ℕ) (o : OpKey) (op : Operation) → slice_get c.operations.items i ≡ Some (o, op) → get P.operations o ≡ Some op
-  row_found i o op at = get_at operation_cmp operation_cmp_total operation_cmp-IsAntisymmetric c.operations.items h.in_order.operations i o op at
-
-  -- the occurrence of an operation is in the plan
-  pub occurrence_known : (o : OpKey) (op : Operation) → get P.operations o ≡ Some op → is_some (get {R = occurrence_cmp} (from_entries c.occurrences.items) o.occurrence) ≡ true
-  occurrence_known o op found = (h.valid.occurrences.each_operation o op found).1
 
   -- with its latest start, what is ready has this entry
   pub is_entry : (o : OpKey) (op : Operation) (v : ℤ) → get P.operations o ≡ Some op → {q : OpKey} {latest : ℤ} {duration priority : ℕ} {ws : Name} {attr : Attr}

@@ -1,11 +1,10 @@
 -- Ready lists: no operation stands twice in one, and how one is made.
-use Rattle.std.proofs.Common.{◌≡◌, ◌≢◌, ◌⊎◌, inl, inr, sym, ap, subst, ◌∙◌, arith, ℕ, ◌+◌, ◌<◌, false, List, [], ◌∷◌, ◌++◌, take, drop, get_or, slice_get, Contains, Some, IsPermutation, take-append-drop}
+use Rattle.std.proofs.Common.{◌≡◌, ◌≢◌, ◌⊎◌, inl, inr, sym, ap, subst, ◌∙◌, arith, ℕ, ◌+◌, ◌<◌, false, List, [], ◌∷◌, ◌++◌, get_or, slice_get, Contains, Some, IsPermutation}
 use Rattle.std.specs.List.{AllByRecursion, AllPairs, IsDistinct}
 use Rattle.std.specs.List.Sorted.{IsStrictlySortedBy}
 use Rattle.std.specs.Map.{keys_of as keys_of_rows}
 use Rattle.std.specs.Ordering.{eq_by_cmp}
 use Rattle.std.specs.declared.cmp.Ordering.TheVariants.{Less}
-use Rattle.std.proofs.lemmas.List.{map-append}
 use Rattle.std.proofs.lemmas.List.Elements.{Contains-append_left, Contains-get_or, Contains-push, Contains-push_cases}
 use Rattle.std.proofs.lemmas.List.Quantifiers.{all_pairs_push}
 use Rattle.std.proofs.lemmas.List.Sorted.{Contains-permutation, IsPermutation-sym}
@@ -17,7 +16,7 @@ use Rattle.ready_list.specs.Entries.{IsInOrder, keys_of}
 use Rattle.ready_list.specs.Order.{ready_cmp, ready_cmp_total}
 use Rattle.ready_list.specs.declared.ReadyKey.{ReadyKey}
 use Rattle.ready_list.specs.declared.entry.ReadyEntry.{ReadyEntry}
-use Rattle.ready_list.proofs.Steps.{AreDistinctKeys, distinct_front}
+use Rattle.ready_list.proofs.Steps.{AreDistinctKeys}
 use Rattle.plan_model.specs.Plan.{Plan, Operation}
 use Rattle.plan_model.specs.Ready.{IsEntry, IsReadyList}
 use Rattle.plan_model.specs.Status.{IsReady}
@@ -32,7 +31,7 @@ use Rattle.plan_laws.proofs.Readying.{one_entry}
 use Rattle.plan_laws.proofs.Sorted.{contains_head, contains_later, not_itself}
 use Rattle.plan_choice.specs.Choosing.{AreReadyEntries}
 use Rattle.plan_choice.specs.Readying.{AreAllReady, IsReadyEntry}
-use Rattle.plan_choice.proofs.RowKeys.{key_of_row}
+use Rattle.plan_status.proofs.RowKeys.{key_of_row}
 
 module _ (P : Plan) (valid : IsValid P) where
   apart_from : (x : ReadyKey) → IsEntry P x → (xs : List ReadyKey) → ((k : ReadyKey) → Contains xs k → IsEntry P k)
@@ -56,11 +55,6 @@ module _ (P : Plan) (valid : IsValid P) where
   -- no operation stands twice in a ready list
   pub ready_distinct : (keys : List ReadyKey) → IsReadyList P keys → AreDistinctKeys (operations_of keys)
   ready_distinct keys list = distinct_operations keys list.ascends (λ k has. (list.has_all k).0 has)
-
-  pub front_distinct : (keys : List ReadyKey) (i : ℕ) → IsReadyList P keys → AreDistinctKeys (operations_of (take i keys))
-  front_distinct keys i list =
-      distinct_front (operations_of (take i keys)) (operations_of (drop i keys))
-      (subst AreDistinctKeys (ap operations_of (sym (take-append-drop i keys)) ∙ map-append (λ (k : ReadyKey). k.op) (take i keys) (drop i keys)) (ready_distinct keys list))
 
 -- ---- in order
 

@@ -15,15 +15,10 @@ use Rattle.plan_records.specs.declared.contents.PlanContents.{PlanContents}
 use Rattle.workstations.specs.Workstations.{HasRoom, Workstation}
 use Rattle.workstations.specs.declared.Capacity.{Capacity}
 use Rattle.plan_choice.specs.Choosing.{HasTaken, IsStartLine}
-use Rattle.plan_choice.specs.Taking.{AreFree}
+use Rattle.plan_choice.specs.Taking.{CanMeetNeeds}
 use Rattle.plan_choice.proofs.FreeResources.{may_start_by_free}
 
--- what refuses for want of room is one of these lines
-pub line_of : (ws : Workstation) (m : ℕ) (taken : Capacity) (a b : ℕ) (r : Refusal) → ¬ HasRoom ws m taken a b r → IsStartLine r
-line_of ws m taken a b refusal.WrongStatus none = none tt
-line_of ws m taken a b r none = tt
-
--- and comes before that on special resources
+-- what refuses for want of room comes before the line on special resources
 pub before_busy : (ws : Workstation) (m : ℕ) (taken : Capacity) (a b : ℕ) (r lower : Refusal) → ¬ HasRoom ws m taken a b r → number_of lower < number_of r → lower ≡ refusal.ResourceBusy → ⊥
 before_busy ws m taken a b refusal.Closed lower none less is = omega (arith, less, ap number_of is)
 before_busy ws m taken a b refusal.NoServer lower none less is = omega (arith, less, ap number_of is)
@@ -51,11 +46,11 @@ module _ (c : PlanContents) (op : Operation) (ws : Workstation) (found : get (pl
   no_room o r none may = none tt
 
   -- nor may what can't use all that it needs
-  pub not_free : (o : OpKey) → ¬ AreFree (plan_of 0 c).resources held o op.needs → ¬ MayStart P o op m refusal.ResourceBusy
-  not_free o busy may = busy (subst (λ all. AreFree all held o op.needs) has.resources ((may_start_by_free P held has.holders o op m).1 may))
+  pub not_free : (o : OpKey) → ¬ CanMeetNeeds (plan_of 0 c).resources held o op.needs → ¬ MayStart P o op m refusal.ResourceBusy
+  not_free o busy may = busy (subst (λ all. CanMeetNeeds all held o op.needs) has.resources ((may_start_by_free P held has.holders o op m).1 may))
 
-  free_at : (o : OpKey) → AreFree (plan_of 0 c).resources held o op.needs → MayStart P o op m refusal.ResourceBusy
-  free_at o free = (may_start_by_free P held has.holders o op m).0 (subst (λ all. AreFree all held o op.needs) (sym has.resources) free)
+  free_at : (o : OpKey) → CanMeetNeeds (plan_of 0 c).resources held o op.needs → MayStart P o op m refusal.ResourceBusy
+  free_at o free = (may_start_by_free P held has.holders o op m).0 (subst (λ all. CanMeetNeeds all held o op.needs) (sym has.resources) free)
 
   module _ (free : op.held ≡ false) (after : op.not_before ≤ m) where
     -- a line before that on special resources, which is met by what is left
@@ -70,7 +65,7 @@ module _ (c : PlanContents) (op : Operation) (ws : Workstation) (found : get (pl
     lower_met o r line lower room = tt
 
     -- each line is met by what is left and by what is held
-    pub line_met : (o : OpKey) (r : Refusal) → IsStartLine r → HasRoom ws m taken op.r1 op.r2 r → AreFree (plan_of 0 c).resources held o op.needs → MayStart P o op m r
+    pub line_met : (o : OpKey) (r : Refusal) → IsStartLine r → HasRoom ws m taken op.r1 op.r2 r → CanMeetNeeds (plan_of 0 c).resources held o op.needs → MayStart P o op m r
     line_met o refusal.WrongStatus line room usable = absurd line
     line_met o refusal.ResourceBusy line room usable = free_at o usable
     line_met o refusal.Held line room usable = free

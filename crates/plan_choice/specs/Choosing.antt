@@ -32,10 +32,14 @@ is_ready_status status.ReadyAfterNonreporting = true
 is_ready_status status.Ready = true
 is_ready_status _ = false
 
+-- the entry has its operation's workstation, and how that reports
+abbrev pub HasItsWorkstation : Plan → ReadyEntry → Type 0
+HasItsWorkstation P e = Has P e.key.op (λ op. (e.ws ≡ op.workstation) × HasAttribute P op.workstation e.attr)
+
 -- what is ready, in order, each with its workstation and how that reports
 pub record AreReadyEntries (P : Plan) (entries : List ReadyEntry) : Type 0 where
   pub list : IsReadyList P (keys_of entries)
-  pub workstations : (e : ReadyEntry) → Contains entries e → Has P e.key.op (λ op. (e.ws ≡ op.workstation) × HasAttribute P op.workstation e.attr)
+  pub workstations : (e : ReadyEntry) → Contains entries e → HasItsWorkstation P e
 
 -- what each row's workstation has given out
 abbrev pub AreGivenOut : Plan → List NamedWorkstation → List Capacity → Type 0

@@ -37,7 +37,7 @@ pub record IsCountedIn (g : Counted) (P : Plan) : Type 0 where
   pub given : AreGivenOut P g.contents.workstations.items g.given
   pub holders : AreHeldIn P g.held
 
--- its workstation has given out a server more, and its R1 and R2
+-- its workstation has given out a server more, and its R1 and R2; 20,000 operations of at most 99 each give out 1,980,000 at most
 pub record GivesOneMore (g : Counted) (op : Operation) (given : List Capacity) : Type 0 where
   pub place : (i : ℕ) × (ws : Workstation) × (slice_get g.contents.workstations.items i ≡ Some (op.workstation, ws))
   pub before : (taken : Capacity) × (slice_get g.given place.0 ≡ Some taken)
@@ -62,11 +62,15 @@ abbrev pub Answers : Counted → OpKey → Bool → Counted → Type 0
 Answers g o true h = Allows g o h
 Answers g o false h = PassesOver g o h
 
+-- what is held is stored by resource and operation
+abbrev held_code : Coded Held
+held_code = map.code (coded× (coded_list coded_ℕ) (operation_key.the_row).coded) (mode.the_row).coded
+
 -- what counts is stored as its four parts
 abbrev pub counted_code : Coded Counted
 counted_code = code_by
     (PlanContents × (ℕ × (List Capacity × Held)))
-    (coded× (plan_contents.the_row).coded (coded× coded_ℕ (coded× (coded_list (capacity.the_row).coded) (map.code (coded× (coded_list coded_ℕ) (operation_key.the_row).coded) (mode.the_row).coded))))
+    (coded× (plan_contents.the_row).coded (coded× coded_ℕ (coded× (coded_list (capacity.the_row).coded) held_code)))
     (λ g. (g.contents, (g.at, (g.given, g.held))))
     (λ p. record { contents = p.0; at = p.1.0; given = p.1.1.0; held = p.1.1.1 })
     (λ _. refl)

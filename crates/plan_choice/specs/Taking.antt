@@ -1,7 +1,8 @@
 -- What one more operation takes of its workstation, and whether it can.
-use Rattle.std.specs.Prelude.{◌≡◌, ◌↔◌, ◌≢◌, ℕ, ◌+◌, ◌≤◌, ◌&&◌, Bool, true, Some, None}
+use Rattle.std.specs.Prelude.{◌≡◌, ◌↔◌, ◌≢◌, ℕ, ◌+◌, ◌<◌, ◌≤◌, ◌&&◌, Bool, true, Some, None}
 use Rattle.std.specs.FinMap.{get}
 use Rattle.plan_basics.specs.Keys.{Name}
+use Rattle.plan_basics.specs.Refusals.{number_of}
 use Rattle.plan_basics.specs.declared.Refusal.{Refusal}
 use Rattle.plan_basics.specs.declared.keys.OpKey.{OpKey}
 use Rattle.special_resources.specs.Holders.{SharesWithHolders, Usage}
@@ -35,6 +36,10 @@ pub record IsAtMost (limit : ℕ) (taken : Capacity) : Type 0 where
 abbrev pub CanStart : Plan → OpKey → Operation → ℕ → Type 0
 CanStart P o op m = (r : Refusal) → IsStartLine r → MayStart P o op m r
 
+-- of these lines o meets each whose number is below that of r
+abbrev pub MeetsLinesBelow : Plan → OpKey → Operation → ℕ → Refusal → Type 0
+MeetsLinesBelow P o op m r = (lower : Refusal) → IsStartLine lower → number_of lower < number_of r → MayStart P o op m lower
+
 -- ---- special resources
 
 -- r is available, and where another than o holds it, both share it
@@ -42,12 +47,12 @@ abbrev pub CanUse : Resources → Held → OpKey → Name → Usage → Type 0
 CanUse resources held o r usage = (get resources r ≡ Some true) × SharesWithHolders (HoldsIn held) o r usage
 
 -- o can use the resource of its need
-abbrev pub IsFree : Resources → Held → OpKey → Need → Type 0
-IsFree resources held o need = CanUse resources held o need.name (usage_of need)
+abbrev pub CanMeetNeed : Resources → Held → OpKey → Need → Type 0
+CanMeetNeed resources held o need = CanUse resources held o need.name (usage_of need)
 
 -- o can use all that it needs
-abbrev pub AreFree : Resources → Held → OpKey → Usages → Type 0
-AreFree resources held o needs = (r : Name) (usage : Usage) → get needs r ≡ Some usage → CanUse resources held o r usage
+abbrev pub CanMeetNeeds : Resources → Held → OpKey → Usages → Type 0
+CanMeetNeeds resources held o needs = (r : Name) (usage : Usage) → get needs r ≡ Some usage → CanUse resources held o r usage
 
 -- what o, with this mark, takes of what it needs and doesn't hold before; nothing else changes
 pub record HaveTaken (before : Held) (o : OpKey) (needs : Usages) (mark : Mark) (after : Held) : Type 0 where

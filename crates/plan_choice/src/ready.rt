@@ -22,8 +22,8 @@ use ready_list::{ReadyEntry, ReadyKey, ReadyList};
 use status_rules::Status;
 use std::alloc::{AllocError, Global};
 
-// Whether operations of this status are in the ready list.
-fn is_ready(status: Status) -> bool
+/// Whether operations of this status are in the ready list.
+pub fn is_ready(status: Status) -> bool
     ensures { result ≡ is_ready_status status }
 {
     matches!(

@@ -1,16 +1,15 @@
 // What workstations have given out, and whether one more operation fits.
-ghost use Rattle.std.specs.Prelude.{◌≡◌, ◌↔◌, ◌+◌, ◌<◌, ◌≤◌, ℕ, true, Some, IfOk, IfErr, OnOk, IsTrue};
+ghost use Rattle.std.specs.Prelude.{◌≡◌, ◌↔◌, ◌+◌, ◌≤◌, ℕ, true, Some, IfOk, IfErr, OnOk, IsTrue};
 ghost use Rattle.std.specs.FinMap.{get};
 ghost use Rattle.plan_basics.specs.declared.Refusal.{Refusal};
 ghost use Rattle.plan_basics.specs.declared.keys.OpKey.{OpKey};
-ghost use Rattle.plan_basics.specs.Refusals.{number_of};
 ghost use Rattle.plan_model.specs.Plan.{Plan, attribute_at};
 ghost use Rattle.plan_model.specs.Starting.{MayStart};
 ghost use Rattle.plan_records.specs.Contents.{plan_of, AreValidContents};
 ghost use Rattle.plan_model.specs.Holdings.{holds_server, takes};
 ghost use Rattle.status_rules.specs.Table.{marked_status};
 ghost use Rattle.plan_choice.specs.Choosing.{AreGivenOut, HasTaken, IsStartLine};
-ghost use Rattle.plan_choice.specs.Taking.{AreFree, IsAtMost, IsFree, takes_server, with_one_more};
+ghost use Rattle.plan_choice.specs.Taking.{CanMeetNeed, CanMeetNeeds, CanStart, IsAtMost, MeetsLinesBelow, takes_server, with_one_more};
 
 use plan_basics::{Attr, Moment, OpKey, Refusal, ResName};
 use plan_model::OperationRecord;
@@ -105,7 +104,7 @@ fn is_available(contents: &PlanContents, name: &ResName) -> bool
 // Whether the resource of a need is available, and no holding of another operation stands in the way.
 fn has_resource(contents: &PlanContents, key: &OpKey, need: &Need, holdings: &Holdings) -> bool
     requires { AreValidContents contents.now }
-    ensures { IsTrue result ↔ IsFree (plan_of 0 contents.now).resources holdings.now.held key.now need.now }
+    ensures { IsTrue result ↔ CanMeetNeed (plan_of 0 contents.now).resources holdings.now.held key.now need.now }
 {
     is_available(contents, &need.name) && holdings.fits(need, *key)
 }
@@ -118,7 +117,7 @@ fn has_resources(
     holdings: &Holdings,
 ) -> bool
     requires { AreValidContents contents.now }
-    ensures { IsTrue result ↔ AreFree (plan_of 0 contents.now).resources holdings.now.held key.now operation.now.needs }
+    ensures { IsTrue result ↔ CanMeetNeeds (plan_of 0 contents.now).resources holdings.now.held key.now operation.now.needs }
 {
     for need in operation.needs.as_slice() {
         if !has_resource(contents, key, need, holdings) {
@@ -143,10 +142,10 @@ pub fn check_start(
 ) -> Result<(), Refusal>
     requires contents { AreValidContents contents.now }
     requires operation { get (plan_of 0 contents.now).operations key.now ≡ Some operation.now }
-    ensures ok { OnOk result ((P : Plan) → HasTaken P contents.now operation.now taken.now holdings.now.held → (r : Refusal) → IsStartLine r → MayStart P key.now operation.now at r) }
+    ensures ok { OnOk result ((P : Plan) → HasTaken P contents.now operation.now taken.now holdings.now.held → CanStart P key.now operation.now at) }
     ensures line { IfErr result IsStartLine }
     ensures refused { IfErr result (λ r. (P : Plan) → HasTaken P contents.now operation.now taken.now holdings.now.held → ¬ MayStart P key.now operation.now at r) }
-    ensures least { IfErr result (λ r. (P : Plan) → HasTaken P contents.now operation.now taken.now holdings.now.held → (lower : Refusal) → IsStartLine lower → number_of lower < number_of r → MayStart P key.now operation.now at lower) }
+    ensures least { IfErr result (λ r. (P : Plan) → HasTaken P contents.now operation.now taken.now holdings.now.held → MeetsLinesBelow P key.now operation.now at r) }
 {
     if operation.held {
         return Err(Refusal::Held);

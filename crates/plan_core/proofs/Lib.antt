@@ -1,5 +1,4 @@
 pub mod Answering
-pub mod ByTally
 pub mod FromPlace
 pub mod LatestKept
 pub mod Made

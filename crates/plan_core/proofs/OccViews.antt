@@ -17,7 +17,7 @@ use Rattle.plan_records.proofs.Tables.{key_found, some_is}
 use Rattle.plan_records.specs.Contents.{plan_of}
 use Rattle.plan_status.proofs.OfOccurrences.{status_counted}
 use Rattle.plan_status.specs.Standings.{IsTally}
-use Rattle.plan_core.proofs.ByTally.{first_by_table}
+use Rattle.status_rules.proofs.CountsTable.{first_by_table}
 use Rattle.plan_core.proofs.SideBySide.{from_viewed, keys_viewed, place_of_member, viewed_at}
 use Rattle.plan_checks.specs.Held.{AreHeld}
 use Rattle.plan_core.specs.Views.{AreOccViews, IsOccView, occ_view_of, occ_views}

@@ -74,7 +74,9 @@ module _ (clock : ℕ) (h : LoadedPlan) (held : AreHeld clock h) where
       record {
         op = op;
         is_in_plan = is;
-        columns = (refl, refl, refl, refl, refl, refl, refl, refl, refl);
+        work = (refl, refl, refl, refl);
+        moments = (refl, refl);
+        marked = (refl, refl, refl);
         priority = (c.0, c.1, ap priority_of c.1);
         status = by_standing o op s v is stands;
         latest = held.latest.each i o op v row both.1;

@@ -19,7 +19,7 @@ use Rattle.plan_records.specs.declared.What.TheVariants as what
 use Rattle.plan_records.specs.declared.contents.PlanContents.{PlanContents}
 use Rattle.plan_checks.specs.Held.{IsHeld, plan_held}
 use Rattle.plan_checks.specs.Barring.{IsClear}
-use Rattle.plan_core.specs.Requested.{AreMadeBy, IsFree}
+use Rattle.plan_core.specs.Requested.{AreMadeBy, NoneRefusesAt}
 use Rattle.plan_checks.proofs.AtClock.{added_at, paired_at}
 use Rattle.plan_core.specs.State.{PlanState, PreparedState}
 use Rattle.plan_checks.specs.declared.loaded.LoadedPlan.{LoadedPlan}
@@ -35,7 +35,7 @@ seen_sound clock x s held is = subst (λ (s : PlanState). IsSound s.plan) is (he
 
 -- ---- what is free to be made
 
-module _ (P : Plan) (m : ℕ) (w : What) (free : IsFree P m w) where
+module _ (P : Plan) (m : ℕ) (w : What) (free : NoneRefusesAt P m w) where
   pub has_plan : NeedsPlan w → P.loaded ≡ true
   has_plan = free refusal.NotLoaded (omega arith)
 
@@ -77,7 +77,7 @@ module _ (P : Plan) (q : Request) (allows : (r : Refusal) → MayBeAccepted P q 
   needs_loaded : NeedsPlan q.what → P.loaded ≡ true
   needs_loaded = allows refusal.NotLoaded
 
-  pub freed : (at : ℕ) → q.at ≡ pos at → IsFree P at q.what
+  pub freed : (at : ℕ) → q.at ≡ pos at → NoneRefusesAt P at q.what
   freed at is r past = subst (λ z. MayBeAccepted P (record { at = z; what = q.what }) r) is (allows r)
 
   module _ (at : ℕ) (is : q.at ≡ pos at) (new : PlanContents) (made : AreMadeBy P q.what new) where

@@ -12,7 +12,7 @@ use Rattle.plan_records.specs.declared.Request.{Request}
 use Rattle.plan_records.specs.declared.What.{What}
 use Rattle.plan_checks.specs.Held.{plan_held}
 use Rattle.plan_checks.specs.Barring.{IsBarred, IsPermitted}
-use Rattle.plan_core.specs.Requested.{IsFree, IsStopped}
+use Rattle.plan_core.specs.Requested.{NoneRefusesAt, IsRefusedAt}
 use Rattle.plan_checks.specs.declared.loaded.LoadedPlan.{LoadedPlan}
 
 -- ---- but for its moment
@@ -34,15 +34,15 @@ module _ (P : Plan) (m : ℕ) (w : What) (loaded : NeedsPlan w → P.loaded ≡ 
   not_by_plan r past never = never
 
   -- where nothing of the plan stands in its way
-  pub is_free : IsPermitted P m w → IsFree P m w
+  pub is_free : IsPermitted P m w → NoneRefusesAt P m w
   is_free may r past = by_plan r past (may r)
 
   -- where the plan does
-  pub is_stopped : (r : Refusal) → IsBarred P m w r → IsStopped P m w r
+  pub is_stopped : (r : Refusal) → IsBarred P m w r → IsRefusedAt P m w r
   is_stopped r barred = let past = barred.0 in (omega (arith, past), not_by_plan r past barred.1.0, λ lower past less. by_plan lower past (barred.1.1 lower less))
 
 -- where there is no plan
-pub lacks_plan : (P : Plan) (m : ℕ) (w : What) → NeedsPlan w → P.loaded ≡ false → IsStopped P m w refusal.NotLoaded
+pub lacks_plan : (P : Plan) (m : ℕ) (w : What) → NeedsPlan w → P.loaded ≡ false → IsRefusedAt P m w refusal.NotLoaded
 lacks_plan P m w needs none = (omega arith, λ may. true≢false (sym (may needs) ∙ none), λ lower past less. absurd (omega (arith, past, less)))
 
 -- ---- at its moment
@@ -53,10 +53,10 @@ module _ (P : Plan) (q : Request) (m : ℕ) (at : q.at ≡ pos m) (onward : pos 
   by_moment refusal.MomentRange may = (m, at, in_range)
   by_moment r may = subst (λ z. MayBeAccepted P (record { at = z; what = q.what }) r) (sym at) (may (omega arith))
 
-  pub may_be_accepted : IsFree P m q.what → (r : Refusal) → MayBeAccepted P q r
+  pub may_be_accepted : NoneRefusesAt P m q.what → (r : Refusal) → MayBeAccepted P q r
   may_be_accepted may r = by_moment r (may r)
 
-  pub is_refused : (r : Refusal) → IsStopped P m q.what r → Step P q (refused r) P
+  pub is_refused : (r : Refusal) → IsRefusedAt P m q.what r → Step P q (refused r) P
   is_refused r stopped = record {
     applies = λ may. stopped.1 (subst (λ z. MayBeAccepted P (record { at = z; what = q.what }) r) at may);
     is_least = λ lower less. by_moment lower (λ past. stopped.2 lower past less);

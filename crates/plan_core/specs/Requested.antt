@@ -14,12 +14,12 @@ use Rattle.plan_records.specs.declared.What.{What}
 use Rattle.plan_records.specs.declared.contents.PlanContents.{PlanContents}
 
 -- made at minute m, nothing but this moment may refuse it
-abbrev pub IsFree : Plan → ℕ → What → Type 0
-IsFree P m w = (r : Refusal) → 2 < number_of r → MayBeAccepted P (record { at = pos m; what = w }) r
+abbrev pub NoneRefusesAt : Plan → ℕ → What → Type 0
+NoneRefusesAt P m w = (r : Refusal) → 2 < number_of r → MayBeAccepted P (record { at = pos m; what = w }) r
 
 -- made at minute m, it is refused for r, the least number that applies after those of moments
-abbrev pub IsStopped : Plan → ℕ → What → Refusal → Type 0
-IsStopped P m w r =
+abbrev pub IsRefusedAt : Plan → ℕ → What → Refusal → Type 0
+IsRefusedAt P m w r =
     (2 < number_of r)
     × ¬ MayBeAccepted P (record { at = pos m; what = w }) r
     × ((lower : Refusal) → 2 < number_of lower → number_of lower < number_of r → MayBeAccepted P (record { at = pos m; what = w }) lower)

@@ -1,15 +1,16 @@
 -- What callers see of a plan in memory, and of a request that was prepared for it.
-use Rattle.std.specs.Prelude.{List, map, refl}
+use Rattle.std.specs.Prelude.{List, [], ◌∷◌, map, refl}
 use Rattle.std.specs.Coded.{Coded, code_by, coded×, coded_list}
 use Rattle.plan_basics.specs.contracts.keys.OpKey as operation_key
 use Rattle.plan_basics.specs.declared.keys.OpKey.{OpKey}
 use Rattle.plan_model.specs.Plan.{Plan}
 use Rattle.plan_model.specs.Code.{plan_code}
-use Rattle.plan_records.specs.Answer.{Answer, accepted}
-use Rattle.plan_records.specs.Run.{Run, plain, usable}
+use Rattle.plan_records.specs.Answer.{Answer, accepted, refused}
+use Rattle.plan_records.specs.Run.{Run, accepted_replies, plain, usable}
 use Rattle.plan_records.specs.Step.{Step, Receipts}
 use Rattle.plan_records.specs.declared.Request.{Request}
 
+-- the plan that callers see
 pub record PlanState : Type 0 where
   pub plan : Plan
 
@@ -18,6 +19,7 @@ pub record PreparedState : Type 0 where
   pub plan : Plan
   pub named : List OpKey
 
+-- what callers see of a plan is stored as that plan, a prepared request as its plan and its keys
 abbrev pub state_code : Coded PlanState
 state_code = code_by Plan plan_code (λ s. s.plan) (λ P. record { plan = P }) (λ _. refl)
 
@@ -36,3 +38,14 @@ pub record IsPreparedFor (s : PlanState) (p : PreparedState) : Type 0 where
 -- these are the answers to the requests in their order, and the plan at their end, whatever receipts stand beside it
 abbrev pub AnswersAll : Plan → List Request → List Answer → Plan → Type 0
 AnswersAll P requests answers after = (receipts : Receipts) → Run (record { plan = P; receipts = receipts }) usable (map plain requests) answers (record { plan = after; receipts = receipts }) usable
+
+-- the requests that were accepted, by their answers
+abbrev pub accepted_requests : List Request → List Answer → List Request
+accepted_requests (q ∷ requests) (accepted named ∷ answers) = q ∷ accepted_requests requests answers
+accepted_requests (q ∷ requests) (refused r ∷ answers) = accepted_requests requests answers
+accepted_requests [] answers = []
+accepted_requests (q ∷ requests) [] = []
+
+-- the accepted requests alone are answered the same, and lead to the same plan
+abbrev pub AcceptedAnswerAll : Plan → List Request → List Answer → Plan → Type 0
+AcceptedAnswerAll P requests answers after = AnswersAll P (accepted_requests requests answers) (accepted_replies answers) after

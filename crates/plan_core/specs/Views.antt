@@ -33,7 +33,9 @@ use Rattle.plan_core.specs.declared.views.OpView.{OpView}
 pub record IsOpView (P : Plan) (v : OpView) : Type 0 where
   pub op : Operation
   pub is_in_plan : get P.operations v.key ≡ Some op
-  pub columns : (v.workstation ≡ op.workstation) × (v.duration ≡ op.duration) × (v.r1 ≡ op.r1) × (v.r2 ≡ op.r2) × (v.not_before ≡ op.not_before) × (v.deadline ≡ op.deadline) × (v.mark ≡ op.mark) × (v.held ≡ op.held) × (v.nop ≡ op.nop)
+  pub work : (v.workstation ≡ op.workstation) × (v.duration ≡ op.duration) × (v.r1 ≡ op.r1) × (v.r2 ≡ op.r2)
+  pub moments : (v.not_before ≡ op.not_before) × (v.deadline ≡ op.deadline)
+  pub marked : (v.mark ≡ op.mark) × (v.held ≡ op.held) × (v.nop ≡ op.nop)
   pub priority : (c : Occurrence) × (get P.occurrences v.key.occurrence ≡ Some c) × (v.priority ≡ c.priority)
   pub status : HasStatus P v.key v.status
   pub latest : IsLatestStart P v.key v.latest
@@ -126,10 +128,10 @@ op_views h = map (op_view_of (plan_of 0 h.contents)) (zip h.contents.operations.
 abbrev pub occ_views : LoadedPlan → List OccView
 occ_views h = map occ_view_of (zip h.contents.occurrences.items h.tallies.items)
 
--- the views of the operations from a place on; none where nothing is loaded
-abbrev pub ops_from : Option (Bor LoadedPlan) → ℕ → List OpView
-ops_from None place = []
-ops_from (Some h) place = drop place (op_views h.now)
+-- the views of a plan, of operations or of occurrences, from a place on; none where nothing is loaded
+abbrev pub views_from : {V : Type 0} → (LoadedPlan → List V) → Option (Bor LoadedPlan) → ℕ → List V
+views_from views None place = []
+views_from views (Some h) place = drop place (views h.now)
 
 -- the view of an operation, if it is held
 abbrev pub view_at : LoadedPlan → OpKey → Option OpView
@@ -146,11 +148,6 @@ ready_from h es place = ready_views h (drop place es)
 -- a plan is held, and has the operations of these entries
 abbrev pub AreEntriesOf : LoadedPlan → List ReadyEntry → Type 0
 AreEntriesOf h es = IsHeldAtSome h × All (λ e. IsInPlan (plan_of 0 h.contents) e.key.op) es
-
--- so of the occurrences
-abbrev pub occs_from : Option (Bor LoadedPlan) → ℕ → List OccView
-occs_from None place = []
-occs_from (Some h) place = drop place (occ_views h.now)
 
 -- where a plan is borrowed, it is held
 abbrev pub IsHeldIfLoaded : Option (Bor LoadedPlan) → Type 0

@@ -1,7 +1,7 @@
 // All operations or all occurrences of the plan, one after the other.
 ghost use Rattle.std.specs.Prelude.{◌≡◌};
 ghost use Rattle.std.specs.Iterator.{YieldsFirst, item_count};
-ghost use Rattle.plan_core.specs.Views.{ops_from, occs_from, IsHeldIfLoaded};
+ghost use Rattle.plan_core.specs.Views.{op_views, occ_views, views_from, IsHeldIfLoaded};
 
 use super::views::{OccView, OpView, occ_view, op_view};
 use plan_checks::LoadedPlan;
@@ -17,11 +17,11 @@ pub struct Ops<'a> {
 impl<'a> Model for Ops<'a> {
     ghost use Rattle.std.specs.Prelude.{List};
     ghost use Rattle.plan_core.specs.declared.views.OpView.{OpView};
-    ghost use Rattle.plan_core.specs.Views.{ops_from, IsHeldIfLoaded};
+    ghost use Rattle.plan_core.specs.Views.{op_views, views_from, IsHeldIfLoaded};
 
     ghost Value = { List OpView };
 
-    ghost view = { λ a. ops_from a.loaded a.place };
+    ghost view = { λ a. views_from op_views a.loaded a.place };
 
     ghost invariant = { λ a. IsHeldIfLoaded a.loaded };
 }
@@ -30,7 +30,7 @@ impl<'a> Ops<'a> {
     /// All operations of the plan that is held; none where nothing is loaded.
     pub(crate) fn new(loaded: Option<&'a LoadedPlan>) -> Ops<'a>
         requires { IsHeldIfLoaded loaded }
-        ensures { result ≡ ops_from loaded.entry 0 }
+        ensures { result ≡ views_from op_views loaded.entry 0 }
     {
         Ops { loaded, place: 0 }
     }
@@ -64,11 +64,11 @@ pub struct Occs<'a> {
 impl<'a> Model for Occs<'a> {
     ghost use Rattle.std.specs.Prelude.{List};
     ghost use Rattle.plan_core.specs.declared.views.OccView.{OccView};
-    ghost use Rattle.plan_core.specs.Views.{occs_from, IsHeldIfLoaded};
+    ghost use Rattle.plan_core.specs.Views.{occ_views, views_from, IsHeldIfLoaded};
 
     ghost Value = { List OccView };
 
-    ghost view = { λ a. occs_from a.loaded a.place };
+    ghost view = { λ a. views_from occ_views a.loaded a.place };
 
     ghost invariant = { λ a. IsHeldIfLoaded a.loaded };
 }
@@ -77,7 +77,7 @@ impl<'a> Occs<'a> {
     /// All occurrences of the plan that is held; none where nothing is loaded.
     pub(crate) fn new(loaded: Option<&'a LoadedPlan>) -> Occs<'a>
         requires { IsHeldIfLoaded loaded }
-        ensures { result ≡ occs_from loaded.entry 0 }
+        ensures { result ≡ views_from occ_views loaded.entry 0 }
     {
         Occs { loaded, place: 0 }
     }

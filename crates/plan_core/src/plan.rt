@@ -9,8 +9,8 @@ ghost use Rattle.plan_records.specs.Answer.{accepted, refused, answer_of};
 ghost use Rattle.plan_records.specs.Accepting.{MayBeAccepted};
 ghost use Rattle.plan_records.specs.Step.{Step};
 ghost use Rattle.plan_core.specs.Provided.{RunStartsAreProvided, StartsAreProvided};
-ghost use Rattle.plan_core.specs.Requested.{AreMadeBy, IsAnswered, IsFree, IsStopped};
-ghost use Rattle.plan_core.specs.State.{IsPreparedFor, plan_after, AnswersAll};
+ghost use Rattle.plan_core.specs.Requested.{AreMadeBy, IsAnswered, NoneRefusesAt, IsRefusedAt};
+ghost use Rattle.plan_core.specs.State.{IsPreparedFor, plan_after, AcceptedAnswerAll, AnswersAll};
 
 use super::prepared::Prepared;
 use super::requests::{changed, drafted};
@@ -64,8 +64,8 @@ impl Plan {
 
     // What stands in the way of a request that is made at a moment, but for that moment.
     fn check_what(&self, what: &What, at: Moment) -> Result<(), Refusal>
-        ensures ok { OnOk result (IsFree self.now.plan at what.now) }
-        ensures refused { IfErr result (λ r. (r ≡ Refusal.Memory) ⊎ IsStopped self.now.plan at what.now r) }
+        ensures ok { OnOk result (NoneRefusesAt self.now.plan at what.now) }
+        ensures refused { IfErr result (λ r. (r ≡ Refusal.Memory) ⊎ IsRefusedAt self.now.plan at what.now r) }
     {
         if let What::Load(draft) = what {
             check_load(self.loaded.is_some(), draft)
@@ -91,7 +91,7 @@ impl Plan {
 
     // What a request that may be accepted makes of what the plan holds. The error is always `Memory`.
     fn contents_after(&self, what: &What) -> Result<PlanContents, Refusal>
-        requires { (at : ℕ) × IsFree self.now.plan at what.now }
+        requires { (at : ℕ) × NoneRefusesAt self.now.plan at what.now }
         ensures made { IfOk result (AreMadeBy self.now.plan what.now) }
         ensures refused { IfErr result (λ r. r ≡ Refusal.Memory) }
     {
@@ -147,9 +147,11 @@ impl Plan {
 
     /// Makes these requests, one after the other, each answered by a step of the plan that the one before left, or by want
     /// of memory, nothing changed. The error is always `Memory`: the list of replies found no memory, and nothing changed.
-    /// The plan is sound after them, and for whatever becomes started by one of them there was all that it needs then.
+    /// The accepted requests alone would have been answered the same, and led to the same plan. The plan is sound after them,
+    /// and for whatever becomes started by one of them there was all that it needs then.
     pub fn run(&mut self, requests: &[Request]) -> Result<Vec<Reply>, Refusal>
         ensures answers { IfOk result (λ replies. AnswersAll self.old.plan requests.now (map answer_of replies.items) self.new.plan) }
+        ensures alone { IfOk result (λ replies. AcceptedAnswerAll self.old.plan requests.now (map answer_of replies.items) self.new.plan) }
         ensures memory { IfErr result (λ r. (r ≡ Refusal.Memory) × (self.new ≡ self.old)) }
         ensures sound { IsSound self.new.plan }
         ensures starts { IfOk result (λ replies. RunStartsAreProvided self.old.plan requests.now (map answer_of replies.items) self.new.plan) }

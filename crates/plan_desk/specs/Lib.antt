@@ -1,2 +1,3 @@
 pub mod Loading
 pub mod Statuses
+pub mod Words

@@ -1,7 +1,10 @@
 -- The statuses that the program ends with, and the faults that errors of its surroundings are.
-use Rattle.std.specs.Prelude.{ℕ}
+use Rattle.std.specs.Prelude.{ℕ, Result, Ok, Err, Vec}
+use Rattle.std.specs.declared.alloc.Global.{Global}
 use Rattle.std.specs.declared.io.ErrorKind.{ErrorKind}
 use Rattle.std.specs.declared.io.ErrorKind.TheVariants as kind
+use Rattle.plan_basics.specs.declared.Refusal.{Refusal}
+use Rattle.plan_basics.specs.declared.keys.OpKey.{OpKey}
 use Rattle.plan_import.specs.declared.ImportFault.{ImportFault}
 use Rattle.plan_import.specs.declared.ImportFault.TheVariants as import_fault
 use Rattle.plan_desk.specs.declared.desk.Ending.{Ending}
@@ -9,6 +12,7 @@ use Rattle.plan_desk.specs.declared.desk.Ending.TheVariants as ending
 use Rattle.plan_desk.specs.declared.desk.Fault.{Fault}
 use Rattle.plan_desk.specs.declared.desk.Fault.TheVariants as fault
 
+-- 0 for an answer that accepts or for help, 1 for a refusal, 2 where the words aren't understood
 abbrev pub ending_status : Ending → ℕ
 ending_status ending.Done = 0
 ending_status ending.Refused = 1
@@ -31,3 +35,8 @@ fault_of_kind _ = fault.File
 abbrev pub fault_of_import : ImportFault → Fault
 fault_of_import import_fault.Reader = fault.File
 fault_of_import import_fault.Memory = fault.Memory
+
+-- how a run ends that has told this answer
+abbrev pub ending_of : Result (Vec OpKey Global) Refusal → Ending
+ending_of (Ok named) = ending.Done
+ending_of (Err r) = ending.Refused

@@ -1,6 +1,7 @@
 // One run of the desk: from its words to its answer and the status that it ends with.
-ghost use Rattle.std.specs.Prelude.{◌≡◌};
+ghost use Rattle.std.specs.Prelude.{◌≡◌, ◌⊎◌, ◌≤◌, IfOk};
 ghost use Rattle.plan_desk.specs.Loading.{IsAnswerToLoad};
+ghost use Rattle.plan_desk.specs.Statuses.{ending_of, fault_status};
 
 use crate::words::{desk_command, value_of};
 use clap::ArgMatches;
@@ -69,14 +70,19 @@ impl Fault {
 }
 
 impl fmt::Display for Fault {
+    ghost use Rattle.std.specs.Prelude.{Some};
+    ghost use Rattle.plan_desk.specs.Words.{fault_text};
+
+    ghost output = { λ fault. Some (fault_text fault) };
+
     fn fmt<W: fmt::Write>(&self, f: &mut fmt::Formatter<W>) -> fmt::Result {
-        f.write_str(match self {
-            Fault::Encoding => "fault words (not UTF-8)",
-            Fault::Words => "fault words",
-            Fault::Moment => "fault moment",
-            Fault::File => "fault file",
-            Fault::Memory => "fault memory",
-        })
+        match self {
+            Fault::Encoding => f.write_str("fault words (not UTF-8)"),
+            Fault::Words => f.write_str("fault words"),
+            Fault::Moment => f.write_str("fault moment"),
+            Fault::File => f.write_str("fault file"),
+            Fault::Memory => f.write_str("fault memory"),
+        }
     }
 }
 
@@ -143,7 +149,9 @@ fn load(alloc: Global, at: i64, draft: Option<PlanDraft>) -> Result<Vec<OpKey>, 
 fn tell<W: Write>(
     out: &mut Watched<W>,
     answer: &Result<Vec<OpKey>, Refusal>,
-) -> Result<Ending, Fault> {
+) -> Result<Ending, Fault>
+    ensures { IfOk result (λ ending. ending ≡ ending_of answer.now) }
+{
     match answer {
         Ok(named) => {
             writeln!(out, "accepted")?;
@@ -208,7 +216,9 @@ fn obey<W: Write, E: Write>(
 }
 
 /// Tells a fault on standard error, and gives the exit status: that of a stream's fault where standard error fails too.
-pub fn tell_fault<E: Write>(fault: Fault, err: &mut Watched<E>) -> u8 {
+pub fn tell_fault<E: Write>(fault: Fault, err: &mut Watched<E>) -> u8
+    ensures { (result ≡ fault_status fault) ⊎ (result ≡ 3) }
+{
     if writeln!(err, "{fault}").is_ok() {
         fault.status()
     } else {
@@ -219,12 +229,15 @@ pub fn tell_fault<E: Write>(fault: Fault, err: &mut Watched<E>) -> u8 {
 /// Runs the desk with these words, of which the first is the program's name, and gives the exit status: 0 accepted or
 /// done, 1 refused, 2 a fault of the words or the moment, 3 a fault of a file, a standard stream or memory outside the
 /// plan. Answers go to `out`, faults to `err`. (The words and their meaning: this project's own.)
+#[tactic(auto, using(crate::proofs::Statuses::ending_at_most, crate::proofs::Statuses::fault_at_most))]
 pub fn desk_run<W: Write, E: Write>(
     rt: &HostRuntime,
     words: &[String],
     out: &mut Watched<W>,
     err: &mut Watched<E>,
-) -> u8 {
+) -> u8
+    ensures { result ≤ 3 }
+{
     match obey(rt, words, out, err) {
         Ok(ending) => ending.status(),
         Err(fault) => tell_fault(fault, err),

@@ -1,10 +1,9 @@
--- Where keys in order stand, and what a set made of a list holds.
-use Rattle.std.proofs.Common.{◌≡◌, ◌≢◌, ◌⊎◌, inl, inr, refl, sym, ap, subst, ◌∙◌, true≢false, arith, ℕ, ◌+◌, ◌<◌, Bool, true, false, ◌||◌, List, [], ◌∷◌, length, get_or, slice_get, Some, Contains, Result, Ok, Err}
-use Rattle.std.specs.Cmp.{IsTotalOrder, Equal-is, eq_by_cmp_equiv, on_total, then_total}
+-- Where keys in order stand.
+use Rattle.std.proofs.Common.{◌≡◌, ◌≢◌, inl, inr, refl, sym, ap, subst, ◌∙◌, arith, ℕ, ◌+◌, ◌<◌, List, length, get_or, slice_get, Some, Contains, Result, Ok, Err}
+use Rattle.std.specs.Cmp.{IsTotalOrder, on_total, then_total}
 use Rattle.std.specs.FinMap.{IsAntisymmetric}
-use Rattle.std.specs.FinSet.{contains, contains-empty, contains-insert, from_list}
 use Rattle.std.specs.List.Sorted.{IsStrictlySortedBy, IsSortedBy, IsBinarySearchResult, IsSearchInRange}
-use Rattle.std.specs.Ordering.{eq_by_cmp, is_lt, ordering_reverse}
+use Rattle.std.specs.Ordering.{is_lt, ordering_reverse}
 use Rattle.std.specs.declared.cmp.Ordering.{Ordering}
 use Rattle.std.specs.declared.cmp.Ordering.TheVariants.{Less, Equal, Greater}
 use Rattle.std.proofs.lemmas.Bool.{cases_lt}
@@ -13,7 +12,7 @@ use Rattle.std.proofs.lemmas.List.Sorted.{searchable_from_sorted}
 use Rattle.std.proofs.lemmas.Map.Keys.{Less-from_sorted}
 use Rattle.std.proofs.lemmas.Option.{slice_get-get_or, slice_get_within, get_or_from_slice_get}
 use Rattle.operation_graph.specs.Graphs.{AreDifferent}
-use Rattle.operation_graph.proofs.Members.{contains_head, contains_later, contains_cases, contains_none}
+pub use Rattle.operation_graph.proofs.SetMembers.{in_listed, listed_in}
 use Rattle.plan_basics.specs.Keys.{operation_cmp, operation_cmp_total, operation_cmp-IsAntisymmetric, then_IsAntisymmetric}
 use Rattle.plan_basics.specs.declared.keys.OpKey.{OpKey}
 use Rattle.plan_model.specs.Plan.{pair_cmp}
@@ -26,14 +25,6 @@ pair_cmp_total = then_total (on_total (λ (x : Pair). x.0) operation_cmp_total) 
 
 pub pair_cmp-IsAntisymmetric : IsAntisymmetric pair_cmp
 pair_cmp-IsAntisymmetric = then_IsAntisymmetric {R = operation_cmp} {S = operation_cmp} (λ (x : Pair). x.0) (λ (x : Pair). x.1) (λ x y p q i. (p i, q i)) operation_cmp-IsAntisymmetric operation_cmp-IsAntisymmetric
-
-or_cases : (a b : Bool) → (a || b) ≡ true → (a ≡ true) ⊎ (b ≡ true)
-or_cases true b e = inl refl
-or_cases false b e = inr e
-
-or_right : (a b : Bool) → b ≡ true → (a || b) ≡ true
-or_right true b e = refl
-or_right false b e = e
 
 module _ {K : Type 0} {R : K → K → Ordering} (total : IsTotalOrder R) where
   -- no key is below itself
@@ -71,18 +62,3 @@ module _ {K : Type 0} {R : K → K → Ordering} (total : IsTotalOrder R) where
           | inl before ↦ let less : R (get_or ks j k) k ≡ Less = parts.0 j k (omega arith) before in cc
           | inr after ↦ let greater : R (get_or ks j k) k ≡ Greater = parts.1 j k after lt in cc
         ])
-
-    -- a set that is made of a list holds its elements
-    pub listed_in : (ks : List K) (k : K) → contains (from_list {R = R} ks) k ≡ true → Contains ks k
-    listed_in [] k h = absurd (true≢false (sym h ∙ contains-empty R k))
-    listed_in (x ∷ ks) k h = elim (or_cases (eq_by_cmp R k x) (contains {R = R} (from_list ks) k) (sym (contains-insert total (from_list ks) x k) ∙ h)) [
-      | inl is ↦ subst (Contains (x ∷ ks)) (sym (exact k x ((Equal-is (R k x)).0 is))) (contains_head x ks)
-      | inr old ↦ contains_later x ks k (listed_in ks k old)
-    ]
-
-    pub in_listed : (ks : List K) (k : K) → Contains ks k → contains (from_list {R = R} ks) k ≡ true
-    in_listed [] k has = absurd (contains_none k has)
-    in_listed (x ∷ ks) k has = elim (contains_cases x ks k has) [
-      | inl e ↦ subst (λ z. contains {R = R} (from_list (x ∷ ks)) z ≡ true) e (contains-insert total (from_list ks) x x ∙ ap (λ b. b || contains {R = R} (from_list ks) x) ((eq_by_cmp_equiv total).refl x))
-      | inr later ↦ contains-insert total (from_list ks) x k ∙ or_right (eq_by_cmp R k x) _ (in_listed ks k later)
-    ]

@@ -90,7 +90,7 @@ module _ (keys : List OpKey) (pairs : List Pair) (edges : List Edge) (at_places 
           sym (get_or-map (keys_at keys) edges k d none (omega (arith, lt, size)))
           ∙ ap (λ ys. get_or ys k none) at_places ∙ get_or-map both_ends pairs k x none lt
 
--- ---- paths that return
+-- ---- paths
 
 module _ (keys : List OpKey) (pairs : Pairs) (edge : ℕ → ℕ → Type 0) (edge_at : (i j : ℕ) → edge i j ↔ IsPairAt keys pairs i j) where
   leads_by_keys : {i j : ℕ} → LeadsBy edge i j → (p : OpKey) × (o : OpKey) × (slice_get keys i ≡ Some p) × (slice_get keys j ≡ Some o) × LeadsBy (IsPairOf pairs) p o
@@ -120,6 +120,20 @@ module _ (keys : List OpKey) (pairs : Pairs) (edge : ℕ → ℕ → Type 0) (ed
     acyclic_by_places acyclic p path =
         let r = leads_by_places path in
         acyclic r.0 (subst (LeadsBy edge r.0) (sym (one_place operation_cmp_total keys sorted r.0 r.1 p r.2 r.3)) r.4)
+
+    -- a path leads from place to place exactly where one leads from key to key
+    pub leads_alike : (i j : ℕ) (p o : OpKey) → slice_get keys i ≡ Some p → slice_get keys j ≡ Some o → LeadsBy edge i j ↔ LeadsBy (IsPairOf pairs) p o
+    leads_alike i j p o at_p at_o = (to, back)
+      where
+        to : LeadsBy edge i j → LeadsBy (IsPairOf pairs) p o
+        to path =
+            let r = leads_by_keys path in
+            subst (λ z. LeadsBy (IsPairOf pairs) z o) (same_key keys i r.0 p r.2 at_p) (subst (LeadsBy (IsPairOf pairs) r.0) (same_key keys j r.1 o r.3 at_o) r.4)
+
+        back : LeadsBy (IsPairOf pairs) p o → LeadsBy edge i j
+        back path =
+            let r = leads_by_places path in
+            subst (λ z. LeadsBy edge z j) (one_place operation_cmp_total keys sorted r.0 i p r.2 at_p) (subst (LeadsBy edge r.0) (one_place operation_cmp_total keys sorted r.1 j o r.3 at_o) r.4)
 
 -- ---- the graph that is built
 

@@ -1,15 +1,15 @@
 -- Paths over the places of keys, and over the keys.
-use Rattle.std.proofs.Common.{◌≡◌, refl, sym, ap, subst, ◌∙◌, arith, ℕ, pos, ◌-ℤ◌, ◌≤ℤ◌, List, [], ◌∷◌, slice_get, Some, sum_by}
+use Rattle.std.proofs.Common.{◌≡◌, ◌↔◌, refl, sym, ap, subst, ◌∙◌, arith, ℕ, ℤ, pos, ◌-ℤ◌, ◌≤ℤ◌, List, [], ◌∷◌, slice_get, Some, sum_by}
 use Rattle.std.specs.List.Sorted.{IsStrictlySortedBy}
 use Rattle.std.proofs.lemmas.List.Sums.{sum_by-cons}
 use Rattle.operation_graph.specs.Graphs.{Digraph, HasEdge}
-use Rattle.operation_graph.specs.Paths.{ReachesBy, end_of}
+use Rattle.operation_graph.specs.Paths.{IsPathBy, ReachesBy, end_of}
 use Rattle.latest_start.specs.LeastStart.{IsLeastStart, start_by}
 use Rattle.latest_start.proofs.Placed.{place_of}
 use Rattle.plan_basics.specs.Keys.{operation_cmp, operation_cmp_total}
 use Rattle.plan_basics.specs.declared.keys.OpKey.{OpKey}
 use Rattle.plan_model.specs.Plan.{Pairs, IsPairOf}
-use Rattle.plan_graph.specs.PlanGraphs.{CountsAlike, HoldsAlike, IsGraphOf, JoinsAmong, LeastStartsAlike, PathsHaveKeys, PathsHavePlaces, ReachAlike, StandAt}
+use Rattle.plan_graph.specs.PlanGraphs.{CountsAlike, HoldsAlike, IsGraphOf, JoinsAmong, ReachAlike, StandAt}
 use Rattle.plan_graph.proofs.KeyPlaces.{one_place}
 use Rattle.plan_graph.proofs.PairEdges.{same_key}
 
@@ -40,6 +40,21 @@ module _ (keys : List OpKey) where
       omega (arith, sum_by-cons f j places, sum_by-cons h o rest, alike j o (first_stands j o places rest stand), sums_alike f h alike places rest (others_stand j o places rest stand))
 
 -- ---- paths
+
+-- each path of live members over the places is one over their keys
+abbrev pub PathsHaveKeys : List OpKey → Pairs → Digraph → (ℕ → Type 0) → (OpKey → Type 0) → Type 0
+PathsHaveKeys keys pairs g live_at live = (i : ℕ) (p : OpKey) (places : List ℕ) → slice_get keys i ≡ Some p → IsPathBy (HasEdge g) live_at i places
+    → (rest : List OpKey) × StandAt keys places rest × IsPathBy (IsPairOf pairs) live p rest
+
+-- and each over the keys is one over their places
+abbrev pub PathsHavePlaces : List OpKey → Pairs → Digraph → (ℕ → Type 0) → (OpKey → Type 0) → Type 0
+PathsHavePlaces keys pairs g live_at live = (i : ℕ) (p : OpKey) (rest : List OpKey) → slice_get keys i ≡ Some p → IsPathBy (IsPairOf pairs) live p rest
+    → (places : List ℕ) × StandAt keys places rest × IsPathBy (HasEdge g) live_at i places
+
+-- the least start over all paths from a place is that over all paths from its key
+abbrev pub LeastStartsAlike : List OpKey → Pairs → Digraph → (ℕ → Type 0) → (OpKey → Type 0) → (ℕ → ℕ) → (OpKey → ℕ) → (ℕ → ℕ) → (OpKey → ℕ) → Type 0
+LeastStartsAlike keys pairs g live_at live duration_at duration deadline_at deadline = (i : ℕ) (p : OpKey) (v : ℤ) → slice_get keys i ≡ Some p
+    → IsLeastStart (HasEdge g) live_at duration_at deadline_at i v ↔ IsLeastStart (IsPairOf pairs) live duration deadline p v
 
 module _ (keys : List OpKey) (pairs : Pairs) (g : Digraph) (graph : IsGraphOf keys pairs g) (live_at : ℕ → Type 0) (live : OpKey → Type 0) (alike : HoldsAlike keys live_at live) where
   -- each path over the places is one over their keys

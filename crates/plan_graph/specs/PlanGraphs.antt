@@ -1,8 +1,7 @@
 -- The graph of a plan's operations: its nodes are the places of their keys, its edges those of the pairs.
-use Rattle.std.specs.Prelude.{◌≡◌, ◌↔◌, ℕ, ℤ, List, All, Contains, Option, Some, length, map, slice_get}
+use Rattle.std.specs.Prelude.{◌≡◌, ◌↔◌, ℕ, List, All, Contains, Option, Some, length, map, slice_get}
 use Rattle.operation_graph.specs.Graphs.{Digraph, HasEdge, IsGraph}
-use Rattle.operation_graph.specs.Paths.{IsPathBy, ReachesBy}
-use Rattle.latest_start.specs.LeastStart.{IsLeastStart}
+use Rattle.operation_graph.specs.Paths.{ReachesBy}
 use Rattle.plan_basics.specs.declared.keys.OpKey.{OpKey}
 use Rattle.plan_model.specs.Plan.{Pairs, IsPairOf}
 
@@ -44,22 +43,7 @@ HoldsAlike keys at_place of_key = (i : ℕ) (o : OpKey) → slice_get keys i ≡
 abbrev pub CountsAlike : List OpKey → (ℕ → ℕ) → (OpKey → ℕ) → Type 0
 CountsAlike keys at_place of_key = (i : ℕ) (o : OpKey) → slice_get keys i ≡ Some o → at_place i ≡ of_key o
 
--- each path of live members over the places is one over their keys
-abbrev pub PathsHaveKeys : List OpKey → Pairs → Digraph → (ℕ → Type 0) → (OpKey → Type 0) → Type 0
-PathsHaveKeys keys pairs g live_at live = (i : ℕ) (p : OpKey) (places : List ℕ) → slice_get keys i ≡ Some p → IsPathBy (HasEdge g) live_at i places
-    → (rest : List OpKey) × StandAt keys places rest × IsPathBy (IsPairOf pairs) live p rest
-
--- and each over the keys is one over their places
-abbrev pub PathsHavePlaces : List OpKey → Pairs → Digraph → (ℕ → Type 0) → (OpKey → Type 0) → Type 0
-PathsHavePlaces keys pairs g live_at live = (i : ℕ) (p : OpKey) (rest : List OpKey) → slice_get keys i ≡ Some p → IsPathBy (IsPairOf pairs) live p rest
-    → (places : List ℕ) × StandAt keys places rest × IsPathBy (HasEdge g) live_at i places
-
 -- a place reaches another exactly where its key reaches that one's
 abbrev pub ReachAlike : List OpKey → Pairs → Digraph → (ℕ → Type 0) → (OpKey → Type 0) → Type 0
 ReachAlike keys pairs g live_at live = (i j : ℕ) (p o : OpKey) → slice_get keys i ≡ Some p → slice_get keys j ≡ Some o
     → ReachesBy (HasEdge g) live_at i j ↔ ReachesBy (IsPairOf pairs) live p o
-
--- the least start over all paths from a place is that over all paths from its key
-abbrev pub LeastStartsAlike : List OpKey → Pairs → Digraph → (ℕ → Type 0) → (OpKey → Type 0) → (ℕ → ℕ) → (OpKey → ℕ) → (ℕ → ℕ) → (OpKey → ℕ) → Type 0
-LeastStartsAlike keys pairs g live_at live duration_at duration deadline_at deadline = (i : ℕ) (p : OpKey) (v : ℤ) → slice_get keys i ≡ Some p
-    → IsLeastStart (HasEdge g) live_at duration_at deadline_at i v ↔ IsLeastStart (IsPairOf pairs) live duration deadline p v

@@ -41,7 +41,8 @@ fn edges_at_places(
 
 /// The graph of these pairs between operations of these keys; `None` where some path of pairs returns to its start.
 ///
-/// A node is the place of a key. It takes time linear in keys and pairs, beside a search among the keys for each end.
+/// A node is the place of a key. It is an error where a growth was refused. It takes time linear in keys and pairs, beside a
+/// search among the keys for each end.
 pub fn graph_of(
     alloc: Global,
     keys: &[OpKey],

@@ -20,7 +20,7 @@ single cfg s s2 xs z f h = rw (h.2, ← h.3.0, ← h.3.1) h.1
 
 -- where a next record has not ten fields, no list of records of ten fields is all of them
 pub other-none : (cfg : Config) (s s2 : State) (xs ys : List ℕ) (rows other : List (List (List ℕ))) (p : Read)
-    → Reached cfg s xs rows s2 ys → next_record cfg s2 [] [] ys ≡ Some p → (IsTen p.0 → ⊥)
+    → Reached cfg s xs rows s2 ys → next_record cfg s2 [] [] ys ≡ Some p → ¬ IsTen p.0
     → AreRecords cfg s xs other → AllByRecursion IsTen other → ⊥
 unfolding Reached
 other-none cfg s s2 xs ys [] [] p h e not_ten a ten =
@@ -63,7 +63,7 @@ ends (Some bytes) a s rows h ten turn = ((s, h.0, h.2, turn h.0 h.1), ten)
 
 pub fails : (o a : Option (List ℕ)) (s : State) (rows : List (List (List ℕ)))
     → IfSome o (λ bytes. (y : List ℕ) × (a ≡ Some y) × Reached default_config st.StartRecord bytes rows s y)
-    → ((y : List ℕ) → a ≡ Some y → (p : Read) × (next_record default_config s [] [] y ≡ Some p) × (IsTen p.0 → ⊥))
+    → ((y : List ℕ) → a ≡ Some y → (p : Read) × (next_record default_config s [] [] y ≡ Some p) × ¬ IsTen p.0)
     → IfSome o (λ bytes. IsReadingOf bytes None)
 fails None a s rows h turn = tt
 fails (Some bytes) a s rows h turn = λ (other, (all, ten)).

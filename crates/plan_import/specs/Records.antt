@@ -37,7 +37,7 @@ next_of text bytes = next_record default_config (reader_state text) [] [] bytes
 
 -- what a turn tells of the reader before and after it, where its bytes are known: the next record, one of another length, or the end
 abbrev pub TurnsTo : {R : Type 0} → (R → Option (List ℕ)) → Reader R → Reader R → Turn → Type 0
-TurnsTo rem old new (turn.Record fields) = IsPlain new × IsTen (fields_of fields)
-    × ((bytes : List ℕ) → source_of rem old ≡ Some bytes → (rest : List ℕ) × (source_of rem new ≡ Some rest) × (next_of old bytes ≡ Some (fields_of fields, reader_state new, rest)))
-TurnsTo rem old new turn.Malformed = (bytes : List ℕ) → source_of rem old ≡ Some bytes → (p : Read) × (next_of old bytes ≡ Some p) × (IsTen p.0 → ⊥)
-TurnsTo rem old new turn.End = (bytes : List ℕ) → source_of rem old ≡ Some bytes → next_of old bytes ≡ None
+TurnsTo remaining old new (turn.Record fields) = IsPlain new × IsTen (fields_of fields)
+    × ((bytes : List ℕ) → source_of remaining old ≡ Some bytes → (rest : List ℕ) × (source_of remaining new ≡ Some rest) × (next_of old bytes ≡ Some (fields_of fields, reader_state new, rest)))
+TurnsTo remaining old new turn.Malformed = (bytes : List ℕ) → source_of remaining old ≡ Some bytes → (p : Read) × (next_of old bytes ≡ Some p) × ¬ IsTen p.0
+TurnsTo remaining old new turn.End = (bytes : List ℕ) → source_of remaining old ≡ Some bytes → next_of old bytes ≡ None

@@ -1,7 +1,7 @@
 //! Plans, and occurrences that come in, from texts of comma-separated fields, over any reader of bytes.
 #![tactic(auto)]
 
-ghost use Rattle.std.specs.Prelude.{◌≡◌, ◌↔◌, IfOk, IfSome, IfNone, MatchOption, Err, true, false, option_map};
+ghost use Rattle.std.specs.Prelude.{◌≡◌, ◌↔◌, IfOk, IfSome, MatchOption, Err, true, false, option_map};
 ghost use Rattle.csv.specs.Records.{fields_of as row_fields};
 ghost use Rattle.csv.specs.Reading.{strip_bom, source_of, reader_state, stops_reader, error_kind};
 ghost use Rattle.csv.specs.declared.parser.State.TheVariants as st;
@@ -53,7 +53,7 @@ impl<T: Drop> From<AllocFailed<T>> for ImportFault {
 fn own_fields(alloc: Global, row: &ByteRecord) -> Result<Vec<Vec<u8>>, AllocError>
     ensures { IfOk result (λ v. fields_of v.items ≡ row_fields row.now) }
 {
-    let mut fields = Vec::new(alloc);
+    let mut fields = Vec::with_capacity(alloc, row.len())?;
     for i in 0..row.len() {
         if let Some(field) = row.get(i) {
             fields.push(field.to_vec(alloc)?)?;
@@ -73,9 +73,9 @@ enum Turn {
     End,
 }
 
-/// The fault of a reader of records that has stopped; none where it goes on, after a record of another length.
+/// The fault of a reader of records, exactly where it has stopped; none where it goes on, after a record of another length.
 fn fault_of(error: &csv::Error) -> Option<ImportFault>
-    ensures { IfNone result (stops_reader (error_kind error.now) ≡ false) }
+    ensures { MatchOption result (stops_reader (error_kind error.now) ≡ false) (λ _. stops_reader (error_kind error.now) ≡ true) }
 {
     match error.kind() {
         ErrorKind::Io(_) => Some(ImportFault::Reader),
@@ -142,7 +142,27 @@ fn records_of_source<R: Read + Drop>(
     records_left(alloc, &mut text)
 }
 
-/// The records of a text, each of ten fields; none where the text reads otherwise.
+/// The records that are left of a watched text, of which no fault is known yet.
+fn records_of_watched<R: Read>(
+    alloc: Global,
+    reader: &mut Watched<R>,
+) -> Result<Option<Vec<Record>>, ImportFault>
+    requires fresh { failed_of reader.old ≡ false }
+    ensures found { IfOk result (λ found. IfSome (R.remaining (inner_of reader.old))
+        (λ text. IsReadingOf (strip_bom text) (option_map (λ v. records_of v.items) found))) }
+    ensures reader_fault { (result ≡ Err ImportFault.Reader) ↔ (failed_of reader.new ≡ true) }
+{
+    let found = records_of_source(alloc, &mut *reader);
+    if reader.failed() {
+        return Err(ImportFault::Reader);
+    }
+    match found {
+        Ok(records) => Ok(records),
+        Err(_) => Err(ImportFault::Memory),
+    }
+}
+
+/// The records of a text, each of ten fields; none where the text reads otherwise. Faults of earlier calls are forgotten.
 fn read_records<R: Read>(
     alloc: Global,
     reader: &mut Watched<R>,
@@ -152,14 +172,7 @@ fn read_records<R: Read>(
     ensures reader_fault { (result ≡ Err ImportFault.Reader) ↔ (failed_of reader.new ≡ true) }
 {
     reader.clear();
-    let found = records_of_source(alloc, &mut *reader);
-    if reader.failed() {
-        return Err(ImportFault::Reader);
-    }
-    match found {
-        Ok(records) => Ok(records),
-        Err(_) => Err(ImportFault::Memory),
-    }
+    records_of_watched(alloc, reader)
 }
 
 /// The plan that a text denotes, if it denotes one. The text is all that the reader gives: records of ten fields, without

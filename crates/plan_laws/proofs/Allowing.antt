@@ -22,7 +22,7 @@ use Rattle.plan_laws.proofs.Numbers.{told_refusals}
 use Rattle.plan_laws.proofs.Readying.{ready_told}
 use Rattle.plan_laws.proofs.Standing.{status_told}
 use Rattle.plan_laws.proofs.Decide.{told_attribute}
-use Rattle.plan_laws.proofs.Telling.{Told, told_alike, told_and, told_if_then, told_none, told_or, told_true}
+use Rattle.operation_graph.proofs.Telling.{Told, told_alike, told_and, told_if_then, told_none, told_or, told_true}
 use Rattle.plan_model.specs.Holdings.{Holds, given_out, holds_resource, takes}
 use Rattle.plan_model.specs.Plan.{HasAttribute, Operation, Plan, attribute_at}
 use Rattle.plan_model.specs.Starting.{FitsAt, IsAllowedToStart, MayStart}

@@ -12,7 +12,7 @@ use Rattle.plan_laws.proofs.Entries.{told_has}
 use Rattle.plan_laws.proofs.Looks.{same_key}
 use Rattle.plan_laws.proofs.Readying.{once, one_entry, ready_list}
 use Rattle.plan_laws.proofs.Decide.{told_attribute}
-use Rattle.plan_laws.proofs.Telling.{Told, told_and}
+use Rattle.operation_graph.proofs.Telling.{Told, told_and}
 use Rattle.plan_laws.specs.Derived.{SomeChoice}
 use Rattle.plan_model.specs.Plan.{HasAttribute, Plan}
 use Rattle.plan_model.specs.Ready.{IsOnAutomatic, named}

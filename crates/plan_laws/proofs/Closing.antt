@@ -5,8 +5,8 @@ use Rattle.std.specs.Cmp.{tied_itself}
 use Rattle.std.specs.FinSet as set
 use Rattle.operation_graph.specs.Paths.{LeadsBy}
 use Rattle.plan_basics.specs.declared.keys.OpKey.{OpKey}
-use Rattle.plan_laws.proofs.ComingIn.{or_cases}
-use Rattle.plan_laws.proofs.Joining.{stays_acyclic}
+use Rattle.std.proofs.lemmas.Bool.{or_cases}
+use Rattle.operation_graph.proofs.Joining.{stays_acyclic}
 use Rattle.plan_laws.proofs.Pairs.{pair_cmp_total, pair_same}
 use Rattle.plan_model.specs.Plan.{IsPairOf, Pairs, pair_cmp}
 use Rattle.plan_model.specs.Valid.{IsAcyclic}

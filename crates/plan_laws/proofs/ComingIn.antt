@@ -1,5 +1,6 @@
 -- Added occurrences and added pairs keep a plan sound.
 use Rattle.std.proofs.Common.{◌≡◌, ◌≢◌, ◌⊎◌, inl, inr, refl, sym, ◌∙◌, ap, subst, true≢false, Bool, true, false, ◌||◌, Option, Some, None, is_some}
+use Rattle.std.proofs.lemmas.Bool.{or_cases}
 use Rattle.std.specs.Ordering.{eq_by_cmp}
 use Rattle.std.specs.Cmp.{IsTotalOrder}
 use Rattle.std.specs.FinMap.{FinMap, get, contains_key}
@@ -85,10 +86,6 @@ module _ (P : Plan) (sound : IsSound P) (occurrences : Occurrences) (operations 
       ];
       before_load = λ h. absurd (true≢false (sym g.loaded ∙ h));
     }
-
-pub or_cases : (a b : Bool) → (a || b) ≡ true → (a ≡ true) ⊎ (b ≡ true)
-or_cases true b e = inl refl
-or_cases false b e = inr e
 
 -- ---- one more pair
 

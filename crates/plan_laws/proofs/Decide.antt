@@ -12,7 +12,7 @@ use Rattle.status_rules.specs.declared.Mark.{Mark}
 use Rattle.status_rules.specs.declared.Mark.TheVariants as mark
 use Rattle.plan_laws.proofs.Entries.{told_has, told_operations}
 use Rattle.plan_laws.proofs.Looks.{none_is_not_some, same_some}
-use Rattle.plan_laws.proofs.Telling.{Told, if_told, is_told, told_alike, told_and, told_if, told_if_then, told_none, told_or, told_true}
+use Rattle.operation_graph.proofs.Telling.{Told, if_told, is_told, told_alike, told_and, told_if, told_if_then, told_none, told_or, told_true}
 use Rattle.plan_model.specs.Plan.{Has, HasAttribute, IsLive, LivePredecessor, Operation, Plan, Precedes, attribute_at}
 use Rattle.plan_model.specs.Status.{AllPredecessorsSatisfied, IsInEachClosedSet, IsSatisfied, NeedsNoReport}
 pub use Rattle.plan_laws.proofs.Pairs.{pair_cmp_total, pair_same}

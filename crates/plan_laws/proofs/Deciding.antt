@@ -24,7 +24,7 @@ use Rattle.plan_laws.proofs.Reaching.{each_operation_told, in_plan_told, limits_
 use Rattle.plan_laws.proofs.Readying.{ready_told}
 use Rattle.plan_laws.proofs.Standing.{status_told}
 use Rattle.plan_laws.proofs.Decide.{told_attribute}
-use Rattle.plan_laws.proofs.Telling.{Told, told_alike, told_and, told_if_then, told_none, told_or, told_true}
+use Rattle.operation_graph.proofs.Telling.{Told, told_alike, told_and, told_if_then, told_none, told_or, told_true}
 use Rattle.plan_model.specs.Plan.{Operation, Plan, Supplement, attribute_at}
 use Rattle.plan_model.specs.Valid.{HaveResources, HaveWorkstations, IsAcyclic}
 use Rattle.plan_records.specs.Accepting.{IsBadText, IsNew, IsOld, MayBeAccepted, MayBeAdded, MayBeCompleted, MayBeDeleted, MayBeDone, MayBeEnded, MayBeFlagged, MayBeInterrupted, MayBeLoaded, MayBeOpenBy, MayBePaired, MayBeRerun, MayBeSetAvailable, MayBeStarted, MayBeUndecided, NeedsPlan, OfOperation, minute_of}

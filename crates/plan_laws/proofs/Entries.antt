@@ -7,7 +7,7 @@ use Rattle.plan_basics.specs.Keys.{operation_cmp-IsAntisymmetric, operation_cmp_
 use Rattle.plan_basics.specs.declared.keys.OpKey.{OpKey}
 use Rattle.plan_laws.proofs.Finite.{in_keys}
 use Rattle.plan_laws.proofs.Looks.{none_is_not_some, same_some}
-use Rattle.plan_laws.proofs.Telling.{Told, told_all, told_any, told_contains, told_equal}
+use Rattle.operation_graph.proofs.Telling.{Told, told_all, told_any, told_contains, told_equal}
 use Rattle.plan_model.specs.Plan.{Has, IsInPlan, Operation, Plan}
 
 -- the value, if there is one

@@ -1,5 +1,6 @@
 -- The keys of finite maps and the members of finite sets, and the listed things of which something is so.
 use Rattle.std.proofs.Common.{◌≡◌, ◌⊎◌, ◌↔◌, inl, inr, refl, sym, ◌∙◌, ap, subst, true≢false, Bool, true, false, ◌||◌, List, [], ◌∷◌, ◌++◌, Contains, Some, is_some}
+use Rattle.std.proofs.lemmas.Bool.{or_cases, or_right}
 use Rattle.std.specs.declared.cmp.Ordering.{Ordering}
 use Rattle.std.specs.List.{list_any}
 use Rattle.std.specs.Ordering.{eq_by_cmp, is_eq}
@@ -7,15 +8,7 @@ use Rattle.std.specs.Cmp.{Equal-is, IsTotalOrder, tied_itself}
 use Rattle.std.specs.FinMap.{FinMap, IsAntisymmetric, contains_key-keys, get, keys}
 use Rattle.std.specs.FinSet as set
 use Rattle.plan_laws.proofs.Sorted.{contains_head, contains_later, contains_cases, contains_none}
-use Rattle.plan_laws.proofs.Telling.{Told}
-
-or_cases : (a b : Bool) → (a || b) ≡ true → (a ≡ true) ⊎ (b ≡ true)
-or_cases true b e = inl refl
-or_cases false b e = inr e
-
-or_right : (a b : Bool) → b ≡ true → (a || b) ≡ true
-or_right true b e = refl
-or_right false b e = e
+use Rattle.operation_graph.proofs.Telling.{Told}
 
 module _ {K : Type 0} {R : K → K → Ordering} where
   pub member_if : IsAntisymmetric R → (xs : List K) (k : K) → list_any (eq_by_cmp R k) xs ≡ true → Contains xs k

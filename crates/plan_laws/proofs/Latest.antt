@@ -8,11 +8,11 @@ use Rattle.operation_graph.specs.Paths.{IsPathBy, IsRankBy}
 use Rattle.plan_basics.specs.declared.keys.OpKey.{OpKey}
 use Rattle.plan_laws.proofs.Finite.{Listed, alike_listed, either_listed, images_listed, one_listed, union_listed, where_told}
 use Rattle.plan_laws.proofs.Ordered.{pairs_are_edges, pairs_have_rank}
-use Rattle.plan_laws.proofs.Ranks.{AreEdges}
+use Rattle.operation_graph.proofs.Ranks.{AreEdges}
 use Rattle.plan_laws.proofs.Sorted.{contains_head, contains_later, contains_cases, contains_none}
 use Rattle.plan_laws.proofs.Decide.{told_live}
 use Rattle.plan_laws.proofs.Entries.{same_operation}
-use Rattle.plan_laws.proofs.Telling.{Told, told_and}
+use Rattle.operation_graph.proofs.Telling.{Told, told_and}
 use Rattle.plan_laws.specs.Derived.{EachHasOneLatestStart}
 use Rattle.plan_model.specs.Plan.{IsLive, Plan, Precedes}
 use Rattle.plan_model.specs.Starting.{IsLatestStart}

@@ -21,11 +21,8 @@ pub mod Receipts
 pub mod Schedules
 pub mod Numbers
 pub mod Single
-pub mod Telling
 pub mod Pairs
 pub mod Elements
-pub mod Joining
-pub mod Ranks
 pub mod Finite
 pub mod Ordered
 pub mod Entries
@@ -46,3 +43,4 @@ pub mod RowOrder
 pub mod RowsTold
 pub mod RowsListed
 pub mod RowChanges
+pub mod Work

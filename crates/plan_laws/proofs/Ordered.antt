@@ -6,8 +6,8 @@ use Rattle.plan_basics.specs.declared.keys.OpKey.{OpKey}
 use Rattle.plan_laws.proofs.Entries.{same_operation}
 use Rattle.plan_laws.proofs.Finite.{in_items}
 use Rattle.plan_laws.proofs.Pairs.{pair_cmp-IsAntisymmetric, pair_cmp_total}
-use Rattle.plan_laws.proofs.Ranks.{AreEdges, has_rank, told_acyclic, told_leads}
-use Rattle.plan_laws.proofs.Telling.{Told}
+use Rattle.operation_graph.proofs.Ranks.{AreEdges, has_rank, told_acyclic, told_leads}
+use Rattle.operation_graph.proofs.Telling.{Told}
 use Rattle.plan_laws.specs.Ranks.{ValidHasRank}
 use Rattle.plan_model.specs.Plan.{IsPairOf, Pairs}
 use Rattle.plan_model.specs.Valid.{IsAcyclic}

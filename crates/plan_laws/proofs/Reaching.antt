@@ -17,7 +17,7 @@ use Rattle.plan_laws.proofs.Looks.{found_key}
 use Rattle.plan_laws.proofs.Ordered.{pairs_are_edges}
 use Rattle.plan_laws.proofs.Readying.{ready_told}
 use Rattle.plan_laws.proofs.Standing.{status_told}
-use Rattle.plan_laws.proofs.Telling.{Told, told_alike, told_and, told_each, told_equal, told_if_then, told_none, told_or, told_some, told_three}
+use Rattle.operation_graph.proofs.Telling.{Told, told_alike, told_and, told_each, told_equal, told_if_then, told_none, told_or, told_some, told_three}
 use Rattle.plan_model.specs.Plan.{IsInPlan, IsPairOf, Pairs, Plan}
 use Rattle.plan_model.specs.Starting.{Reaches}
 use Rattle.plan_model.specs.Status.{EachOperation, HasStatus, IsUnderWay, IsWaitingOrReady}

@@ -15,7 +15,7 @@ use Rattle.plan_laws.proofs.Looks.{found_key, same_key, same_some}
 use Rattle.plan_laws.proofs.Sorted.{contains_head, contains_later, not_itself}
 use Rattle.plan_laws.proofs.Sorting.{ascending, ascending_rest, less_before}
 use Rattle.plan_laws.proofs.Standing.{status_told}
-use Rattle.plan_laws.proofs.Telling.{Told, told_or}
+use Rattle.operation_graph.proofs.Telling.{Told, told_or}
 use Rattle.plan_laws.specs.Derived.{SomeReadyList}
 use Rattle.plan_model.specs.Plan.{IsInPlan, Plan}
 use Rattle.plan_model.specs.Ready.{IsEntry, IsReadyList}

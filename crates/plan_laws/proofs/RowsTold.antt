@@ -20,7 +20,7 @@ use Rattle.plan_laws.proofs.Entries.{told_at, told_has}
 use Rattle.plan_laws.proofs.Latest.{one_latest_start, some_latest_start}
 use Rattle.plan_laws.proofs.Looks.{none_is_not_some, same_some}
 use Rattle.plan_laws.proofs.Standing.{status_told}
-use Rattle.plan_laws.proofs.Telling.{Told, told_alike, told_and, told_equal, told_three, told_true}
+use Rattle.operation_graph.proofs.Telling.{Told, told_alike, told_and, told_equal, told_three, told_true}
 use Rattle.plan_laws.proofs.Waiting.{one_count, one_occurrence_status, some_occurrence_status, some_waiting}
 use Rattle.plan_model.specs.Plan.{LivePredecessor, Operation, Plan}
 use Rattle.plan_model.specs.Starting.{IsLatestStart}

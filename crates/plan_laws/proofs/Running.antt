@@ -14,7 +14,7 @@ use Rattle.plan_laws.proofs.Elements.{all_of, first_of_all, rest_of_all}
 use Rattle.plan_laws.proofs.Every.{answer_keeps_sound}
 use Rattle.plan_laws.proofs.Repeating.{Again, again}
 use Rattle.plan_laws.proofs.Stepping.{some_step, some_step_by}
-use Rattle.plan_laws.proofs.Telling.{Told, told_and, told_equal, told_if_then, told_or, told_three, told_true}
+use Rattle.operation_graph.proofs.Telling.{Told, told_and, told_equal, told_if_then, told_or, told_three, told_true}
 use Rattle.plan_laws.specs.Steps.{IsCall, IsOfThePlan, PlanAnswers, SomeNumberedStep, SomeRun}
 use Rattle.plan_model.specs.Plan.{Operation, Plan, attribute_at}
 use Rattle.plan_model.specs.Valid.{IsSound}

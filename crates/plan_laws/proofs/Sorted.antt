@@ -4,19 +4,7 @@ use Rattle.std.specs.List.{AllByRecursion}
 use Rattle.std.specs.List.Sorted.{IsStrictlySortedBy}
 use Rattle.std.specs.Cmp.{IsTotalOrder}
 use Rattle.std.specs.Ordering.{ordering_reverse}
-
-pub contains_head : {K : Type 0} (x : K) (xs : List K) → Contains (x ∷ xs) x
-contains_head x xs = (0, omega arith, refl)
-
-pub contains_later : {K : Type 0} (x : K) (xs : List K) (k : K) → Contains xs k → Contains (x ∷ xs) k
-contains_later x xs k (i, h, e) = (suc i, omega arith, e)
-
-pub contains_cases : {K : Type 0} (x : K) (xs : List K) (k : K) → Contains (x ∷ xs) k → (x ≡ k) ⊎ Contains xs k
-contains_cases x xs k (zero, h, e) = inl e
-contains_cases x xs k (suc i, h, e) = inr (i, omega arith, e)
-
-pub contains_none : {K : Type 0} (k : K) → Contains [] k → ⊥
-contains_none k (i, h, e) = omega arith
+pub use Rattle.operation_graph.proofs.Members.{contains_head, contains_later, contains_cases, contains_none}
 
 pub at_member : {K : Type 0} (P : K → Type 0) (xs : List K) (k : K) → AllByRecursion P xs → Contains xs k → P k
 at_member P [] k all has = absurd (contains_none k has)

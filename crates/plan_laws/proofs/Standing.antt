@@ -12,7 +12,7 @@ use Rattle.plan_laws.proofs.Entries.{told_has, told_operation, told_operations}
 use Rattle.plan_laws.proofs.Looks.{found_key, same_some}
 use Rattle.plan_laws.proofs.Ordered.{pairs_have_rank}
 use Rattle.plan_laws.proofs.Tables.{status_is}
-use Rattle.plan_laws.proofs.Telling.{Told, if_told, is_told, told_alike, told_and, told_four, told_if, told_if_then, told_none, told_not, told_three}
+use Rattle.operation_graph.proofs.Telling.{Told, if_told, is_told, told_alike, told_and, told_four, told_if, told_if_then, told_none, told_not, told_three}
 use Rattle.plan_laws.specs.Derived.{EachHasOneStatus, SatisfiedIsTold}
 use Rattle.plan_model.specs.Plan.{Has, HasAttribute, IsInPlan, LivePredecessor, Plan}
 use Rattle.plan_model.specs.Status.{AllPredecessorsSatisfied, ArePreds, FollowsNonreporting, HasStatus, IsSatisfied, UnmarkedStatus}

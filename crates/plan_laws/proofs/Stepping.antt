@@ -14,7 +14,7 @@ use Rattle.plan_laws.proofs.Finite.{Listed, alike_listed, one_listed, union_list
 use Rattle.plan_laws.proofs.Latest.{least_of}
 use Rattle.plan_laws.proofs.Numbers.{all_refusals, in_all}
 use Rattle.plan_laws.proofs.Reaching.{reach_told}
-use Rattle.plan_laws.proofs.Telling.{Told, if_told, is_told, told_if, told_none, told_some}
+use Rattle.operation_graph.proofs.Telling.{Told, if_told, is_told, told_if, told_none, told_some}
 use Rattle.plan_laws.specs.Steps.{SomeStep}
 use Rattle.plan_model.specs.Plan.{Plan}
 use Rattle.plan_model.specs.Ready.{named, with_mark}

@@ -15,7 +15,7 @@ use Rattle.plan_laws.proofs.Pairs.{pair_cmp-IsAntisymmetric, pair_cmp_total}
 use Rattle.plan_laws.proofs.Single.{same_bool}
 use Rattle.plan_laws.proofs.Standing.{one_status, some_status}
 use Rattle.plan_laws.proofs.Waiting.{one_count, some_occurrence_status, some_waiting}
-use Rattle.plan_laws.specs.Tables.{EachHasOneRow, RowsTellPlan}
+use Rattle.plan_laws.specs.Tables.{EachHasOneRow, RowsTellPlan, RowsTellReceipts}
 use Rattle.plan_model.specs.Plan.{LivePredecessor, Operation, Plan, Precedes}
 use Rattle.plan_model.specs.Starting.{IsLatestStart}
 use Rattle.plan_model.specs.Status.{HasStatus, IsSatisfied}
@@ -154,3 +154,7 @@ rows_tell_plan P Q p q rows =
     let operations : P.operations ≡ Q.operations = same_map operation_cmp_total operation_cmp-IsAntisymmetric P.operations Q.operations (λ o. same_look (get P.operations o) (get Q.operations o) (operation_there P Q p q to back o) (operation_there Q P q p back to o)) in
     let pairs : P.pairs ≡ Q.pairs = set.same_set pair_cmp_total pair_cmp-IsAntisymmetric P.pairs Q.pairs (λ x. same_bool (set.contains P.pairs x) (set.contains Q.pairs x) (pair P Q p to x.0 x.1) (pair Q P q back x.0 x.1)) in
     λ i. record { loaded = meta.1 i; clock = meta.2 i; workstations = workstations i; resources = resources i; occurrences = occurrences i; operations = operations i; pairs = pairs i }
+
+pub rows_tell_receipts : RowsTellReceipts
+rows_tell_receipts T U rows =
+    same_map name_cmp_total name_cmp-IsAntisymmetric T U (λ t. same_look (get T t) (get U t) (λ r. (rows t r).0) (λ r. (rows t r).1))

@@ -6,7 +6,7 @@ use Rattle.std.specs.FinMap.{keys}
 use Rattle.plan_basics.specs.Keys.{operation_cmp-IsAntisymmetric, operation_cmp_total}
 use Rattle.plan_basics.specs.declared.keys.OccKey.{OccKey}
 use Rattle.plan_basics.specs.declared.keys.OpKey.{OpKey}
-use Rattle.status_rules.specs.Table.{precedence}
+use Rattle.status_rules.specs.Table.{occurrence_status_place}
 use Rattle.status_rules.specs.declared.OccStatus.{OccStatus}
 use Rattle.status_rules.specs.declared.OccStatus.TheVariants as occurrence
 use Rattle.status_rules.specs.declared.Status.{Status}
@@ -19,7 +19,7 @@ use Rattle.plan_laws.proofs.Reaching.{each_operation_told, same_occurrence}
 use Rattle.plan_laws.proofs.Sorted.{sorted_unique}
 use Rattle.plan_laws.proofs.Sorting.{ascending}
 use Rattle.plan_laws.proofs.Standing.{satisfied_told, status_told}
-use Rattle.plan_laws.proofs.Telling.{Told, told_alike, told_and, told_none, told_or}
+use Rattle.operation_graph.proofs.Telling.{Told, told_alike, told_and, told_none, told_or}
 use Rattle.plan_laws.specs.Derived.{EachHasOneOccurrenceStatus}
 use Rattle.plan_model.specs.Plan.{IsInPlan, LivePredecessor, Plan}
 use Rattle.plan_model.specs.Status.{HasOccurrenceStatus, HasStatus, IsSatisfied, OccurrenceCase, SomeOperation}
@@ -82,7 +82,7 @@ at_place [] n = occurrence.Waiting
 at_place (s ∷ ss) zero = s
 at_place (s ∷ ss) (suc n) = at_place ss n
 
-by_precedence : (s : OccStatus) → at_place all_statuses (precedence s) ≡ s
+by_precedence : (s : OccStatus) → at_place all_statuses (occurrence_status_place s) ≡ s
 unfolding at_place
 by_precedence occurrence.Deleted = refl
 by_precedence occurrence.Error = refl
@@ -91,17 +91,17 @@ by_precedence occurrence.Complete = refl
 by_precedence occurrence.Started = refl
 by_precedence occurrence.Waiting = refl
 
-same_precedence : (s t : OccStatus) → precedence s ≡ precedence t → s ≡ t
+same_precedence : (s t : OccStatus) → occurrence_status_place s ≡ occurrence_status_place t → s ≡ t
 same_precedence s t e = sym (by_precedence s) ∙ ap (at_place all_statuses) e ∙ by_precedence t
 
 pub some_occurrence_status : (P : Plan) → IsAcyclic P.pairs → (c : OccKey) → (s : OccStatus) × HasOccurrenceStatus P c s
 some_occurrence_status P acyclic c =
     let cases : Listed (OccurrenceCase P c) = told_listed all_statuses (λ s h. is_one_of_all s) (case_told P acyclic c) in
-    let m = least_of (λ s. pos (precedence s)) cases.0 occurrence.Waiting ((cases.1 occurrence.Waiting).1 tt) in
+    let m = least_of (λ s. pos (occurrence_status_place s)) cases.0 occurrence.Waiting ((cases.1 occurrence.Waiting).1 tt) in
     (m.0, ((cases.1 m.0).0 m.1.0, λ t less h. let le = m.1.1 t ((cases.1 t).1 h) in omega (arith, ints, le, less)))
 
 pub one_occurrence_status : (P : Plan) (c : OccKey) (s t : OccStatus) → HasOccurrenceStatus P c s → HasOccurrenceStatus P c t → s ≡ t
-one_occurrence_status P c s t x y = elim (cases_order (precedence s) (precedence t)) [
+one_occurrence_status P c s t x y = elim (cases_order (occurrence_status_place s) (occurrence_status_place t)) [
   | inl e ↦ same_precedence s t e
   | inr (inl less) ↦ absurd (y.1 s less x.0)
   | inr (inr more) ↦ absurd (x.1 t more y.0)

@@ -2,3 +2,4 @@ pub mod Steps
 pub mod Ranks
 pub mod Derived
 pub mod Tables
+pub mod Work

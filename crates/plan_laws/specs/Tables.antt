@@ -3,7 +3,10 @@ use Rattle.std.specs.Prelude.{◌≡◌, ◌↔◌, List}
 use Rattle.plan_basics.specs.declared.keys.OpKey.{OpKey}
 use Rattle.plan_model.specs.Plan.{Plan, IsInPlan}
 use Rattle.plan_model.specs.Valid.{IsValid}
+use Rattle.plan_basics.specs.Keys.{Name}
+use Rattle.plan_records.specs.Receipts.{IsReceiptRow}
 use Rattle.plan_records.specs.Rows.{AreChanges, AreRows, IsOperationRow, IsRow}
+use Rattle.plan_records.specs.Step.{Receipt, Receipts}
 use Rattle.plan_records.specs.declared.OperationRow.{OperationRow}
 use Rattle.plan_records.specs.declared.PlanRow.{PlanRow}
 use Rattle.plan_records.specs.declared.RowKey.{RowKey}
@@ -27,3 +30,7 @@ SomeChanges = (P Q : Plan) → IsValid P → IsValid Q → (rows : List PlanRow)
 -- from one plan to another one list of rows changes, and one list of keys goes
 abbrev pub OneListOfChanges : Type 0
 OneListOfChanges = (P Q : Plan) (rows others : List PlanRow) (gone more : List RowKey) → AreChanges P Q rows gone → AreChanges P Q others more → (rows ≡ others) × (gone ≡ more)
+
+-- receipts with the same rows are the same receipts
+abbrev pub RowsTellReceipts : Type 0
+RowsTellReceipts = (T U : Receipts) → ((tracker : Name) (receipt : Receipt) → IsReceiptRow T tracker receipt ↔ IsReceiptRow U tracker receipt) → T ≡ U

@@ -22,7 +22,8 @@ ghost use Rattle.std.specs.FinMap.{get};
 ghost use Rattle.plan_model.specs.Status.{IsSatisfied, HasStatus, AllPredecessorsSatisfied, ArePreds, IsInEachClosedSet};
 ghost use Rattle.plan_laws.specs.Steps.{OneStep, OneNumberedStep, OneRun, SomeStep, SomeNumberedStep, SomeRun, PlanAnswers};
 ghost use Rattle.plan_laws.specs.Derived.{SatisfiedIsTold, EachHasOneStatus, EachHasOneLatestStart, SomeReadyList, SomeChoice, EachHasOneOccurrenceStatus};
-ghost use Rattle.plan_laws.specs.Tables.{EachHasOneRow, OneListOfChanges, RowsTellPlan, SomeChanges, SomeRows};
+ghost use Rattle.plan_laws.specs.Tables.{EachHasOneRow, OneListOfChanges, RowsTellPlan, RowsTellReceipts, SomeChanges, SomeRows};
+ghost use Rattle.plan_laws.specs.Work.{OneAllowance, SomeAllowance};
 ghost use Rattle.plan_laws.specs.Ranks.{ValidHasRank, PathsAreTold, CyclesAreTold};
 ghost use Rattle.std.specs.Prelude.{◌≡◌, ◌≢◌, ◌⊎◌, ◌↔◌, ℕ};
 
@@ -148,6 +149,11 @@ pub fn rows_tell_plan()
     ensures { RowsTellPlan }
 {}
 
+/// And those of the receipts determine the receipts.
+pub fn rows_tell_receipts()
+    ensures { RowsTellReceipts }
+{}
+
 /// A valid plan has a list of all its rows, each once.
 pub fn some_rows()
     ensures { SomeRows }
@@ -180,4 +186,10 @@ pub fn some_step()
 /// No step is answered for want of memory, or for a fault of the store.
 pub fn plan_answers()
     ensures { PlanAnswers }
+{}
+
+/// How many operation records a request may look at is one number, told by the plans before and after.
+pub fn one_allowance()
+    ensures some { SomeAllowance }
+    ensures one { OneAllowance }
 {}

@@ -1,35 +1,21 @@
 -- How a plan is stored as data, for the models that have it as their value.
 use Rattle.std.specs.Prelude.{ℕ, Bool, refl}
 use Rattle.std.specs.Coded.{Coded, code_by, coded×, coded_ℕ, coded_bool, coded_list}
-use Rattle.std.specs.Ordering.{nat_cmp}
 use Rattle.std.specs.FinMap as map
 use Rattle.std.specs.FinSet as set
-use Rattle.plan_basics.specs.declared.Attr.{Attr}
-use Rattle.plan_basics.specs.contracts.Attr as attribute
 use Rattle.plan_basics.specs.contracts.keys.OccKey as occurrence_key
 use Rattle.plan_basics.specs.contracts.keys.OpKey as operation_key
-use Rattle.plan_basics.specs.Intervals.{OpenInterval, interval_code}
 use Rattle.plan_basics.specs.Keys.{Name}
-use Rattle.special_resources.specs.declared.Mode.{Mode}
-use Rattle.special_resources.specs.contracts.Mode as mode
-use Rattle.special_resources.specs.Holders.{Usage}
+use Rattle.special_resources.specs.Needs.{Usages, usages_code}
 use Rattle.status_rules.specs.contracts.Mark as mark
 use Rattle.status_rules.specs.declared.Mark.{Mark}
-use Rattle.workstations.specs.Workstations.{Workstation}
+use Rattle.workstations.specs.Timetables.{workstation_code}
 use Rattle.plan_model.specs.Plan.{Operation, Plan, Supplement, Workstations, Resources, Occurrences, Operations, Pairs}
 use Rattle.plan_model.specs.declared.Occurrence.{Occurrence}
 
 -- a name is stored as its bytes
 abbrev pub name_code : Coded Name
 name_code = coded_list coded_ℕ
-
--- a workstation as its attribute and its intervals
-abbrev pub workstation_code : Coded Workstation
-workstation_code = code_by (Attr × map.FinMap nat_cmp OpenInterval) (coded× (attribute.the_row).coded (map.code coded_ℕ interval_code)) (λ c. (c.attribute, c.intervals)) (λ p. record { attribute = p.0; intervals = p.1 }) (λ _. refl)
-
--- a need as its mode and whether an error keeps it
-abbrev pub usage_code : Coded Usage
-usage_code = code_by (Mode × Bool) (coded× (mode.the_row).coded coded_bool) (λ c. (c.mode, c.keep)) (λ p. record { mode = p.0; keep = p.1 }) (λ _. refl)
 
 -- an occurrence as its priority and deadline
 abbrev pub occurrence_code : Coded Occurrence
@@ -38,10 +24,22 @@ occurrence_code = code_by (ℕ × ℕ) (coded× coded_ℕ coded_ℕ) (λ c. (c.p
 -- an operation as its ten facts
 abbrev pub operation_code : Coded Operation
 operation_code = code_by
-    ((Name × (ℕ × ℕ)) × ((ℕ × (ℕ × ℕ)) × (map.FinMap _ Usage × (Mark × (Bool × Bool)))))
-    (coded× (coded× name_code (coded× coded_ℕ coded_ℕ)) (coded× (coded× coded_ℕ (coded× coded_ℕ coded_ℕ)) (coded× (map.code name_code usage_code) (coded× (mark.the_row).coded (coded× coded_bool coded_bool)))))
+    ((Name × (ℕ × ℕ)) × ((ℕ × (ℕ × ℕ)) × (Usages × (Mark × (Bool × Bool)))))
+    (coded× (coded× name_code (coded× coded_ℕ coded_ℕ))
+    (coded× (coded× coded_ℕ (coded× coded_ℕ coded_ℕ)) (coded× usages_code (coded× (mark.the_row).coded (coded× coded_bool coded_bool)))))
     (λ c. ((c.workstation, (c.duration, c.r1)), ((c.r2, (c.not_before, c.deadline)), (c.needs, (c.mark, (c.held, c.nop))))))
-    (λ p. record { workstation = p.0.0; duration = p.0.1.0; r1 = p.0.1.1; r2 = p.1.0.0; not_before = p.1.0.1.0; deadline = p.1.0.1.1; needs = p.1.1.0; mark = p.1.1.1.0; held = p.1.1.1.1.0; nop = p.1.1.1.1.1 })
+    (λ p. record {
+      workstation = p.0.0;
+      duration = p.0.1.0;
+      r1 = p.0.1.1;
+      r2 = p.1.0.0;
+      not_before = p.1.0.1.0;
+      deadline = p.1.0.1.1;
+      needs = p.1.1.0;
+      mark = p.1.1.1.0;
+      held = p.1.1.1.1.0;
+      nop = p.1.1.1.1.1;
+    })
     (λ _. refl)
 
 -- occurrences by key

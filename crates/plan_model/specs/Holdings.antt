@@ -13,13 +13,13 @@ use Rattle.status_rules.specs.declared.Status.TheVariants as status
 use Rattle.status_rules.specs.Table.{marked_status}
 use Rattle.plan_model.specs.Plan.{Plan, Operation, Has, attribute_at}
 
--- a server, R1 and R2
+-- whether an operation of this status holds a server, R1 and R2; none stands for no mark
 abbrev pub holds_server : Option Status → Bool
 holds_server (Some status.Started) = true
 holds_server (Some status.Undecided) = true
 holds_server _ = false
 
--- a special resource that an error keeps, or doesn't
+-- whether an operation of this status holds a special resource, which an error keeps or frees
 abbrev pub holds_resource : Bool → Option Status → Bool
 holds_resource keep (Some status.Started) = true
 holds_resource keep (Some status.Undecided) = true
@@ -27,7 +27,7 @@ holds_resource keep (Some status.Interrupted) = true
 holds_resource keep (Some status.Error) = keep
 holds_resource keep _ = false
 
--- on the others an operation takes nothing
+-- whether operations take anything on a workstation of this attribute: on those of C and N they take nothing
 abbrev pub takes : Option Attr → Bool
 takes (Some attribute.Automatic) = true
 takes (Some attribute.StartAndCompletion) = true

@@ -28,7 +28,7 @@ pub record Operation : Type 0 where
   pub held : Bool
   pub nop : Bool
 
--- by predecessor, then successor
+-- the order of pairs: by predecessor, then successor
 abbrev pub pair_cmp : OpKey × OpKey → OpKey × OpKey → Ordering
 pair_cmp a b = ordering_then (operation_cmp a.0 b.0) (operation_cmp a.1 b.1)
 
@@ -36,7 +36,7 @@ pair_cmp a b = ordering_then (operation_cmp a.0 b.0) (operation_cmp a.1 b.1)
 abbrev pub Workstations : Type 0
 Workstations = FinMap name_cmp Workstation
 
--- whether each is available
+-- the special resources by name, and whether each is available
 abbrev pub Resources : Type 0
 Resources = FinMap name_cmp Bool
 
@@ -48,7 +48,7 @@ Occurrences = FinMap occurrence_cmp Occurrence
 abbrev pub Operations : Type 0
 Operations = FinMap operation_cmp Operation
 
--- predecessor and successor
+-- the dependencies: pairs of a predecessor and a successor
 abbrev pub Pairs : Type 0
 Pairs = FinSet pair_cmp
 
@@ -80,7 +80,7 @@ Has P o Q = (op : Operation) × (get P.operations o ≡ Some op) × Q op
 abbrev pub IsInPlan : Plan → OpKey → Type 0
 IsInPlan P o = Has P o (λ op. Unit {0})
 
--- how a workstation reports
+-- how the workstation w reports, if it is in the plan
 abbrev pub attribute_at : Plan → Name → Option Attr
 attribute_at P w = option_map (λ ws. ws.attribute) (get P.workstations w)
 

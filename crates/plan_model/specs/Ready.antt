@@ -15,11 +15,13 @@ use Rattle.plan_model.specs.Status.{IsReady}
 use Rattle.plan_model.specs.Starting.{IsAllowedToStart, IsLatestStart}
 use Rattle.plan_model.specs.Revise.{revise}
 
--- an operation that is ready, with what its place goes by
+-- an operation that is arriving or ready, with what its place in the list goes by
 abbrev pub IsEntry : Plan → ReadyKey → Type 0
-IsEntry P k = IsReady P k.op × IsLatestStart P k.op k.latest × Has P k.op (λ op. k.duration ≡ op.duration) × ((c : Occurrence) × (get P.occurrences k.op.occurrence ≡ Some c) × (k.priority ≡ c.priority))
+IsEntry P k =
+    IsReady P k.op × IsLatestStart P k.op k.latest × Has P k.op (λ op. k.duration ≡ op.duration)
+    × ((c : Occurrence) × (get P.occurrences k.op.occurrence ≡ Some c) × (k.priority ≡ c.priority))
 
--- all of them, ascending
+-- the ready list: all entries, each once, ascending
 pub record IsReadyList (P : Plan) (keys : List ReadyKey) : Type 0 where
   pub ascends : IsStrictlySortedBy ready_cmp keys
   pub has_all : (k : ReadyKey) → Contains keys k ↔ IsEntry P k

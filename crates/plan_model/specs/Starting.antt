@@ -15,7 +15,7 @@ use Rattle.plan_model.specs.Plan.{Plan, Operation, Has, HasAttribute, Precedes, 
 use Rattle.plan_model.specs.Status.{HasStatus, IsReady}
 use Rattle.plan_model.specs.Holdings.{given_out, Holds}
 
--- one more operation fits on its workstation at m
+-- one more operation fits on its workstation at m, beside what is given out there: by the line of this refusal
 abbrev pub FitsAt : Plan → Operation → ℕ → Refusal → Type 0
 FitsAt P op m line = (ws : Workstation) × (get P.workstations op.workstation ≡ Some ws) × HasRoom ws m (given_out P op.workstation) op.r1 op.r2 line
 
@@ -34,7 +34,7 @@ MayStart P o op m _ = Unit {0}
 abbrev pub IsAllowedToStart : Plan → OpKey → ℕ → Type 0
 IsAllowedToStart P o m = Has P o (λ op. (line : Refusal) → MayStart P o op m line)
 
--- by a path whose members after the first aren't deleted
+-- an operation reaches another by a path whose members after the first aren't deleted; it reaches itself
 abbrev pub Reaches : Plan → OpKey → OpKey → Type 0
 Reaches P = ReachesBy (Precedes P) (IsLive P)
 

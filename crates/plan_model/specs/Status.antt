@@ -10,7 +10,7 @@ use Rattle.status_rules.specs.declared.OccStatus.{OccStatus}
 use Rattle.status_rules.specs.declared.OccStatus.TheVariants as occurrence
 use Rattle.status_rules.specs.declared.Preds.{Preds}
 use Rattle.status_rules.specs.LeastSet.{LeastSet, IsClosed}
-use Rattle.status_rules.specs.Table.{marked_status, precedence}
+use Rattle.status_rules.specs.Table.{marked_status, occurrence_status_place}
 use Rattle.plan_model.specs.Plan.{Plan, Operation, Has, HasAttribute, IsInPlan, LivePredecessor}
 
 -- it is NOP, or its workstation doesn't report
@@ -37,7 +37,7 @@ AllPredecessorsSatisfied P o = (p : OpKey) → LivePredecessor P p o → IsSatis
 abbrev pub FollowsNonreporting : Plan → OpKey → Type 0
 FollowsNonreporting P o = (p : OpKey) × LivePredecessor P p o × Has P p (λ op. HasAttribute P op.workstation Nonreporting)
 
--- the status of an operation without a mark: the first of these
+-- what each status says of an operation without a mark: one of these holds of it
 abbrev pub UnmarkedStatus : Plan → OpKey → Status → Type 0
 UnmarkedStatus P o status.Complete = IsSatisfied P o
 UnmarkedStatus P o status.Arriving = ¬ IsSatisfied P o × ((p : OpKey) → ¬ LivePredecessor P p o)
@@ -50,15 +50,15 @@ UnmarkedStatus P o _ = ⊥
 abbrev pub HasStatus : Plan → OpKey → Status → Type 0
 HasStatus P o s = Has P o (λ op. MatchOption (marked_status op.mark) (UnmarkedStatus P o s) (λ told. s ≡ told))
 
--- its status is one of these
+-- it is arriving (A) or ready (* or R)
 abbrev pub IsReady : Plan → OpKey → Type 0
 IsReady P o = HasStatus P o status.Arriving ⊎ HasStatus P o status.ReadyAfterNonreporting ⊎ HasStatus P o status.Ready
 
--- waiting, or ready in one of the three ways
+-- it is waiting (W), arriving or ready
 abbrev pub IsWaitingOrReady : Plan → OpKey → Type 0
 IsWaitingOrReady P o = HasStatus P o status.Waiting ⊎ IsReady P o
 
--- started, interrupted or undecided
+-- it is started (S), interrupted (I) or undecided (U)
 abbrev pub IsUnderWay : Plan → OpKey → Type 0
 IsUnderWay P o = HasStatus P o status.Started ⊎ HasStatus P o status.Interrupted ⊎ HasStatus P o status.Undecided
 
@@ -85,9 +85,9 @@ OccurrenceCase P c occurrence.Complete = EachOperation P c status.Complete
 OccurrenceCase P c occurrence.Started = SomeOperation P c status.Started ⊎ SomeOperation P c status.Interrupted ⊎ SomeOperation P c status.Complete
 OccurrenceCase P c occurrence.Waiting = Unit {0}
 
--- the first case that holds
+-- the status of an occurrence: the first whose case holds
 abbrev pub HasOccurrenceStatus : Plan → OccKey → OccStatus → Type 0
-HasOccurrenceStatus P c s = OccurrenceCase P c s × ((t : OccStatus) → precedence t < precedence s → ¬ OccurrenceCase P c t)
+HasOccurrenceStatus P c s = OccurrenceCase P c s × ((t : OccStatus) → occurrence_status_place t < occurrence_status_place s → ¬ OccurrenceCase P c t)
 
 -- each test that has what is done or deleted, and what passes by itself after what it has, has this operation
 abbrev pub IsInEachClosedSet : Plan → OpKey → Type 0

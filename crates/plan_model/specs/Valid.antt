@@ -48,9 +48,10 @@ pub record AreOccurrences (occurrences : Occurrences) (operations : Operations) 
 abbrev pub HaveWorkstations : Workstations → Operations → Type 0
 HaveWorkstations workstations operations = (o : OpKey) (op : Operation) → get operations o ≡ Some op → contains_key workstations op.workstation ≡ true
 
--- so are the special resources
+-- the special resources that operations need are there
 abbrev pub HaveResources : Resources → Operations → Type 0
-HaveResources resources operations = (o : OpKey) (op : Operation) → get operations o ≡ Some op → (r : Name) (usage : Usage) → get op.needs r ≡ Some usage → contains_key resources r ≡ true
+HaveResources resources operations =
+    (o : OpKey) (op : Operation) → get operations o ≡ Some op → (r : Name) (usage : Usage) → get op.needs r ≡ Some usage → contains_key resources r ≡ true
 
 -- no path of these pairs returns to its start
 abbrev pub IsAcyclic : Pairs → Type 0
@@ -64,7 +65,7 @@ pub record IsWithinLimits (P : Plan) : Type 0 where
   pub operations : len P.operations ≤ 20000
   pub pairs : set.len P.pairs ≤ 100000
 
--- all that a plan names is there and in range, and no path returns
+-- all that a plan names is there and in range, no path of pairs returns, and the limits hold
 pub record IsValid (P : Plan) : Type 0 where
   pub clock : IsMoment P.clock
   pub workstations : (w : Name) (ws : Workstation) → get P.workstations w ≡ Some ws → IsName 4 w × IsWorkstation ws
@@ -76,7 +77,7 @@ pub record IsValid (P : Plan) : Type 0 where
   pub acyclic : IsAcyclic P.pairs
   pub limits : IsWithinLimits P
 
--- the marks that stand on workstations of an attribute
+-- whether an operation on a workstation of this attribute may bear this mark
 abbrev pub MayBear : Attr → Mark → Type 0
 MayBear a mark.Named = a ≡ attribute.Automatic
 MayBear a mark.Interrupted = a ≡ attribute.StartAndCompletion
@@ -94,10 +95,13 @@ pub record IsSound (P : Plan) : Type 0 where
   pub in_order : (o : OpKey) → Has P o (λ op. (op.mark ≢ mark.Unmarked) × (op.mark ≢ mark.Deleted)) → AllPredecessorsSatisfied P o
   -- no resource has an exclusive holder beside another
   pub compatible : (a b : OpKey) (r : Name) (x y : Usage) → a ≢ b → Holds P a r x → Holds P b r y → x.mode ≡ Shared
+  -- a held operation has no mark, or is deleted
   pub held : (o : OpKey) (op : Operation) → get P.operations o ≡ Some op → op.held ≡ true → (op.mark ≡ mark.Unmarked) ⊎ (op.mark ≡ mark.Deleted)
+  -- each mark is one that its workstation's attribute allows
   pub marks : (o : OpKey) (op : Operation) (a : Attr) → get P.operations o ≡ Some op → HasAttribute P op.workstation a → MayBear a op.mark
   -- an occurrence is deleted whole
   pub deleted : (a b : OpKey) → a.occurrence ≡ b.occurrence → Has P a (λ op. op.mark ≡ mark.Deleted) → (op : Operation) → get P.operations b ≡ Some op → op.mark ≡ mark.Deleted
+  -- before a load there is nothing
   pub before_load : P.loaded ≡ false → P ≡ no_plan
 
 -- nothing was reported of it, and its flags are clear

@@ -47,7 +47,29 @@ impl Model for OperationRecord {
 
     ghost coded = { operation_code };
 
-    ghost view = { λ a. record { workstation = a.workstation; duration = a.duration; r1 = a.r1; r2 = a.r2; not_before = a.not_before; deadline = a.deadline; needs = a.needs; mark = a.mark; held = a.held; nop = a.nop } };
+    ghost view = { λ a. record {
+      workstation = a.workstation;
+      duration = a.duration;
+      r1 = a.r1;
+      r2 = a.r2;
+      not_before = a.not_before;
+      deadline = a.deadline;
+      needs = a.needs;
+      mark = a.mark;
+      held = a.held;
+      nop = a.nop;
+    } };
 
-    ghost inverse = { λ v. record { workstation = v.workstation; duration = v.duration; r1 = v.r1; r2 = v.r2; not_before = v.not_before; deadline = v.deadline; needs = v.needs; mark = v.mark; held = v.held; nop = v.nop } };
+    ghost inverse = { λ v. record {
+      workstation = v.workstation;
+      duration = v.duration;
+      r1 = v.r1;
+      r2 = v.r2;
+      not_before = v.not_before;
+      deadline = v.deadline;
+      needs = v.needs;
+      mark = v.mark;
+      held = v.held;
+      nop = v.nop;
+    } };
 }

@@ -73,7 +73,3 @@ module _ (records : List Fields) (items : List Item) (said : AllZip Says records
   none_denoted none P d =
       let same = same_items records d.described.items items d.described.said said in
       none (needed P d.draft.valid d.some_workstation d.some_occurrence items (subst (AreItems (StandsIn P) (IsItemOfPlan P)) same d.described.are))
-
--- where a record says nothing
-pub none_said : (records : List Fields) → ((items : List Item) → ¬ AllZip Says records items) → (P : Plan) → ¬ Denotes records P
-none_said records none P d = none d.described.items d.described.said

@@ -1,24 +1,15 @@
 -- Members of lists, and lists of which no two members are the same.
-use Rattle.std.proofs.Common.{◌≡◌, ◌⊎◌, inl, inr, refl, sym, subst, ap, ◌∙◌, arith, zero, suc, ◌<◌, List, [], ◌∷◌, map, length, All, Contains, Option, Some, None, true, false, true≢false, eqb}
-use borrow.Author.Tests.{eqb-true}
-use Rattle.std.specs.List.{AllPairs, AllByRecursion, cons_option, filter_map}
-use Rattle.std.proofs.lemmas.List.Elements.{All-contains, Contains-get_or}
+use Rattle.std.proofs.Common.{◌≡◌, ◌↔◌, ℕ, Bool, inl, inr, refl, sym, subst, ap, ◌∙◌, arith, suc, ◌<◌, List, [], ◌∷◌, map, length, All, Contains, Option, Some, None, true, false, true≢false, eqb}
+use Rattle.std.specs.Bool.{MatchBool}
+use Rattle.std.specs.List.{AllPairs, AllByRecursion, AllWithin, HoldsAt, cons_option, filter_map}
+use Rattle.std.proofs.lemmas.Bool.{MatchBool-at_true}
+use Rattle.std.proofs.lemmas.Iterator.Search.{true_from_All}
+use Rattle.std.proofs.lemmas.List.Elements.{All-contains, All-from_all_within, Contains-get_or}
 use Rattle.std.proofs.lemmas.List.Kept.{AllPairs-cons}
+use Rattle.operation_graph.proofs.Members.{contains_mapped, mapped_contains}
+pub use Rattle.operation_graph.proofs.Members.{contains_head, contains_later, contains_cases, contains_none}
 
 module _ {X : Type 0} where
-  pub contains_head : (x : X) (xs : List X) → Contains (x ∷ xs) x
-  contains_head x xs = (0, omega arith, refl)
-
-  pub contains_later : (x : X) (xs : List X) (y : X) → Contains xs y → Contains (x ∷ xs) y
-  contains_later x xs y (i, h, e) = (suc i, omega arith, e)
-
-  pub contains_cases : (x : X) (xs : List X) (y : X) → Contains (x ∷ xs) y → (x ≡ y) ⊎ Contains xs y
-  contains_cases x xs y (zero, h, e) = inl e
-  contains_cases x xs y (suc i, h, e) = inr (i, omega arith, e)
-
-  pub contains_none : (y : X) → Contains [] y → ⊥
-  contains_none y (i, h, e) = omega arith
-
   pub all_by_members : (P : X → Type 0) (xs : List X) → ((x : X) → Contains xs x → P x) → All P xs
   all_by_members P xs h = λ k d lt. h _ (Contains-get_or xs k d lt)
 
@@ -44,10 +35,6 @@ module _ {X : Type 0} where
   no_members [] h = refl
   no_members (x ∷ xs) h = absurd (h x (contains_head x xs))
 
-  pub nil_from_test : (xs : List X) → true ≡ eqb (length xs) 0 → xs ≡ []
-  nil_from_test [] e = refl
-  nil_from_test (x ∷ xs) e = let none : length (x ∷ xs) ≡ 0 = eqb-true (length (x ∷ xs)) 0 (sym e) in absurd (omega arith)
-
   pub some_from_test : (xs : List X) → false ≡ eqb (length xs) 0 → 0 < length xs
   some_from_test [] e = absurd (true≢false (sym e))
   some_from_test (x ∷ xs) e = omega arith
@@ -58,15 +45,10 @@ module _ {X : Type 0} where
 
 module _ {X Y : Type 0} (f : X → Y) where
   pub in_map : (xs : List X) (x : X) → Contains xs x → Contains (map f xs) (f x)
-  in_map [] x has = absurd (contains_none x has)
-  in_map (a ∷ xs) x has = elim (contains_cases a xs x has) [ inl e ↦ subst (λ z. Contains (map f (a ∷ xs)) (f z)) e (contains_head (f a) (map f xs)) | inr later ↦ contains_later (f a) (map f xs) (f x) (in_map xs x later) ]
+  in_map = contains_mapped f
 
   pub from_map : (xs : List X) (y : Y) → Contains (map f xs) y → (x : X) × Contains xs x × (f x ≡ y)
-  from_map [] y has = absurd (contains_none y has)
-  from_map (a ∷ xs) y has = elim (contains_cases (f a) (map f xs) y has) [
-    | inl e ↦ (a, contains_head a xs, e)
-    | inr later ↦ let r = from_map xs y later in (r.0, contains_later a xs r.0 r.1, r.2)
-  ]
+  from_map xs y has = let r = mapped_contains f xs y has in (r.0, r.2, r.1)
 
   pub length_map : (xs : List X) → length (map f xs) ≡ length xs
   length_map [] = refl
@@ -131,3 +113,7 @@ module _ {X Y : Type 0} (f : X → Option Y) where
 pub map_alike : {X Y : Type 0} (f g : X → Y) (xs : List X) → ((x : X) → f x ≡ g x) → map f xs ≡ map g xs
 map_alike f g [] same = refl
 map_alike f g (x ∷ xs) same = λ i. same x i ∷ map_alike f g xs same i
+
+-- what a test of each element told: whether all have P
+pub all_told : {X : Type 0} (P : X → Type 0) (xs : List X) (r : Bool) → MatchBool r (AllWithin P xs 0 (length xs)) ((k : ℕ) × (k < length xs) × HoldsAt (λ x. ¬ P x) xs k) → (r ≡ true) ↔ All P xs
+all_told P xs r told = (λ t. All-from_all_within P xs (MatchBool-at_true _ _ t told), λ all. true_from_All P (λ x. ¬ P x) r xs (λ x has never. never has) told all)

@@ -13,7 +13,6 @@ use Rattle.plan_basics.specs.Intervals.{OpenInterval}
 use Rattle.workstations.specs.Workstations.{Workstation, IsWorkstation}
 use Rattle.special_resources.specs.declared.Need.{Need}
 use Rattle.special_resources.specs.Holdings.{usage_of}
-use Rattle.special_resources.specs.Needs.{usages_of}
 use Rattle.plan_model.specs.Plan.{Plan, Operation, IsPairOf, pair_cmp}
 use Rattle.plan_model.specs.Valid.{IsValid, IsAcyclic}
 use Rattle.plan_model.specs.declared.Occurrence.{Occurrence}
@@ -24,13 +23,13 @@ use Rattle.plan_records.specs.declared.RowKey.TheVariants as key
 use Rattle.plan_records.specs.Records.{key_of, StandsIn, IsItemOfPlan, AreItems, IsAsSaid}
 use Rattle.plan_records.specs.Loading.{own_interval, intervals_of, IsOpening, CanOpen, AreWorkstations, AreResources, Fits, AreOccurrenceRows, AreOperations, occurrence_of, IsNeedIn, AreNeeds, IsPairIn, ArePairs, CanBeLoaded, as_workstation, as_interval, as_occurrence, as_operation, as_pair, as_resource, as_need, need_key, needs_of}
 use Rattle.plan_records.proofs.Lists.{Differ, differ_from_pairs, pairs_from_differ, differ_filter, differ_map, length_map, in_map, from_map, all_by_members}
-use Rattle.plan_records.proofs.Tables.{some_is, same_some, no_some, map_count, set_count, in_set, from_set, same_entries}
+use Rattle.plan_records.proofs.Tables.{some_is, same_some, no_some, map_count, set_count, in_set, from_set}
 use Rattle.plan_records.proofs.Pairs.{pair_cmp_total, pair_cmp-IsAntisymmetric}
 use Rattle.plan_records.proofs.Openings.{in_own, from_own, own_from}
 use Rattle.plan_records.proofs.OwnTimes.{opening_by}
-use Rattle.plan_records.proofs.NeedsSaid.{NeedsDiffer, usage_got, usage_said, usages_count}
+use Rattle.plan_records.proofs.NeedsSaid.{NeedsDiffer, as_many_said}
 use Rattle.plan_records.proofs.ItemKinds as kinds
-use Rattle.plan_records.proofs.ItemKinds.{read_apart, keys_apart, read_stands, key_in, key_out}
+use Rattle.plan_records.proofs.ItemKinds.{read_apart, keys_apart, read_stands, key_in}
 
 -- a workstation that has an attribute is there
 pub found_attribute : (o : Option Workstation) (a : Attr) → option_map (λ ws. ws.attribute) o ≡ Some a → (ws : Workstation) × (o ≡ Some ws) × (ws.attribute ≡ a)
@@ -224,32 +223,11 @@ module _ (P : Plan) (valid : IsValid P) (some_station : 0 < len P.workstations) 
     distinct = pairs_from_differ (λ a b. need_key a ≢ need_key b) NeedRows needs_apart;
   }
 
-  -- an operation has as many needs as are said of it
-  module _ (o : OpKey) (op : Operation) (there : get P.operations o ≡ Some op) where
-    used_is : (n : Need) → Contains NeedRows (o, n) → get op.needs n.name ≡ Some (usage_of n)
-    used_is n has =
-        let is = need_is (o, n) has in
-        let one : is.0 ≡ op = same_some is.0 op (sym is.1 ∙ there) in
-        subst (λ (x : Operation). get x.needs n.name ≡ Some (usage_of n)) one is.2
-
-    needs_same : usages_of (needs_of o NeedRows) ≡ op.needs
-    needs_same = same_entries name_cmp_total name_cmp-IsAntisymmetric (usages_of (needs_of o NeedRows)) op.needs
-        (λ r usage e.
-        let n = usage_said NeedRows o r usage e in
-        subst (λ z. get op.needs z ≡ Some usage) n.2 (used_is n.0 n.1 ∙ ap (λ u. Some u) n.3))
-        (λ r usage e.
-        let k = key_in as_need (λ y. item.Need y.0 y.1) need_key (λ q. key.Need q.0 q.1) kinds.needs items (o, r) (are.all (key.Need o r) (op, there, some_is (get op.needs r) usage e)) in
-        let m = from_map need_key NeedRows (o, r) k in
-        let has : Contains NeedRows (o, m.0.1) = subst (λ z. Contains NeedRows (z, m.0.1)) (ap (λ (q : OpKey × Name). q.0) m.2) m.1 in
-        let name : m.0.1.name ≡ r = ap (λ (q : OpKey × Name). q.1) m.2 in
-        subst (λ z. get (usages_of (needs_of o NeedRows)) z ≡ get op.needs z) name (usage_got NeedRows needs_apart o m.0.1 has ∙ sym (used_is m.0.1 has)) ∙ e)
-
-    few_of : length (needs_of o NeedRows) ≤ 16
-    few_of =
-        let most : len op.needs ≤ 16 = (valid.occurrences.each_operation o op there).0.few_needs in
-        let count = usages_count NeedRows needs_apart o in
-        let same : len (usages_of (needs_of o NeedRows)) ≡ len op.needs = ap len needs_same in
-        omega (arith, most, count, same)
+  few_of : (o : OpKey) (op : Operation) → get P.operations o ≡ Some op → length (needs_of o NeedRows) ≤ 16
+  few_of o op there =
+      let most : len op.needs ≤ 16 = (valid.occurrences.each_operation o op there).0.few_needs in
+      let count = as_many_said NeedRows needs_apart P.operations need_is o op there (λ r e. key_in as_need (λ y. item.Need y.0 y.1) need_key (λ q. key.Need q.0 q.1) kinds.needs items (o, r) (are.all (key.Need o r) (op, there, e))) in
+      omega (arith, most, count)
 
   fits : (y : OperationItem) → Contains (filter_map as_operation items) y → Fits Names (filter_map as_occurrence items) NeedRows y
   fits y has =

@@ -5,10 +5,9 @@ use Rattle.std.specs.FinMap.{get, contains_key, len}
 use Rattle.std.proofs.lemmas.Map.Entries.{length-keys_of}
 use Rattle.plan_basics.specs.declared.keys.OccKey.{OccKey}
 use Rattle.plan_basics.specs.declared.keys.OpKey.{OpKey}
-use Rattle.plan_basics.specs.Keys.{Name, name_cmp_total, name_cmp-IsAntisymmetric, occurrence_cmp_total, occurrence_cmp-IsAntisymmetric}
+use Rattle.plan_basics.specs.Keys.{occurrence_cmp_total, occurrence_cmp-IsAntisymmetric}
 use Rattle.special_resources.specs.declared.Need.{Need}
 use Rattle.special_resources.specs.Holdings.{usage_of}
-use Rattle.special_resources.specs.Needs.{usages_of}
 use Rattle.plan_model.specs.Plan.{Operation, Supplement, IsPairOf}
 use Rattle.plan_model.specs.declared.Occurrence.{Occurrence}
 use Rattle.plan_items.specs.declared.Item.{Item}
@@ -20,8 +19,8 @@ use Rattle.plan_records.specs.Records.{key_of, StandsInSupplement, IsItemOf, Are
 use Rattle.plan_records.specs.Loading.{as_occurrence, as_operation, as_pair, as_need, need_key, needs_of}
 use Rattle.plan_records.specs.Adding.{MayComeIn, ComesWith, AreNewOperations, IsNeedOf, AreNewNeeds, IsEndAmong, IsNewPair, AreNewPairs, CanComeIn}
 use Rattle.plan_records.proofs.Lists.{Differ, differ_from_pairs, pairs_from_differ, contains_cases, contains_head, contains_none, from_map, all_by_members}
-use Rattle.plan_records.proofs.Tables.{some_is, same_some, map_count, same_entries}
-use Rattle.plan_records.proofs.NeedsSaid.{NeedsDiffer, usage_got, usage_said, usages_count}
+use Rattle.plan_records.proofs.Tables.{some_is, map_count}
+use Rattle.plan_records.proofs.NeedsSaid.{NeedsDiffer, as_many_said}
 use Rattle.plan_records.proofs.ItemKinds as kinds
 use Rattle.plan_records.proofs.ItemKinds.{read_apart, keys_apart, read_stands, key_in}
 use Rattle.std.proofs.lemmas.List.Elements.{All-contains}
@@ -107,32 +106,11 @@ module _ (s : Supplement) (addition : IsAddition s) (items : List Item) (are : A
     distinct = pairs_from_differ (λ a b. need_key a ≢ need_key b) NeedRows needs_apart;
   }
 
-  -- an operation has as many needs as are said of it
-  module _ (o : OpKey) (op : Operation) (there : get s.operations o ≡ Some op) where
-    used_is : (n : Need) → Contains NeedRows (o, n) → get op.needs n.name ≡ Some (usage_of n)
-    used_is n has =
-        let is = need_is (o, n) has in
-        let one : is.0 ≡ op = same_some is.0 op (sym is.1 ∙ there) in
-        subst (λ (x : Operation). get x.needs n.name ≡ Some (usage_of n)) one is.2
-
-    needs_same : usages_of (needs_of o NeedRows) ≡ op.needs
-    needs_same = same_entries name_cmp_total name_cmp-IsAntisymmetric (usages_of (needs_of o NeedRows)) op.needs
-        (λ r usage e.
-        let n = usage_said NeedRows o r usage e in
-        subst (λ z. get op.needs z ≡ Some usage) n.2 (used_is n.0 n.1 ∙ ap (λ u. Some u) n.3))
-        (λ r usage e.
-        let k = key_in as_need (λ y. item.Need y.0 y.1) need_key (λ q. key.Need q.0 q.1) kinds.needs items (o, r) (are.all (key.Need o r) (op, there, some_is (get op.needs r) usage e)) in
-        let m = from_map need_key NeedRows (o, r) k in
-        let has : Contains NeedRows (o, m.0.1) = subst (λ z. Contains NeedRows (z, m.0.1)) (ap (λ (q : OpKey × Name). q.0) m.2) m.1 in
-        let name : m.0.1.name ≡ r = ap (λ (q : OpKey × Name). q.1) m.2 in
-        subst (λ z. get (usages_of (needs_of o NeedRows)) z ≡ get op.needs z) name (usage_got NeedRows needs_apart o m.0.1 has ∙ sym (used_is m.0.1 has)) ∙ e)
-
-    few_of : length (needs_of o NeedRows) ≤ 16
-    few_of =
-        let most : len op.needs ≤ 16 = (addition.occurrences.each_operation o op there).0.few_needs in
-        let count = usages_count NeedRows needs_apart o in
-        let same : len (usages_of (needs_of o NeedRows)) ≡ len op.needs = ap len needs_same in
-        omega (arith, most, count, same)
+  few_of : (o : OpKey) (op : Operation) → get s.operations o ≡ Some op → length (needs_of o NeedRows) ≤ 16
+  few_of o op there =
+      let most : len op.needs ≤ 16 = (addition.occurrences.each_operation o op there).0.few_needs in
+      let count = as_many_said NeedRows needs_apart s.operations need_is o op there (λ r e. key_in as_need (λ y. item.Need y.0 y.1) need_key (λ q. key.Need q.0 q.1) kinds.needs items (o, r) (are.all (key.Need o r) (op, there, e))) in
+      omega (arith, most, count)
 
   -- ---- all of one occurrence
   module _ (c : OccKey) (terms : Occurrence) (one : Occurrences ≡ (c, terms) ∷ []) where

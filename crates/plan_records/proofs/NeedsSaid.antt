@@ -1,7 +1,7 @@
 -- The needs that are said, and those of one operation: which resources they are of, and how these are used.
 use Rattle.std.proofs.Common.{◌≡◌, ◌≢◌, refl, sym, subst, ap, ◌∙◌, true, false, cond, List, map, length, Contains, Some, None}
 use Rattle.std.specs.List.Sorted.{IsPermutation}
-use Rattle.std.specs.FinMap.{get, len}
+use Rattle.std.specs.FinMap.{get, contains_key, len}
 use Rattle.std.specs.Ordering.{eq_by_cmp}
 use Rattle.std.proofs.lemmas.List.Sorted.{Contains-permutation, IsPermutation-sym}
 use Rattle.plan_basics.specs.declared.keys.OpKey.{OpKey}
@@ -10,9 +10,10 @@ use Rattle.special_resources.specs.declared.Need.{Need}
 use Rattle.special_resources.specs.Holders.{Usage}
 use Rattle.special_resources.specs.Holdings.{usage_of}
 use Rattle.special_resources.specs.Needs.{entry_of, usages_of}
+use Rattle.plan_model.specs.Plan.{Operation, Operations}
 use Rattle.plan_records.specs.Loading.{need_key, needs_of, own_need}
 use Rattle.plan_records.proofs.Lists.{Differ, differ_filter, differ_map, length_map, in_map, from_map, in_filter, from_filter}
-use Rattle.plan_records.proofs.Tables.{AreApart, get_row, row_found, len_rows, itself, same_key, same_some, no_some, same_entries}
+use Rattle.plan_records.proofs.Tables.{AreApart, get_row, row_found, len_rows, itself, same_key, some_is, same_some, no_some, same_entries}
 use Rattle.plan_records.proofs.Orders.{differ_permuted}
 use Rattle.plan_records.proofs.OwnNeeds.{need_cmp_total, need_cmp-IsAntisymmetric}
 
@@ -67,6 +68,30 @@ module _ (needs : List (OpKey × Need)) (apart : NeedsDiffer needs) (o : OpKey) 
 
   pub usages_count : len (usages_of (needs_of o needs)) ≡ length (needs_of o needs)
   usages_count = len_rows name_cmp_total name_cmp-IsAntisymmetric (map entry_of (needs_of o needs)) entries_apart ∙ length_map entry_of (needs_of o needs)
+
+-- ---- needs of operations that have just what is said of them
+module _ (needs : List (OpKey × Need)) (apart : NeedsDiffer needs) (operations : Operations) (need_is : (y : OpKey × Need) → Contains needs y → (op : Operation) × (get operations y.0 ≡ Some op) × (get op.needs y.1.name ≡ Some (usage_of y.1))) where
+  module _ (o : OpKey) (op : Operation) (there : get operations o ≡ Some op) (is_said : (r : Name) → contains_key op.needs r ≡ true → Contains (map need_key needs) (o, r)) where
+    used_is : (n : Need) → Contains needs (o, n) → get op.needs n.name ≡ Some (usage_of n)
+    used_is n has =
+        let is = need_is (o, n) has in
+        let one : is.0 ≡ op = same_some is.0 op (sym is.1 ∙ there) in
+        subst (λ (x : Operation). get x.needs n.name ≡ Some (usage_of n)) one is.2
+
+    needs_same : usages_of (needs_of o needs) ≡ op.needs
+    needs_same = same_entries name_cmp_total name_cmp-IsAntisymmetric (usages_of (needs_of o needs)) op.needs
+        (λ r usage e.
+        let n = usage_said needs o r usage e in
+        subst (λ z. get op.needs z ≡ Some usage) n.2 (used_is n.0 n.1 ∙ ap (λ u. Some u) n.3))
+        (λ r usage e.
+        let m = from_map need_key needs (o, r) (is_said r (some_is (get op.needs r) usage e)) in
+        let has : Contains needs (o, m.0.1) = subst (λ z. Contains needs (z, m.0.1)) (ap (λ (q : OpKey × Name). q.0) m.2) m.1 in
+        let name : m.0.1.name ≡ r = ap (λ (q : OpKey × Name). q.1) m.2 in
+        subst (λ z. get (usages_of (needs_of o needs)) z ≡ get op.needs z) name (usage_got needs apart o m.0.1 has ∙ sym (used_is m.0.1 has)) ∙ e)
+
+    -- an operation has as many needs as are said of it
+    pub as_many_said : length (needs_of o needs) ≡ len op.needs
+    as_many_said = sym (usages_count needs apart o) ∙ ap len needs_same
 
 -- ---- needs in another order
 moved_usage :

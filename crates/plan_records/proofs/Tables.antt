@@ -1,6 +1,5 @@
 -- Maps and sets by their keys: how many there are, and what a list of rows or keys holds.
-use Rattle.std.proofs.Common.{◌≡◌, ◌≢◌, inl, inr, refl, sym, subst, ap, ◌∙◌, arith, ℕ, zero, suc, ◌+◌, ◌-◌, Bool, true, false, cond, not, ◌&&◌, ◌||◌, true≢false, List, [], ◌∷◌, length, Contains, Option, Some, None, is_some}
-use Rattle.std.specs.List.{list_any}
+use Rattle.std.proofs.Common.{◌≡◌, ◌≢◌, inl, inr, refl, sym, subst, ap, ◌∙◌, arith, ℕ, zero, suc, ◌+◌, ◌-◌, Bool, true, false, cond, not, ◌&&◌, true≢false, List, [], ◌∷◌, length, Contains, Option, Some, None, is_some}
 use Rattle.std.specs.List.Sorted.{IsStrictlySortedBy}
 use Rattle.std.specs.Map.{keys_of}
 use Rattle.std.specs.declared.cmp.Ordering.{Ordering}
@@ -9,6 +8,7 @@ use Rattle.std.specs.Ordering.{eq_by_cmp, is_eq}
 use Rattle.std.specs.Cmp.{IsTotalOrder, tied_itself, Equal-is}
 use Rattle.std.specs.FinMap.{FinMap, IsAntisymmetric, find, get, contains_key, len, remove, from_entries, empty, get-empty, len-empty, empty_of_len, get-remove, len-remove, get-from_entries, same_map}
 use Rattle.std.specs.FinSet as set
+use Rattle.plan_graph.proofs.KeyPlaces.{in_listed, listed_in}
 use Rattle.plan_records.proofs.Lists.{contains_head, contains_later, contains_cases, contains_none, all_by_members, at_member, Differ, in_map, from_map, differ_map, differ_unmap}
 use Rattle.std.proofs.lemmas.List.Elements.{All-contains}
 use Rattle.std.proofs.lemmas.Map.Entries.{length-keys_of}
@@ -154,29 +154,11 @@ module _ {K : Type 0} {R : K → K → Ordering} (total : IsTotalOrder R) (exact
   pub set_count : (ks : List K) (s : set.FinSet R) → Differ (λ a b. a ≢ b) ks → ((k : K) → Contains ks k → set.contains s k ≡ true) → ((k : K) → set.contains s k ≡ true → Contains ks k) → length ks ≡ set.len s
   set_count = same_count set.contains set.len set.remove set_without set_shorter set_none
 
-  any_from : (ks : List K) (q : K) → Contains ks q → list_any (eq_by_cmp R q) ks ≡ true
-  any_from [] q has = absurd (contains_none q has)
-  any_from (k ∷ ks) q has = elim (contains_cases k ks q has) [
-    | inl e ↦ ap (λ t. t || list_any (eq_by_cmp R q) ks) (ap (eq_by_cmp R q) e ∙ itself q)
-    | inr later ↦ or_true (eq_by_cmp R q k) (any_from ks q later)
-  ]
-    where
-      or_true : (b : Bool) → list_any (eq_by_cmp R q) ks ≡ true → (b || list_any (eq_by_cmp R q) ks) ≡ true
-      or_true true e = refl
-      or_true false e = e
-
-  any_to : (ks : List K) (q : K) → list_any (eq_by_cmp R q) ks ≡ true → Contains ks q
-  any_to [] q e = absurd (true≢false (sym e))
-  any_to (k ∷ ks) q e = elim (eq_by_cmp R q k) as (λ t. eq_by_cmp R q k ≡ t → (t || list_any (eq_by_cmp R q) ks) ≡ true → Contains (k ∷ ks) q) [
-    | true ↦ λ t f. subst (λ z. Contains (k ∷ ks) z) (sym (same_key q k t)) (contains_head k ks)
-    | false ↦ λ t f. contains_later k ks q (any_to ks q f)
-  ] refl e
-
   pub in_set : (ks : List K) (q : K) → Contains ks q → set.contains (set.from_list {R = R} ks) q ≡ true
-  in_set ks q has = set.contains-from_list total ks q ∙ any_from ks q has
+  in_set = in_listed total exact
 
   pub from_set : (ks : List K) (q : K) → set.contains (set.from_list {R = R} ks) q ≡ true → Contains ks q
-  from_set ks q e = any_to ks q (sym (set.contains-from_list total ks q) ∙ e)
+  from_set = listed_in total exact
 
   pub len_set : (ks : List K) → Differ (λ a b. a ≢ b) ks → set.len (set.from_list {R = R} ks) ≡ length ks
   len_set ks apart = sym (set_count ks (set.from_list ks) apart (in_set ks) (from_set ks))

@@ -1,4 +1,4 @@
--- When a request may be accepted: what has to be so, under the refusal that is given where it isn't.
+-- When a request may be accepted: under each refusal, what has to be so lest it be given. What no line names is never in the way.
 use Rattle.std.specs.Prelude.{◌≡◌, ◌≢◌, ◌⊎◌, ℕ, ◌<◌, ◌≤◌, ℤ, pos, negsuc, ◌≤ℤ◌, Bool, true, false, List, length, Option, Some, None, is_some, AllPairs}
 use Rattle.std.specs.FinMap.{get, contains_key}
 use Rattle.plan_basics.specs.declared.Attr.{Attr}
@@ -31,7 +31,7 @@ MayBeStarted P m o op (Some attribute.CompletionOnly) refusal.WrongWorkstation =
 MayBeStarted P m o op (Some attribute.Nonreporting) refusal.WrongWorkstation = ⊥
 MayBeStarted P m o op _ _ = Unit {0}
 
--- with an end or an error
+-- an end or an error may be reported: of what is started or undecided, where the desk or a tracker starts it; of what is ready and not held, where completion alone is reported; elsewhere of none
 abbrev pub MayBeEnded : Plan → OpKey → Operation → Option Attr → Refusal → Type 0
 MayBeEnded P o op (Some attribute.Automatic) refusal.WrongStatus = HasStatus P o status.Started ⊎ HasStatus P o status.Undecided
 MayBeEnded P o op (Some attribute.StartAndCompletion) refusal.WrongStatus = HasStatus P o status.Started ⊎ HasStatus P o status.Undecided
@@ -51,7 +51,7 @@ abbrev pub MayBeUndecided : Plan → OpKey → Refusal → Type 0
 MayBeUndecided P o refusal.WrongStatus = HasStatus P o status.Started
 MayBeUndecided P o _ = Unit {0}
 
--- by a hold, a release, a NOP or its end
+-- it may be held, released, made a no-operation or no longer one: while it waits or is ready
 abbrev pub MayBeFlagged : Plan → OpKey → Refusal → Type 0
 MayBeFlagged P o refusal.WrongStatus = IsWaitingOrReady P o
 MayBeFlagged P o _ = Unit {0}
@@ -121,12 +121,12 @@ MayBeLoaded P denotes refusal.Loaded = P.loaded ≡ false
 MayBeLoaded P denotes refusal.BadPlan = denotes ≡ true
 MayBeLoaded P denotes _ = Unit {0}
 
--- the text denotes nothing
+-- a text that denotes nothing is a bad one
 abbrev pub IsBadText : Refusal → Type 0
 IsBadText refusal.BadPlan = ⊥
 IsBadText _ = Unit {0}
 
--- o is in the plan, and this is so of it
+-- o is in the plan, and all further lines are asked of the operation that it is there
 abbrev pub OfOperation : Plan → OpKey → (Operation → Refusal → Type 0) → Refusal → Type 0
 OfOperation P o rest refusal.UnknownOperation = IsInPlan P o
 OfOperation P o rest r = (op : Operation) → get P.operations o ≡ Some op → rest op r
@@ -163,7 +163,7 @@ abbrev pub NeedsPlan : What → Type 0
 NeedsPlan (what.Load draft) = ⊥
 NeedsPlan _ = Unit {0}
 
--- the request isn't refused for this
+-- the request isn't refused for this: the three refusals that any request may meet, and those of its own kind
 abbrev pub MayBeAccepted : Plan → Request → Refusal → Type 0
 MayBeAccepted P q refusal.Past = pos P.clock ≤ℤ q.at
 MayBeAccepted P q refusal.MomentRange = (m : ℕ) × (q.at ≡ pos m) × IsMoment m

@@ -46,7 +46,7 @@ with_supplement P s = record P { occurrences = joined P.occurrences s.occurrence
 abbrev pub with_pair : Plan → OpKey → OpKey → Plan
 with_pair P p s = record P { pairs = set.insert P.pairs (p, s) }
 
--- what an accepted request makes of P: marks, flags, intervals, availability and pairs as it says, all else as it was
+-- what an accepted request makes of P: what it says, all else as it was; the clock, and what is named, come after it
 abbrev pub Changes : Plan → What → Plan → Type 0
 Changes P (what.Load draft) Q = draft ≡ Some Q
 Changes P what.Tick Q = Q ≡ P

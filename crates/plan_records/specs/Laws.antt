@@ -28,11 +28,17 @@ pub record IsProvidedFor (P : Plan) (o : OpKey) (m : ℕ) : Type 0 where
   pub predecessors : AllPredecessorsSatisfied P o
   pub provided : Has P o (λ op. MayStart P o op m refusal.Closed × MayStart P o op m refusal.NoServer × MayStart P o op m refusal.NoFixed × MayStart P o op m refusal.ResourceBusy)
 
--- for a reported start the plan before the request; for o that is named what the request changes the plan to, with the operations named before o marked so
+-- the plan from which o is named: what the request changes the plan to, at its moment, with the operations that are named before o marked so
+abbrev pub IsAtNaming : Plan → Request → Answer → OpKey → Plan → Type 0
+IsAtNaming P q reply o at_start =
+    (changed : Plan) × (before : List OpKey) × (after : List OpKey)
+    × Changes P q.what changed
+    × (reply ≡ accepted (before ++ o ∷ after))
+    × (at_start ≡ named before (record changed { clock = minute_of q.at }))
+
+-- the plan in which a start is judged: of one that is reported the plan before the request, of one that is named the plan from which it is
 abbrev pub IsAtStart : Plan → Request → Answer → OpKey → Plan → Type 0
-IsAtStart P q reply o at_start =
-    ((q.what ≡ what.Started o) × (at_start ≡ P))
-    ⊎ ((changed : Plan) × (before : List OpKey) × (after : List OpKey) × Changes P q.what changed × (reply ≡ accepted (before ++ o ∷ after)) × (at_start ≡ named before (record changed { clock = minute_of q.at })))
+IsAtStart P q reply o at_start = ((q.what ≡ what.Started o) × (at_start ≡ P)) ⊎ IsAtNaming P q reply o at_start
 
 -- at the request's moment there was all that o needs to start
 abbrev pub WasProvidedFor : Plan → Request → Answer → OpKey → Type 0

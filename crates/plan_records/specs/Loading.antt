@@ -74,9 +74,20 @@ needs_of o needs = filter_map (own_need o) needs
 
 -- the operation that its record says, of an occurrence and with those of these needs that are its own
 abbrev pub operation_of : Occurrence → List (OpKey × Need) → OperationItem → Operation
-operation_of c needs said = record { workstation = said.workstation; duration = said.duration; r1 = said.r1; r2 = said.r2; not_before = said.not_before; deadline = unwrap_or said.deadline c.deadline; needs = usages_of (needs_of said.key needs); mark = Unmarked; held = false; nop = false }
+operation_of c needs said = record {
+  workstation = said.workstation;
+  duration = said.duration;
+  r1 = said.r1;
+  r2 = said.r2;
+  not_before = said.not_before;
+  deadline = unwrap_or said.deadline c.deadline;
+  needs = usages_of (needs_of said.key needs);
+  mark = Unmarked;
+  held = false;
+  nop = false;
+}
 
--- with its key, where these are the occurrences
+-- with its key, and the terms of that one of these occurrences that it belongs to
 abbrev pub row_of : List (OccKey × Occurrence) → List (OpKey × Need) → OperationItem → OpKey × Operation
 row_of occurrences needs said = (said.key, operation_of (terms_of occurrences said.key.occurrence) needs said)
 

@@ -29,7 +29,9 @@ IsWaitingFor P o n = IsCount (λ p. LivePredecessor P p o × ¬ IsSatisfied P p)
 pub record IsOperationRow (P : Plan) (r : OperationRow) : Type 0 where
   pub op : Operation
   pub is_in_plan : get P.operations r.op ≡ Some op
-  pub columns : (r.ws ≡ op.workstation) × (r.duration ≡ op.duration) × (r.r1 ≡ op.r1) × (r.r2 ≡ op.r2) × (r.not_before ≡ op.not_before) × (r.deadline ≡ op.deadline) × (r.mark ≡ op.mark) × (r.held ≡ op.held) × (r.nop ≡ op.nop)
+  pub columns :
+      (r.ws ≡ op.workstation) × (r.duration ≡ op.duration) × (r.r1 ≡ op.r1) × (r.r2 ≡ op.r2)
+      × (r.not_before ≡ op.not_before) × (r.deadline ≡ op.deadline) × (r.mark ≡ op.mark) × (r.held ≡ op.held) × (r.nop ≡ op.nop)
   pub status : HasStatus P r.op r.status
   pub latest : IsLatestStart P r.op r.latest
   pub waiting : IsWaitingFor P r.op r.waiting

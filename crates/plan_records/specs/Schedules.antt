@@ -35,7 +35,7 @@ created = record { stored = empty_state; desk = Some usable }
 abbrev pub IsDeskState : State → Type 0
 IsDeskState s = IsSound s.plan × AreReceipts s.plan.loaded s.receipts
 
--- what an event makes of what is stored
+-- what an event makes of what is stored, and of the desk, if there is one
 abbrev pub Leaves : State → Option Usable → Event → State → Option Usable → Type 0
 Leaves s (Some u) (ended c reply) t d = (v : Usable) × Answers s u c reply t v × (d ≡ Some v)
 Leaves s (Some usable) (stopped c None) t d = ((t ≡ s) ⊎ ((named : List OpKey) × CallStep s c (accepted named) t)) × (d ≡ None)
@@ -64,4 +64,6 @@ pub data IsWithin : List Event → List Call → List Answer → Type 0 where
 
 -- what is stored is what a run over such calls leaves, and an opening doesn't find it damaged
 abbrev pub EverySchedule : Type 0
-EverySchedule = (events : List Event) (w : World) → Schedule created events w → IsDeskState w.stored × ((calls : List Call) × (replies : List Answer) × Run empty_state usable calls replies w.stored usable × IsWithin events calls replies)
+EverySchedule =
+    (events : List Event) (w : World) → Schedule created events w
+    → IsDeskState w.stored × ((calls : List Call) × (replies : List Answer) × Run empty_state usable calls replies w.stored usable × IsWithin events calls replies)

@@ -88,8 +88,14 @@ AnswersAgain last n (refused refusal.Old) = (n.number < last_number last) ⊎ (n
 AnswersAgain last n (refused refusal.Gap) = last_number last + 1 < n.number
 AnswersAgain last n _ = ⊥
 
--- a numbered request: answered again, or new, and then a step
+-- the next number: a step by the tracker's rules, and the receipts after it
+abbrev pub StepsAnew : Plan → Receipts → Numbered → Answer → Plan → Receipts → Type 0
+StepsAnew P T n reply after receipts =
+    (n.number ≡ last_number (get T n.tracker) + 1)
+    × ((chosen : List OpKey) → reply ≡ accepted chosen → IsNumbered n)
+    × StepBy (NumberedMayBeAccepted P T n) P n.request reply after
+    × (receipts ≡ receipts_after T n reply)
+
+-- a numbered request: answered again, and nothing changes, or new, and then a step
 abbrev pub NumberedStep : Plan → Receipts → Numbered → Answer → Plan → Receipts → Type 0
-NumberedStep P T n reply after receipts =
-    (AnswersAgain (get T n.tracker) n reply × (after ≡ P) × (receipts ≡ T))
-    ⊎ ((n.number ≡ last_number (get T n.tracker) + 1) × ((chosen : List OpKey) → reply ≡ accepted chosen → IsNumbered n) × StepBy (NumberedMayBeAccepted P T n) P n.request reply after × (receipts ≡ receipts_after T n reply))
+NumberedStep P T n reply after receipts = (AnswersAgain (get T n.tracker) n reply × (after ≡ P) × (receipts ≡ T)) ⊎ StepsAnew P T n reply after receipts

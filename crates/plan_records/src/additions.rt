@@ -31,12 +31,7 @@ fn may_come_in(item: &Item) -> bool
 fn may_all_come_in(items: &[Item]) -> bool
     ensures { IsTrue result ↔ All MayComeIn items.now }
 {
-    for item in items {
-        if !may_come_in(item) {
-            return false;
-        }
-    }
-    true
+    items.iter().all(|item| may_come_in(item))
 }
 
 // The one occurrence of these, where there is one only.
@@ -116,12 +111,7 @@ fn are_needs_of(keys: &[OpKey], needs: &[(OpKey, Need)]) -> bool
     requires { IsStrictlySortedBy operation_cmp keys.now }
     ensures { IsTrue result ↔ All (IsNeedOf keys.now) needs.now }
 {
-    for said in needs {
-        if !is_among(keys, &said.0) {
-            return false;
-        }
-    }
-    true
+    needs.iter().all(|said| is_among(keys, &said.0))
 }
 
 // Whether an end of a pair is of another occurrence, or one of these operations.
@@ -146,12 +136,7 @@ fn are_new_pairs(key: &OccKey, keys: &[OpKey], pairs: &[(OpKey, OpKey)]) -> bool
     requires { IsStrictlySortedBy operation_cmp keys.now }
     ensures { IsTrue result ↔ All (IsNewPair key.now keys.now) pairs.now }
 {
-    for pair in pairs {
-        if !is_new_pair(key, keys, pair) {
-            return false;
-        }
-    }
-    true
+    pairs.iter().all(|pair| is_new_pair(key, keys, pair))
 }
 
 // The pairs by predecessor and then successor, where each is such and none stands twice.

@@ -167,12 +167,7 @@ fn each_has_operation(keys: &[OpKey], occurrences: &[(OccKey, Occurrence)]) -> b
     requires { IsStrictlySortedBy operation_cmp keys.now }
     ensures { IsTrue result ↔ EachHasOperation keys.now occurrences.now }
 {
-    for row in occurrences {
-        if !has_operation(keys, &row.0) {
-            return false;
-        }
-    }
-    true
+    occurrences.iter().all(|row| has_operation(keys, &row.0))
 }
 
 // The operations' rows in key order, where each fits, none stands twice and each occurrence has one.
@@ -225,12 +220,7 @@ fn are_pairs_in(keys: &[OpKey], pairs: &[(OpKey, OpKey)]) -> bool
     requires { IsStrictlySortedBy operation_cmp keys.now }
     ensures { IsTrue result ↔ All (IsPairIn keys.now) pairs.now }
 {
-    for pair in pairs {
-        if !is_pair_in(keys, pair) {
-            return false;
-        }
-    }
-    true
+    pairs.iter().all(|pair| is_pair_in(keys, pair))
 }
 
 // Whether no path of these pairs returns to its start.

@@ -112,10 +112,5 @@ pub fn are_needs_in(keys: &[OpKey], resources: &[(ResName, bool)], needs: &[(OpK
     requires names { IsStrictlySortedBy name_cmp (keys_of resources.now) }
     ensures { IsTrue result ↔ All (IsNeedIn keys.now (keys_of resources.now)) needs.now }
 {
-    for said in needs {
-        if !is_need_in(keys, resources, said) {
-            return false;
-        }
-    }
-    true
+    needs.iter().all(|said| is_need_in(keys, resources, said))
 }

@@ -75,12 +75,7 @@ fn are_of_these(workstations: &[Workstation], intervals: &[(WsName, Interval)]) 
     requires { IsStrictlySortedBy name_cmp (keys_of workstations.now) }
     ensures { IsTrue result ↔ AreOfThese (keys_of workstations.now) intervals.now }
 {
-    for said in intervals {
-        if !is_named(workstations, &said.0) {
-            return false;
-        }
-    }
-    true
+    intervals.iter().all(|said| is_named(workstations, &said.0))
 }
 
 // The workstations by name, each open in its intervals, where there is one at least, none stands twice, each can be open

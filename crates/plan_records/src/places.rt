@@ -37,7 +37,7 @@ pub fn occurrence_place(rows: &[(OccKey, Occurrence)], key: &OccKey) -> Option<u
     ensures found { IfSome result (λ i. (terms : Occurrence) × (slice_get rows.now i ≡ Some (key.now, terms))) }
     ensures absent { IsNone result → get {R = occurrence_cmp} (from_entries rows.now) key.now ≡ None }
 {
-    rows.binary_search_by_key(key, |row| row.0).ok()
+    rows.binary_search_by_key(key, |entry| entry.0).ok()
 }
 
 /// Where the occurrence of a key stands that is among them.

@@ -1,5 +1,5 @@
--- Rows in key order: which of two comes first, and that a key stands at one place. A list with a larger key behind it.
-use Rattle.std.proofs.Common.{◌≡◌, ◌≢◌, ◌⊎◌, inl, inr, refl, ap, subst, arith, ℕ, zero, suc, ◌<◌, List, [], ◌∷◌, ◌++◌, Contains, set, slice_get, Some, Ordering, Less}
+-- Rows in key order: which of two comes first, and that a key stands at one place. A list with one element changed, or one more behind it.
+use Rattle.std.proofs.Common.{◌≡◌, ◌≢◌, ◌⊎◌, inl, inr, refl, ap, subst, arith, ℕ, zero, suc, ◌<◌, List, [], ◌∷◌, ◌++◌, Contains, replicate, set, slice_get, Some, Ordering, Less}
 use Rattle.std.proofs.lemmas.Bool.{cases_order}
 use Rattle.std.proofs.lemmas.Map.Keys.{sorted_head, sorted_tail}
 use Rattle.std.specs.Cmp.{IsTotalOrder}
@@ -9,6 +9,7 @@ use Rattle.std.specs.Map.{keys_of}
 use Rattle.plan_laws.proofs.Sorted.{contains_cases, contains_head, contains_later, contains_none, not_itself}
 use Rattle.plan_records.proofs.RowPlaces.{later_key}
 
+-- at the place that is set stands the new element, elsewhere what stood there
 pub set_cases : {X : Type 0} (xs : List X) (i k : ℕ) (z u : X) → slice_get (set xs i z) k ≡ Some u → ((k ≡ i) × (u ≡ z)) ⊎ ((k ≢ i) × (slice_get xs k ≡ Some u))
 set_cases [] i k z u e = cc
 set_cases (x ∷ xs) zero zero z u e = let same : u ≡ z = cc in inl (refl, same)
@@ -18,6 +19,12 @@ set_cases (x ∷ xs) (suc i) (suc k) z u e = elim (set_cases xs i k z u e) [
   | inl at ↦ inl (ap suc at.0, at.1)
   | inr other ↦ inr (λ h. other.0 (let h' : k ≡ i = omega (arith, h) in h'), other.1)
 ]
+
+-- each element of a list of equal ones
+pub all_alike : {X : Type 0} (n i : ℕ) (x y : X) → slice_get (replicate n x) i ≡ Some y → y ≡ x
+all_alike zero i x y e = cc
+all_alike (suc n) zero x y e = cc
+all_alike (suc n) (suc i) x y e = all_alike n i x y e
 
 module _ {K X : Type 0} {R : K → K → Ordering} (o : IsTotalOrder R) where
   -- of two rows, the first has the smaller key

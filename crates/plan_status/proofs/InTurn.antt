@@ -3,22 +3,23 @@ use Rattle.std.proofs.Common.{◌≡◌, inl, inr, sym, ◌∙◌, ap, subst, ar
 use Rattle.std.specs.FinMap.{from_entries, get}
 use Rattle.std.specs.FinSet as set
 use Rattle.std.specs.FinSet.{from_list, same_set}
-use Rattle.std.specs.Map.{keys_of}
 use Rattle.std.proofs.lemmas.List.{map-append, take_all, take_more}
 use Rattle.std.proofs.lemmas.Option.{slice_get-get_or, slice_get_within, get_or_from_slice_get}
 use Rattle.operation_graph.specs.Graphs.{AreDifferent, AreInTurn, Digraph, HasEdge}
-use Rattle.operation_graph.proofs.Members.{contains_head, contains_later, contains_cases, contains_none}
+use Rattle.operation_graph.proofs.Members.{contains_cases, contains_none}
 use Rattle.plan_basics.specs.Keys.{operation_cmp, operation_cmp_total, operation_cmp-IsAntisymmetric}
 use Rattle.plan_basics.specs.declared.keys.OpKey.{OpKey}
-use Rattle.plan_graph.proofs.KeyPlaces.{one_place, listed_in, in_listed, pair_cmp_total, pair_cmp-IsAntisymmetric}
+use Rattle.plan_graph.proofs.KeyPlaces.{listed_in, in_listed, pair_cmp_total, pair_cmp-IsAntisymmetric}
 use Rattle.plan_model.specs.Plan.{IsPairOf, Operation, pair_cmp}
 use Rattle.plan_records.proofs.Pairs.{pair_cases, pair_pushed}
-use Rattle.plan_records.proofs.Lists.{from_map}
+use Rattle.plan_records.proofs.Lists.{from_map, in_map}
 use Rattle.plan_records.specs.Contents.{AreValidContents, IsGraphFor, plan_of}
 use Rattle.plan_records.specs.declared.contents.PlanContents.{PlanContents}
 use Rattle.plan_laws.proofs.Looks.{found_key, told_flag}
 use Rattle.plan_laws.proofs.Single.{same_bool}
 use Rattle.plan_records.proofs.RowPlaces.{place_of_found}
+use Rattle.plan_status.proofs.Ascending.{one_place}
+use Rattle.plan_status.proofs.RowKeys.{key_of_row, row_of_key}
 use Rattle.plan_status.specs.Incoming.{ComesAfter}
 
 abbrev Rows : Type 0
@@ -39,12 +40,6 @@ pair_of rows e = (key_at rows e.0, key_at rows e.1)
 abbrev pub pairs_so_far : Rows → List Edge → ℕ → List (OpKey × OpKey)
 pairs_so_far rows edges i = map (pair_of rows) (take i edges)
 
--- the row at a key's place
-pub row_at_key : (rows : Rows) (i : ℕ) (k : OpKey) → slice_get (keys_of rows) i ≡ Some k → (op : Operation) × (slice_get rows i ≡ Some (k, op))
-row_at_key [] i k e = cc
-row_at_key (row ∷ rows) zero k e = (row.1, let same : row.0 ≡ k = cc in λ j. Some (same j, row.1))
-row_at_key (row ∷ rows) (suc i) k e = row_at_key rows i k e
-
 key_is : (rows : Rows) (i : ℕ) (k : OpKey) (op : Operation) → slice_get rows i ≡ Some (k, op) → key_at rows i ≡ k
 key_is rows i k op e = ap (λ (z : Option (OpKey × Operation)). unwrap_or (option_map (λ (row : OpKey × Operation). row.0) z) (record { occurrence = record { app = []; arrival = 0 }; number = 0 })) e
 
@@ -60,41 +55,41 @@ in_taken (suc i) (y ∷ xs) x h = elim (contains_cases y (take i xs) x h) [
 taken_in : {X : Type 0} (i : ℕ) (xs : List X) (x : X) → i < length xs → slice_get xs i ≡ Some x → Contains xs x
 taken_in i xs x lt at = (i, lt, get_or_from_slice_get xs i x x at)
 
-into_map : {X Y : Type 0} (f : X → Y) (xs : List X) (x : X) → Contains xs x → Contains (map f xs) (f x)
-into_map f [] x h = absurd (contains_none x h)
-into_map f (y ∷ xs) x h = elim (contains_cases y xs x h) [
-  | inl here ↦ subst (λ z. Contains (map f (y ∷ xs)) (f z)) here (contains_head (f y) (map f xs))
-  | inr later ↦ contains_later (f y) (map f xs) (f x) (into_map f xs x later)
-]
-
 -- these are all edges of the graph, in turn
 pub record AreAllInTurn (g : Digraph) (edges : List Edge) : Type 0 where
   pub different : AreDifferent edges
   pub listed : (p s : ℕ) → Contains edges (p, s) ↔ HasEdge g p s
   pub turn : AreInTurn edges
 
+-- they are, where a slice shows them
+pub all_shown : (g : Digraph) (shown edges : List Edge) → shown ≡ edges → AreDifferent edges × ((p s : ℕ) → Contains edges (p, s) ↔ HasEdge g p s) → AreInTurn edges → AreAllInTurn g shown
+all_shown g shown edges same told turn = subst (AreAllInTurn g) (sym same) (record { different = told.0; listed = told.1; turn = turn })
+
+-- an edge's ends are rows, and their keys are a pair of the plan
+pub record IsPairAt (c : PlanContents) (e : Edge) : Type 0 where
+  pub before : Operation
+  pub after : Operation
+  pub first : slice_get c.operations.items e.0 ≡ Some ((pair_of c.operations.items e).0, before)
+  pub second : slice_get c.operations.items e.1 ≡ Some ((pair_of c.operations.items e).1, after)
+  pub is_pair : IsPairOf (plan_of 0 c).pairs (pair_of c.operations.items e).0 (pair_of c.operations.items e).1
+
+pub ends_within : (c : PlanContents) (e : Edge) → IsPairAt c e → (e.0 < length c.operations.items) × (e.1 < length c.operations.items)
+ends_within c e pair = (
+  slice_get_within c.operations.items e.0 ((pair_of c.operations.items e).0, pair.before) pair.first,
+  slice_get_within c.operations.items e.1 ((pair_of c.operations.items e).1, pair.after) pair.second,
+)
+
 module _ (c : PlanContents) (h : AreValidContents c) (g : Digraph) (graph : IsGraphFor c g) (edges : List Edge) (all : AreAllInTurn g edges) where
   abbrev rows : Rows
   rows = c.operations.items
 
-  abbrev keys : List OpKey
-  keys = keys_of c.operations.items
-
-  -- an edge's ends are rows, and their keys are a pair of the plan
-  pub record IsPairAt (e : Edge) : Type 0 where
-    pub before : Operation
-    pub after : Operation
-    pub first : slice_get rows e.0 ≡ Some ((pair_of rows e).0, before)
-    pub second : slice_get rows e.1 ≡ Some ((pair_of rows e).1, after)
-    pub is_pair : IsPairOf (plan_of 0 c).pairs (pair_of rows e).0 (pair_of rows e).1
-
-  pair_is : (e : Edge) → HasEdge g e.0 e.1 → IsPairAt e
+  pair_is : (e : Edge) → HasEdge g e.0 e.1 → IsPairAt c e
   pair_is e has =
       let found = (graph.edges e.0 e.1).0 has in
       let p = found.0 in
       let o = found.1 in
-      let first = row_at_key rows e.0 p found.2 in
-      let second = row_at_key rows e.1 o found.3 in
+      let first = row_of_key rows e.0 p found.2 in
+      let second = row_of_key rows e.1 o found.3 in
       let same_p = sym (key_is rows e.0 p first.0 first.1) in
       let same_o = sym (key_is rows e.1 o second.0 second.1) in
       record {
@@ -110,23 +105,19 @@ module _ (c : PlanContents) (h : AreValidContents c) (g : Digraph) (graph : IsGr
     has_edge : HasEdge g e.0 e.1
     has_edge = (all.listed e.0 e.1).0 (taken_in i edges e lt at)
 
-    pub pair_at : IsPairAt e
+    pair_at : IsPairAt c e
     pair_at = pair_is e has_edge
 
-  edge_of : (j : ℕ) (e : Edge) → slice_get edges j ≡ Some e → IsPairAt e
-  edge_of j e at = pair_at j (slice_get_within edges j e at) e at
+  -- the edge at a place below the length
+  pub pair_below : (i : ℕ) → i < length edges → IsPairAt c (get_or edges i (0, 0))
+  pair_below i lt = pair_at i lt (get_or edges i (0, 0)) (slice_get-get_or edges i (0, 0) lt)
 
-  key_in : (j : ℕ) (k : OpKey) (op : Operation) → slice_get rows j ≡ Some (k, op) → slice_get keys j ≡ Some k
-  key_in j k op at = keys_at rows j k op at
-    where
-      keys_at : (rows : Rows) (j : ℕ) (k : OpKey) (op : Operation) → slice_get rows j ≡ Some (k, op) → slice_get (keys_of rows) j ≡ Some k
-      keys_at [] j k op e = cc
-      keys_at (row ∷ rows) zero k op e = let same : ◌≡◌ {A = OpKey × Operation} row (k, op) = cc in ap (λ (z : OpKey × Operation). Some z.0) same
-      keys_at (row ∷ rows) (suc j) k op e = keys_at rows j k op e
+  edge_of : (j : ℕ) (e : Edge) → slice_get edges j ≡ Some e → IsPairAt c e
+  edge_of j e at = pair_at j (slice_get_within edges j e at) e at
 
   -- equal keys stand at one place
   same_place : (i j : ℕ) (a b : OpKey) (v w : Operation) → slice_get rows i ≡ Some (a, v) → slice_get rows j ≡ Some (b, w) → a ≡ b → i ≡ j
-  same_place i j a b v w at_i at_j same = one_place operation_cmp_total keys h.in_order.operations i j a (key_in i a v at_i) (subst (λ k. slice_get keys j ≡ Some k) (sym same) (key_in j b w at_j))
+  same_place i j a b v w at_i at_j same = one_place operation_cmp_total rows h.in_order.operations i j a v w at_i (subst (λ k. slice_get rows j ≡ Some (k, w)) (sym same) at_j)
 
   module _ (i : ℕ) (lt : i < length edges) (e : Edge) (at : slice_get edges i ≡ Some e) where
     here : get_or edges i e ≡ e
@@ -207,9 +198,9 @@ module _ (c : PlanContents) (h : AreValidContents c) (g : Digraph) (graph : IsGr
           let o = found_key (get {R = operation_cmp} (from_entries rows) x.1) ends.1 in
           let i = place_of_found operation_cmp operation_cmp_total operation_cmp-IsAntisymmetric rows x.0 p.0 p.1 in
           let j = place_of_found operation_cmp operation_cmp_total operation_cmp-IsAntisymmetric rows x.1 o.0 o.1 in
-          let edge : HasEdge g i.0 j.0 = (graph.edges i.0 j.0).1 (x.0, x.1, key_in i.0 x.0 p.0 i.1, key_in j.0 x.1 o.0 j.1, has) in
+          let edge : HasEdge g i.0 j.0 = (graph.edges i.0 j.0).1 (x.0, x.1, key_of_row rows i.0 x.0 p.0 i.1, key_of_row rows j.0 x.1 o.0 j.1, has) in
           let is : ◌≡◌ {A = OpKey × OpKey} (pair_of rows (i.0, j.0)) x = λ k. (key_is rows i.0 x.0 p.0 i.1 k, key_is rows j.0 x.1 o.0 j.1 k) in
-          in_listed pair_cmp_total pair_cmp-IsAntisymmetric (map (pair_of rows) edges) x (subst (Contains (map (pair_of rows) edges)) is (into_map (pair_of rows) edges (i.0, j.0) ((all.listed i.0 j.0).1 edge)))
+          in_listed pair_cmp_total pair_cmp-IsAntisymmetric (map (pair_of rows) edges) x (subst (Contains (map (pair_of rows) edges)) is (in_map (pair_of rows) edges (i.0, j.0) ((all.listed i.0 j.0).1 edge)))
 
       alike : (x : OpKey × OpKey) → set.contains {R = pair_cmp} (from_list (map (pair_of rows) edges)) x ≡ set.contains (plan_of 0 c).pairs x
       alike x = same_bool _ _ (there x) (back x)

@@ -8,6 +8,7 @@ pub mod Incoming
 pub mod LoadedRows
 pub mod Naming
 pub mod OfOccurrences
+pub mod RowKeys
 pub mod RowStandings
 pub mod Satisfied
 pub mod SoFar

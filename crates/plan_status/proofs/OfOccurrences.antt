@@ -6,7 +6,7 @@ use Rattle.plan_model.specs.Plan.{IsInPlan, Plan}
 use Rattle.plan_model.specs.Status.{EachOperation, HasOccurrenceStatus, OccurrenceCase, SomeOperation}
 use Rattle.plan_records.specs.Rows.{IsCount}
 use Rattle.plan_status.proofs.Counting.{each_counted, some_counted}
-use Rattle.plan_status.specs.Standings.{HasOfIts, IsTally}
+use Rattle.plan_status.specs.Standings.{BelongsWithStatus, IsTally}
 use Rattle.status_rules.specs.Cases.{CountsCase, IsStatusOfCounts}
 use Rattle.status_rules.specs.declared.Counts.{Counts}
 use Rattle.status_rules.specs.declared.OccStatus.{OccStatus}
@@ -20,17 +20,17 @@ IsOfIts P c o = (o.occurrence ≡ c) × IsInPlan P o
 
 -- and is started or interrupted
 abbrev pub IsStarted : Plan → OccKey → OpKey → Type 0
-IsStarted P c o = HasOfIts P c status.Started o ⊎ HasOfIts P c status.Interrupted o
+IsStarted P c o = BelongsWithStatus P c status.Started o ⊎ BelongsWithStatus P c status.Interrupted o
 
 module _ (P : Plan) (c : OccKey) where
-  each_has : (s : Status) (m n : ℕ) → IsCount (HasOfIts P c s) m → IsCount (IsOfIts P c) n → (m ≡ n) ↔ EachOperation P c s
+  each_has : (s : Status) (m n : ℕ) → IsCount (BelongsWithStatus P c s) m → IsCount (IsOfIts P c) n → (m ≡ n) ↔ EachOperation P c s
   each_has s m n x y =
-      let e = each_counted (HasOfIts P c s) (IsOfIts P c) m n x y (λ o h. (h.0, (h.1.0, h.1.1, tt))) in
+      let e = each_counted (BelongsWithStatus P c s) (IsOfIts P c) m n x y (λ o h. (h.0, (h.1.0, h.1.1, tt))) in
       (λ same o of there. (e.0 same o (of, there)).1, λ each. e.1 (λ o h. (h.0, each o h.0 h.1)))
 
-  some_has : (s : Status) (n : ℕ) → IsCount (HasOfIts P c s) n → (0 < n) ↔ SomeOperation P c s
+  some_has : (s : Status) (n : ℕ) → IsCount (BelongsWithStatus P c s) n → (0 < n) ↔ SomeOperation P c s
   some_has s n x =
-      let e = some_counted (HasOfIts P c s) n x in
+      let e = some_counted (BelongsWithStatus P c s) n x in
       (λ h. let r = e.0 h in (r.0, r.1.0, r.1.1), λ h. e.1 (h.0, (h.1, h.2)))
 
   some_started : (n : ℕ) → IsCount (IsStarted P c) n → (0 < n) ↔ (SomeOperation P c status.Started ⊎ SomeOperation P c status.Interrupted)

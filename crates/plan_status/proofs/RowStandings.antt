@@ -1,12 +1,10 @@
 -- The standings of rows, as pair after pair comes in.
-use Rattle.std.proofs.Common.{◌≡◌, ◌≢◌, ◌⊎◌, inl, inr, refl, sym, ◌∙◌, ap, subst, true≢false, arith, ℕ, zero, suc, ◌+◌, ◌≤◌, true, false, List, [], ◌∷◌, ◌++◌, get_or, length, replicate, set, Option, Some, slice_get}
+use Rattle.std.proofs.Common.{◌≡◌, inl, inr, refl, sym, ◌∙◌, ap, subst, true≢false, arith, ℕ, ◌+◌, ◌≤◌, true, false, List, [], ◌∷◌, ◌++◌, get_or, length, replicate, set, Some, slice_get}
 use Rattle.std.specs.FinMap.{from_entries, get}
 use Rattle.std.specs.FinSet.{from_list}
 use Rattle.std.specs.List.Sorted.{IsStrictlySortedBy}
-use Rattle.std.specs.declared.cmp.Ordering.TheVariants.{Less}
 use Rattle.std.specs.Map.{keys_of}
 use Rattle.std.proofs.lemmas.List.{length-replicate, length-set}
-use Rattle.std.proofs.lemmas.Map.Keys.{sorted_head, sorted_tail}
 use Rattle.std.proofs.lemmas.Option.{get_or_from_slice_get, slice_get-get_or, slice_get_within}
 use Rattle.plan_basics.specs.Keys.{operation_cmp, operation_cmp_total, operation_cmp-IsAntisymmetric}
 use Rattle.plan_basics.specs.declared.keys.OpKey.{OpKey}
@@ -14,45 +12,14 @@ use Rattle.plan_model.specs.Plan.{Plan, Operation, pair_cmp}
 use Rattle.plan_records.specs.Contents.{plan_of}
 use Rattle.plan_records.specs.declared.contents.PlanContents.{PlanContents}
 use Rattle.plan_records.proofs.Pairs.{no_pair, pair_pushed}
-use Rattle.plan_records.proofs.RowPlaces.{get_at, later_key}
+use Rattle.plan_records.proofs.RowPlaces.{get_at}
 use Rattle.plan_laws.proofs.Looks.{same_some}
-use Rattle.plan_laws.proofs.Sorted.{contains_none, not_itself}
+use Rattle.plan_laws.proofs.Sorted.{contains_none}
 use Rattle.plan_status.specs.Incoming.{ComesAfter, with_pairs}
 use Rattle.plan_status.specs.Standings.{AreStandings, IsStanding}
 use Rattle.plan_status.specs.declared.standings.Standing.{Standing}
+use Rattle.plan_status.proofs.Ascending.{all_alike, one_place, set_cases}
 use Rattle.plan_status.proofs.Incoming.{stands_as_before}
-
-set_cases : {X : Type 0} (xs : List X) (i k : ℕ) (z u : X) → slice_get (set xs i z) k ≡ Some u → ((k ≡ i) × (u ≡ z)) ⊎ ((k ≢ i) × (slice_get xs k ≡ Some u))
-set_cases [] i k z u e = cc
-set_cases (x ∷ xs) zero zero z u e = let same : u ≡ z = cc in inl (refl, same)
-set_cases (x ∷ xs) zero (suc k) z u e = inr (λ h. omega (arith, h), e)
-set_cases (x ∷ xs) (suc i) zero z u e = inr (λ h. omega (arith, h), e)
-set_cases (x ∷ xs) (suc i) (suc k) z u e = elim (set_cases xs i k z u e) [
-  | inl at ↦ inl (ap suc at.0, at.1)
-  | inr other ↦ inr (λ h. other.0 (let h' : k ≡ i = omega (arith, h) in h'), other.1)
-]
-
-all_alike : {X : Type 0} (n i : ℕ) (x y : X) → slice_get (replicate n x) i ≡ Some y → y ≡ x
-all_alike zero i x y e = cc
-all_alike {X} (suc n) zero x y e = let same : ◌≡◌ {A = Option X} (Some x) (Some y) = e in cc
-all_alike (suc n) (suc i) x y e = all_alike n i x y e
-
--- a key stands at one place
-same_place : {X : Type 0} (rows : List (OpKey × X)) → IsStrictlySortedBy operation_cmp (keys_of rows) → (i j : ℕ) (k : OpKey) (v w : X) → slice_get rows i ≡ Some (k, v) → slice_get rows j ≡ Some (k, w) → i ≡ j
-same_place [] sorted i j k v w e f = cc
-same_place (row ∷ rows) sorted zero zero k v w e f = refl
-same_place {X} (row ∷ rows) sorted zero (suc j) k v w e f =
-    let at : ◌≡◌ {A = OpKey × X} row (k, v) = cc in
-    absurd (not_itself operation_cmp_total k (subst (λ (z : OpKey × X). operation_cmp z.0 k ≡ Less) at (later_key operation_cmp row.0 rows j k w (sorted_head operation_cmp row.0 (keys_of rows) sorted) f)))
-same_place {X} (row ∷ rows) sorted (suc i) zero k v w e f =
-    let at : ◌≡◌ {A = OpKey × X} row (k, w) = cc in
-    absurd (not_itself operation_cmp_total k (subst (λ (z : OpKey × X). operation_cmp z.0 k ≡ Less) at (later_key operation_cmp row.0 rows i k v (sorted_head operation_cmp row.0 (keys_of rows) sorted) e)))
-same_place (row ∷ rows) sorted (suc i) (suc j) k v w e f = ap suc (same_place rows (sorted_tail operation_cmp row.0 (keys_of rows) sorted) i j k v w e f)
-
--- rows that are shown as a slice
-pub row_of : {shown rows : List (OpKey × Operation)} → shown ≡ rows → (place : ℕ) (k : OpKey)
-    → (op : Operation) × (slice_get shown place ≡ Some (k, op)) → (op : Operation) × (slice_get rows place ≡ Some (k, op))
-row_of e place k at = (at.0, ap (λ rows. slice_get rows place) (sym e) ∙ at.1)
 
 -- what is read at a row's place
 pub row_known : (rows : List (OpKey × Operation)) → IsStrictlySortedBy operation_cmp (keys_of rows) → (place : ℕ) (k : OpKey) (op : Operation) → slice_get rows place ≡ Some (k, op)
@@ -82,15 +49,15 @@ stands_first P o = record {
 }
 
 -- each operation waits for at most as many as pairs have come in
-abbrev pub AreAtMost : ℕ → List Standing → Type 0
-AreAtMost n standings = (i : ℕ) (s : Standing) → slice_get standings i ≡ Some s → s.waiting ≤ n
+abbrev pub WaitForAtMost : ℕ → List Standing → Type 0
+WaitForAtMost n standings = (i : ℕ) (s : Standing) → slice_get standings i ≡ Some s → s.waiting ≤ n
 
-pub at_most_first : (n : ℕ) (standings : List Standing) → standings ≡ replicate n first → AreAtMost 0 standings
+pub at_most_first : (n : ℕ) (standings : List Standing) → standings ≡ replicate n first → WaitForAtMost 0 standings
 at_most_first n standings is i s e =
     let same = ap (λ (x : Standing). x.waiting) (all_alike n i first s (ap (λ ss. slice_get ss i) (sym is) ∙ e)) in
     omega (arith, same)
 
-pub at_most_more : (n : ℕ) (standings : List Standing) (place : ℕ) (w : ℕ) (t : Standing) → AreAtMost n standings → w ≤ n → t.waiting ≤ w + 1 → AreAtMost (n + 1) (set standings place t)
+pub at_most_more : (n : ℕ) (standings : List Standing) (place : ℕ) (w : ℕ) (t : Standing) → WaitForAtMost n standings → w ≤ n → t.waiting ≤ w + 1 → WaitForAtMost (n + 1) (set standings place t)
 at_most_more n standings place w t most le more i s e = elim (set_cases standings place i t s e) [
   | inl here ↦ let same = ap (λ (x : Standing). x.waiting) here.1 in omega (arith, same, le, more)
   | inr other ↦ let old = most i s other.1 in omega (arith, old)
@@ -115,7 +82,7 @@ module _ (P : Plan) (rows : List (OpKey × Operation)) where
             let same : o ≡ pair.1 = ap (λ (z : OpKey × Operation). z.0) (same_some (o, x) (pair.1, op) (sym row ∙ ap (slice_get rows) here.0 ∙ at)) in
             subst (λ k. IsStanding (with_pairs (pair ∷ pairs) P) k s) (sym same) (subst (IsStanding (with_pairs (pair ∷ pairs) P) pair.1) (sym here.1) stands)
         | inr other ↦
-            stands_as_before P pairs pair next o (λ e. other.0 (same_place rows sorted i place o x op row (at ∙ ap (λ z. Some (z, op)) (sym e)))) s (so_far.each i o x s row other.1)
+            stands_as_before P pairs pair next o (λ e. other.0 (one_place operation_cmp_total rows sorted i place o x op row (at ∙ ap (λ z. Some (z, op)) (sym e)))) s (so_far.each i o x s row other.1)
       ];
     }
 

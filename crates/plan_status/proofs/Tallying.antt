@@ -1,5 +1,5 @@
 -- The numbers of occurrences' operations, as one row after another is gone through.
-use Rattle.std.proofs.Common.{◌≡◌, ◌≢◌, ◌⊎◌, inl, inr, refl, sym, ap, subst, ◌∙◌, arith, ℕ, zero, suc, ◌+◌, ◌≤◌, List, length, replicate, set, slice_get, Some}
+use Rattle.std.proofs.Common.{◌≡◌, ◌≢◌, ◌⊎◌, inl, inr, refl, sym, ap, subst, ◌∙◌, arith, ℕ, ◌+◌, ◌≤◌, List, length, replicate, set, slice_get, Some}
 use Rattle.std.proofs.lemmas.List.{length-replicate, length-set}
 use Rattle.std.proofs.lemmas.Option.{some_pair_parts}
 use Rattle.std.specs.List.Sorted.{IsStrictlySortedBy}
@@ -15,11 +15,11 @@ use Rattle.plan_model.specs.declared.Occurrence.{Occurrence}
 use Rattle.plan_records.specs.Contents.{plan_of}
 use Rattle.plan_records.specs.Places.{AreByPlace}
 use Rattle.plan_records.specs.declared.contents.PlanContents.{PlanContents}
-use Rattle.plan_status.proofs.Ascending.{one_place, set_cases}
+use Rattle.plan_status.proofs.Ascending.{all_alike, one_place, set_cases}
 use Rattle.plan_status.proofs.OfOccurrences.{IsOfIts, IsStarted}
 use Rattle.plan_status.proofs.SoMany.{IsSoMany, all_counted, none_before, one_more_row}
 use Rattle.plan_status.specs.OneMore.{AreAtMost, CountsOneMore, RisesIf}
-use Rattle.plan_status.specs.Standings.{AreTallies, HasOfIts, IsTally}
+use Rattle.plan_status.specs.Standings.{AreTallies, BelongsWithStatus, IsTally}
 use Rattle.status_rules.specs.declared.Counts.{Counts}
 use Rattle.status_rules.specs.declared.Status.{Status}
 use Rattle.status_rules.specs.declared.Status.TheVariants as status
@@ -30,10 +30,10 @@ no_counts = record { all = 0; deleted = 0; error = 0; undecided = 0; complete = 
 -- the numbers of the occurrence's operations among the first i rows
 pub record IsTallySoFar (P : Plan) (rows : List (OpKey × Operation)) (i : ℕ) (c : OccKey) (n : Counts) : Type 0 where
   pub all : IsSoMany rows i (IsOfIts P c) n.all
-  pub deleted : IsSoMany rows i (HasOfIts P c status.Deleted) n.deleted
-  pub error : IsSoMany rows i (HasOfIts P c status.Error) n.error
-  pub undecided : IsSoMany rows i (HasOfIts P c status.Undecided) n.undecided
-  pub complete : IsSoMany rows i (HasOfIts P c status.Complete) n.complete
+  pub deleted : IsSoMany rows i (BelongsWithStatus P c status.Deleted) n.deleted
+  pub error : IsSoMany rows i (BelongsWithStatus P c status.Error) n.error
+  pub undecided : IsSoMany rows i (BelongsWithStatus P c status.Undecided) n.undecided
+  pub complete : IsSoMany rows i (BelongsWithStatus P c status.Complete) n.complete
   pub started : IsSoMany rows i (IsStarted P c) n.started
 
 pub at_most_rows : (P : Plan) (rows : List (OpKey × Operation)) (i : ℕ) (c : OccKey) (n : Counts) → IsTallySoFar P rows i c n → i ≤ 20000 → AreAtMost 20000 n
@@ -49,29 +49,24 @@ at_most_rows P rows i c n t le = record {
 pub none_tallied : (P : Plan) (rows : List (OpKey × Operation)) (c : OccKey) → IsTallySoFar P rows 0 c no_counts
 none_tallied P rows c = record {
   all = none_before rows (IsOfIts P c);
-  deleted = none_before rows (HasOfIts P c status.Deleted);
-  error = none_before rows (HasOfIts P c status.Error);
-  undecided = none_before rows (HasOfIts P c status.Undecided);
-  complete = none_before rows (HasOfIts P c status.Complete);
+  deleted = none_before rows (BelongsWithStatus P c status.Deleted);
+  error = none_before rows (BelongsWithStatus P c status.Error);
+  undecided = none_before rows (BelongsWithStatus P c status.Undecided);
+  complete = none_before rows (BelongsWithStatus P c status.Complete);
   started = none_before rows (IsStarted P c);
 }
-
-all_alike : {X : Type 0} (n i : ℕ) (x y : X) → slice_get (replicate n x) i ≡ Some y → x ≡ y
-all_alike zero i x y e = cc
-all_alike (suc n) zero x y e = cc
-all_alike (suc n) (suc i) x y e = all_alike n i x y e
 
 -- before a row is gone through
 pub tallies_begin : (P : Plan) (rows : List (OpKey × Operation)) (occurrences : List (OccKey × Occurrence)) (n : ℕ) (tallies : List Counts)
     → n ≡ length occurrences → tallies ≡ replicate n no_counts → AreByPlace occurrences tallies (IsTallySoFar P rows 0)
 tallies_begin P rows occurrences n tallies e is = record {
   size = ap length is ∙ length-replicate n no_counts ∙ e;
-  each = λ i c v x row at. subst (IsTallySoFar P rows 0 c) (all_alike n i no_counts x (ap (λ xs. slice_get xs i) (sym is) ∙ at)) (none_tallied P rows c);
+  each = λ i c v x row at. subst (IsTallySoFar P rows 0 c) (sym (all_alike n i no_counts x (ap (λ xs. slice_get xs i) (sym is) ∙ at))) (none_tallied P rows c);
 }
 
 module _ (P : Plan) (acyclic : IsAcyclic P.pairs) (rows : List (OpKey × Operation)) (sorted : IsStrictlySortedBy operation_cmp (keys_of rows))
     (i : ℕ) (k : OpKey) (op : Operation) (row : slice_get rows i ≡ Some (k, op)) (s : Status) (has : HasStatus P k s) where
-  rises_of_its : (c : OccKey) → k.occurrence ≡ c → (t : Status) (n m : ℕ) → RisesIf (s ≡ t) n m → RisesIf (HasOfIts P c t k) n m
+  rises_of_its : (c : OccKey) → k.occurrence ≡ c → (t : Status) (n m : ℕ) → RisesIf (s ≡ t) n m → RisesIf (BelongsWithStatus P c t k) n m
   rises_of_its c of t n m (inl up) = inl ((of, subst (HasStatus P k) up.0 has), up.1)
   rises_of_its c of t n m (inr same) = inr (λ h. same.0 (one_status P acyclic k s t has h.1), same.1)
 
@@ -92,10 +87,10 @@ module _ (P : Plan) (acyclic : IsAcyclic P.pairs) (rows : List (OpKey × Operati
   one_tallied : (c : OccKey) (n m : Counts) → k.occurrence ≡ c → CountsOneMore s n m → IsTallySoFar P rows i c n → IsTallySoFar P rows (i + 1) c m
   one_tallied c n m of up t = record {
     all = more (IsOfIts P c) n.all m.all t.all (inl ((of, (has.0, has.1, tt)), up.all));
-    deleted = more (HasOfIts P c status.Deleted) n.deleted m.deleted t.deleted (rises_of_its c of status.Deleted n.deleted m.deleted up.deleted);
-    error = more (HasOfIts P c status.Error) n.error m.error t.error (rises_of_its c of status.Error n.error m.error up.error);
-    undecided = more (HasOfIts P c status.Undecided) n.undecided m.undecided t.undecided (rises_of_its c of status.Undecided n.undecided m.undecided up.undecided);
-    complete = more (HasOfIts P c status.Complete) n.complete m.complete t.complete (rises_of_its c of status.Complete n.complete m.complete up.complete);
+    deleted = more (BelongsWithStatus P c status.Deleted) n.deleted m.deleted t.deleted (rises_of_its c of status.Deleted n.deleted m.deleted up.deleted);
+    error = more (BelongsWithStatus P c status.Error) n.error m.error t.error (rises_of_its c of status.Error n.error m.error up.error);
+    undecided = more (BelongsWithStatus P c status.Undecided) n.undecided m.undecided t.undecided (rises_of_its c of status.Undecided n.undecided m.undecided up.undecided);
+    complete = more (BelongsWithStatus P c status.Complete) n.complete m.complete t.complete (rises_of_its c of status.Complete n.complete m.complete up.complete);
     started = more (IsStarted P c) n.started m.started t.started (rises_started c of n.started m.started up.started);
   }
 
@@ -103,10 +98,10 @@ module _ (P : Plan) (acyclic : IsAcyclic P.pairs) (rows : List (OpKey × Operati
   none_more : (c : OccKey) (n : Counts) → k.occurrence ≢ c → IsTallySoFar P rows i c n → IsTallySoFar P rows (i + 1) c n
   none_more c n apart t = record {
     all = more (IsOfIts P c) n.all n.all t.all (inr (λ h. apart h.0, refl));
-    deleted = more (HasOfIts P c status.Deleted) n.deleted n.deleted t.deleted (inr (λ h. apart h.0, refl));
-    error = more (HasOfIts P c status.Error) n.error n.error t.error (inr (λ h. apart h.0, refl));
-    undecided = more (HasOfIts P c status.Undecided) n.undecided n.undecided t.undecided (inr (λ h. apart h.0, refl));
-    complete = more (HasOfIts P c status.Complete) n.complete n.complete t.complete (inr (λ h. apart h.0, refl));
+    deleted = more (BelongsWithStatus P c status.Deleted) n.deleted n.deleted t.deleted (inr (λ h. apart h.0, refl));
+    error = more (BelongsWithStatus P c status.Error) n.error n.error t.error (inr (λ h. apart h.0, refl));
+    undecided = more (BelongsWithStatus P c status.Undecided) n.undecided n.undecided t.undecided (inr (λ h. apart h.0, refl));
+    complete = more (BelongsWithStatus P c status.Complete) n.complete n.complete t.complete (inr (λ h. apart h.0, refl));
     started = more (IsStarted P c) n.started n.started t.started (inr (elim [ inl h ↦ apart h.0 | inr h ↦ apart h.0 ], refl));
   }
 
@@ -136,10 +131,10 @@ module _ (c : PlanContents) (clock : ℕ) where
   complete_tally : (i : ℕ) → i ≡ length rows_of → (k : OccKey) (n : Counts) → IsTallySoFar (plan_of 0 c) rows_of i k n → IsTally (plan_of clock c) k n
   complete_tally i e k n t = record {
     all = all_counted rows_of (IsOfIts (plan_of 0 c) k) (λ o h. (h.1.0, h.1.1)) i n.all e t.all;
-    deleted = all_counted rows_of (HasOfIts (plan_of 0 c) k status.Deleted) (λ o h. (h.1.0, h.1.1)) i n.deleted e t.deleted;
-    error = all_counted rows_of (HasOfIts (plan_of 0 c) k status.Error) (λ o h. (h.1.0, h.1.1)) i n.error e t.error;
-    undecided = all_counted rows_of (HasOfIts (plan_of 0 c) k status.Undecided) (λ o h. (h.1.0, h.1.1)) i n.undecided e t.undecided;
-    complete = all_counted rows_of (HasOfIts (plan_of 0 c) k status.Complete) (λ o h. (h.1.0, h.1.1)) i n.complete e t.complete;
+    deleted = all_counted rows_of (BelongsWithStatus (plan_of 0 c) k status.Deleted) (λ o h. (h.1.0, h.1.1)) i n.deleted e t.deleted;
+    error = all_counted rows_of (BelongsWithStatus (plan_of 0 c) k status.Error) (λ o h. (h.1.0, h.1.1)) i n.error e t.error;
+    undecided = all_counted rows_of (BelongsWithStatus (plan_of 0 c) k status.Undecided) (λ o h. (h.1.0, h.1.1)) i n.undecided e t.undecided;
+    complete = all_counted rows_of (BelongsWithStatus (plan_of 0 c) k status.Complete) (λ o h. (h.1.0, h.1.1)) i n.complete e t.complete;
     started = all_counted rows_of (IsStarted (plan_of 0 c) k) (λ o h. elim h [ inl a ↦ (a.1.0, a.1.1) | inr b ↦ (b.1.0, b.1.1) ]) i n.started e t.started;
   }
 

@@ -23,18 +23,18 @@ pub record IsStanding (P : Plan) (o : OpKey) (s : Standing) : Type 0 where
 abbrev pub AreStandings : Plan → List (OpKey × Operation) → List Standing → Type 0
 AreStandings P rows standings = AreByPlace rows standings (IsStanding P)
 
--- the occurrence's operation o has the status
-abbrev pub HasOfIts : Plan → OccKey → Status → OpKey → Type 0
-HasOfIts P c s o = (o.occurrence ≡ c) × HasStatus P o s
+-- o belongs to the occurrence, and has the status
+abbrev pub BelongsWithStatus : Plan → OccKey → Status → OpKey → Type 0
+BelongsWithStatus P c s o = (o.occurrence ≡ c) × HasStatus P o s
 
--- the numbers of the occurrence's operations: all, and those of a status
+-- the numbers of the occurrence's operations: all, and those of a status; the interrupted ones count as started
 pub record IsTally (P : Plan) (c : OccKey) (n : Counts) : Type 0 where
   pub all : IsCount (λ o. (o.occurrence ≡ c) × IsInPlan P o) n.all
-  pub deleted : IsCount (HasOfIts P c status.Deleted) n.deleted
-  pub error : IsCount (HasOfIts P c status.Error) n.error
-  pub undecided : IsCount (HasOfIts P c status.Undecided) n.undecided
-  pub complete : IsCount (HasOfIts P c status.Complete) n.complete
-  pub started : IsCount (λ o. HasOfIts P c status.Started o ⊎ HasOfIts P c status.Interrupted o) n.started
+  pub deleted : IsCount (BelongsWithStatus P c status.Deleted) n.deleted
+  pub error : IsCount (BelongsWithStatus P c status.Error) n.error
+  pub undecided : IsCount (BelongsWithStatus P c status.Undecided) n.undecided
+  pub complete : IsCount (BelongsWithStatus P c status.Complete) n.complete
+  pub started : IsCount (λ o. BelongsWithStatus P c status.Started o ⊎ BelongsWithStatus P c status.Interrupted o) n.started
 
 -- the numbers of each row's occurrence
 abbrev pub AreTallies : Plan → List (OccKey × Occurrence) → List Counts → Type 0

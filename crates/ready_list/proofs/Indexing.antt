@@ -21,10 +21,10 @@ use Rattle.ready_list.proofs.Members.{all_by_members, contains_filter, contains_
 use Rattle.ready_list.proofs.Ordered.{less_from_test, keys_sorted, sorted_by_keys, sorted_placed}
 use Rattle.ready_list.proofs.WorkstationOrder.{workstation_cmp_total}
 
-abbrev entry_cmp : ReadyEntry → ReadyEntry → Ordering
+abbrev pub entry_cmp : ReadyEntry → ReadyEntry → Ordering
 entry_cmp a b = ready_cmp a.key b.key
 
-abbrev Entries : Type 0
+abbrev pub Entries : Type 0
 Entries = List ReadyEntry
 
 -- ---- tests

@@ -11,14 +11,14 @@ use Rattle.std.specs.List.Sorted.{IsStrictlySortedBy}
 use Rattle.std.proofs.lemmas.Bool.{cases_order}
 use Rattle.std.proofs.lemmas.Cmp.{tied_itself}
 use Rattle.std.proofs.lemmas.List.{get_or_default}
-use Rattle.std.proofs.lemmas.List.Elements.{All-contains, All-from_recursion, Contains-append_left, Contains-append_right, Contains-append_cases}
+use Rattle.std.proofs.lemmas.List.Elements.{All-contains, All-from_recursion}
 use Rattle.std.proofs.lemmas.Map.Keys.{Less-from_sorted}
 use Rattle.plan_basics.specs.Keys.{operation_cmp-IsAntisymmetric}
 use Rattle.ready_list.specs.declared.ReadyKey.{ReadyKey}
 use Rattle.ready_list.specs.declared.entry.ReadyEntry.{ReadyEntry}
 use Rattle.ready_list.specs.Order.{ready_cmp, ready_cmp_total, urgency}
-use Rattle.ready_list.specs.Entries.{IsListed, keys_of, has_key, comes_before, with_entry, without}
-use Rattle.ready_list.proofs.Filters.{all_map, filter_all, not_false, false_from_not}
+use Rattle.ready_list.specs.Entries.{IsListed, keys_of, has_key, without}
+use Rattle.ready_list.proofs.Filters.{all_map, filter_all, not_false}
 
 both_equal : (a b : Ordering) → ordering_then a b ≡ Equal → (a ≡ Equal) × (b ≡ Equal)
 both_equal Less b e = absurd (cc)
@@ -131,33 +131,6 @@ listed_at k es i within at = let r = some_member es i within in (r.0, r.1, key_i
 pub search_tells : (k : ReadyKey) (es : List ReadyEntry) (r : Option ℕ) → IfSome r (λ i. (i < length es) × HoldsAt (λ e. has_key k e ≡ true) es i) → IfNone r (¬ IsListed k es) → IsTrue (is_some r) ↔ IsListed k es
 search_tells k es None found none = (λ e. absurd (true≢false (sym e)), λ has. absurd (none has))
 search_tells k es (Some i) found none = (λ e. listed_at k es i found.0 found.1, λ has. refl)
-
--- an entry that is put in, and those that were there
-pub in_with_entry : (x : ReadyEntry) (es : List ReadyEntry) (e : ReadyEntry) → Contains (with_entry x es) e ↔ ((e ≡ x) ⊎ Contains es e)
-in_with_entry x es e = (out, back)
-  where
-    out : Contains (with_entry x es) e → (e ≡ x) ⊎ Contains es e
-    out has = elim (Contains-append_cases (filter (comes_before x.key) es) (x ∷ filter (λ y. not (comes_before x.key y)) es) e has) [
-      | inl before ↦ inr (contains_from_filter (comes_before x.key) es e before).0
-      | inr later ↦ elim (contains_cases x (filter (λ y. not (comes_before x.key y)) es) e later) [ inl is ↦ inl (sym is) | inr after ↦ inr (contains_from_filter (λ y. not (comes_before x.key y)) es e after).0 ]
-    ]
-
-    old : (b : Bool) → comes_before x.key e ≡ b → Contains es e → Contains (with_entry x es) e
-    old true t has = Contains-append_left (filter (comes_before x.key) es) (x ∷ filter (λ y. not (comes_before x.key y)) es) e (contains_filter (comes_before x.key) es e t has)
-    old false t has =
-        Contains-append_right (filter (comes_before x.key) es) (x ∷ filter (λ y. not (comes_before x.key y)) es) e
-        (contains_later x (filter (λ y. not (comes_before x.key y)) es) e (contains_filter (λ y. not (comes_before x.key y)) es e (not_false (comes_before x.key e) t) has))
-
-    back : (e ≡ x) ⊎ Contains es e → Contains (with_entry x es) e
-    back (inl is) = subst (Contains (with_entry x es)) (sym is) (Contains-append_right (filter (comes_before x.key) es) (x ∷ filter (λ y. not (comes_before x.key y)) es) x (contains_head x (filter (λ y. not (comes_before x.key y)) es)))
-    back (inr has) = old (comes_before x.key e) refl has
-
--- the entries of other keys
-pub in_without : (k : ReadyKey) (es : List ReadyEntry) (e : ReadyEntry) → Contains (without k es) e ↔ (Contains es e × (e.key ≢ k))
-in_without k es e = (
-  λ has. let h = contains_from_filter (λ y. not (has_key k y)) es e has in (h.0, λ is. true≢false (sym (has_its_key e k is) ∙ false_from_not (has_key k e) h.1)),
-  λ h. contains_filter (λ y. not (has_key k y)) es e (not_false (has_key k e) (other_key e k h.1)) h.0,
-)
 
 -- the keys are those of the entries
 pub in_keys : (es : List ReadyEntry) (k : ReadyKey) → Contains (keys_of es) k ↔ IsListed k es

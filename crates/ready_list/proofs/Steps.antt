@@ -91,15 +91,6 @@ not_before (x ∷ before) after k h =
     at_middle [] all = all.0
     at_middle (y ∷ before) all = at_middle before all.1
 
-all_filter : (P : OpKey → Type 0) (p : OpKey → Bool) (xs : Keys) → AllByRecursion P xs → AllByRecursion P (filter p xs)
-all_filter P p [] h = tt
-all_filter P p (x ∷ xs) h = elim (p x) as (λ b. AllByRecursion P (cond b (x ∷ filter p xs) (filter p xs))) [ true ↦ (h.0, all_filter P p xs h.1) | false ↦ all_filter P p xs h.1 ]
-
-distinct_filter : (p : OpKey → Bool) (xs : Keys) → AreDistinctKeys xs → AreDistinctKeys (filter p xs)
-unfolding IsDistinct
-distinct_filter p [] h = tt
-distinct_filter p (x ∷ xs) h = elim (p x) as (λ b. AreDistinctKeys (cond b (x ∷ filter p xs) (filter p xs))) [ true ↦ (all_filter _ p xs h.0, distinct_filter p xs h.1) | false ↦ distinct_filter p xs h.1 ]
-
 all_front : (P : OpKey → Type 0) (xs ys : Keys) → AllByRecursion P (xs ++ ys) → AllByRecursion P xs
 all_front P [] ys h = tt
 all_front P (x ∷ xs) ys h = (h.0, all_front P xs ys h.1)
@@ -126,10 +117,6 @@ module _ (automatic : OpKey → Type 0) (allowed : List OpKey → OpKey → Type
   -- what is chosen stands in the list
   pub chosen_among : (o : OpKey) → is_among before o ≡ false → is_among named o ≡ false
   chosen_among o out = subst (λ (xs : Keys). is_among xs o ≡ false) (sym choice.in_order) (not_among_filter (is_among named) before o out)
-
-  -- and not twice, where nothing in the list does
-  pub chosen_distinct : AreDistinctKeys before → AreDistinctKeys named
-  chosen_distinct h = subst AreDistinctKeys (sym choice.in_order) (distinct_filter (is_among named) before h)
 
   module _ (k : OpKey) (new : is_among before k ≡ false) where
     -- one more that is allowed: it is chosen

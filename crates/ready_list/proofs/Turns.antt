@@ -18,9 +18,6 @@ pub record GoesOn {G : Type 0} (answers : G → OpKey → Bool → G → Type 0)
   pub refused : (r : Refusal) → RefusesInTurn answers refuses (on_automatic left) now r → RefusesInTurn answers refuses (on_automatic all) start r
 
 module _ {G : Type 0} (answers : G → OpKey → Bool → G → Type 0) (refuses : G → OpKey → Refusal → Type 0) (all : List ReadyEntry) (start : G) where
-  pub begins : GoesOn answers refuses all all start start []
-  begins = record { answered = λ rest last h. h; refused = λ r h. h }
-
   module _ (e : ReadyEntry) (left : List ReadyEntry) (now : G) (named : List OpKey) (so_far : GoesOn answers refuses all (e ∷ left) start now named) where
     -- one that isn't on an automatic workstation
     pub not_asked : is_automatic e.attr ≡ false → GoesOn answers refuses all left start now named

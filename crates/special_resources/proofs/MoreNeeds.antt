@@ -1,6 +1,5 @@
 -- One more need behind those that are there, and what needs in order say.
 use Rattle.std.proofs.Common.{◌≡◌, refl, sym, ap, subst, ◌∙◌, arith, suc, List, [], ◌∷◌, ◌++◌, Contains, Some, All, true, get_or}
-use Rattle.std.specs.Prelude.{◌↔◌}
 use Rattle.std.specs.FinMap.{get, insert}
 use Rattle.std.specs.declared.cmp.Ordering.TheVariants.{Less}
 use Rattle.std.proofs.lemmas.List.{append-nil}
@@ -28,12 +27,6 @@ module _ (needs : List Need) (sorted : AreInNameOrder needs) where
 
   pub need_by_usage : (r : Name) (usage : Usage) → get (usages_of needs) r ≡ Some usage → (n : Need) × Contains needs n × (n.name ≡ r) × (usage_of n ≡ usage)
   need_by_usage = members.row_by_got name_cmp name_cmp_total name_cmp-IsAntisymmetric name_of usage_of needs
-
-  pub usage_is_of_need : (r : Name) (usage : Usage) → get (usages_of needs) r ≡ Some usage ↔ ((n : Need) × Contains needs n × (n.name ≡ r) × (usage_of n ≡ usage))
-  usage_is_of_need r usage = (
-    need_by_usage r usage,
-    λ (n, has, name, use_is). subst (λ k. get (usages_of needs) k ≡ Some usage) name (usage_by_need n has ∙ ap (λ u. Some u) use_is),
-  )
 
   -- a name that comes after each need's comes after all that is in use
   pub come_before : (k : Name) → All (λ n. is_lt (name_cmp n.name k) ≡ true) needs → ComeBefore (usages_of needs) k

@@ -3,26 +3,36 @@
 #![tactic(auto)]
 
 #[cfg(test)]
-mod addition_tests;
+mod addition_nights;
 #[cfg(test)]
-mod command_tests;
+mod beginnings;
 #[cfg(test)]
-mod day_tests;
+mod command_nights;
 #[cfg(test)]
-mod latest_tests;
+mod crowds;
 #[cfg(test)]
-mod limit_tests;
+mod day_nights;
+#[cfg(test)]
+mod full_nights;
+#[cfg(test)]
+mod latest_nights;
+#[cfg(test)]
+mod looks;
+#[cfg(test)]
+mod names;
 #[cfg(test)]
 mod nights;
 #[cfg(test)]
-mod pair_tests;
+mod pair_nights;
 #[cfg(test)]
 mod parts;
 #[cfg(test)]
-mod payroll;
+mod report_nights;
 #[cfg(test)]
-mod resource_tests;
+mod requests;
 #[cfg(test)]
-mod tests;
+mod resource_nights;
 #[cfg(test)]
-mod text_tests;
+mod sections;
+#[cfg(test)]
+mod words;

@@ -1,8 +1,7 @@
 // The parts of the texts that are loaded, and of those that come in.
 
 /// Each part has a line with its name and what it holds, and then its records.
-pub const PARTS: &str = "
-STATIONS: workstations of all four attributes
+pub const PARTS: &str = "STATIONS: workstations of all four attributes
 W,CPU1,A,,,,,,,
 W,SETP,S,,,,,,,
 W,PRT1,C,,,,,,,
@@ -302,4 +301,15 @@ D,PAYROLL,2024-03-01T22:00,30,PAYROLL,2024-03-01T22:00,255,,,
 SEVENTEEN: an occurrence with one operation, of an application ID of 17 characters
 O,PAYROLLPAYROLLPAY,2024-03-01T22:00,5,2024-03-02T05:00,,,,,
 P,PAYROLLPAYROLLPAY,2024-03-01T22:00,40,PRT1,20,0,0,,
+
+LATE_SET_UP: a set-up that doesn't start before 22:30 and needs R1, of which its workstation has none
+W,SETP,S,,,,,,,
+I,SETP,2024-03-01T22:00,2024-03-02T02:00,1,0,0,,,
+O,PAYROLL,2024-03-01T22:00,5,2024-03-02T05:00,,,,,
+P,PAYROLL,2024-03-01T22:00,5,SETP,10,1,0,2024-03-01T22:30,
+
+MORE: one more occurrence, of one operation
+O,MORE,2024-03-01T22:00,5,2024-03-02T05:00,,,,,
+P,MORE,2024-03-01T22:00,10,PRT1,30,0,0,,
+
 ";

@@ -7,6 +7,7 @@ use Rattle.std.specs.FinMap.{FinMap, get, from_entries, get-from_entries, nat_cm
 use Rattle.std.specs.FinMap.Entries.{find}
 use Rattle.std.specs.List.Sorted.{IsPermutation}
 use Rattle.std.proofs.lemmas.List.Sorted.{Contains-permutation, IsPermutation-sym}
+use Rattle.std.proofs.lemmas.Option.{same_Some, none-some}
 use Rattle.plan_basics.specs.Intervals.{OpenInterval, IsInterval, IsOpenAt}
 use Rattle.workstations.specs.declared.Capacity.{Capacity}
 use Rattle.std.proofs.lemmas.List.Elements.{All-contains}
@@ -18,12 +19,6 @@ use Rattle.workstations.proofs.Spans.{one_open, one_start}
 
 abbrev entries_of : List OpenInterval → List (ℕ × OpenInterval)
 entries_of items = map (λ x. (x.from, x)) items
-
-same_some : {A : Type 0} (x y : A) → Some x ≡ Some y → x ≡ y
-same_some x y e = cc
-
-none_is_not_some : {A : Type 0} (x : A) → None ≡ Some x → ⊥
-none_is_not_some x e = cc
 
 contains_head : {A : Type 0} (x : A) (xs : List A) → Contains (x ∷ xs) x
 contains_head x xs = (0, omega arith, refl)
@@ -40,11 +35,11 @@ contains_none k (i, h, e) = omega arith
 
 -- what is found at a minute is of the list, and begins then
 pub found_among : (items : List OpenInterval) (k : ℕ) (x : OpenInterval) → find nat_cmp k (entries_of items) ≡ Some x → (k ≡ x.from) × Contains items x
-found_among [] k x e = absurd (none_is_not_some x e)
+found_among [] k x e = absurd (none-some x e)
 found_among (y ∷ items) k x e = at_head (eq_by_cmp nat_cmp k y.from) refl e (found_among items k x)
   where
     at_head : (b : Bool) → eq_by_cmp nat_cmp k y.from ≡ b → cond b (Some y) (find nat_cmp k (entries_of items)) ≡ Some x → (find nat_cmp k (entries_of items) ≡ Some x → (k ≡ x.from) × Contains items x) → (k ≡ x.from) × Contains (y ∷ items) x
-    at_head true t h rest = let same : y ≡ x = same_some y x h in (nat_cmp-IsAntisymmetric k y.from ((Equal-is (nat_cmp k y.from)).0 t) ∙ ap (λ z. z.from) same, subst (Contains (y ∷ items)) same (contains_head y items))
+    at_head true t h rest = let same : y ≡ x = same_Some y x h in (nat_cmp-IsAntisymmetric k y.from ((Equal-is (nat_cmp k y.from)).0 t) ∙ ap (λ z. z.from) same, subst (Contains (y ∷ items)) same (contains_head y items))
     at_head false t h rest = let r = rest h in (r.0, contains_later y items x r.1)
 
 -- what is of the list, and alone begins at its minute, is found there
@@ -127,18 +122,18 @@ capacity_some name attr items xs self m i r t same view is all c = (
   λ e.
       let h = (all i).0 refl in
       let found = capacity_by items t (workstation_by name attr items).1 m i (subst (λ ys. Contains ys i) same h.0) h.1 in
-      subst (HasCapacity self.1 m) (sym is ∙ same_some r c e) (subst (λ w. HasCapacity w.1 m (capacity_of i)) view found),
+      subst (HasCapacity self.1 m) (sym is ∙ same_Some r c e) (subst (λ w. HasCapacity w.1 m (capacity_of i)) view found),
   λ h.
       let f = capacity_from items (workstation_by name attr items).1 m c (subst (λ w. HasCapacity w.1 m c) (sym view) h) in
-      let one : i ≡ f.0 = same_some i f.0 ((all f.0).1 (subst (λ ys. Contains ys f.0) (sym same) f.1, f.2)) in
+      let one : i ≡ f.0 = same_Some i f.0 ((all f.0).1 (subst (λ ys. Contains ys f.0) (sym same) f.1, f.2)) in
       ap Some (is ∙ ap capacity_of one ∙ sym f.3),
 )
 
 -- and no capacity where none is found
 pub capacity_none : (name : Name) (attr : Attr) (items xs : List OpenInterval) (self : NamedWorkstation) (m : ℕ) → xs ≡ items → workstation_by name attr items ≡ self → ((x : OpenInterval) → (None ≡ Some x) ↔ (Contains xs x × IsOpenAt x m)) → (c : Capacity) → (None ≡ Some c) ↔ HasCapacity self.1 m c
 capacity_none name attr items xs self m same view all c = (
-  λ e. absurd (none_is_not_some c e),
+  λ e. absurd (none-some c e),
   λ h.
       let f = capacity_from items (workstation_by name attr items).1 m c (subst (λ w. HasCapacity w.1 m c) (sym view) h) in
-      absurd (none_is_not_some f.0 ((all f.0).1 (subst (λ ys. Contains ys f.0) (sym same) f.1, f.2))),
+      absurd (none-some f.0 ((all f.0).1 (subst (λ ys. Contains ys f.0) (sym same) f.1, f.2))),
 )

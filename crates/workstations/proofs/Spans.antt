@@ -41,10 +41,6 @@ apart_moved xs ys moved apart i j d lt within =
 abbrev pub EndsBefore : OpenInterval → OpenInterval → Type 0
 EndsBefore a b = a.end ≤ b.from
 
--- in order of time they are apart
-pub apart_from_order : (xs : List OpenInterval) → AllPairs EndsBefore xs → AllPairs AreApart xs
-apart_from_order xs order i j d lt within = inl (order i j d lt within)
-
 -- what a walk over the intervals knows once it has passed k of them: from when on the next may begin
 pub record IsPassed (xs : List OpenInterval) (k free : ℕ) : Type 0 where
   pub each : (i : ℕ) (d : OpenInterval) → i < k → IsInterval (get_or xs i d)

@@ -5,7 +5,7 @@ use Rattle.plan_basics.specs.Keys.{operation_cmp}
 use Rattle.plan_basics.specs.declared.keys.OpKey.{OpKey}
 use Rattle.plan_model.specs.Plan.{Operation, pair_cmp}
 use Rattle.plan_model.specs.Revise.{joined}
-use Rattle.plan_changes.specs.Adding.{AreApart, HaveNoneOf}
+use Rattle.plan_changes.specs.Adding.{ShareNoKey, ShareNoMember}
 use Rattle.plan_changes.proofs.AddedRows.{copy_apart, plan_added}
 use Rattle.plan_changes.proofs.Merging.{single_up}
 use Rattle.plan_changes.proofs.adding.with_addition.Goals as goal
@@ -24,7 +24,7 @@ add_operations-requires-clause-old c = ((c.in_ok-new.ensures 0).1 c.requires.in_
 
 pub add_operations-requires-clause-apart : goal.add_operations-requires-clause-apart
 add_operations-requires-clause-apart c =
-    subst (λ (rows : List (OpKey × Operation)). AreApart {R = operation_cmp} (from_entries c.in_ok-new.new.operations.items) (from_entries rows)) (sym c.deref.ensures.value)
+    subst (λ (rows : List (OpKey × Operation)). ShareNoKey {R = operation_cmp} (from_entries c.in_ok-new.new.operations.items) (from_entries rows)) (sym c.deref.ensures.value)
     (copy_apart c.args.contents.now c.in_ok-new.new c.in_ok-new.ensures c.parts-parts.result.now c.args.addition.now c.parts-parts.ensures.view c.requires.apart).operations
 
 pub add_pairs-requires-clause-old : goal.add_pairs-requires-clause-old
@@ -32,7 +32,7 @@ add_pairs-requires-clause-old c = ((c.in_ok-new.ensures 0).1 c.requires.in_order
 
 pub add_pairs-requires-clause-apart : goal.add_pairs-requires-clause-apart
 add_pairs-requires-clause-apart c =
-    subst (λ (pairs : List (OpKey × OpKey)). HaveNoneOf {R = pair_cmp} (set.from_list c.in_ok-new.new.pairs.items) (set.from_list pairs)) (sym c.deref-2.ensures.value)
+    subst (λ (pairs : List (OpKey × OpKey)). ShareNoMember {R = pair_cmp} (set.from_list c.in_ok-new.new.pairs.items) (set.from_list pairs)) (sym c.deref-2.ensures.value)
     (copy_apart c.args.contents.now c.in_ok-new.new c.in_ok-new.ensures c.parts-parts.result.now c.args.addition.now c.parts-parts.ensures.view c.requires.apart).pairs
 
 pub returns-clause-plan : goal.returns-clause-plan

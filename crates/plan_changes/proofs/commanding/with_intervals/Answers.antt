@@ -5,7 +5,8 @@ use Rattle.std.specs.Map.{keys_of}
 use Rattle.plan_basics.specs.Keys.{Name, name_cmp}
 use Rattle.workstations.specs.Workstations.{Workstation}
 use Rattle.plan_records.specs.Contents.{plan_of}
-use Rattle.plan_changes.proofs.Commanded.{IsChanged, is_taken, opened, reopened_in, workstation_left, workstation_put}
+use Rattle.plan_changes.specs.Opening.{opened}
+use Rattle.plan_changes.proofs.Commanded.{IsChanged, is_taken, reopened_in, workstation_left, workstation_put}
 use Rattle.plan_changes.proofs.commanding.with_intervals.Goals as goal
 use Rattle.plan_changes.proofs.commanding.with_intervals.Goals.{in-Some+in_ok-own, in_default}
 

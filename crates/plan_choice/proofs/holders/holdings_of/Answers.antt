@@ -1,8 +1,8 @@
 use Rattle.std.proofs.Common.{◌≡◌, arith, sym, ap, subst, ◌∙◌, ◌≤◌, Some, length, slice_get}
-use Rattle.std.proofs.lemmas.Option.{slice_get-get_or}
 use Rattle.special_resources.specs.Holdings.{HoldingState}
 use Rattle.plan_model.specs.Plan.{Operation}
 use Rattle.plan_status.proofs.LoadedRows.{row_found}
+use Rattle.plan_status.proofs.RowKeys.{row_shown}
 use Rattle.plan_choice.specs.Taking.{HaveTaken}
 use Rattle.plan_choice.proofs.HeldRows.{AreHeldAmong, none_held, row_holds_none, row_takes, rows_held}
 use Rattle.plan_choice.proofs.holders.holdings_of.Goals as goal
@@ -10,9 +10,7 @@ use Rattle.plan_choice.proofs.holders.holdings_of.Goals.{After-row-item, then-st
 
 -- the row that is gone through
 row : (c : After-row-item) → slice_get c.args.contents.now.operations.items c.loop-row.row-index ≡ Some c.row-item.result
-row c =
-    subst (λ rows. slice_get rows c.loop-row.row-index ≡ Some c.row-item.result) c.deref-row-items.ensures.value
-    (slice_get-get_or c.deref-row-items.result.now c.loop-row.row-index c.row-item.result c.loop-row-test.true ∙ ap Some (sym c.row-item.is))
+row c = row_shown c.deref-row-items.result.now _ c.deref-row-items.ensures.value c.loop-row.row-index c.row-item.result c.loop-row-test.true c.row-item.is
 
 pub starts_are_known-requires-clause-operation : goal.starts_are_known-requires-clause-operation
 starts_are_known-requires-clause-operation c = (c.row-item.result.0, row_found c.args.contents.now c.requires c.loop-row.row-index c.row-item.result.0 c.row-item.result.1 (row c))

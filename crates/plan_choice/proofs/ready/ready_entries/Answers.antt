@@ -9,7 +9,8 @@ use Rattle.plan_model.specs.Starting.{IsLatestStart}
 use Rattle.plan_model.specs.Status.{IsReady}
 use Rattle.plan_records.specs.Contents.{plan_of}
 use Rattle.plan_records.proofs.RowPlaces.{row_at}
-use Rattle.plan_choice.proofs.Readied.{next_passed, next_ready, ready_all, row_found}
+use Rattle.plan_status.proofs.LoadedRows.{row_found}
+use Rattle.plan_choice.proofs.Readied.{next_passed, next_ready, ready_all}
 use Rattle.plan_choice.proofs.ready.ready_entries.Goals as goal
 use Rattle.plan_choice.proofs.ready.ready_entries.Goals.{then-is_ready+in_ok-push, else-is_ready}
 

@@ -4,7 +4,8 @@ use Rattle.std.proofs.lemmas.Int.{ints}
 use Rattle.plan_basics.specs.Keys.{occurrence_cmp}
 use Rattle.plan_basics.specs.declared.keys.OpKey.{OpKey}
 use Rattle.plan_model.specs.Plan.{Operation}
-use Rattle.plan_choice.proofs.Readied.{is_entry, occurrence_known}
+use Rattle.plan_status.proofs.LoadedRows.{its_occurrence}
+use Rattle.plan_choice.proofs.Readied.{is_entry}
 use Rattle.plan_choice.proofs.ready.ready_entry.Goals as goal
 
 pub priority_of-requires-clause-known : goal.priority_of-requires-clause-known
@@ -12,7 +13,7 @@ priority_of-requires-clause-known c =
     let key : c.row.inside.0.0 ≡ c.args.row.now.0 = ap (λ (z : OpKey × Operation). z.0) c.row.view_is in
     subst (λ rows. is_some (get {R = occurrence_cmp} (from_entries rows) c.row.inside.0.0.occurrence) ≡ true) (sym c.deref.ensures.value)
     (subst (λ (q : OpKey). is_some (get {R = occurrence_cmp} (from_entries c.args.contents.now.occurrences.items) q.occurrence) ≡ true) (sym key)
-    (occurrence_known c.args.contents.now c.requires.contents c.args.row.now.0 c.args.row.now.1 c.requires.row))
+    (its_occurrence c.args.contents.now c.requires.contents c.args.row.now.0 c.args.row.now.1 c.requires.row))
 
 pub returns-clause-entry : goal.returns-clause-entry
 returns-clause-entry c =

@@ -1,8 +1,8 @@
 use Rattle.std.proofs.Common.{arith, ◌≡◌, ◌<◌, ◌≤◌, sym, ap, subst, ◌∙◌, Some, length, slice_get}
 use Rattle.std.proofs.lemmas.List.{take_all}
-use Rattle.std.proofs.lemmas.Option.{slice_get-get_or}
 use Rattle.plan_model.specs.Plan.{Operation}
 use Rattle.plan_status.proofs.LoadedRows.{row_found}
+use Rattle.plan_status.proofs.RowKeys.{row_shown}
 use Rattle.plan_choice.specs.Taking.{IsAtMost}
 use Rattle.plan_choice.proofs.GivenPlaces.{own_place, read_at}
 use Rattle.plan_choice.proofs.GivenRows.{before_at_most, given_before, row_counted, row_passed, rows_counted}
@@ -11,9 +11,7 @@ use Rattle.plan_choice.proofs.taken.given_out_of.Goals.{then-holds_a_server, els
 
 -- the row that is gone through
 row : (c : After-row-item) → slice_get c.args.contents.now.operations.items c.loop-row.row-index ≡ Some c.row-item.result
-row c =
-    subst (λ rows. slice_get rows c.loop-row.row-index ≡ Some c.row-item.result) c.deref-row-items.ensures.value
-    (slice_get-get_or c.deref-row-items.result.now c.loop-row.row-index c.row-item.result c.loop-row-test.true ∙ ap Some (sym c.row-item.is))
+row c = row_shown c.deref-row-items.result.now _ c.deref-row-items.ensures.value c.loop-row.row-index c.row-item.result c.loop-row-test.true c.row-item.is
 
 pub holds_a_server-requires-clause-operation : goal.holds_a_server-requires-clause-operation
 holds_a_server-requires-clause-operation c = (c.row-item.result.0, row_found c.args.contents.now c.requires c.loop-row.row-index c.row-item.result.0 c.row-item.result.1 (row c))

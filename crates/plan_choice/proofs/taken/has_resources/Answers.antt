@@ -2,7 +2,7 @@ use Rattle.std.proofs.Common.{◌≡◌, sym, ap, subst, ◌∙◌, arith, refl,
 use Rattle.special_resources.specs.Needs.{usages_of}
 use Rattle.plan_model.specs.Plan.{Operation, Resources}
 use Rattle.plan_records.specs.Contents.{plan_of}
-use Rattle.plan_choice.specs.Taking.{AreFree, IsFree}
+use Rattle.plan_choice.specs.Taking.{CanMeetNeeds, CanMeetNeed}
 use Rattle.plan_choice.proofs.FreeResources.{all_free, one_busy}
 use Rattle.plan_choice.proofs.taken.has_resources.Goals as goal
 
@@ -14,9 +14,9 @@ returns-then-not-has_resource c =
     let items = c.as_slice-need-items.result.now in
     let same : c.args.operation.now.needs ≡ usages_of items = ap (λ (op : Operation). op.needs) (sym c.operation.view_is) ∙ c.as_slice-need-items.ensures.usages in
     let has : Contains items c.need-item.result = (c.loop-need.need-index, c.loop-need-test.true, sym c.need-item.is) in
-    let busy : ¬ IsFree resources held o c.need-item.result = λ free. true≢false (sym (c.has_resource.ensures.1 free) ∙ c.if-not-has_resource.true) in (
+    let busy : ¬ CanMeetNeed resources held o c.need-item.result = λ free. true≢false (sym (c.has_resource.ensures.1 free) ∙ c.if-not-has_resource.true) in (
       λ never. absurd (true≢false (sym never)),
-      λ free. absurd (one_busy resources held o items c.as_slice-need-items.ensures.in_order c.need-item.result has busy (subst (λ needs. AreFree resources held o needs) same free)),
+      λ free. absurd (one_busy resources held o items c.as_slice-need-items.ensures.in_order c.need-item.result has busy (subst (λ needs. CanMeetNeeds resources held o needs) same free)),
     )
 
 pub returns : goal.returns
@@ -27,4 +27,4 @@ returns c =
     let items = c.as_slice-need-items.result.now in
     let same : c.args.operation.now.needs ≡ usages_of items = ap (λ (op : Operation). op.needs) (sym c.operation.view_is) ∙ c.as_slice-need-items.ensures.usages in
     let passed = c.loop-need-test.false in
-    (λ _. subst (λ needs. AreFree resources held o needs) (sym same) (all_free resources held o items c.as_slice-need-items.ensures.in_order (λ k d lt. c.loop-need.invariant k d (omega (arith, lt, passed)))), λ _. refl)
+    (λ _. subst (λ needs. CanMeetNeeds resources held o needs) (sym same) (all_free resources held o items c.as_slice-need-items.ensures.in_order (λ k d lt. c.loop-need.invariant k d (omega (arith, lt, passed)))), λ _. refl)

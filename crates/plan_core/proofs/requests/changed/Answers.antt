@@ -9,7 +9,7 @@ use Rattle.plan_records.specs.declared.contents.PlanContents.{PlanContents}
 use Rattle.status_rules.specs.declared.Mark.TheVariants as mark
 use Rattle.plan_core.specs.Requested.{AreMadeBy}
 use Rattle.plan_changes.proofs.Answered.{if_ok}
-use Rattle.plan_changes.proofs.Commanded.{opened}
+use Rattle.plan_changes.specs.Opening.{opened}
 use Rattle.plan_core.proofs.Made.{clear_of, has_addition, if_alike, if_made, if_marked, open_by}
 use Rattle.plan_core.proofs.requests.changed.Goals as goal
 use Rattle.plan_core.proofs.requests.changed.Goals.{in-Tick, in-Started, in-Ended2, in-Error, in-Interrupted, in-Unknown, in-Hold, in-Release, in-Nop, in-Unnop}

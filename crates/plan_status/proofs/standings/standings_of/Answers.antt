@@ -1,12 +1,13 @@
-use Rattle.std.proofs.Common.{rules, arith, ◌≡◌, ◌+◌, sym, subst, ◌∙◌, ap, length, slice_index_or}
-use Rattle.std.proofs.lemmas.Option.{slice_get-get_or, slice_get_within}
+use Rattle.std.proofs.Common.{rules, arith, ◌≡◌, ◌+◌, ℕ, ap, ◌∙◌, length, slice_index_or}
+use Rattle.std.proofs.lemmas.Option.{slice_get-get_or}
 use Rattle.std.specs.FinSet.{from_list}
 use Rattle.plan_model.specs.Plan.{pair_cmp}
 use Rattle.plan_records.specs.Contents.{plan_of}
 use Rattle.plan_status.specs.Incoming.{IsOperationOn}
-use Rattle.plan_status.proofs.InTurn.{AreAllInTurn, comes_after, few_edges, pair_at, pair_of, pairs_all, pairs_more, pairs_so_far}
+use Rattle.plan_status.proofs.InTurn.{AreAllInTurn, IsPairAt, all_shown, comes_after, ends_within, few_edges, pair_below, pair_of, pairs_all, pairs_more, pairs_so_far}
 use Rattle.plan_status.proofs.RowStandings.{at_most_first, at_most_more, row_known, standing_at, standings_all, standings_first, standings_more}
 use Rattle.plan_status.proofs.standings.standings_of.Goals as goal
+use Rattle.plan_status.proofs.standings.standings_of.Goals.{After-index}
 
 pub loop-before-init : goal.loop-before-init
 loop-before-init c =
@@ -17,102 +18,66 @@ loop-before-init c =
       at_most = at_most_first c.len.result c.in_ok-standings.standings.items all;
     }
 
+-- all edges of the graph, in turn
+all_edges : (c : After-index) → AreAllInTurn c.args.graph.now c.deref-before-items.result.now
+all_edges c = all_shown c.args.graph.now c.deref-before-items.result.now _ c.deref-before-items.ensures.value c.in_ok-edges_in_turn.ensures.edges c.in_ok-edges_in_turn.ensures.in_turn
+
+-- the edge that is gone through
+abbrev edge : After-index → ℕ × ℕ
+edge c = slice_index_or c.deref-before-items.result.now c.loop-before.before-index (0, 0)
+
+joined : (c : After-index) → IsPairAt c.args.contents.now (edge c)
+joined c = pair_below c.args.contents.now c.requires.contents c.args.graph.now c.requires.graph c.deref-before-items.result.now (all_edges c) c.loop-before.before-index c.loop-before-test.true
+
 pub index-requires : goal.index-requires
 index-requires c =
     let contents = c.args.contents.now in
-    let graph = c.args.graph.now in
     let edges = c.deref-before-items.result.now in
     let i = c.loop-before.before-index in
-    let e = slice_index_or edges i (0, 0) in
-    let lt = c.loop-before-test.true in
     let told = c.in_ok-edges_in_turn.ensures in
-    let all = subst (AreAllInTurn graph) (sym c.deref-before-items.ensures.value) (record { different = told.edges.0; listed = told.edges.1; turn = told.in_turn }) in
-    let at = slice_get-get_or edges i (0, 0) lt in
-    let pair = pair_at contents c.requires.contents graph c.requires.graph edges all i lt e at in
-    let within = slice_get_within contents.operations.items e.0 ((pair_of contents.operations.items e).0, pair.before) pair.first in
-    omega (arith, within, contents.operations.ok.0)
+    let all = all_shown c.args.graph.now edges _ c.deref-before-items.ensures.value told.edges told.in_turn in
+    let within = ends_within contents (slice_index_or edges i (0, 0)) (pair_below contents c.requires.contents c.args.graph.now c.requires.graph edges all i c.loop-before-test.true) in
+    omega (arith, within.0, contents.operations.ok.0)
 
 pub attribute_of-attr-requires-clause-operation : goal.attribute_of-attr-requires-clause-operation
 attribute_of-attr-requires-clause-operation c =
     let contents = c.args.contents.now in
-    let graph = c.args.graph.now in
-    let edges = c.deref-before-items.result.now in
-    let i = c.loop-before.before-index in
-    let e = slice_index_or edges i (0, 0) in
-    let lt = c.loop-before-test.true in
-    let told = c.in_ok-edges_in_turn.ensures in
-    let all = subst (AreAllInTurn graph) (sym c.deref-before-items.ensures.value) (record { different = told.edges.0; listed = told.edges.1; turn = told.in_turn }) in
-    let at = slice_get-get_or edges i (0, 0) lt in
-    let pair = pair_at contents c.requires.contents graph c.requires.graph edges all i lt e at in
-    let key = (pair_of contents.operations.items e).0 in
-    (key, row_known contents.operations.items c.requires.contents.in_order.operations e.0 key pair.before pair.first c.index.result.now c.index.ensures)
+    let a : After-index = (goal.at.attribute_of-attr-requires-clause-operation c).After-index in
+    let pair = joined a in
+    let key = (pair_of contents.operations.items (edge a)).0 in
+    (key, row_known contents.operations.items c.requires.contents.in_order.operations (edge a).0 key pair.before pair.first c.index.result.now c.index.ensures)
 
 pub index-requires-in-loop-before : goal.index-requires-in-loop-before
 index-requires-in-loop-before c =
-    let contents = c.args.contents.now in
-    let graph = c.args.graph.now in
-    let edges = c.deref-before-items.result.now in
-    let i = c.loop-before.before-index in
-    let e = slice_index_or edges i (0, 0) in
-    let lt = c.loop-before-test.true in
-    let told = c.in_ok-edges_in_turn.ensures in
-    let all = subst (AreAllInTurn graph) (sym c.deref-before-items.ensures.value) (record { different = told.edges.0; listed = told.edges.1; turn = told.in_turn }) in
-    let at = slice_get-get_or edges i (0, 0) lt in
-    let pair = pair_at contents c.requires.contents graph c.requires.graph edges all i lt e at in
-    let within = slice_get_within contents.operations.items e.1 ((pair_of contents.operations.items e).1, pair.after) pair.second in
-    let size = c.loop-before.invariant.so_far.size in
-    omega (arith, within, size, c.loop-before.standings.ok.0)
+    let a : After-index = (goal.at.index-requires-in-loop-before c).After-index in
+    let within = ends_within c.args.contents.now (edge a) (joined a) in
+    omega (arith, within.1, c.loop-before.invariant.so_far.size, c.loop-before.standings.ok.0)
 
 pub index-requires-in-loop-before-2 : goal.index-requires-in-loop-before-2
 index-requires-in-loop-before-2 c =
-    let contents = c.args.contents.now in
-    let graph = c.args.graph.now in
-    let edges = c.deref-before-items.result.now in
-    let i = c.loop-before.before-index in
-    let e = slice_index_or edges i (0, 0) in
-    let lt = c.loop-before-test.true in
-    let told = c.in_ok-edges_in_turn.ensures in
-    let all = subst (AreAllInTurn graph) (sym c.deref-before-items.ensures.value) (record { different = told.edges.0; listed = told.edges.1; turn = told.in_turn }) in
-    let at = slice_get-get_or edges i (0, 0) lt in
-    let pair = pair_at contents c.requires.contents graph c.requires.graph edges all i lt e at in
-    let within = slice_get_within contents.operations.items e.0 ((pair_of contents.operations.items e).0, pair.before) pair.first in
-    let size = c.loop-before.invariant.so_far.size in
-    omega (arith, within, size, c.loop-before.standings.ok.0)
+    let a : After-index = (goal.at.index-requires-in-loop-before-2 c).After-index in
+    let within = ends_within c.args.contents.now (edge a) (joined a) in
+    omega (arith, within.0, c.loop-before.invariant.so_far.size, c.loop-before.standings.ok.0)
 
 pub standing_after-requires : goal.standing_after-requires
 standing_after-requires c =
     let contents = c.args.contents.now in
-    let graph = c.args.graph.now in
-    let edges = c.deref-before-items.result.now in
-    let i = c.loop-before.before-index in
-    let e = slice_index_or edges i (0, 0) in
-    let lt = c.loop-before-test.true in
-    let told = c.in_ok-edges_in_turn.ensures in
-    let all = subst (AreAllInTurn graph) (sym c.deref-before-items.ensures.value) (record { different = told.edges.0; listed = told.edges.1; turn = told.in_turn }) in
-    let at = slice_get-get_or edges i (0, 0) lt in
-    let pair = pair_at contents c.requires.contents graph c.requires.graph edges all i lt e at in
+    let rows = contents.operations.items in
+    let a : After-index = (goal.at.standing_after-requires c).After-index in
+    let e = edge a in
+    let pair = joined a in
     let standing = c.index-in-loop-before.result.now in
     let invariant = c.loop-before.invariant in
-    let here = standing_at contents.operations.items e.1 ((pair_of contents.operations.items e).1, pair.after) pair.second c.loop-before.standings.items invariant.so_far.size standing c.index-in-loop-before.ensures in
+    let here = standing_at rows e.1 ((pair_of rows e).1, pair.after) pair.second c.loop-before.standings.items invariant.so_far.size standing c.index-in-loop-before.ensures in
     let most = invariant.at_most e.1 standing here in
-    let few = few_edges contents c.requires.contents graph c.requires.graph edges all in
-    omega (arith, lt, few, most)
+    let few = few_edges contents c.requires.contents c.args.graph.now c.requires.graph c.deref-before-items.result.now (all_edges a) in
+    omega (arith, c.loop-before-test.true, few, most)
 
 pub index_mut-requires : goal.index_mut-requires
 index_mut-requires c =
-    let contents = c.args.contents.now in
-    let graph = c.args.graph.now in
-    let edges = c.deref-before-items.result.now in
-    let i = c.loop-before.before-index in
-    let e = slice_index_or edges i (0, 0) in
-    let lt = c.loop-before-test.true in
-    let told = c.in_ok-edges_in_turn.ensures in
-    let all = subst (AreAllInTurn graph) (sym c.deref-before-items.ensures.value) (record { different = told.edges.0; listed = told.edges.1; turn = told.in_turn }) in
-    let at = slice_get-get_or edges i (0, 0) lt in
-    let pair = pair_at contents c.requires.contents graph c.requires.graph edges all i lt e at in
-    let within = slice_get_within contents.operations.items e.1 ((pair_of contents.operations.items e).1, pair.after) pair.second in
-    let size = c.loop-before.invariant.so_far.size in
-    omega (arith, within, size, c.loop-before.standings.ok.0)
+    let a : After-index = (goal.at.index_mut-requires c).After-index in
+    let within = ends_within c.args.contents.now (edge a) (joined a) in
+    omega (arith, within.1, c.loop-before.invariant.so_far.size, c.loop-before.standings.ok.0)
 
 pub loop-before-preserved : goal.loop-before-preserved
 loop-before-preserved c =
@@ -120,12 +85,12 @@ loop-before-preserved c =
     let graph = c.args.graph.now in
     let edges = c.deref-before-items.result.now in
     let i = c.loop-before.before-index in
-    let e = slice_index_or edges i (0, 0) in
+    let a : After-index = (goal.at.loop-before-preserved c).After-index in
+    let e = edge a in
     let lt = c.loop-before-test.true in
-    let told = c.in_ok-edges_in_turn.ensures in
-    let all = subst (AreAllInTurn graph) (sym c.deref-before-items.ensures.value) (record { different = told.edges.0; listed = told.edges.1; turn = told.in_turn }) in
+    let all = all_edges a in
     let at = slice_get-get_or edges i (0, 0) lt in
-    let pair = pair_at contents c.requires.contents graph c.requires.graph edges all i lt e at in
+    let pair = joined a in
     let rows = contents.operations.items in
     let sorted = c.requires.contents.in_order.operations in
     let keys = pair_of rows e in
@@ -153,7 +118,7 @@ returns-clause-standings c clock =
     let graph = c.args.graph.now in
     let edges = c.deref-before-items.result.now in
     let told = c.in_ok-edges_in_turn.ensures in
-    let all = subst (AreAllInTurn graph) (sym c.deref-before-items.ensures.value) (record { different = told.edges.0; listed = told.edges.1; turn = told.in_turn }) in
+    let all = all_shown graph edges _ c.deref-before-items.ensures.value told.edges told.in_turn in
     let n = c.loop-before.before-index in
     let past = c.loop-before-test.false in
     let is : n ≡ length edges = omega (arith, past, c.loop-before.auto.before-index-end) in

@@ -2,11 +2,10 @@ use Rattle.std.proofs.Common.{◌≡◌, ◌<◌, ◌+◌, ◌∷◌, ◌∙◌,
 use Rattle.std.proofs.lemmas.List.{get_or_read, drop_more, drop_all}
 use Rattle.std.proofs.lemmas.List.Elements.{Contains-get_or}
 use Rattle.operation_graph.specs.Adjacency.{rows_of}
-use Rattle.operation_graph.specs.Walks.{IsVisit}
 use Rattle.operation_graph.specs.declared.walking.Walk.{Walk}
 use Rattle.operation_graph.proofs.Members.{contains_head}
 use Rattle.operation_graph.proofs.Opened.{length_rows}
-use Rattle.operation_graph.proofs.Reaching.{visit_ended, visit_passed, visit_met}
+use Rattle.operation_graph.proofs.Reaching.{IsVisit, visit_ended, visit_passed, visit_met}
 use Rattle.operation_graph.proofs.walking.Walk.visit.Goals as goal
 use Rattle.operation_graph.proofs.walking.Walk.visit.Goals.{then-live-next+then-not-index+in_ok-push, else-live-next, else-live-next-via-then-live-next+else-not-index, else-live-next-via-else-live-next}
 

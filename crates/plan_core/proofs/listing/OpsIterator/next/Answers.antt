@@ -1,27 +1,23 @@
-use Rattle.std.proofs.Common.{◌≡◌, ◌≤◌, ◌+◌, arith, length, ◌∷◌, sym, ap, subst, ◌∙◌}
-use Rattle.plan_core.proofs.FromPlace.{fewer, no_ops_left, one_left}
+use Rattle.std.proofs.Common.{◌≡◌, ◌≤◌, ◌+◌, arith, length, ◌∷◌, subst}
+use Rattle.plan_core.proofs.FromPlace.{fewer, length_ops, none_from, rest_from}
 use Rattle.plan_core.proofs.listing.OpsIterator.next.Goals as goal
-use Rattle.plan_core.specs.Views.{IsHeldIfLoaded, op_views, ops_from}
+use Rattle.plan_core.specs.Views.{IsHeldIfLoaded, op_views, views_from}
 
 pub returns-then-place-len-clause-steps : goal.returns-then-place-len-clause-steps
 returns-then-place-len-clause-steps c =
-    let h = c.in_ok-loaded.loaded.now in
-    let past : length h.contents.operations.items ≤ c.self.inside.place = omega (arith, c.if-place-len.true, c.len.ensures, h.contents.operations.ok.0) in
-    let held = subst IsHeldIfLoaded c.in_ok-loaded.was c.self.invariant in
-    let none = sym c.self.view_is ∙ ap (λ l. ops_from l c.self.inside.place) c.in_ok-loaded.was ∙ no_ops_left h held c.self.inside.place past in
+    let h = c.in_ok-loaded.loaded in
+    let size = length_ops h.now (subst IsHeldIfLoaded c.in_ok-loaded.was c.self.invariant) in
+    let past : length (op_views h.now) ≤ c.self.inside.place = omega (arith, c.if-place-len.true, c.len.ensures, h.now.contents.operations.ok.0, size) in
+    let none = none_from op_views c.args.self.now c.self.inside.loaded c.self.inside.place h c.self.view_is c.in_ok-loaded.was past in
     (none, none)
 
-rest_is : (c : goal.After-op_view) → c.args.self.now ≡ c.op_view.result ∷ ops_from c.self.inside.loaded (c.self.inside.place + 1)
-rest_is c =
-    sym c.self.view_is
-    ∙ ap (λ l. ops_from l c.self.inside.place) c.in_ok-loaded.was
-    ∙ one_left (op_views c.in_ok-loaded.loaded.now) c.self.inside.place c.op_view.result c.op_view.ensures
-    ∙ ap (λ l. c.op_view.result ∷ ops_from l (c.self.inside.place + 1)) (sym c.in_ok-loaded.was)
+rest_is : (c : goal.After-op_view) → c.args.self.now ≡ c.op_view.result ∷ views_from op_views c.self.inside.loaded (c.self.inside.place + 1)
+rest_is c = rest_from op_views c.args.self.now c.self.inside.loaded c.self.inside.place c.in_ok-loaded.loaded c.self.view_is c.in_ok-loaded.was c.op_view.result c.op_view.ensures
 
 pub returns-clause-steps : goal.returns-clause-steps
 returns-clause-steps c = rest_is c
 
 pub returns-clause-goes : goal.returns-clause-goes
 returns-clause-goes c =
-    let less = fewer c.args.self.now (ops_from c.self.inside.loaded (c.self.inside.place + 1)) c.op_view.result (rest_is c) in
+    let less = fewer c.args.self.now (views_from op_views c.self.inside.loaded (c.self.inside.place + 1)) c.op_view.result (rest_is c) in
     record { on = λ finite. (tt, tt, less); keeps = tt; rests = λ finite. tt }

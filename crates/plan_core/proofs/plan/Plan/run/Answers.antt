@@ -1,14 +1,15 @@
 use Rattle.std.proofs.Common.{rules, refl, subst, List, ◌≡◌, ◌+◌, ◌++◌, ◌∷◌, [], take, map, cond, length, length-append, sym, ap, ◌∙◌, arith}
 use Rattle.std.specs.Result.{is_ok}
-use Rattle.std.proofs.lemmas.List.{map-append, take_more}
+use Rattle.std.proofs.lemmas.List.{map-append, take_all, take_more}
 use Rattle.plan_records.specs.Answer.{answer_of}
 use Rattle.plan_records.specs.Run.{Run, plain, usable}
 use Rattle.plan_records.specs.declared.Reply.{Reply}
 use Rattle.plan_records.specs.declared.Request.{Request}
-use Rattle.plan_core.proofs.Answering.{run_more}
+use Rattle.plan_core.proofs.Answering.{accepted_answer_all, run_more}
 use Rattle.plan_core.proofs.Preparing.{seen_sound}
 use Rattle.plan_core.proofs.Provided.{answered_sound, provided_more}
 use Rattle.plan_core.specs.Provided.{RunStartsAreProvided}
+use Rattle.plan_core.specs.State.{AnswersAll}
 use Rattle.plan_core.proofs.plan.Plan.run.Goals as goal
 
 pub loop-request-init : goal.loop-request-init
@@ -48,3 +49,12 @@ returns-in_err-replies-clause-sound c = seen_sound c.self.inside.clock c.self.in
 
 pub returns-clause-sound : goal.returns-clause-sound
 returns-clause-sound c = c.loop-request.invariant.sound
+
+pub returns-clause-alone : goal.returns-clause-alone
+returns-clause-alone c =
+    let P = c.args.self.now.plan in
+    let requests = c.args.requests.now in
+    let answers = map answer_of c.loop-request.replies.items in
+    let whole = take_all c.loop-request.request-index requests (let ge = c.loop-request-test.false in omega (arith, ge)) in
+    let all : AnswersAll P requests answers c.loop-request.self.plan = subst (λ (qs : List Request). AnswersAll P qs answers c.loop-request.self.plan) whole c.loop-request.invariant.so_far in
+    accepted_answer_all P c.loop-request.self.plan requests answers all

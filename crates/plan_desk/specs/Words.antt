@@ -1,0 +1,17 @@
+-- The words that the program is given, and those that it tells a fault by.
+use Rattle.std.specs.Prelude.{ℕ, List, [], Option, Some, None, codes}
+use Rattle.plan_desk.specs.declared.desk.Fault.{Fault}
+use Rattle.plan_desk.specs.declared.desk.Fault.TheVariants as fault
+
+-- the text of an option's value; empty where it has none
+abbrev pub text_or_empty : Option (List ℕ) → List ℕ
+text_or_empty (Some text) = text
+text_or_empty None = []
+
+-- what is told of a fault
+abbrev pub fault_text : Fault → List ℕ
+fault_text fault.Encoding = codes "fault words (not UTF-8)"
+fault_text fault.Words = codes "fault words"
+fault_text fault.Moment = codes "fault moment"
+fault_text fault.File = codes "fault file"
+fault_text fault.Memory = codes "fault memory"
