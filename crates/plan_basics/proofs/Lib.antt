@@ -1,8 +1,10 @@
 pub mod DigitLemmas
 pub mod CivilTexts
 pub mod MinuteLaws
+pub mod MomentTexts
 pub mod OptionLemmas
 pub mod YearLemmas
 pub mod KeyLaws
 pub mod PaddingLemmas
 pub mod NameTexts
+pub mod Members
