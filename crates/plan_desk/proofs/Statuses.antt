@@ -1,6 +1,8 @@
--- The exit statuses are small numbers.
-use Rattle.std.proofs.Common.{arith, ◌≤◌}
-use Rattle.plan_desk.specs.Statuses.{ending_status, fault_status}
+-- The exit statuses are small numbers, and an error of the system is a fault of the surroundings.
+use Rattle.std.proofs.Common.{ℕ, Result, Ok, Err, inl, inr, refl, arith, ◌≤◌}
+use Rattle.std.specs.declared.io.ErrorKind.{ErrorKind}
+use Rattle.std.specs.declared.io.ErrorKind.TheVariants as kind
+use Rattle.plan_desk.specs.Statuses.{ending_status, fault_status, fault_of_kind, IsOfSurroundings, IsStatusOf}
 use Rattle.plan_desk.specs.declared.desk.Ending.{Ending}
 use Rattle.plan_desk.specs.declared.desk.Ending.TheVariants as ending
 use Rattle.plan_desk.specs.declared.desk.Fault.{Fault}
@@ -17,3 +19,12 @@ fault_at_most fault.Words = omega arith
 fault_at_most fault.Moment = omega arith
 fault_at_most fault.File = omega arith
 fault_at_most fault.Memory = omega arith
+
+pub status_at_most : (outcome : Result Ending Fault) → (status : ℕ) → IsStatusOf outcome status → status ≤ 3
+status_at_most (Ok e) status is = rw is (ending_at_most e)
+status_at_most (Err f) status (inl is) = rw is (fault_at_most f)
+status_at_most (Err f) status (inr is) = rw is (omega arith)
+
+pub of_the_surroundings : (k : ErrorKind) → IsOfSurroundings (fault_of_kind k)
+of_the_surroundings kind.OutOfMemory = refl
+of_the_surroundings _ = refl

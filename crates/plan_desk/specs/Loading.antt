@@ -1,5 +1,5 @@
 -- What the load of a text's plan is answered where no plan is loaded.
-use Rattle.std.specs.Prelude.{◌≡◌, ◌⊎◌, ℤ, Option, Result, Ok, Err, Vec}
+use Rattle.std.specs.Prelude.{◌≡◌, ◌⊎◌, ℕ, ℤ, List, Option, MatchOption, Result, Ok, Err, Vec}
 use Rattle.std.specs.declared.alloc.Global.{Global}
 use Rattle.plan_basics.specs.declared.keys.OpKey.{OpKey}
 use Rattle.plan_basics.specs.declared.Refusal.{Refusal}
@@ -9,6 +9,11 @@ use Rattle.plan_records.specs.declared.Request.{Request}
 use Rattle.plan_records.specs.declared.What.TheVariants.{Load}
 use Rattle.plan_records.specs.Answer.{accepted, refused}
 use Rattle.plan_records.specs.Step.{Step}
+use Rattle.plan_import.specs.Texts.{TextDenotes}
+
+-- the plan that a text denotes; or none, where it denotes none
+abbrev pub IsPlanOf : List ℕ → Option Plan → Type 0
+IsPlanOf text found = MatchOption found ((P : Plan) → ¬ TextDenotes text P) (λ draft. TextDenotes text draft)
 
 -- the load of a draft at a minute; of none, for a text that denotes none
 abbrev pub load_request : ℤ → Option Plan → Request

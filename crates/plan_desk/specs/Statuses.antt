@@ -1,8 +1,10 @@
 -- The statuses that the program ends with, and the faults that errors of its surroundings are.
-use Rattle.std.specs.Prelude.{ℕ, Result, Ok, Err, Vec}
+use Rattle.std.specs.Prelude.{◌≡◌, ◌≢◌, ◌⊎◌, ℕ, Result, Ok, Err, Vec}
 use Rattle.std.specs.declared.alloc.Global.{Global}
 use Rattle.std.specs.declared.io.ErrorKind.{ErrorKind}
 use Rattle.std.specs.declared.io.ErrorKind.TheVariants as kind
+use Rattle.clap.specs.declared.error.kind.ErrorKind.{ErrorKind as WordsKind}
+use Rattle.clap.specs.declared.error.kind.ErrorKind.TheVariants as words
 use Rattle.plan_basics.specs.declared.Refusal.{Refusal}
 use Rattle.plan_basics.specs.declared.keys.OpKey.{OpKey}
 use Rattle.plan_import.specs.declared.ImportFault.{ImportFault}
@@ -26,6 +28,10 @@ fault_status fault.Moment = 2
 fault_status fault.File = 3
 fault_status fault.Memory = 3
 
+-- the surroundings are at fault: a file, a stream or memory
+abbrev pub IsOfSurroundings : Fault → Type 0
+IsOfSurroundings f = fault_status f ≡ 3
+
 -- want of memory, or else a file's or a stream's fault
 abbrev pub fault_of_kind : ErrorKind → Fault
 fault_of_kind kind.OutOfMemory = fault.Memory
@@ -36,7 +42,27 @@ abbrev pub fault_of_import : ImportFault → Fault
 fault_of_import import_fault.Reader = fault.File
 fault_of_import import_fault.Memory = fault.Memory
 
+-- where the program's words can't be had: want of memory, or else one isn't UTF-8
+abbrev pub fault_of_words_kind : ErrorKind → Fault
+fault_of_words_kind kind.OutOfMemory = fault.Memory
+fault_of_words_kind _ = fault.Encoding
+
 -- how a run ends that has told this answer
 abbrev pub ending_of : Result (Vec OpKey Global) Refusal → Ending
 ending_of (Ok named) = ending.Done
 ending_of (Err r) = ending.Refused
+
+-- what is said of the words is a complaint: neither help nor the version
+abbrev pub IsComplaint : WordsKind → Type 0
+IsComplaint k = (k ≢ words.DisplayHelp) × (k ≢ words.DisplayVersion)
+
+-- a run that has told what is to be said of the words: misunderstood where that is a complaint, else done
+abbrev pub EndsExplaining : WordsKind → Ending → Type 0
+EndsExplaining k ending.Done = ¬ IsComplaint k
+EndsExplaining k ending.Refused = ⊥
+EndsExplaining k ending.Misunderstood = IsComplaint k
+
+-- the exit status of a run: its ending's, or its fault's, or 3 where that can't be told
+abbrev pub IsStatusOf : Result Ending Fault → ℕ → Type 0
+IsStatusOf (Ok e) status = status ≡ ending_status e
+IsStatusOf (Err f) status = (status ≡ fault_status f) ⊎ (status ≡ 3)

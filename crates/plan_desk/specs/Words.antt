@@ -1,5 +1,7 @@
 -- The words that the program is given, and those that it tells a fault by.
 use Rattle.std.specs.Prelude.{ℕ, List, [], Option, Some, None, codes}
+use Rattle.clap.specs.Matches.{first_value}
+use Rattle.clap.specs.declared.parser.matches.Found.{Found}
 use Rattle.plan_desk.specs.declared.desk.Fault.{Fault}
 use Rattle.plan_desk.specs.declared.desk.Fault.TheVariants as fault
 
@@ -7,6 +9,10 @@ use Rattle.plan_desk.specs.declared.desk.Fault.TheVariants as fault
 abbrev pub text_or_empty : Option (List ℕ) → List ℕ
 text_or_empty (Some text) = text
 text_or_empty None = []
+
+-- the text that the words give an option
+abbrev pub text_given : Found → List ℕ → List ℕ
+text_given found name = text_or_empty (first_value found name)
 
 -- what is told of a fault
 abbrev pub fault_text : Fault → List ℕ

@@ -1,7 +1,12 @@
 // One run of the desk: from its words to its answer and the status that it ends with.
-ghost use Rattle.std.specs.Prelude.{◌≡◌, ◌⊎◌, ◌≤◌, IfOk};
-ghost use Rattle.plan_desk.specs.Loading.{IsAnswerToLoad};
-ghost use Rattle.plan_desk.specs.Statuses.{ending_of, fault_status};
+ghost use Rattle.std.specs.Prelude.{◌≡◌, ◌↔◌, ◌⊎◌, ◌≤◌, ℤ, IsOk, IfOk, IfErr, IfSome, codes};
+ghost use Rattle.clap.specs.Matches.{found_of};
+ghost use Rattle.clap.specs.Values.{kind_of};
+ghost use Rattle.plan_basics.specs.Minutes.{IsMinuteText};
+ghost use Rattle.plan_desk.specs.Loading.{IsAnswerToLoad, IsPlanOf};
+ghost use Rattle.plan_desk.specs.Statuses.{ending_of, EndsExplaining, fault_status, IsOfSurroundings, IsStatusOf};
+ghost use Rattle.plan_desk.specs.Words.{text_given};
+ghost use Rattle.plan_desk.specs.declared.desk.Fault.{Fault};
 
 use crate::words::{desk_command, value_of};
 use clap::ArgMatches;
@@ -11,7 +16,7 @@ use plan_core::Plan;
 use plan_import::{ImportFault, read_plan};
 use plan_records::{PlanDraft, Request, What};
 use std::alloc::{AllocError, Global};
-use std::io::Write;
+use std::io::{Read, Write};
 use std::{fmt, fs, io};
 
 /// How a run ends that has told its answer.
@@ -56,7 +61,18 @@ pub enum Fault {
 }
 
 impl Fault {
-    ghost use Rattle.plan_desk.specs.Statuses.{fault_status};
+    ghost use Rattle.std.specs.IoError.{error_kind};
+    ghost use Rattle.plan_desk.specs.Statuses.{fault_status, fault_of_words_kind};
+
+    /// The fault where the words that the program was started with can't be had.
+    pub fn of_words(error: &io::Error) -> Fault
+        ensures { result ≡ fault_of_words_kind (error_kind error.now) }
+    {
+        match error.kind() {
+            io::ErrorKind::OutOfMemory => Fault::Memory,
+            _ => Fault::Encoding,
+        }
+    }
 
     /// The exit status: 2 where the words or the moment are at fault, 3 where the surroundings are.
     pub fn status(self) -> u8
@@ -126,10 +142,24 @@ impl From<ImportFault> for Fault {
     }
 }
 
-/// The plan that a file's text denotes, if it denotes one.
-fn plan_in_file(rt: &HostRuntime, path: &str) -> Result<Option<PlanDraft>, Fault> {
-    let mut reader = Watched::new(fs::open(rt, path)?);
-    Ok(read_plan(rt.alloc(), &mut reader)?)
+/// The moment that the words give.
+fn moment_of(given: &ArgMatches) -> Result<i64, Fault>
+    ensures minute { IfOk result (IsMinuteText (text_given (found_of given.now) (codes "at"))) }
+    ensures exact { IsOk result ↔ ((z : ℤ) × IsMinuteText (text_given (found_of given.now) (codes "at")) z) }
+    ensures fault { IfErr result (λ fault. fault ≡ Fault.Moment) }
+{
+    match minute_of_text(value_of(given, "at").as_bytes()) {
+        Some(at) => Ok(at),
+        None => Err(Fault::Moment),
+    }
+}
+
+/// The plan that the text of a source denotes, if it denotes one.
+fn plan_of<R: Read + Drop>(alloc: Global, source: R) -> Result<Option<PlanDraft>, Fault>
+    ensures plan { IfOk result (λ found. IfSome (R.remaining source) (λ text. IsPlanOf text found)) }
+    ensures fault { IfErr result IsOfSurroundings }
+{
+    Ok(read_plan(alloc, &mut Watched::new(source))?)
 }
 
 /// What an empty plan answers to the load of a text at a moment: the keys that it names, or the refusal.
@@ -146,11 +176,13 @@ fn load(alloc: Global, at: i64, draft: Option<PlanDraft>) -> Result<Vec<OpKey>, 
 }
 
 /// Tells an answer: that it is accepted and a line for each key that it names, or the refusal.
+#[tactic(auto, using(crate::proofs::Statuses::of_the_surroundings))]
 fn tell<W: Write>(
     out: &mut Watched<W>,
     answer: &Result<Vec<OpKey>, Refusal>,
 ) -> Result<Ending, Fault>
-    ensures { IfOk result (λ ending. ending ≡ ending_of answer.now) }
+    ensures ending { IfOk result (λ ending. ending ≡ ending_of answer.now) }
+    ensures fault { IfErr result IsOfSurroundings }
 {
     match answer {
         Ok(named) => {
@@ -173,17 +205,21 @@ fn check<W: Write>(
     given: &ArgMatches,
     out: &mut Watched<W>,
 ) -> Result<Ending, Fault> {
-    let at = minute_of_text(value_of(given, "at").as_bytes()).ok_or(Fault::Moment)?;
-    let draft = plan_in_file(rt, value_of(given, "plan"))?;
+    let at = moment_of(given)?;
+    let draft = plan_of(rt.alloc(), fs::open(rt, value_of(given, "plan"))?)?;
     tell(out, &load(rt.alloc(), at, draft))
 }
 
 /// Tells what `clap` has to say where it hands out no words: help on standard output, else what is wrong with them.
+#[tactic(auto, using(crate::proofs::Statuses::of_the_surroundings))]
 fn explain<W: Write, E: Write>(
     error: &Error,
     out: &mut Watched<W>,
     err: &mut Watched<E>,
-) -> Result<Ending, Fault> {
+) -> Result<Ending, Fault>
+    ensures ending { IfOk result (EndsExplaining (kind_of error.now)) }
+    ensures fault { IfErr result IsOfSurroundings }
+{
     if error.kind() == ErrorKind::OutOfMemory {
         return Err(Fault::Memory);
     }
@@ -226,10 +262,20 @@ pub fn tell_fault<E: Write>(fault: Fault, err: &mut Watched<E>) -> u8
     }
 }
 
+/// The exit status of a run: that of its ending, or of its fault, which is told.
+fn status_of<E: Write>(outcome: Result<Ending, Fault>, err: &mut Watched<E>) -> u8
+    ensures { IsStatusOf outcome result }
+{
+    match outcome {
+        Ok(ending) => ending.status(),
+        Err(fault) => tell_fault(fault, err),
+    }
+}
+
 /// Runs the desk with these words, of which the first is the program's name, and gives the exit status: 0 accepted or
 /// done, 1 refused, 2 a fault of the words or the moment, 3 a fault of a file, a standard stream or memory outside the
 /// plan. Answers go to `out`, faults to `err`. (The words and their meaning: this project's own.)
-#[tactic(auto, using(crate::proofs::Statuses::ending_at_most, crate::proofs::Statuses::fault_at_most))]
+#[tactic(auto, using(crate::proofs::Statuses::status_at_most))]
 pub fn desk_run<W: Write, E: Write>(
     rt: &HostRuntime,
     words: &[String],
@@ -238,8 +284,5 @@ pub fn desk_run<W: Write, E: Write>(
 ) -> u8
     ensures { result ≤ 3 }
 {
-    match obey(rt, words, out, err) {
-        Ok(ending) => ending.status(),
-        Err(fault) => tell_fault(fault, err),
-    }
+    status_of(obey(rt, words, out, err), err)
 }

@@ -8,16 +8,13 @@ mod words;
 
 use desk::{Fault, desk_run, tell_fault};
 use plan_basics::Watched;
+use std::env;
 use std::process::ExitCode;
-use std::{env, io};
 
 /// The words that the program was started with. One that isn't UTF-8 is a fault.
 fn own_words(rt: &HostRuntime) -> Result<Vec<String>, Fault> {
     let mut words = Vec::new(rt.alloc());
-    let given = env::args(rt).map_err(|error| match error.kind() {
-        io::ErrorKind::OutOfMemory => Fault::Memory,
-        _ => Fault::Encoding,
-    })?;
+    let given = env::args(rt).map_err(|error| Fault::of_words(&error))?;
     for word in given {
         words.push(word).map_err(|_| Fault::Memory)?;
     }

@@ -49,151 +49,166 @@ fn own_folder(rt: &HostRuntime, name: &str) -> Result<PathBuf, Fail> {
     Ok(folder)
 }
 
-/// A text of a plan at a moment, and what the run answers: standard output and the status.
+// The lines of a small plan: a workstation, its interval, an occurrence, its operations 10 and 20, and their dependency.
+const STATION: &[u8] = b"W,CPU1,A,,,,,,,";
+
+const OPEN: &[u8] = b"I,CPU1,1972-01-01T00:00,2071-12-31T23:59,2,0,0,,,";
+
+const DAILY: &[u8] = b"O,DAILY,2024-03-01T22:00,5,2024-03-02T05:00,,,,,";
+
+const FIRST: &[u8] = b"P,DAILY,2024-03-01T22:00,10,CPU1,30,0,0,,";
+
+const SECOND: &[u8] = b"P,DAILY,2024-03-01T22:00,20,CPU1,60,0,0,,";
+
+const PAIR: &[u8] = b"D,DAILY,2024-03-01T22:00,10,DAILY,2024-03-01T22:00,20,,,";
+
+/// What a run answers: standard output and the status.
+type Answer = (&'static str, u8);
+
+const FIRST_STARTS: Answer = ("accepted\nstarts DAILY/2024-03-01T22:00/010\n", 0);
+
+const BAD_PLAN: Answer = ("refused 21 BadPlan\n", 1);
+
+const NIGHT: &str = "2024-03-01T22:00";
+
+/// The lines of a plan's text, what ends each, and a moment; and what the run answers.
 struct Row {
     what: &'static str,
-    text: &'static [u8],
+    lines: &'static [&'static [u8]],
+    end: &'static [u8],
     at: &'static str,
-    out: &'static str,
-    status: u8,
+    answer: Answer,
 }
 
 const ROWS: [Row; 11] = [
     Row {
         what: "the successor waits",
-        text: b"W,CPU1,A,,,,,,,
-I,CPU1,1972-01-01T00:00,2071-12-31T23:59,2,0,0,,,
-O,DAILY,2024-03-01T22:00,5,2024-03-02T05:00,,,,,
-P,DAILY,2024-03-01T22:00,10,CPU1,30,0,0,,
-P,DAILY,2024-03-01T22:00,20,CPU1,60,0,0,,
-D,DAILY,2024-03-01T22:00,10,DAILY,2024-03-01T22:00,20,,,
-",
-        at: "2024-03-01T22:00",
-        out: "accepted\nstarts DAILY/2024-03-01T22:00/010\n",
-        status: 0,
+        lines: &[STATION, OPEN, DAILY, FIRST, SECOND, PAIR],
+        end: b"\n",
+        at: NIGHT,
+        answer: FIRST_STARTS,
     },
     Row {
         what: "both start, in the order of their keys",
-        text: b"W,CPU1,A,,,,,,,
-I,CPU1,1972-01-01T00:00,2071-12-31T23:59,2,0,0,,,
-O,DAILY,2024-03-01T22:00,5,2024-03-02T05:00,,,,,
-P,DAILY,2024-03-01T22:00,10,CPU1,30,0,0,,
-P,DAILY,2024-03-01T22:00,20,CPU1,30,0,0,,
-",
-        at: "2024-03-01T22:00",
-        out: "accepted\nstarts DAILY/2024-03-01T22:00/010\nstarts DAILY/2024-03-01T22:00/020\n",
-        status: 0,
+        lines: &[
+            STATION,
+            OPEN,
+            DAILY,
+            FIRST,
+            b"P,DAILY,2024-03-01T22:00,20,CPU1,30,0,0,,",
+        ],
+        end: b"\n",
+        at: NIGHT,
+        answer: (
+            "accepted\nstarts DAILY/2024-03-01T22:00/010\nstarts DAILY/2024-03-01T22:00/020\n",
+            0,
+        ),
     },
     Row {
         what: "lines that end in CR LF",
-        text: b"W,CPU1,A,,,,,,,\r\nI,CPU1,1972-01-01T00:00,2071-12-31T23:59,2,0,0,,,\r\nO,DAILY,2024-03-01T22:00,5,2024-03-02T05:00,,,,,\r\nP,DAILY,2024-03-01T22:00,10,CPU1,30,0,0,,\r\nP,DAILY,2024-03-01T22:00,20,CPU1,60,0,0,,\r\nD,DAILY,2024-03-01T22:00,10,DAILY,2024-03-01T22:00,20,,,\r\n",
-        at: "2024-03-01T22:00",
-        out: "accepted\nstarts DAILY/2024-03-01T22:00/010\n",
-        status: 0,
+        lines: &[STATION, OPEN, DAILY, FIRST, SECOND, PAIR],
+        end: b"\r\n",
+        at: NIGHT,
+        answer: FIRST_STARTS,
     },
     Row {
         what: "an interval's end is outside",
-        text: b"W,CPU1,A,,,,,,,
-I,CPU1,1972-01-01T00:00,2071-12-31T23:59,2,0,0,,,
-O,DAILY,2024-03-01T22:00,5,2024-03-02T05:00,,,,,
-P,DAILY,2024-03-01T22:00,10,CPU1,30,0,0,,
-",
+        lines: &[STATION, OPEN, DAILY, FIRST],
+        end: b"\n",
         at: "2071-12-31T23:59",
-        out: "accepted\n",
-        status: 0,
+        answer: ("accepted\n", 0),
     },
     Row {
         what: "no moment",
-        text: b"W,CPU1,A,,,,,,,
-I,CPU1,1972-01-01T00:00,2071-12-31T23:59,2,0,0,,,
-O,DAILY,2024-03-01T22:00,5,2024-03-02T05:00,,,,,
-P,DAILY,2024-03-01T22:00,10,CPU1,30,0,0,,
-",
+        lines: &[STATION, OPEN, DAILY, FIRST],
+        end: b"\n",
         at: "2072-01-01T00:00",
-        out: "refused 2 MomentRange\n",
-        status: 1,
+        answer: ("refused 2 MomentRange\n", 1),
     },
     Row {
         what: "an empty text",
-        text: b"",
-        at: "2024-03-01T22:00",
-        out: "refused 21 BadPlan\n",
-        status: 1,
+        lines: &[],
+        end: b"\n",
+        at: NIGHT,
+        answer: BAD_PLAN,
     },
     Row {
         what: "the byte 255 in a name",
-        text: b"W,CPU1,A,,,,,,,
-I,CPU1,1972-01-01T00:00,2071-12-31T23:59,2,0,0,,,
-O,D\xffILY,2024-03-01T22:00,5,2024-03-02T05:00,,,,,
-P,D\xffILY,2024-03-01T22:00,10,CPU1,30,0,0,,
-",
-        at: "2024-03-01T22:00",
-        out: "refused 21 BadPlan\n",
-        status: 1,
+        lines: &[
+            STATION,
+            OPEN,
+            b"O,D\xffILY,2024-03-01T22:00,5,2024-03-02T05:00,,,,,",
+            b"P,D\xffILY,2024-03-01T22:00,10,CPU1,30,0,0,,",
+        ],
+        end: b"\n",
+        at: NIGHT,
+        answer: BAD_PLAN,
     },
     Row {
         what: "a record of nine fields",
-        text: b"W,CPU1,A,,,,,,,
-I,CPU1,1972-01-01T00:00,2071-12-31T23:59,2,0,0,,,
-O,DAILY,2024-03-01T22:00,5,2024-03-02T05:00,,,,
-P,DAILY,2024-03-01T22:00,10,CPU1,30,0,0,,
-",
-        at: "2024-03-01T22:00",
-        out: "refused 21 BadPlan\n",
-        status: 1,
+        lines: &[
+            STATION,
+            OPEN,
+            b"O,DAILY,2024-03-01T22:00,5,2024-03-02T05:00,,,,",
+            FIRST,
+        ],
+        end: b"\n",
+        at: NIGHT,
+        answer: BAD_PLAN,
     },
     Row {
         what: "a pair twice",
-        text: b"W,CPU1,A,,,,,,,
-I,CPU1,1972-01-01T00:00,2071-12-31T23:59,2,0,0,,,
-O,DAILY,2024-03-01T22:00,5,2024-03-02T05:00,,,,,
-P,DAILY,2024-03-01T22:00,10,CPU1,30,0,0,,
-P,DAILY,2024-03-01T22:00,20,CPU1,60,0,0,,
-D,DAILY,2024-03-01T22:00,10,DAILY,2024-03-01T22:00,20,,,
-D,DAILY,2024-03-01T22:00,10,DAILY,2024-03-01T22:00,20,,,
-",
-        at: "2024-03-01T22:00",
-        out: "refused 21 BadPlan\n",
-        status: 1,
+        lines: &[STATION, OPEN, DAILY, FIRST, SECOND, PAIR, PAIR],
+        end: b"\n",
+        at: NIGHT,
+        answer: BAD_PLAN,
     },
     Row {
         what: "a special resource",
-        text: b"W,CPU1,A,,,,,,,
-I,CPU1,1972-01-01T00:00,2071-12-31T23:59,2,0,0,,,
-X,CUSTFILE,Y,,,,,,,
-O,DAILY,2024-03-01T22:00,5,2024-03-02T05:00,,,,,
-P,DAILY,2024-03-01T22:00,10,CPU1,30,0,0,,
-",
-        at: "2024-03-01T22:00",
-        out: "accepted\nstarts DAILY/2024-03-01T22:00/010\n",
-        status: 0,
+        lines: &[STATION, OPEN, b"X,CUSTFILE,Y,,,,,,,", DAILY, FIRST],
+        end: b"\n",
+        at: NIGHT,
+        answer: FIRST_STARTS,
     },
     Row {
         what: "a need of no resource",
-        text: b"W,CPU1,A,,,,,,,
-I,CPU1,1972-01-01T00:00,2071-12-31T23:59,2,0,0,,,
-O,DAILY,2024-03-01T22:00,5,2024-03-02T05:00,,,,,
-P,DAILY,2024-03-01T22:00,10,CPU1,30,0,0,,
-N,DAILY,2024-03-01T22:00,10,CUSTFILE,X,K,,,
-",
-        at: "2024-03-01T22:00",
-        out: "refused 21 BadPlan\n",
-        status: 1,
+        lines: &[
+            STATION,
+            OPEN,
+            DAILY,
+            FIRST,
+            b"N,DAILY,2024-03-01T22:00,10,CUSTFILE,X,K,,,",
+        ],
+        end: b"\n",
+        at: NIGHT,
+        answer: BAD_PLAN,
     },
 ];
+
+/// The text of a row's lines.
+fn text_of(alloc: Global, row: &Row) -> Result<Vec<u8>, AllocError> {
+    let mut text = Vec::new(alloc);
+    for line in row.lines {
+        text.extend_from_slice(line)?;
+        text.extend_from_slice(row.end)?;
+    }
+    Ok(text)
+}
 
 #[test]
 fn texts_and_their_answers(rt: HostRuntime) -> Result<(), Fail> {
     let folder = own_folder(&rt, "answers")?;
     let plan = folder.join(rt.alloc(), "plan.csv")?;
     for row in &ROWS {
-        fs::write(&rt, plan.as_path(), row.text)?;
+        let text = text_of(rt.alloc(), row)?;
+        fs::write(&rt, plan.as_path(), text.as_slice())?;
         let words = ["plandesk", "check", "--plan", plan.as_str(), "--at", row.at];
         let ran = run(&rt, words.as_slice())?;
         let what = row.what;
-        assert_eq!(rt; ran.out.as_str(), row.out, "{what}");
+        let (out, status) = row.answer;
+        assert_eq!(rt; ran.out.as_str(), out, "{what}");
         assert_eq!(rt; ran.err.as_str(), "", "{what}");
-        assert_eq!(rt; ran.status, row.status, "{what}");
+        assert_eq!(rt; ran.status, status, "{what}");
     }
     fs::remove_dir_all(&rt, folder.as_path())?;
     Ok(())
@@ -206,9 +221,9 @@ fn faults_of_the_moment_and_the_file(rt: HostRuntime) -> Result<(), Fail> {
     for (plan, at, told, status) in [
         (absent.as_str(), "2024-3-1", "fault moment\n", 2u8),
         (absent.as_str(), "", "fault moment\n", 2),
-        (absent.as_str(), "2024-03-01T22:00", "fault file\n", 3),
-        (folder.as_str(), "2024-03-01T22:00", "fault file\n", 3),
-        ("", "2024-03-01T22:00", "fault file\n", 3),
+        (absent.as_str(), NIGHT, "fault file\n", 3),
+        (folder.as_str(), NIGHT, "fault file\n", 3),
+        ("", NIGHT, "fault file\n", 3),
     ] {
         let words = ["plandesk", "check", "--plan", plan, "--at", at];
         let ran = run(&rt, words.as_slice())?;
@@ -247,13 +262,19 @@ fn help_is_no_fault(rt: HostRuntime) -> Result<(), Fail> {
     Ok(())
 }
 
-/// A stream that takes nothing.
+/// A stream that fails: at each write, or only where it is to pass on what it took.
 #[derive(Drop)]
-struct Closed;
+struct Failing {
+    takes: bool,
+}
 
-impl Write for Closed {
-    fn write(&mut self, _buf: &[u8]) -> io::Result<usize> {
-        Err(io::Error::from(io::ErrorKind::BrokenPipe))
+impl Write for Failing {
+    fn write(&mut self, buf: &[u8]) -> io::Result<usize> {
+        if self.takes {
+            Ok(buf.len())
+        } else {
+            Err(io::Error::from(io::ErrorKind::BrokenPipe))
+        }
     }
 
     fn flush(&mut self) -> io::Result<()> {
@@ -266,30 +287,25 @@ fn faults_of_the_streams(rt: HostRuntime) -> Result<(), Fail> {
     let folder = own_folder(&rt, "streams")?;
     let plan = folder.join(rt.alloc(), "plan.csv")?;
     fs::write(&rt, plan.as_path(), "")?;
-    let words = [
-        "plandesk",
-        "check",
-        "--plan",
-        plan.as_str(),
-        "--at",
-        "2024-03-01T22:00",
-    ];
+    let words = ["plandesk", "check", "--plan", plan.as_str(), "--at", NIGHT];
     let words = words_of(rt.alloc(), words.as_slice())?;
-    let mut err: Vec<u8> = Vec::new(rt.alloc());
-    let status = desk_run(
-        &rt,
-        words.as_slice(),
-        &mut Watched::new(Closed),
-        &mut Watched::new(&mut err),
-    );
-    assert_eq!(rt; err.as_slice(), b"fault file\n".as_slice());
-    assert_eq!(rt; status, 3);
+    for takes in [false, true] {
+        let mut err: Vec<u8> = Vec::new(rt.alloc());
+        let status = desk_run(
+            &rt,
+            words.as_slice(),
+            &mut Watched::new(Failing { takes }),
+            &mut Watched::new(&mut err),
+        );
+        assert_eq!(rt; err.as_slice(), b"fault file\n".as_slice(), "{takes}");
+        assert_eq!(rt; status, 3, "{takes}");
+    }
     let none = words_of(rt.alloc(), ["plandesk"].as_slice())?;
     let status = desk_run(
         &rt,
         none.as_slice(),
-        &mut Watched::new(Closed),
-        &mut Watched::new(Closed),
+        &mut Watched::new(Failing { takes: false }),
+        &mut Watched::new(Failing { takes: false }),
     );
     assert_eq!(rt; status, 3);
     fs::remove_dir_all(&rt, folder.as_path())?;

@@ -1,7 +1,7 @@
 // The words of the command line: the subcommands and their options.
 ghost use Rattle.std.specs.Prelude.{◌≡◌};
-ghost use Rattle.clap.specs.Matches.{first_value, found_of};
-ghost use Rattle.plan_desk.specs.Words.{text_or_empty};
+ghost use Rattle.clap.specs.Matches.{found_of};
+ghost use Rattle.plan_desk.specs.Words.{text_given};
 
 use clap::{Arg, ArgAction, ArgMatches, Command};
 use std::alloc::{AllocError, Global};
@@ -34,7 +34,7 @@ pub fn desk_command<'a>(alloc: Global) -> Result<Command<'a>, AllocError> {
 
 /// The value of a required option, which a parse that succeeded has given.
 pub fn value_of<'a>(given: &ArgMatches<'a>, name: &str) -> &'a str
-    ensures { result.now ≡ text_or_empty (first_value (found_of given.now) name.now) }
+    ensures { result.now ≡ text_given (found_of given.now) name.now }
 {
     given.get_str(name).unwrap_or("")
 }
