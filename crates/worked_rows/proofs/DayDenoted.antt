@@ -1,5 +1,5 @@
 -- The records of the small plan denote it.
-use Rattle.std.proofs.Common.{rules, arith, ◌≡◌, ◌≢◌, inl, inr, refl, sym, ◌∙◌, ap, subst, pos, ℕ, zero, suc, ◌<◌, true, cond, List, [], ◌∷◌, length, Option, option_map, Some, None, All, AllPairs, Contains, true≢false, is_some}
+use Rattle.std.proofs.Common.{rules, arith, ◌≡◌, ◌≢◌, inl, refl, sym, ◌∙◌, ap, pos, ℕ, zero, suc, ◌<◌, true, cond, List, [], ◌∷◌, length, Option, option_map, Some, None, All, AllPairs, Contains, true≢false, is_some}
 use Rattle.std.specs.Prelude.{slice_index_or, ◌==◌}
 use Rattle.std.specs.List.{AllZip}
 use Rattle.std.specs.Fmt.{digits}
@@ -10,7 +10,7 @@ use Rattle.plan_basics.specs.declared.Attr.{Attr}
 use Rattle.plan_basics.specs.declared.Attr.TheVariants.{Automatic}
 use Rattle.plan_basics.specs.declared.keys.OpKey.{OpKey}
 use Rattle.plan_basics.specs.Intervals.{interval_by}
-use Rattle.plan_basics.specs.Keys.{IsOperationKey, name_cmp, name_cmp_total, occurrence_cmp_total}
+use Rattle.plan_basics.specs.Keys.{IsOperationKey, name_cmp, name_cmp_total, name_cmp-IsAntisymmetric, occurrence_cmp_total, occurrence_cmp-IsAntisymmetric}
 use Rattle.plan_basics.specs.Minutes.{IsMomentText}
 use Rattle.plan_items.specs.declared.Item.{Item}
 use Rattle.plan_items.specs.declared.Item.TheVariants as item
@@ -24,8 +24,8 @@ use Rattle.plan_records.specs.Records.{Denotes, IsItemOfPlan, StandsIn, key_of}
 use Rattle.plan_laws.proofs.Looks.{found_key}
 use Rattle.worked_rows.specs.Day.{always_open, cpu1, daily, day, evening, first, lasting, morning, occurrence, second}
 use Rattle.worked_rows.specs.DayText.{arrival_text, day_records, deadline_text, first_minute, last_minute}
-use Rattle.worked_rows.proofs.DayLoad.{cpu1_name, daily_key, day_is_draft, occurrence_cases, of_both, one_occurrence, one_workstation, only_pair, open_interval, station_cases}
-use Rattle.worked_rows.proofs.Literal.{entry_of}
+use Rattle.worked_rows.proofs.DayLoad.{cpu1_name, daily_key, day_is_draft, of_both, one_occurrence, one_workstation, only_pair, open_interval}
+use Rattle.worked_rows.proofs.Literal.{each_entry, each_key}
 use Rattle.worked_rows.proofs.Moments.{first_of_march, second_of_march}
 use Rattle.worked_rows.proofs.Small.{first_is, first_precedes, second_is}
 
@@ -163,22 +163,12 @@ operation_said : (o : OpKey) (op : Operation) → get day.operations o ≡ Some 
 operation_said = of_both (λ o op. IsSaid (key.Operation o)) first_said second_said
 
 all_held : (k : RowKey) → IsItemOfPlan day k → IsSaid k
-all_held (key.Workstation w) has =
-    let found = found_key (get day.workstations w) has in
-    elim (station_cases w found.0 found.1) [ inl e ↦ subst (λ z. IsSaid (key.Workstation z)) (sym e.0) workstation_said | inr never ↦ absurd never ]
+all_held (key.Workstation w) has = each_key name_cmp_total name_cmp-IsAntisymmetric ((cpu1, always_open) ∷ []) (λ z. IsSaid (key.Workstation z)) (workstation_said, tt) w has
 all_held (key.Interval w m) has =
-    elim (station_cases w has.0 has.1) [
-      | inl e ↦
-          let found = found_key (get always_open.intervals m) (subst (λ z. contains_key z.intervals m ≡ true) e.1 has.2) in
-          elim (entry_of nat_cmp_total nat_cmp-IsAntisymmetric ((0, interval_by 0 52595999 2 0 0) ∷ []) m found.0 found.1) [
-            | inl f ↦ subst (λ z. IsSaid (key.Interval z m)) (sym e.0) (subst (λ z. IsSaid (key.Interval cpu1 z)) (sym f.0) interval_said)
-            | inr never ↦ absurd never
-          ]
-      | inr never ↦ absurd never
-    ]
-all_held (key.Occurrence c) has =
-    let found = found_key (get day.occurrences c) has in
-    elim (occurrence_cases c found.0 found.1) [ inl e ↦ subst (λ z. IsSaid (key.Occurrence z)) (sym e.0) occurrence_said | inr never ↦ absurd never ]
+    each_entry name_cmp_total name_cmp-IsAntisymmetric ((cpu1, always_open) ∷ []) (λ v ws. contains_key ws.intervals m ≡ true → IsSaid (key.Interval v m))
+    (each_key nat_cmp_total nat_cmp-IsAntisymmetric ((0, interval_by 0 52595999 2 0 0) ∷ []) (λ z. IsSaid (key.Interval cpu1 z)) (interval_said, tt) m, tt)
+    w has.0 has.1 has.2
+all_held (key.Occurrence c) has = each_key occurrence_cmp_total occurrence_cmp-IsAntisymmetric ((daily, occurrence) ∷ []) (λ z. IsSaid (key.Occurrence z)) (occurrence_said, tt) c has
 all_held (key.Operation o) has = let found = found_key (get day.operations o) has in operation_said o found.0 found.1
 all_held (key.Dependency p o) has = only_pair (λ x y. IsSaid (key.Dependency x y)) pair_said p o has
 all_held (key.Resource r) has = absurd (true≢false (sym has ∙ ap is_some (get-empty name_cmp r)))

@@ -1,10 +1,9 @@
 -- A tick on a plan with nothing in it.
-use Rattle.std.proofs.Common.{rules, arith, ◌≡◌, refl, sym, true≢false, pos, [], ◌∷◌, ◌++◌}
+use Rattle.std.proofs.Common.{rules, arith, refl, sym, pos, []}
 use Rattle.std.specs.List.Sorted.{IsStrictlySortedBy}
 use Rattle.std.specs.FinMap.{get, get-empty}
 use Rattle.plan_basics.specs.declared.Refusal.{Refusal}
 use Rattle.plan_basics.specs.declared.Refusal.TheVariants as refusal
-use Rattle.plan_basics.specs.declared.keys.OpKey.{OpKey}
 use Rattle.plan_basics.specs.Keys.{operation_cmp}
 use Rattle.plan_model.specs.Plan.{Plan}
 use Rattle.plan_model.specs.Ready.{IsReadyList, IsChosen}
@@ -16,6 +15,7 @@ use Rattle.plan_records.specs.Step.{Step}
 use Rattle.plan_laws.proofs.Every.{nothing_at}
 use Rattle.plan_laws.proofs.Kept.{named_none}
 use Rattle.worked_rows.specs.Day.{idle, evening}
+use Rattle.worked_rows.proofs.TrioChoice.{chosen_by}
 
 abbrev later : Plan
 later = record idle { clock = evening }
@@ -39,21 +39,8 @@ nothing_ready = record {
   );
 }
 
-no_split : {A : Type 0} (before after : _) (o : OpKey) → [] ≡ before ++ o ∷ after → A
-no_split [] after o e = cc
-no_split (x ∷ before) after o e = cc
-
 nothing_chosen : IsChosen later evening []
-nothing_chosen = record {
-  ready = [];
-  is_ready_list = nothing_ready;
-  choice = record {
-    in_order = refl;
-    on_automatic = λ o e. absurd (true≢false (sym e));
-    members = λ before after o split. no_split before after o split;
-    others = λ before after o split on left. no_split before after o split;
-  };
-}
+nothing_chosen = chosen_by later evening [] [] nothing_ready refl tt tt tt
 
 pub tick_is_accepted : Step idle ticking (accepted []) later
 tick_is_accepted = record {

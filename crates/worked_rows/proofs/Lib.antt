@@ -28,3 +28,6 @@ pub mod NightLoad
 pub mod NightEnds
 pub mod NightReruns
 pub mod ByPriority
+pub mod NightTold
+pub mod BackupComing
+pub mod BackupChosen

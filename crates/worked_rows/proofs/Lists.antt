@@ -1,9 +1,11 @@
 -- Members and splits of lists that are written out, and the entries of finite maps.
-use Rattle.std.proofs.Common.{arith, ◌≡◌, inl, inr, refl, sym, ◌∙◌, ap, ap₂, subst, zero, suc, Bool, true, false, cond, List, [], ◌∷◌, ◌++◌, Contains, T, Option, Some, None, option_map}
+use Rattle.std.proofs.Common.{arith, ◌≡◌, inl, inr, refl, sym, ◌∙◌, ap, ap₂, subst, zero, suc, Bool, true, false, cond, ◌||◌, List, [], ◌∷◌, ◌++◌, Contains, T, Option, Some, None, option_map}
+use Rattle.std.proofs.lemmas.List.Folds.{list_any-append}
 use Rattle.std.specs.declared.cmp.Ordering.{Ordering}
 use Rattle.std.specs.Ordering.{eq_by_cmp}
 use Rattle.std.specs.Cmp.{IsTotalOrder, Equal-is}
 use Rattle.std.specs.FinMap.{IsAntisymmetric, entries, entries-from_sorted, find, from_entries, from_sorted, get-from_entries, get-from_sorted, is_sorted, same_map}
+use Rattle.std.specs.FinSet as set
 use Rattle.plan_model.specs.Revise.{get-joined, get-revise, joined, or_else, revise}
 use Rattle.plan_laws.proofs.Sorted.{contains_head, contains_later}
 use Rattle.worked_rows.proofs.Literal.{OneOf}
@@ -80,3 +82,13 @@ module _ {K X : Type 0} {R : K → K → Ordering} where
         first_of_two : (b : Bool) (x : X) (y : Option X) → or_else (cond b (Some x) None) y ≡ cond b (Some x) y
         first_of_two true x y = refl
         first_of_two false x y = refl
+
+-- two sets written out, together
+pub union_written : {K : Type 0} {R : K → K → Ordering} → IsTotalOrder R → IsAntisymmetric R → (ks js : List K) → set.union (set.from_list {R = R} ks) (set.from_list js) ≡ set.from_list (ks ++ js)
+union_written {R = R} o same ks js =
+    set.same_set o same (set.union (set.from_list ks) (set.from_list js)) (set.from_list (ks ++ js))
+    (λ q.
+    set.contains-union o (set.from_list ks) (set.from_list js) q
+    ∙ ap₂ (λ a b. a || b) (set.contains-from_list o ks q) (set.contains-from_list o js q)
+    ∙ sym (list_any-append (eq_by_cmp R q) ks js)
+    ∙ sym (set.contains-from_list o (ks ++ js) q))

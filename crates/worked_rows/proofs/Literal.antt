@@ -4,18 +4,30 @@ use Rattle.std.specs.declared.cmp.Ordering.{Ordering}
 use Rattle.std.specs.List.{list_any}
 use Rattle.std.specs.Ordering.{eq_by_cmp, is_eq}
 use Rattle.std.specs.Cmp.{IsTotalOrder, Equal-is, tied_itself}
-use Rattle.std.specs.FinMap.{IsAntisymmetric, get, find, from_entries, get-from_entries}
+use Rattle.std.specs.FinMap.{IsAntisymmetric, contains_key, get, find, from_entries, get-from_entries}
 use Rattle.std.specs.FinSet.{contains, contains-from_list, from_list}
 use Rattle.plan_basics.specs.declared.keys.OpKey.{OpKey}
 use Rattle.plan_basics.specs.Keys.{operation_cmp, operation_cmp_total}
 use Rattle.plan_model.specs.Plan.{pair_cmp}
-use Rattle.plan_laws.proofs.Looks.{same_some, none_is_not_some}
+use Rattle.plan_laws.proofs.Looks.{found_key, same_some, none_is_not_some}
 use Rattle.plan_laws.proofs.Decide.{pair_cmp_total, pair_same}
 
 -- some element of the list has it
 abbrev pub OneOf : {A : Type 0} → (A → Type 0) → List A → Type 0
 OneOf Q [] = ⊥
 OneOf Q (x ∷ xs) = Q x ⊎ OneOf Q xs
+
+module _ {K X : Type 0} where
+  -- it holds of each entry of the list
+  abbrev pub EachEntry : (K → X → Type 0) → List (K × X) → Type 0
+  EachEntry Q [] = Unit {0}
+  EachEntry Q (e ∷ es) = Q e.0 e.1 × EachEntry Q es
+
+  -- then it holds of one of them
+  pub at_entry : (Q : K → X → Type 0) (es : List (K × X)) (q : K) (x : X) → EachEntry Q es → OneOf (λ e. (q ≡ e.0) × (x ≡ e.1)) es → Q q x
+  at_entry Q [] q x h never = absurd never
+  at_entry Q (e ∷ es) q x h (inl is) = subst (λ z. Q z x) (sym is.0) (subst (Q e.0) (sym is.1) h.0)
+  at_entry Q (e ∷ es) q x h (inr more) = at_entry Q es q x h.1 more
 
 module _ {K X : Type 0} {R : K → K → Ordering} where
   entry_cases : IsAntisymmetric R → (q k : K) (v x : X) (es : List (K × X)) (r : Bool) → eq_by_cmp R q k ≡ r → cond r (Some v) (find R q es) ≡ Some x → (find R q es ≡ Some x → OneOf (λ e. (q ≡ e.0) × (x ≡ e.1)) es) → OneOf (λ e. (q ≡ e.0) × (x ≡ e.1)) ((k, v) ∷ es)
@@ -29,6 +41,14 @@ module _ {K X : Type 0} {R : K → K → Ordering} where
 
   pub entry_of : IsTotalOrder R → IsAntisymmetric R → (es : List (K × X)) (q : K) (x : X) → get (from_entries {R = R} es) q ≡ Some x → OneOf (λ e. (q ≡ e.0) × (x ≡ e.1)) es
   entry_of o same es q x is = found_entry same es q x (sym (get-from_entries o es q) ∙ is)
+
+  -- what holds of each entry holds of what is found
+  pub each_entry : IsTotalOrder R → IsAntisymmetric R → (es : List (K × X)) (Q : K → X → Type 0) → EachEntry Q es → (q : K) (x : X) → get (from_entries {R = R} es) q ≡ Some x → Q q x
+  each_entry o same es Q h q x is = at_entry Q es q x h (entry_of o same es q x is)
+
+  -- what holds of each key holds of those that are there
+  pub each_key : IsTotalOrder R → IsAntisymmetric R → (es : List (K × X)) (Q : K → Type 0) → EachEntry (λ q x. Q q) es → (q : K) → contains_key (from_entries {R = R} es) q ≡ true → Q q
+  each_key o same es Q h q has = let found = found_key (get (from_entries es) q) has in each_entry o same es (λ k x. Q k) h q found.0 found.1
 
 -- ---- neighbours
 

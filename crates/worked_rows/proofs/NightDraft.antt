@@ -1,5 +1,5 @@
 -- The night's plan is a draft.
-use Rattle.std.proofs.Common.{arith, ◌≡◌, inl, inr, refl, sym, ◌∙◌, ap, subst, ◌<◌, true, [], ◌∷◌, Some, is_some}
+use Rattle.std.proofs.Common.{arith, ◌≡◌, refl, sym, ◌∙◌, ap, subst, ◌<◌, true, [], ◌∷◌, Some, is_some}
 use Rattle.std.proofs.lemmas.List.Sums.{AllPass-from_list_all}
 use Rattle.std.specs.FinMap.{contains_key, empty, get, get-empty, get-from_entries}
 use Rattle.plan_basics.specs.declared.Attr.TheVariants as attribute
@@ -14,42 +14,23 @@ use Rattle.plan_model.specs.Plan.{IsPairOf, Operation}
 use Rattle.plan_model.specs.Valid.{AreOccurrences, IsOccurrence, IsOperation, IsUntouched, IsValid}
 use Rattle.plan_records.specs.Drafts.{IsDraft}
 use Rattle.plan_laws.proofs.Decide.{pair_cmp_total}
-use Rattle.plan_laws.proofs.Looks.{found_key, none_is_not_some}
+use Rattle.plan_laws.proofs.Looks.{none_is_not_some}
 use Rattle.worked_rows.specs.Day.{cpu1, evening}
 use Rattle.worked_rows.specs.Night.{cpu1_station, custfile, dumm, dumm_station, end_of_night, needs_custfile, night, night_draft, night_occurrences, night_operations, night_pairs, night_resources, night_workstations, payroll, payroll_at, prt1, prt1_station, setp, setp_station, two_at_night}
-use Rattle.worked_rows.proofs.Literal.{entry_of}
+use Rattle.worked_rows.proofs.Literal.{each_entry, each_key}
 use Rattle.worked_rows.proofs.NightReports.{found_at, p5, p10, p20, p30, p40}
 use Rattle.worked_rows.proofs.NightStatuses.{workstation_at}
-use Rattle.worked_rows.proofs.Validity.{acyclic_by, closed_is, len_at_most, name_is, operation_is, pair_cases, set_at_most, station_is}
+use Rattle.worked_rows.proofs.Validity.{acyclic_by, closed_is, each_pair, len_at_most, name_is, operation_is, set_at_most, station_is}
 
 -- what holds of the five operations holds of each that is found
 pub of_five : (Q : OpKey → Operation → Type 0) → Q (payroll_at 5) p5 → Q (payroll_at 10) p10 → Q (payroll_at 20) p20 → Q (payroll_at 30) p30 → Q (payroll_at 40) p40 → (o : OpKey) (op : Operation) → get night.operations o ≡ Some op → Q o op
-of_five Q q5 q10 q20 q30 q40 o op is = elim (entry_of operation_cmp_total operation_cmp-IsAntisymmetric night_operations o op is) [
-  | inl e ↦ subst (λ z. Q z op) (sym e.0) (subst (Q (payroll_at 5)) (sym e.1) q5)
-  | inr (inl e) ↦ subst (λ z. Q z op) (sym e.0) (subst (Q (payroll_at 10)) (sym e.1) q10)
-  | inr (inr (inl e)) ↦ subst (λ z. Q z op) (sym e.0) (subst (Q (payroll_at 20)) (sym e.1) q20)
-  | inr (inr (inr (inl e))) ↦ subst (λ z. Q z op) (sym e.0) (subst (Q (payroll_at 30)) (sym e.1) q30)
-  | inr (inr (inr (inr (inl e)))) ↦ subst (λ z. Q z op) (sym e.0) (subst (Q (payroll_at 40)) (sym e.1) q40)
-  | inr (inr (inr (inr (inr never)))) ↦ absurd never
-]
+of_five Q q5 q10 q20 q30 q40 = each_entry operation_cmp_total operation_cmp-IsAntisymmetric night_operations Q (q5, (q10, (q20, (q30, (q40, tt)))))
 
 pub of_pairs : (Q : OpKey → OpKey → Type 0) → Q (payroll_at 5) (payroll_at 10) → Q (payroll_at 10) (payroll_at 20) → Q (payroll_at 20) (payroll_at 30) → Q (payroll_at 30) (payroll_at 40) → (p o : OpKey) → IsPairOf night.pairs p o → Q p o
-of_pairs Q a b c d p o is = elim (pair_cases night_pairs p o is) [
-  | inl e ↦ subst (λ z. Q z o) (sym e.0) (subst (Q (payroll_at 5)) (sym e.1) a)
-  | inr (inl e) ↦ subst (λ z. Q z o) (sym e.0) (subst (Q (payroll_at 10)) (sym e.1) b)
-  | inr (inr (inl e)) ↦ subst (λ z. Q z o) (sym e.0) (subst (Q (payroll_at 20)) (sym e.1) c)
-  | inr (inr (inr (inl e))) ↦ subst (λ z. Q z o) (sym e.0) (subst (Q (payroll_at 30)) (sym e.1) d)
-  | inr (inr (inr (inr never))) ↦ absurd never
-]
+of_pairs Q a b c d = each_pair night_pairs Q (a, (b, (c, (d, tt))))
 
 of_stations : (Q : Name → Workstation → Type 0) → Q cpu1 cpu1_station → Q setp setp_station → Q prt1 prt1_station → Q dumm dumm_station → (w : Name) (ws : Workstation) → get night.workstations w ≡ Some ws → Q w ws
-of_stations Q a b c d w ws is = elim (entry_of name_cmp_total name_cmp-IsAntisymmetric night_workstations w ws is) [
-  | inl e ↦ subst (λ z. Q z ws) (sym e.0) (subst (Q cpu1) (sym e.1) a)
-  | inr (inl e) ↦ subst (λ z. Q z ws) (sym e.0) (subst (Q setp) (sym e.1) b)
-  | inr (inr (inl e)) ↦ subst (λ z. Q z ws) (sym e.0) (subst (Q prt1) (sym e.1) c)
-  | inr (inr (inr (inl e))) ↦ subst (λ z. Q z ws) (sym e.0) (subst (Q dumm) (sym e.1) d)
-  | inr (inr (inr (inr never))) ↦ absurd never
-]
+of_stations Q a b c d = each_entry name_cmp_total name_cmp-IsAntisymmetric night_workstations Q (a, (b, (c, (d, tt))))
 
 cpu1_name : IsName 4 cpu1
 cpu1_name = name_is 4 cpu1 (omega arith) (omega arith) refl
@@ -83,7 +64,7 @@ custfile_is_there = ap is_some (get-from_entries name_cmp_total night_resources 
 
 -- the one need of 20
 one_need : (r : Name) (usage : Usage) → get needs_custfile r ≡ Some usage → r ≡ custfile
-one_need r usage found = elim (entry_of name_cmp_total name_cmp-IsAntisymmetric ((custfile, record { mode = Exclusive; keep = true }) ∷ []) r usage found) [ inl e ↦ e.0 | inr never ↦ absurd never ]
+one_need = each_entry name_cmp_total name_cmp-IsAntisymmetric ((custfile, record { mode = Exclusive; keep = true }) ∷ []) (λ r usage. r ≡ custfile) (refl, tt)
 
 third_is : IsOperation (payroll_at 20) p20
 third_is = record {
@@ -103,20 +84,14 @@ IsThere o op = IsOperation o op × (contains_key night.occurrences o.occurrence 
 
 occurrences_are : AreOccurrences night.occurrences night.operations
 occurrences_are = record {
-  each_occurrence = λ c x is. elim (entry_of occurrence_cmp_total occurrence_cmp-IsAntisymmetric night_occurrences c x is) [
-    | inl e ↦ subst (λ z. IsOccurrence z x) (sym e.0) (subst (IsOccurrence payroll) (sym e.1) (record { key = payroll_key; priority = (omega arith, omega arith); deadline = omega arith }))
-    | inr never ↦ absurd never
-  ];
+  each_occurrence = each_entry occurrence_cmp_total occurrence_cmp-IsAntisymmetric night_occurrences IsOccurrence (record { key = payroll_key; priority = (omega arith, omega arith); deadline = omega arith }, tt);
   each_operation = of_five IsThere
       (operation_is (payroll_at 5) p5 (payroll_key, omega arith, omega arith) setp_name (omega arith, omega arith) (omega arith, omega arith) (omega arith) (omega arith) refl refl, occurrence_is_there)
       (operation_is (payroll_at 10) p10 (payroll_key, omega arith, omega arith) cpu1_name (omega arith, omega arith) (omega arith, omega arith) (omega arith) (omega arith) refl refl, occurrence_is_there)
       (third_is, occurrence_is_there)
       (operation_is (payroll_at 30) p30 (payroll_key, omega arith, omega arith) dumm_name (omega arith, omega arith) (omega arith, omega arith) (omega arith) (omega arith) refl refl, occurrence_is_there)
       (operation_is (payroll_at 40) p40 (payroll_key, omega arith, omega arith) prt1_name (omega arith, omega arith) (omega arith, omega arith) (omega arith) (omega arith) refl refl, occurrence_is_there);
-  not_empty = λ c has. let found = found_key (get night.occurrences c) has in elim (entry_of occurrence_cmp_total occurrence_cmp-IsAntisymmetric night_occurrences c found.0 found.1) [
-    | inl e ↦ (payroll_at 5, sym e.0, ap is_some (found_at (payroll_at 5)))
-    | inr never ↦ absurd never
-  ];
+  not_empty = each_key occurrence_cmp_total occurrence_cmp-IsAntisymmetric night_occurrences (λ c. (o : OpKey) × (o.occurrence ≡ c) × (contains_key night.operations o ≡ true)) ((payroll_at 5, refl, ap is_some (found_at (payroll_at 5))), tt);
 }
 
 abbrev NeedsThere : OpKey → Operation → Type 0
@@ -130,10 +105,7 @@ night_is_valid = record {
       (setp_name, station_is attribute.StartAndCompletion (interval_by evening two_at_night 1 0 0) setp_interval)
       (prt1_name, closed_is attribute.CompletionOnly)
       (dumm_name, closed_is attribute.Nonreporting);
-  resources = λ r has. let found = found_key (get night.resources r) has in elim (entry_of name_cmp_total name_cmp-IsAntisymmetric night_resources r found.0 found.1) [
-    | inl e ↦ subst IsResourceName (sym e.0) custfile_name
-    | inr never ↦ absurd never
-  ];
+  resources = each_key name_cmp_total name_cmp-IsAntisymmetric night_resources IsResourceName (custfile_name, tt);
   occurrences = occurrences_are;
   have_workstations = of_five (λ o op. contains_key night.workstations op.workstation ≡ true)
       (ap is_some (workstation_at setp)) (ap is_some (workstation_at cpu1)) (ap is_some (workstation_at cpu1)) (ap is_some (workstation_at dumm)) (ap is_some (workstation_at prt1));

@@ -1,6 +1,5 @@
 -- PAYROLL's 10 ends, and 20 is named.
 use Rattle.std.proofs.Common.{rules, arith, ◌≡◌, ◌≢◌, inl, inr, refl, sym, ◌∙◌, ap, subst, pos, true, cond, List, [], ◌∷◌, Some, option_map}
-use Rattle.std.specs.List.Sorted.{IsStrictlySortedBy}
 use Rattle.std.specs.FinMap.{entries, find, from_entries, get, get-empty, get-from_entries}
 use Rattle.std.specs.FinSet.{contains-from_list}
 use Rattle.plan_basics.specs.declared.Attr.TheVariants as attribute
@@ -17,7 +16,7 @@ use Rattle.ready_list.specs.declared.ReadyKey.{ReadyKey}
 use Rattle.ready_list.specs.Choice.{is_among}
 use Rattle.plan_model.specs.Holdings.{given_out, takes}
 use Rattle.plan_model.specs.Plan.{Operation, attribute_at}
-use Rattle.plan_model.specs.Ready.{IsChosen, IsEntry, IsReadyList, named, with_mark}
+use Rattle.plan_model.specs.Ready.{IsChosen, IsEntry, named, with_mark}
 use Rattle.plan_model.specs.Revise.{revise}
 use Rattle.plan_model.specs.Starting.{IsAllowedToStart, IsLatestStart, MayStart}
 use Rattle.plan_model.specs.Status.{HasStatus, IsReady}
@@ -31,11 +30,11 @@ use Rattle.plan_laws.proofs.Looks.{get-named, none_is_not_some}
 use Rattle.worked_rows.specs.Day.{cpu1, evening, morning}
 use Rattle.worked_rows.specs.Night.{custfile, done, dumm, end_of_night, end_of_second, night, night_occurrences, night_operations, night_pairs, night_resources, payroll, payroll_at, prt1, second_ended, second_started, setp}
 use Rattle.worked_rows.specs.Statements.{EndOfTheSecond}
-use Rattle.worked_rows.proofs.Entries.{same_entry}
+use Rattle.worked_rows.proofs.Entries.{one_ready}
 use Rattle.worked_rows.proofs.Facts.{marked_is_not_ready, waiting_is_not_ready}
 use Rattle.worked_rows.proofs.Given.{given_out_by, given_out_is, lines_of_room, with_resources}
-use Rattle.worked_rows.proofs.Lists.{anew, contained, entries-from_entries, one_of, revise_written}
-use Rattle.worked_rows.proofs.Literal.{entry_of, one_after, only}
+use Rattle.worked_rows.proofs.Lists.{anew, entries-from_entries, revise_written}
+use Rattle.worked_rows.proofs.Literal.{each_entry, entry_of, one_after, only}
 use Rattle.worked_rows.proofs.NightRefusals.{found_alone}
 use Rattle.worked_rows.proofs.NightReports.{changed_at, found_at, found_done, found_revised, p5, p10, p20, p30, p40, when_done}
 use Rattle.worked_rows.proofs.NightStatuses.{five_statuses, workstation_at}
@@ -62,14 +61,7 @@ found_then o = ap (λ m. get m o) operations_are ∙ get-from_entries operation_
 -- what holds of the five operations as they stand, holds of each that is found
 of_five : (Q : OpKey → Operation → Type 0) → Q (payroll_at 5) (with_mark mark.Done p5) → Q (payroll_at 10) (with_mark mark.Done p10) → Q (payroll_at 20) p20 → Q (payroll_at 30) p30 → Q (payroll_at 40) p40
     → (o : OpKey) (op : Operation) → get second_ended.operations o ≡ Some op → Q o op
-of_five Q q5 q10 q20 q30 q40 o op is = elim (entry_of operation_cmp_total operation_cmp-IsAntisymmetric all_operations o op (sym (ap (λ m. get m o) operations_are) ∙ is)) [
-  | inl e ↦ subst (λ z. Q z op) (sym e.0) (subst (Q (payroll_at 5)) (sym e.1) q5)
-  | inr (inl e) ↦ subst (λ z. Q z op) (sym e.0) (subst (Q (payroll_at 10)) (sym e.1) q10)
-  | inr (inr (inl e)) ↦ subst (λ z. Q z op) (sym e.0) (subst (Q (payroll_at 20)) (sym e.1) q20)
-  | inr (inr (inr (inl e))) ↦ subst (λ z. Q z op) (sym e.0) (subst (Q (payroll_at 30)) (sym e.1) q30)
-  | inr (inr (inr (inr (inl e)))) ↦ subst (λ z. Q z op) (sym e.0) (subst (Q (payroll_at 40)) (sym e.1) q40)
-  | inr (inr (inr (inr (inr never)))) ↦ absurd never
-]
+of_five Q q5 q10 q20 q30 q40 o op is = each_entry operation_cmp_total operation_cmp-IsAntisymmetric all_operations Q (q5, (q10, (q20, (q30, (q40, tt))))) o op (sym (ap (λ m. get m o) operations_are) ∙ is)
 
 statuses : HasStatus second_ended (payroll_at 5) status.Complete × HasStatus second_ended (payroll_at 10) status.Complete × HasStatus second_ended (payroll_at 20) status.Ready × HasStatus second_ended (payroll_at 30) status.Waiting × HasStatus second_ended (payroll_at 40) status.Waiting
 statuses =
@@ -106,16 +98,6 @@ only_third = of_five (λ o op. IsReady second_ended o → o ≡ payroll_at 20)
     (λ ready. refl)
     (λ ready. absurd (waiting_is_not_ready second_ended (payroll_at 30) p30 (found_then (payroll_at 30)) refl statuses.3 ready))
     (λ ready. absurd (waiting_is_not_ready second_ended (payroll_at 40) p40 (found_then (payroll_at 40)) refl statuses.4 ready))
-
-ready_is : IsReadyList second_ended (third_key ∷ [])
-unfolding IsStrictlySortedBy
-ready_is = record {
-  ascends = (tt, tt);
-  has_all = λ k. (
-    λ has. elim (one_of (third_key ∷ []) k has) [ inl e ↦ subst (IsEntry second_ended) (sym e) third_entry | inr never ↦ absurd never ],
-    λ entry. contained (third_key ∷ []) k (inl (same_entry second_ended k third_key entry third_entry (only_third k.op entry.2.0 entry.2.1 entry.0))),
-  );
-}
 
 -- ---- 20 is allowed to start
 
@@ -154,7 +136,7 @@ third_allowed = (
 
 third_chosen : IsChosen second_ended end_of_second (payroll_at 20 ∷ [])
 third_chosen =
-    chosen_by second_ended end_of_second (third_key ∷ []) (payroll_at 20 ∷ []) ready_is refl ((p20, found_then (payroll_at 20), on_cpu1), tt)
+    chosen_by second_ended end_of_second (third_key ∷ []) (payroll_at 20 ∷ []) (one_ready second_ended third_key third_entry only_third) refl ((p20, found_then (payroll_at 20), on_cpu1), tt)
     (subst (λ z. IsAllowedToStart z (payroll_at 20) end_of_second) (sym (named_none second_ended)) third_allowed, tt) (not_left _ refl, tt)
 
 -- ---- the step

@@ -1,6 +1,5 @@
 -- The night's plan is loaded at 21:00, and nothing is named.
-use Rattle.std.proofs.Common.{rules, arith, ◌≡◌, inl, inr, refl, sym, ◌∙◌, ap, subst, pos, true, false, true≢false, List, [], ◌∷◌, ◌++◌, Some}
-use Rattle.std.specs.List.Sorted.{IsStrictlySortedBy}
+use Rattle.std.proofs.Common.{rules, arith, ◌≡◌, inl, refl, sym, ◌∙◌, ap, pos, true, false, true≢false, [], ◌∷◌, Some}
 use Rattle.std.specs.FinMap.{get, get-from_entries}
 use Rattle.plan_basics.specs.declared.Attr.TheVariants as attribute
 use Rattle.plan_basics.specs.declared.keys.OpKey.{OpKey}
@@ -9,7 +8,8 @@ use Rattle.plan_basics.specs.declared.Refusal.TheVariants as refusal
 use Rattle.plan_basics.specs.Keys.{occurrence_cmp_total}
 use Rattle.ready_list.specs.declared.ReadyKey.{ReadyKey}
 use Rattle.plan_model.specs.Plan.{Operation, attribute_at, no_plan}
-use Rattle.plan_model.specs.Ready.{IsChosen, IsEntry, IsOnAutomatic, IsReadyList}
+use Rattle.plan_model.specs.Ready.{IsChosen, IsEntry, IsOnAutomatic, named}
+use Rattle.plan_model.specs.Starting.{IsAllowedToStart}
 use Rattle.plan_model.specs.Status.{IsReady}
 use Rattle.plan_records.specs.declared.Request.{Request}
 use Rattle.plan_records.specs.declared.What.TheVariants as what
@@ -18,9 +18,9 @@ use Rattle.plan_laws.proofs.Looks.{same_some}
 use Rattle.worked_rows.specs.Day.{morning}
 use Rattle.worked_rows.specs.Night.{loading, night, night_draft, night_occurrences, payroll, payroll_at}
 use Rattle.worked_rows.specs.Statements.{LoadOfTheNight}
-use Rattle.worked_rows.proofs.Entries.{same_entry}
+use Rattle.worked_rows.proofs.Entries.{one_ready}
 use Rattle.worked_rows.proofs.Facts.{waiting_is_not_ready}
-use Rattle.worked_rows.proofs.Lists.{contained, each_split, one_of}
+use Rattle.worked_rows.proofs.Lists.{each_split}
 use Rattle.worked_rows.proofs.NightDraft.{night_is_draft, of_five}
 use Rattle.worked_rows.proofs.NightRefusals.{on_setp}
 use Rattle.worked_rows.proofs.NightReports.{found_at, p5, p10, p20, p30, p40, statuses_when_loaded}
@@ -52,16 +52,6 @@ only_first = of_five (λ o op. IsReady night o → o ≡ payroll_at 5)
     (λ ready. absurd (waiting_is_not_ready night (payroll_at 30) p30 (found_at (payroll_at 30)) refl statuses_when_loaded.3 ready))
     (λ ready. absurd (waiting_is_not_ready night (payroll_at 40) p40 (found_at (payroll_at 40)) refl statuses_when_loaded.4 ready))
 
-ready_is : IsReadyList night (first_key ∷ [])
-unfolding IsStrictlySortedBy
-ready_is = record {
-  ascends = (tt, tt);
-  has_all = λ k. (
-    λ has. elim (one_of (first_key ∷ []) k has) [ inl e ↦ subst (IsEntry night) (sym e) first_entry | inr never ↦ absurd never ],
-    λ entry. contained (first_key ∷ []) k (inl (same_entry night k first_key entry first_entry (only_first k.op entry.2.0 entry.2.1 entry.0))),
-  );
-}
-
 -- SETP isn't automatic
 not_automatic : IsOnAutomatic night (payroll_at 5) → ⊥
 not_automatic h =
@@ -69,18 +59,14 @@ not_automatic h =
     let a : attribute.StartAndCompletion ≡ attribute.Automatic = same_some attribute.StartAndCompletion attribute.Automatic (sym on_setp ∙ ap (λ op. attribute_at night op.workstation) (sym e) ∙ h.2) in
     cc
 
-no_split : {A : Type 0} (before after : List OpKey) (o : OpKey) → [] ≡ before ++ o ∷ after → A
-no_split [] after o e = cc
-no_split (x ∷ before) after o e = cc
-
 none_chosen : IsChosen night loading []
 none_chosen = record {
   ready = first_key ∷ [];
-  is_ready_list = ready_is;
+  is_ready_list = one_ready night first_key first_entry only_first;
   choice = record {
     in_order = refl;
     on_automatic = λ o has. absurd (let e : true ≡ false = sym has in true≢false e);
-    members = λ before after o split. no_split before after o split;
+    members = λ before after o split. each_split [] (λ bs x. IsAllowedToStart (named bs night) x loading) tt before after o split;
     others = λ before after o split on left. absurd (each_split (payroll_at 5 ∷ []) (λ bs x. IsOnAutomatic night x → ⊥) (not_automatic, tt) before after o split on);
   };
 }

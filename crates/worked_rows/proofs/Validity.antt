@@ -1,5 +1,6 @@
 -- What a plan that is written out needs to be valid: names, workstations of one interval, operations without needs, and pairs that ascend.
-use Rattle.std.proofs.Common.{arith, ◌≡◌, inl, inr, refl, sym, ◌∙◌, ap, subst, true≢false, ℕ, ◌+◌, ◌<◌, ◌≤◌, Bool, true, false, cond, ◌||◌, List, [], ◌∷◌, length, Some}
+use Rattle.std.proofs.Common.{arith, ◌≡◌, inl, inr, refl, sym, ◌∙◌, ap, subst, true≢false, ℕ, ◌+◌, ◌<◌, ◌≤◌, Bool, true, false, cond, ◌||◌, All, List, [], ◌∷◌, length, nat_lt, Some}
+use Rattle.std.proofs.lemmas.Bool.Decides.{Decides-ltb}
 use Rattle.std.proofs.lemmas.List.Sums.{AllPass-from_list_all}
 use Rattle.std.specs.declared.cmp.Ordering.{Ordering}
 use Rattle.std.specs.List.{list_all, list_any}
@@ -22,7 +23,7 @@ use Rattle.plan_model.specs.Valid.{IsOperation}
 use Rattle.plan_laws.proofs.Decide.{pair_cmp_total, pair_same}
 use Rattle.plan_laws.proofs.Looks.{none_is_not_some}
 use Rattle.worked_rows.specs.Night.{workstation_by}
-use Rattle.worked_rows.proofs.Literal.{OneOf, entry_of}
+use Rattle.worked_rows.proofs.Literal.{EachEntry, OneOf, at_entry, entry_of}
 
 -- ---- paths
 
@@ -47,6 +48,10 @@ pair_among (pair ∷ pairs) p o h = pair_cases_by p o pair pairs (eq_by_cmp pair
 -- a pair of a set that is written out is one of these
 pub pair_cases : (pairs : List (OpKey × OpKey)) (p o : OpKey) → set.contains (set.from_list {R = pair_cmp} pairs) (p, o) ≡ true → OneOf (λ x. (p ≡ x.0) × (o ≡ x.1)) pairs
 pair_cases pairs p o h = pair_among pairs p o (sym (set.contains-from_list pair_cmp_total pairs (p, o)) ∙ h)
+
+-- what holds of each pair that is written out holds of each pair of the set
+pub each_pair : (pairs : List (OpKey × OpKey)) (Q : OpKey → OpKey → Type 0) → EachEntry Q pairs → (p o : OpKey) → set.contains (set.from_list {R = pair_cmp} pairs) (p, o) ≡ true → Q p o
+each_pair pairs Q h p o is = at_entry Q pairs p o h (pair_cases pairs p o is)
 
 -- ---- sizes
 
@@ -75,6 +80,10 @@ set_at_most {R = R} o (k ∷ ks) n h =
 
 pub name_is : (n : ℕ) (text : List ℕ) → 0 < length text → length text ≤ n → list_all is_name_byte text ≡ true → IsName n text
 name_is n text some short all = (some, short, AllPass-from_list_all is_name_byte text all)
+
+-- a text of bytes
+pub bytes_are : (text : List ℕ) → list_all (λ b. nat_lt b 256) text ≡ true → All (λ b. b < 256) text
+bytes_are text all k d within = (Decides-ltb _ 256).0 (AllPass-from_list_all (λ b. nat_lt b 256) text all k d within)
 
 module _ (a : Attr) (x : OpenInterval) (is : IsInterval x) where
   one_interval : (from : ℕ) (y : OpenInterval) → get (from_entries {R = nat_cmp} ((x.from, x) ∷ [])) from ≡ Some y → (from ≡ x.from) × (y ≡ x)

@@ -4,4 +4,6 @@ pub mod Trio
 pub mod Overdue
 pub mod Billing
 pub mod DayText
+pub mod Backup
+pub mod Tracker
 pub mod Statements

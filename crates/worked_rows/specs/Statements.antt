@@ -7,17 +7,20 @@ use Rattle.plan_basics.specs.declared.Refusal.TheVariants as refusal
 use Rattle.plan_model.specs.Plan.{Has, Plan, no_plan}
 use Rattle.plan_records.specs.declared.What.{What}
 use Rattle.plan_records.specs.declared.What.TheVariants as what
-use Rattle.plan_records.specs.Answer.{accepted, refused}
+use Rattle.plan_records.specs.Answer.{Answer, accepted, refused}
 use Rattle.plan_records.specs.Changes.{Changes}
-use Rattle.plan_records.specs.Step.{Step}
+use Rattle.plan_records.specs.Run.{Run, numbered, usable}
+use Rattle.plan_records.specs.Step.{Numbered, NumberedStep, Step}
 use Rattle.plan_model.specs.Status.{HasStatus}
 use Rattle.special_resources.specs.declared.Mode.TheVariants.{Exclusive}
 use Rattle.plan_model.specs.Holdings.{Holds}
 use Rattle.plan_model.specs.Ready.{IsChosen, named}
 use Rattle.plan_model.specs.Starting.{IsLatestStart, MayStart}
-use Rattle.worked_rows.specs.Day.{day, evening, first, morning}
+use Rattle.worked_rows.specs.Day.{day, evening, first, morning, second}
 use Rattle.worked_rows.specs.Overdue.{old_at, overdue}
 use Rattle.worked_rows.specs.Trio.{aaa, bbb, ccc, by_duration, by_fixed_resource, by_key, by_latest_start, by_priority, three, half_past_three, four, ten_past_four}
+use Rattle.worked_rows.specs.Tracker.{after_told, ended_told, failure_told, no_receipts, one_receipt}
+use Rattle.worked_rows.specs.Backup.{backup_addition, backup_key, with_backup}
 use Rattle.worked_rows.specs.Billing.{billing_key, eleven, failed}
 use Rattle.worked_rows.specs.Night.{fourth_held, from_first_again, from_third_again, custfile, end_of_second, night_draft, second_ended, second_started, night, payroll, third_started, three_done, two_passed, payroll_at, loading, two_at_night, end_of_night}
 
@@ -26,6 +29,8 @@ abbrev pub MomentsOfTheNight : Type 0
 MomentsOfTheNight =
     (civil_minute 2024 3 1 21 0 ≡ pos loading)
     × (civil_minute 2024 3 1 22 0 ≡ pos evening)
+    × (civil_minute 2024 3 1 22 40 ≡ pos end_of_second)
+    × (civil_minute 2024 3 1 23 0 ≡ pos eleven)
     × (civil_minute 2024 3 2 2 0 ≡ pos two_at_night)
     × (civil_minute 2024 3 2 5 0 ≡ pos morning)
     × (civil_minute 2024 3 2 6 0 ≡ pos end_of_night)
@@ -153,3 +158,35 @@ RerunOfTheFirst =
     × HasStatus from_first_again (payroll_at 20) status.Waiting
     × HasStatus from_first_again (payroll_at 30) status.Waiting
     × HasStatus from_first_again (payroll_at 40) status.Waiting
+
+-- the whole step: BACKUP comes in at 22:00, and DAILY's first is named; it has to start at 03:00 now, half an hour earlier than without BACKUP, which waits
+abbrev pub BackupAdded : Type 0
+BackupAdded =
+    Step day (record { at = pos evening; what = what.AddOccurrence (Some backup_addition) }) (accepted (first ∷ [])) (named (first ∷ []) with_backup)
+    × IsLatestStart day first (pos half_past_three)
+    × IsLatestStart with_backup first (pos three)
+    × HasStatus (named (first ∷ []) with_backup) first status.Started
+    × HasStatus (named (first ∷ []) with_backup) second status.Waiting
+    × HasStatus (named (first ∷ []) with_backup) backup_key status.Waiting
+
+-- the first request of a tracker is accepted, and leaves a receipt
+abbrev pub NumberedRequest : Type 0
+NumberedRequest = NumberedStep second_started no_receipts (ended_told 1) (accepted (payroll_at 20 ∷ [])) after_told one_receipt
+
+-- with the receipt there, a numbered request is answered so, and nothing changes
+abbrev pub IsAnsweredThen : Numbered → Answer → Type 0
+IsAnsweredThen n reply = NumberedStep after_told one_receipt n reply after_told one_receipt
+
+-- told again it is answered the same; another text under its number, a number before it, and one after the next are refused
+abbrev pub NumberedAgain : Type 0
+NumberedAgain =
+    IsAnsweredThen (ended_told 1) (accepted (payroll_at 20 ∷ []))
+    × IsAnsweredThen failure_told (refused refusal.Reused)
+    × IsAnsweredThen (ended_told 0) (refused refusal.Old)
+    × IsAnsweredThen (ended_told 3) (refused refusal.Gap)
+
+-- a whole run: the request, and the same once more, since its tracker heard no answer
+abbrev pub RunToldTwice : Type 0
+RunToldTwice =
+    Run (record { plan = second_started; receipts = no_receipts }) usable (numbered (ended_told 1) ∷ numbered (ended_told 1) ∷ [])
+    (accepted (payroll_at 20 ∷ []) ∷ accepted (payroll_at 20 ∷ []) ∷ []) (record { plan = after_told; receipts = one_receipt }) usable

@@ -13,7 +13,7 @@ ghost use Rattle.plan_records.specs.declared.What.{What};
 ghost use Rattle.plan_records.specs.Answer.{refused, accepted};
 ghost use Rattle.plan_basics.specs.declared.Refusal.{Refusal};
 ghost use Rattle.status_rules.specs.declared.Status.{Status};
-ghost use Rattle.worked_rows.specs.Statements.{MomentsOfTheNight, LatestStartsOfTheNight, StatusesWhenLoaded, StatusesAfterTheThird, StatusesOfHeld, StatusesOfPassed, StartsWhileClosed, PairThatLeadsBack, DeletionWhileStarted, SecondLoad, ChoicesForTwoServers, ChoiceForFixedResource, TickThatNames, LatestStartsOfOverdueWork, KeptResource, LoadThatNames, LoadOfTheNight, EndOfTheSecond, RerunOfTheThird, RerunOfTheFirst};
+ghost use Rattle.worked_rows.specs.Statements.{MomentsOfTheNight, LatestStartsOfTheNight, StatusesWhenLoaded, StatusesAfterTheThird, StatusesOfHeld, StatusesOfPassed, StartsWhileClosed, PairThatLeadsBack, DeletionWhileStarted, SecondLoad, ChoicesForTwoServers, ChoiceForFixedResource, TickThatNames, LatestStartsOfOverdueWork, KeptResource, LoadThatNames, LoadOfTheNight, EndOfTheSecond, RerunOfTheThird, RerunOfTheFirst, BackupAdded, NumberedRequest, NumberedAgain, RunToldTwice};
 ghost use Rattle.worked_rows.specs.Day.{day, idle, first, second, evening};
 
 /// The first operation is arriving, the second waits for it.
@@ -134,4 +134,16 @@ pub fn end_of_the_second()
 pub fn reruns()
     ensures third { RerunOfTheThird }
     ensures first { RerunOfTheFirst }
+{}
+
+/// An occurrence comes into the small plan, behind an operation that is there, and takes time from what comes before it.
+pub fn addition_behind_the_second()
+    ensures { BackupAdded }
+{}
+
+/// A tracker's first request is accepted and leaves a receipt; told again it is answered the same, and a number out of turn is refused.
+pub fn numbered_requests()
+    ensures accepted { NumberedRequest }
+    ensures again { NumberedAgain }
+    ensures run { RunToldTwice }
 {}
