@@ -4,7 +4,7 @@ use super::named::{operation, workstation};
 use plan_basics::{Attr, Watched};
 use plan_import::{ImportFault, read_plan};
 use plan_records::PlanDraft;
-use std::alloc::Global;
+use std::alloc::{AllocError, Global};
 use std::io;
 use std::io::Read;
 use std::process::Abort;
@@ -159,11 +159,6 @@ fn check_no_plans(rt: &impl Abort, alloc: Global, front: &str, cases: &str) {
     }
 }
 
-// Whole texts.
-const NO_PLANS: &str = "an empty text
-nine fields|W,CPU1,A,,,,,,
-";
-
 // A plan of one operation.
 const DAILY: &str = "W,CPU1,A,,,,,,,
 O,DAILY,2024-03-01T22:00,5,2024-03-02T05:00,,,,,
@@ -172,6 +167,7 @@ P,DAILY,2024-03-01T22:00,10,CPU1,30,0,0,,
 
 // What is wrong, and the lines behind it.
 const AFTER_DAILY: &str = "nine fields|X,TAPE,Y,,,,,,
+nine fields of a workstation|W,CPU2,A,,,,,,
 eleven fields|X,TAPE,Y,,,,,,,,
 a line of blanks| |
 blanks about a name|W, CPU2 ,A,,,,,,,
@@ -225,13 +221,24 @@ fn reads_the_same_in_other_forms(rt: HostRuntime) {
     check_daily(&rt, rt.alloc(), QUOTED, "quoted fields");
 }
 
+// The plan of one operation, with one workstation more: the byte stands in its name.
+fn with_byte(alloc: Global, byte: u8) -> Result<Vec<u8>, AllocError> {
+    let mut text = DAILY.as_bytes().to_vec(alloc)?;
+    text.extend_from_slice(b"W,CP")?;
+    text.push(byte)?;
+    text.extend_from_slice(b"2,A,,,,,,,\n")?;
+    Ok(text)
+}
+
 #[test]
 fn texts_that_denote_no_plan(rt: HostRuntime) {
-    check_no_plans(&rt, rt.alloc(), "", NO_PLANS);
+    check_no_plans(&rt, rt.alloc(), "", "an empty text");
     check_no_plans(&rt, rt.alloc(), DAILY, AFTER_DAILY);
-    let mut reader = Watched::new(b"W,CP\xff1,A,,,,,,,\n".as_slice());
-    let found = found(&rt, rt.alloc(), &mut reader);
-    assert!(rt; found.is_none(), "the byte 255 in a name");
+    for (byte, is_plan) in [(b'U', true), (255, false)] {
+        let text = with_byte(rt.alloc(), byte).expect(&rt, "memory");
+        let found = found(&rt, rt.alloc(), &mut Watched::new(text.as_slice()));
+        assert_eq!(rt; found.is_some(), is_plan, "the byte {byte} in a name");
+    }
 }
 
 #[test]

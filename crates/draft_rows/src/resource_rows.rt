@@ -70,26 +70,22 @@ fn tells_resources_and_needs_that_fit(rt: HostRuntime) {
 }
 
 // The night, with one pair that leads from the last operation to the first in place of its chain.
-const BACK: &str = "W,CPU1,A,,,,,,,
-W,SETP,S,,,,,,,
-W,PRT1,C,,,,,,,
-W,DUMM,N,,,,,,,
-I,CPU1,2024-03-01T22:00,2024-03-02T06:00,2,3,0,,,
-I,SETP,2024-03-01T22:00,2024-03-02T02:00,1,0,0,,,
-X,CUSTFILE,Y,,,,,,,
-O,PAYROLL,2024-03-01T22:00,5,2024-03-02T05:00,,,,,
-P,PAYROLL,2024-03-01T22:00,5,SETP,10,0,0,,
-P,PAYROLL,2024-03-01T22:00,10,CPU1,30,0,0,,
-P,PAYROLL,2024-03-01T22:00,20,CPU1,60,0,0,,
-P,PAYROLL,2024-03-01T22:00,30,DUMM,1,0,0,,
-P,PAYROLL,2024-03-01T22:00,40,PRT1,20,0,0,,
-N,PAYROLL,2024-03-01T22:00,20,CUSTFILE,X,K,,,
-D,PAYROLL,2024-03-01T22:00,40,PAYROLL,2024-03-01T22:00,5,,,
-";
+fn pair_back(alloc: Global) -> Result<String, AllocError> {
+    let mut text = String::new(alloc);
+    for line in PAYROLL.lines() {
+        if !line.starts_with('D') {
+            text.push_str(line)?;
+            text.push('\n')?;
+        }
+    }
+    text.push_str("D,PAYROLL,2024-03-01T22:00,40,PAYROLL,2024-03-01T22:00,5,,,\n")?;
+    Ok(text)
+}
 
 #[test]
 fn builds_the_night_with_one_pair_that_leads_back(rt: HostRuntime) {
-    let draft = draft(&rt, rt.alloc(), BACK);
+    let text = pair_back(rt.alloc()).expect(&rt, "memory");
+    let draft = draft(&rt, rt.alloc(), &text);
     let first = operation(&rt, b"PAYROLL/2024-03-01T22:00/005");
     let last = operation(&rt, b"PAYROLL/2024-03-01T22:00/040");
     assert!(rt; draft.contents().pairs.as_slice() == [(last, first)].as_slice());
