@@ -5,7 +5,7 @@ use Rattle.std.proofs.lemmas.List.{get_or_default, get_or-map, get_or-reverse, l
 use Rattle.std.proofs.lemmas.List.Sorted.{Contains-permutation, IsPermutation-sym, IsPermutation-reverse}
 use Rattle.std.proofs.lemmas.Option.{slice_get_within}
 use Rattle.operation_graph.specs.Graphs.{Digraph, rank_of}
-use Rattle.operation_graph.proofs.Members.{contains_mapped, mapped_contains}
+use Rattle.plan_basics.proofs.Members.{contains_mapped, mapped_contains}
 use Rattle.latest_start.specs.Passes.{IsReverseTopological}
 use Rattle.latest_start.proofs.Placed.{place_of, at_place}
 

@@ -8,7 +8,7 @@ use Rattle.std.proofs.lemmas.List.Elements.{Contains-append_left, Contains-appen
 use Rattle.plan_basics.specs.Keys.{then_IsAntisymmetric}
 use Rattle.operation_graph.specs.Graphs.{Edges, IsEdgeOf, edge_cmp, edges_of}
 use Rattle.operation_graph.specs.Adjacency.{Rows, row, pairs_from, edges_in}
-use Rattle.operation_graph.proofs.Members.{contains_none, contains_mapped, mapped_contains}
+use Rattle.plan_basics.proofs.Members.{contains_none, contains_mapped, mapped_contains}
 use Rattle.operation_graph.proofs.SetMembers.{in_listed, listed_in, member_added, member_cases, member_stays}
 
 abbrev Pair : Type 0

@@ -13,7 +13,7 @@ use Rattle.std.proofs.lemmas.Option.{get_or_from_slice_get}
 use Rattle.operation_graph.specs.Graphs.{AreDifferent, AreInTurn, Digraph, HasEdge}
 use Rattle.operation_graph.specs.Adjacency.{Rows, row, IsKept, graph_of}
 use Rattle.operation_graph.specs.Turns.{IsByRank, edges_to, edges_from}
-use Rattle.operation_graph.proofs.Members.{contains_head, contains_later, contains_cases, contains_none, contains_mapped, mapped_contains}
+use Rattle.plan_basics.proofs.Members.{contains_head, contains_later, contains_cases, contains_none, contains_mapped, mapped_contains}
 use Rattle.operation_graph.proofs.Counts.{different_if_once, eqb_same, eqb_other}
 use Rattle.operation_graph.proofs.EdgeSets.{edge_of_row, row_of_edge}
 use Rattle.operation_graph.proofs.Keeping.{first_end}

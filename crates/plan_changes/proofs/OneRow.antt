@@ -1,12 +1,13 @@
 -- Rows in key order of which one is made anew.
-use Rattle.std.proofs.Common.{◌≡◌, refl, sym, ap, ap₂, subst, ◌∙◌, ℕ, zero, suc, Bool, true, false, cond, List, [], ◌∷◌, Option, Some, None, option_map, Ordering, Less, Equal, Greater, set, slice_get}
+use Rattle.std.proofs.Common.{◌≡◌, refl, sym, ap, ap₂, subst, ◌∙◌, ℕ, zero, suc, ◌<◌, Bool, true, false, cond, List, [], ◌∷◌, Option, Some, None, option_map, Ordering, Less, Equal, Greater, length, set, slice_get}
 use Rattle.std.specs.Cmp.{IsTotalOrder, eq_by_cmp_equiv}
-use Rattle.std.specs.FinMap.{FinMap, IsAntisymmetric, from_entries, get, get-insert, insert, same_map}
+use Rattle.std.specs.FinMap.{FinMap, IsAntisymmetric, find, from_entries, get, get-insert, insert, same_map}
 use Rattle.std.specs.List.{AllByRecursion}
 use Rattle.std.specs.List.Sorted.{IsStrictlySortedBy}
 use Rattle.std.specs.Map.{keys_of}
 use Rattle.std.specs.Ordering.{eq_by_cmp, is_eq}
 use Rattle.std.proofs.lemmas.Map.Keys.{sorted_head, sorted_tail}
+use Rattle.std.proofs.lemmas.Option.{slice_get_within}
 use Rattle.plan_model.specs.Revise.{get-revise, revise}
 use Rattle.plan_records.proofs.MadeEntries.{each_made, key_of}
 use Rattle.plan_records.proofs.RowPlaces.{from_made, keys-made, later_key}
@@ -15,6 +16,10 @@ less_apart : (r : Ordering) → r ≡ Less → is_eq r ≡ false
 less_apart Less h = refl
 less_apart Equal h = cc
 less_apart Greater h = cc
+
+-- a place at which a row of the key stands
+pub place_within : {K X : Type 0} (rows : List (K × X)) (place : ℕ) (key : K) → (x : X) × (slice_get rows place ≡ Some (key, x)) → place < length rows
+place_within rows place key at = slice_get_within rows place (key, at.0) at.1
 
 module _ {K X : Type 0} (R : K → K → Ordering) (o : IsTotalOrder R) (same : IsAntisymmetric R) (k : K) where
   -- the value, made anew at the key k
@@ -43,6 +48,17 @@ module _ {K X : Type 0} (R : K → K → Ordering) (o : IsTotalOrder R) (same : 
   set_made f (row ∷ rows) sorted (suc i) v at =
       let less = later_key R row.0 rows i k v (sorted_head R row.0 (keys_of rows) sorted) at in
       ap₂ (λ (r : K × X) (rs : List (K × X)). r ∷ rs) (sym (other_row f row (less_apart (R row.0 k) less))) (set_made f rows (sorted_tail R row.0 (keys_of rows) sorted) i v at)
+
+  not_found : (row : K × X) (rows : List (K × X)) (b : Bool) → eq_by_cmp R k row.0 ≡ b → cond b (Some row.1) (find R k rows) ≡ None → (eq_by_cmp R k row.0 ≡ false) × (find R k rows ≡ None)
+  not_found row rows true is none = cc
+  not_found row rows false is none = (is, none)
+
+  -- where no row has the key, nothing is made anew
+  pub absent_made : (f : X → X) (rows : List (K × X)) → find R k rows ≡ None → each_made (made_at f) rows ≡ rows
+  absent_made f [] none = refl
+  absent_made f (row ∷ rows) none =
+      let both = not_found row rows (eq_by_cmp R k row.0) refl none in
+      ap₂ (λ (r : K × X) (rs : List (K × X)). r ∷ rs) (other_row f row ((eq_by_cmp_equiv o).symm row.0 k ∙ both.0)) (absent_made f rows both.1)
 
   -- as a map
   pub from_set : (f : X → X) (rows : List (K × X)) → IsStrictlySortedBy R (keys_of rows) → (i : ℕ) (v : X) → slice_get rows i ≡ Some (k, v)

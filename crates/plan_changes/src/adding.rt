@@ -1,6 +1,6 @@
 // What comes in: an occurrence with its operations and pairs, or a pair alone.
 ghost use Rattle.std.specs.Prelude.{◌≡◌, ℕ, IfOk, OnOk};
-ghost use Rattle.std.specs.FinMap.{from_entries};
+ghost use Rattle.std.specs.FinMap.{IsAntisymmetric, from_entries};
 ghost use Rattle.std.specs.FinSet as set;
 ghost use Rattle.std.specs.List.Sorted.{IsStrictlySortedBy};
 ghost use Rattle.std.specs.Map.{keys_of};
@@ -17,32 +17,17 @@ use plan_model::{Occurrence, OperationRecord};
 use plan_records::{Addition, PlanContents};
 use std::alloc::{AllocError, Global};
 
-// Puts in rows of other operations, by key.
-fn add_operations(
-    rows: &mut Vec<(OpKey, OperationRecord)>,
-    new: &[(OpKey, OperationRecord)],
+// Puts in rows of other keys, by key, where keys that compare equal are the same.
+fn add_rows<K: Ord + Copy, V: Copy>(
+    rows: &mut Vec<(K, V)>,
+    new: &[(K, V)],
 ) -> Result<(), AllocError>
-    requires old { IsStrictlySortedBy operation_cmp (keys_of rows.old.items) }
-    requires new { IsStrictlySortedBy operation_cmp (keys_of new.now) }
-    requires apart { ShareNoKey {R = operation_cmp} (from_entries rows.old.items) (from_entries new.now) }
-    ensures both { OnOk result (from_entries {R = operation_cmp} rows.new.items ≡ joined (from_entries rows.old.items) (from_entries new.now)) }
-    ensures in_order { OnOk result (IsStrictlySortedBy operation_cmp (keys_of rows.new.items)) }
-{
-    rows.extend_from_slice(new)?;
-    rows.sort_by_key(|row| row.0)?;
-    Ok(())
-}
-
-// Puts in rows of other occurrences, by key.
-fn add_occurrences(
-    rows: &mut Vec<(OccKey, Occurrence)>,
-    new: &[(OccKey, Occurrence)],
-) -> Result<(), AllocError>
-    requires old { IsStrictlySortedBy occurrence_cmp (keys_of rows.old.items) }
-    requires new { IsStrictlySortedBy occurrence_cmp (keys_of new.now) }
-    requires apart { ShareNoKey {R = occurrence_cmp} (from_entries rows.old.items) (from_entries new.now) }
-    ensures both { OnOk result (from_entries {R = occurrence_cmp} rows.new.items ≡ joined (from_entries rows.old.items) (from_entries new.now)) }
-    ensures in_order { OnOk result (IsStrictlySortedBy occurrence_cmp (keys_of rows.new.items)) }
+    requires exact { IsAntisymmetric K.cmp }
+    requires old { IsStrictlySortedBy K.cmp (keys_of rows.old.items) }
+    requires new { IsStrictlySortedBy K.cmp (keys_of new.now) }
+    requires apart { ShareNoKey {R = K.cmp} (from_entries rows.old.items) (from_entries new.now) }
+    ensures both { OnOk result (from_entries {R = K.cmp} rows.new.items ≡ joined (from_entries rows.old.items) (from_entries new.now)) }
+    ensures in_order { OnOk result (IsStrictlySortedBy K.cmp (keys_of rows.new.items)) }
 {
     rows.extend_from_slice(new)?;
     rows.sort_by_key(|row| row.0)?;
@@ -76,8 +61,8 @@ pub fn with_addition(
     let parts = addition.parts();
     let occurrence = [(parts.key, parts.terms)];
     let mut new = copy_of(alloc, contents)?;
-    add_occurrences(&mut new.occurrences, &occurrence)?;
-    add_operations(&mut new.operations, &parts.operations)?;
+    add_rows(&mut new.occurrences, &occurrence)?;
+    add_rows(&mut new.operations, &parts.operations)?;
     add_pairs(&mut new.pairs, &parts.pairs)?;
     Ok(new)
 }

@@ -1,10 +1,11 @@
 // What operators' commands change of what the plan holds.
 ghost use Rattle.std.specs.Prelude.{◌≡◌, ℕ, IfOk, true};
 ghost use Rattle.std.specs.FinMap.{insert, contains_key};
+ghost use Rattle.std.specs.Fn.{FnReturnsAt};
 ghost use Rattle.std.specs.Ordering.{eq_by_cmp};
 ghost use Rattle.plan_basics.specs.Keys.{occurrence_cmp};
 ghost use Rattle.plan_basics.specs.declared.keys.OpKey.{OpKey as OpKeyValue};
-ghost use Rattle.plan_model.specs.Plan.{IsInPlan};
+ghost use Rattle.plan_model.specs.Plan.{IsInPlan, Operation};
 ghost use Rattle.ready_list.specs.Choice.{is_among};
 ghost use Rattle.plan_records.specs.Accepting.{MayBeOpenBy, AllHold};
 ghost use Rattle.plan_records.specs.Changes.{Changes, is_at, revised};
@@ -19,11 +20,25 @@ use plan_records::{PlanContents, place_of, resource_place, workstation_place};
 use status_rules::Mark;
 use std::alloc::{AllocError, Global};
 
-// The operation, held or not.
-fn held_as(operation: &OperationRecord, held: bool) -> OperationRecord
-    ensures { result ≡ record operation.now { held = held } }
+// The contents with the operation of a key made anew: as f makes it, where each call of the change gives what f gives. A key that
+// has no row is passed over.
+fn with_changed<F: Fn(&OperationRecord) -> OperationRecord + Drop>(
+    alloc: Global,
+    contents: &PlanContents,
+    key: &OpKey,
+    change: F,
+) -> Result<PlanContents, AllocError>
+    requires in_order { AreContents contents.now }
+    requires change { F.IsAlwaysCallable change }
+    ensures plan { (f : Operation → Operation) → ((op changed : Operation) → FnReturnsAt F.Fn change op changed → changed ≡ f op) → IfOk result (λ new. (clock : ℕ) → plan_of clock new ≡ revised (is_at key.now) f (plan_of clock contents.now)) }
+    ensures in_order { IfOk result (λ new. AreContents new) }
 {
-    OperationRecord { held, ..*operation }
+    let mut new = copy_of(alloc, contents)?;
+    if let Some(place) = place_of(&new.operations, key) {
+        let operation = change(&new.operations[place].1);
+        new.operations[place] = (*key, operation);
+    }
+    Ok(new)
 }
 
 /// The contents with an operation held, or not held any more. A key that has no row is passed over.
@@ -37,19 +52,12 @@ pub fn with_held(
     ensures plan { IfOk result (λ new. (clock : ℕ) → plan_of clock new ≡ revised (is_at key.now) (λ op. record op { held = held }) (plan_of clock contents.now)) }
     ensures in_order { IfOk result (λ new. AreContents new) }
 {
-    let mut new = copy_of(alloc, contents)?;
-    if let Some(place) = place_of(&new.operations, key) {
-        let operation = held_as(&new.operations[place].1, held);
-        new.operations[place] = (*key, operation);
-    }
-    Ok(new)
-}
-
-// The operation, carried out as a no-operation or not.
-fn nop_as(operation: &OperationRecord, nop: bool) -> OperationRecord
-    ensures { result ≡ record operation.now { nop = nop } }
-{
-    OperationRecord { nop, ..*operation }
+    with_changed(
+        alloc,
+        contents,
+        key,
+        |operation| OperationRecord { held, ..*operation },
+    )
 }
 
 /// The contents with an operation made a no-operation, or one that is carried out again. A key that has no row is passed over.
@@ -63,12 +71,12 @@ pub fn with_nop(
     ensures plan { IfOk result (λ new. (clock : ℕ) → plan_of clock new ≡ revised (is_at key.now) (λ op. record op { nop = nop }) (plan_of clock contents.now)) }
     ensures in_order { IfOk result (λ new. AreContents new) }
 {
-    let mut new = copy_of(alloc, contents)?;
-    if let Some(place) = place_of(&new.operations, key) {
-        let operation = nop_as(&new.operations[place].1, nop);
-        new.operations[place] = (*key, operation);
-    }
-    Ok(new)
+    with_changed(
+        alloc,
+        contents,
+        key,
+        |operation| OperationRecord { nop, ..*operation },
+    )
 }
 
 /// The contents with a special resource of theirs available, or not.

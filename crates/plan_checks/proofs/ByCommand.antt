@@ -84,20 +84,11 @@ module _ (P : Plan) (o : OpKey) where
     completable_told (inr (inl (inr (inr h)))) = passes may_be_completed status.Undecided refl h
     completable_told (inr (inr h)) = passes may_be_completed status.Error refl h
 
-    rerunnable_told : IsRerunnable → may_be_rerun s ≡ true
-    rerunnable_told (inl h) = passes may_be_rerun status.Interrupted refl h
-    rerunnable_told (inr (inl h)) = passes may_be_rerun status.Complete refl h
-    rerunnable_told (inr (inr (inl h))) = passes may_be_rerun status.Error refl h
-    rerunnable_told (inr (inr (inr h))) = passes may_be_rerun status.Undecided refl h
-
     pub not_waiting_or_ready : waits_or_is_ready s ≡ false → ¬ IsWaitingOrReady P o
     not_waiting_or_ready e h = true≢false (sym (waits_told h) ∙ e)
 
     pub not_completable : may_be_completed s ≡ false → ¬ IsCompletable
     not_completable e h = true≢false (sym (completable_told h) ∙ e)
-
-    pub not_rerunnable : may_be_rerun s ≡ false → ¬ IsRerunnable
-    not_rerunnable e h = true≢false (sym (rerunnable_told h) ∙ e)
 
   -- ---- a hold, a release, a NOP and its end
 
@@ -143,14 +134,6 @@ module _ (P : Plan) (o : OpKey) where
   rerun may none refusal.Running = none
   rerun may none r = tt
 
-  before_rerun : (lower : Refusal) → number_of lower < 9 → MayBeRerun P o lower
-  before_rerun refusal.WrongStatus less = absurd (omega (arith, less))
-  before_rerun refusal.Running less = absurd (omega (arith, less))
-  before_rerun r less = tt
-
-  pub not_rerun : ¬ IsRerunnable → FailsFirstAt (MayBeRerun P o) refusal.WrongStatus
-  not_rerun never = (never, before_rerun)
-
   before_running : IsRerunnable → (lower : Refusal) → number_of lower < 17 → MayBeRerun P o lower
   before_running may refusal.WrongStatus less = may
   before_running may refusal.Running less = absurd (omega (arith, less))
@@ -162,15 +145,6 @@ module _ (P : Plan) (o : OpKey) where
 -- ---- the deletion of an occurrence
 
 module _ (P : Plan) (c : OccKey) where
-  pub unknown_at_deletion : ¬ (contains_key P.occurrences c ≡ true) → FailsFirstAt (MayBeDeleted P c) refusal.UnknownOccurrence
-  unknown_at_deletion never = (never, before)
-    where
-      before : (lower : Refusal) → number_of lower < 6 → MayBeDeleted P c lower
-      before refusal.UnknownOccurrence less = absurd (omega (arith, less))
-      before refusal.WrongStatus less = absurd (omega (arith, less))
-      before refusal.Running less = absurd (omega (arith, less))
-      before r less = tt
-
   module _ (known : contains_key P.occurrences c ≡ true) where
     pub deleted_twice : EachOperation P c status.Deleted → FailsFirstAt (MayBeDeleted P c) refusal.WrongStatus
     deleted_twice each = (λ never. never each, before)

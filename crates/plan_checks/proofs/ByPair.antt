@@ -13,8 +13,9 @@ use Rattle.plan_records.specs.Accepting.{MayBeFlagged, MayBePaired, AllHold, Fai
 use Rattle.plan_records.specs.Changes.{with_pair}
 use Rattle.plan_records.specs.Contents.{plan_of}
 use Rattle.status_rules.specs.declared.Status.TheVariants as status
-use Rattle.plan_checks.proofs.PairedPlaces.{acyclic_with, both_known, edge_by_pair, has_no_room, has_room, pair_by_edge, returning_with}
-use Rattle.plan_checks.specs.Held.{AreHeld}
+use Rattle.plan_checks.proofs.AdditionLines.{Below, past}
+use Rattle.plan_checks.proofs.PairedPlaces.{acyclic_with, both_known, edge_by_pair, has_no_room, has_room, node_within, pair_by_edge, returning_with}
+use Rattle.plan_checks.specs.Held.{AreHeld, IsHeldAtSome}
 use Rattle.plan_checks.specs.Pairing.{IsEdgeRefusal}
 use Rattle.plan_checks.specs.Barring.{FailsAt, IsReported, MeetsAll}
 use Rattle.plan_checks.specs.declared.checks.Reported.{Reported}
@@ -29,61 +30,39 @@ module _ (P : Plan) (p s : OpKey) where
   abbrev pub MayBeJoined : Type 0
   MayBeJoined = ¬ HasStatus P p status.Deleted × IsWaitingOrReady P s
 
+  -- what is so of the lines that ask something is so of all
+  line_by_line : (Q : Refusal → Type 0)
+      → (Q refusal.UnknownOperation → MayBePaired P p s refusal.UnknownOperation)
+      → (Q refusal.WrongStatus → MayBePaired P p s refusal.WrongStatus)
+      → (Q refusal.Duplicate → MayBePaired P p s refusal.Duplicate)
+      → (Q refusal.Cycle → MayBePaired P p s refusal.Cycle)
+      → (Q refusal.Limit → MayBePaired P p s refusal.Limit)
+      → (r : Refusal) → Q r → MayBePaired P p s r
+  line_by_line Q known may new acyclic room refusal.UnknownOperation q = known q
+  line_by_line Q known may new acyclic room refusal.WrongStatus q = may q
+  line_by_line Q known may new acyclic room refusal.Duplicate q = new q
+  line_by_line Q known may new acyclic room refusal.Cycle q = acyclic q
+  line_by_line Q known may new acyclic room refusal.Limit q = room q
+  line_by_line Q known may new acyclic room r q = tt
+
   module _ (known : AreKnown) where
-    pub not_joined : ¬ MayBeJoined → FailsFirstAt (MayBePaired P p s) refusal.WrongStatus
-    not_joined never = (never, before)
-      where
-        before : (lower : Refusal) → number_of lower < 9 → MayBePaired P p s lower
-        before refusal.UnknownOperation less = known
-        before refusal.WrongStatus less = absurd (omega (arith, less))
-        before refusal.Duplicate less = absurd (omega (arith, less))
-        before refusal.Cycle less = absurd (omega (arith, less))
-        before refusal.Limit less = absurd (omega (arith, less))
-        before r less = tt
+    not_joined : ¬ MayBeJoined → FailsFirstAt (MayBePaired P p s) refusal.WrongStatus
+    not_joined never = (never, line_by_line (Below 9) (λ _. known) (past refl) (past refl) (past refl) (past refl))
 
     module _ (may : MayBeJoined) where
-      pub paired_twice : Precedes P p s → FailsFirstAt (MayBePaired P p s) refusal.Duplicate
-      paired_twice there = (λ new. new there, before)
-        where
-          before : (lower : Refusal) → number_of lower < 18 → MayBePaired P p s lower
-          before refusal.UnknownOperation less = known
-          before refusal.WrongStatus less = may
-          before refusal.Duplicate less = absurd (omega (arith, less))
-          before refusal.Cycle less = absurd (omega (arith, less))
-          before refusal.Limit less = absurd (omega (arith, less))
-          before r less = tt
+      paired_twice : Precedes P p s → FailsFirstAt (MayBePaired P p s) refusal.Duplicate
+      paired_twice there = (λ new. new there, line_by_line (Below 18) (λ _. known) (λ _. may) (past refl) (past refl) (past refl))
 
       module _ (new : ¬ Precedes P p s) where
-        pub closing : ¬ IsAcyclic (with_pair P p s).pairs → FailsFirstAt (MayBePaired P p s) refusal.Cycle
-        closing returns = (returns, before)
-          where
-            before : (lower : Refusal) → number_of lower < 19 → MayBePaired P p s lower
-            before refusal.UnknownOperation less = known
-            before refusal.WrongStatus less = may
-            before refusal.Duplicate less = new
-            before refusal.Cycle less = absurd (omega (arith, less))
-            before refusal.Limit less = absurd (omega (arith, less))
-            before r less = tt
+        closing : ¬ IsAcyclic (with_pair P p s).pairs → FailsFirstAt (MayBePaired P p s) refusal.Cycle
+        closing returns = (returns, line_by_line (Below 19) (λ _. known) (λ _. may) (λ _. new) (past refl) (past refl))
 
         module _ (acyclic : IsAcyclic (with_pair P p s).pairs) where
-          pub one_too_many : ¬ IsWithinLimits (with_pair P p s) → FailsFirstAt (MayBePaired P p s) refusal.Limit
-          one_too_many full = (full, before)
-            where
-              before : (lower : Refusal) → number_of lower < 20 → MayBePaired P p s lower
-              before refusal.UnknownOperation less = known
-              before refusal.WrongStatus less = may
-              before refusal.Duplicate less = new
-              before refusal.Cycle less = acyclic
-              before refusal.Limit less = absurd (omega (arith, less))
-              before r less = tt
+          one_too_many : ¬ IsWithinLimits (with_pair P p s) → FailsFirstAt (MayBePaired P p s) refusal.Limit
+          one_too_many full = (full, line_by_line (Below 20) (λ _. known) (λ _. may) (λ _. new) (λ _. acyclic) (past refl))
 
-          pub paired : IsWithinLimits (with_pair P p s) → AllHold (MayBePaired P p s)
-          paired room refusal.UnknownOperation = known
-          paired room refusal.WrongStatus = may
-          paired room refusal.Duplicate = new
-          paired room refusal.Cycle = acyclic
-          paired room refusal.Limit = room
-          paired room r = tt
+          paired : IsWithinLimits (with_pair P p s) → AllHold (MayBePaired P p s)
+          paired room r = line_by_line (λ _. Unit {0}) (λ _. known) (λ _. may) (λ _. new) (λ _. acyclic) (λ _. room) r tt
 
 -- an error that is handed on
 pub handed_on : {T E : Type 0} (A : E → Type 0) (r : Result T E) (e : E) → IsErrAnd r (λ y. y ≡ e) → A e → IfErr r A
@@ -100,6 +79,10 @@ HasRow h i o = (op : Operation) × (slice_get h.contents.operations.items i ≡ 
 abbrev pub IsTold : LoadedPlan → OpKey → Reported → Type 0
 IsTold h o x = (clock : ℕ) → IsReported (plan_of clock h.contents) o x
 
+-- x is what is reported of the operation whose row is at this place
+abbrev pub IsToldAt : LoadedPlan → ℕ → Reported → Type 0
+IsToldAt h i x = (o : OpKey) (op : Operation) → slice_get h.contents.operations.items i ≡ Some (o, op) → IsTold h o x
+
 -- of what a dependency of s on p asks of the plan at this clock, r's line is the first that fails
 abbrev pub IsBarredAt : LoadedPlan → OpKey → OpKey → ℕ → Refusal → Type 0
 IsBarredAt h p s clock r = (3 < number_of r) × FailsFirstAt (MayBePaired (plan_of clock h.contents) p s) r
@@ -112,7 +95,34 @@ not_flagged : (P : Plan) (o : OpKey) (r : Refusal) → ¬ MayBeFlagged P o r →
 not_flagged P o refusal.WrongStatus never = (refl, never)
 not_flagged P o r never = absurd (never tt)
 
-module _ (at : ℕ) (h : LoadedPlan) (held : AreHeld at h) (i j : ℕ) (p s : OpKey) (a : HasRow h i p) (b : HasRow h j s) (x y : Reported) (first : IsTold h p x) (second : IsTold h s y) where
+-- the operations p and s stand in the rows i and j of the plan that is held, and x and y are reported of them
+pub record AreFound (h : LoadedPlan) (i j : ℕ) (p s : OpKey) (x y : Reported) : Type 0 where
+  pub held : IsHeldAtSome h
+  pub before : HasRow h i p
+  pub after : HasRow h j s
+  pub first : IsTold h p x
+  pub second : IsTold h s y
+
+module _ {h : LoadedPlan} {i j : ℕ} {p s : OpKey} {x y : Reported} (found : AreFound h i j p s x y) where
+  abbrev at : ℕ
+  at = found.held.0
+
+  abbrev held : AreHeld at h
+  held = found.held.1
+
+  abbrev a : HasRow h i p
+  a = found.before
+
+  abbrev b : HasRow h j s
+  b = found.after
+
+  -- both have nodes
+  pub before_within : i < h.graph.nodes
+  before_within = node_within at h held i p a.0 a.1
+
+  pub after_within : j < h.graph.nodes
+  after_within = node_within at h held j s b.0 b.1
+
   known : (clock : ℕ) → AreKnown (plan_of clock h.contents) p s
   known = both_known at h held i j p s a.0 b.0 a.1 b.1
 
@@ -122,16 +132,16 @@ module _ (at : ℕ) (h : LoadedPlan) (held : AreHeld at h) (i j : ℕ) (p s : Op
   -- by the statuses
   pub barred_by_ends : (r : Refusal) → ((r ≡ refusal.WrongStatus) × (x.status ≡ status.Deleted)) ⊎ FailsAt y MayBeFlagged r → IsBarredPair h p s r
   barred_by_ends r (inl deleted) = inr (λ clock.
-      barred_by_status clock r deleted.0 (λ may. may.0 (subst (HasStatus (plan_of clock h.contents) p) deleted.1 (first clock).status)))
+      barred_by_status clock r deleted.0 (λ may. may.0 (subst (HasStatus (plan_of clock h.contents) p) deleted.1 (found.first clock).status)))
   barred_by_ends r (inr fails) = inr (λ clock.
-      let told = not_flagged (plan_of clock h.contents) s r (fails.1 (plan_of clock h.contents) s (second clock)).0 in
+      let told = not_flagged (plan_of clock h.contents) s r (fails.1 (plan_of clock h.contents) s (found.second clock)).0 in
       barred_by_status clock r told.0 (λ may. told.1 may.1))
 
   module _ (live : x.status ≢ status.Deleted) (clear : MeetsAll y MayBeFlagged) where
     joined : (clock : ℕ) → MayBeJoined (plan_of clock h.contents) p s
     joined clock = (
-      λ deleted. live (sym ((first clock).alone status.Deleted deleted)),
-      clear (plan_of clock h.contents) s (second clock) refusal.WrongStatus,
+      λ deleted. live (sym ((found.first clock).alone status.Deleted deleted)),
+      clear (plan_of clock h.contents) s (found.second clock) refusal.WrongStatus,
     )
 
     -- by the graph

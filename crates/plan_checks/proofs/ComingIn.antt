@@ -5,6 +5,8 @@ use Rattle.std.specs.Cmp.{IsTotalOrder}
 use Rattle.std.specs.declared.cmp.Ordering.{Ordering}
 use Rattle.std.specs.FinMap.{IsAntisymmetric, contains_key, empty, from_entries, get, insert}
 use Rattle.std.specs.FinSet.{from_list}
+use Rattle.std.specs.Bool.{MatchBool}
+use Rattle.std.specs.List.{AllWithin, HoldsAt}
 use Rattle.std.specs.List.Sorted.{IsStrictlySortedBy}
 use Rattle.std.specs.Map.{keys_of}
 use Rattle.std.proofs.lemmas.List.Elements.{All-contains}
@@ -22,6 +24,7 @@ use Rattle.special_resources.specs.Needs.{AreInNameOrder, usages_of}
 use Rattle.special_resources.specs.declared.Need.{Need}
 use Rattle.special_resources.proofs.MoreNeeds.{need_by_usage, usage_by_need}
 use Rattle.plan_laws.proofs.Pairs.{pair_cmp_total, pair_cmp-IsAntisymmetric}
+use Rattle.plan_records.proofs.Lists.{all_by_members, all_told}
 use Rattle.plan_records.proofs.MadeAdditions.{sole_got, sole_key}
 use Rattle.plan_records.proofs.Tables.{from_set, get_row, in_set, is_found, row_found, rows_apart, some_is}
 use Rattle.plan_checks.proofs.Searching.{row_known}
@@ -99,32 +102,51 @@ module _ (parts : NewOccurrence) (are : AreAdditionParts parts) (P : Plan) (o : 
     ],
   )
 
--- ---- all pairs, and all rows
+-- ---- all pairs, rows and needs
+
+-- what a test of each element told: whether all have Q
+abbrev pub IsTestOfEach : {X : Type 0} → (X → Type 0) → List X → Bool → Type 0
+IsTestOfEach Q items b = MatchBool b (AllWithin Q items 0 (length items)) ((k : ℕ) × (k < length items) × HoldsAt (λ x. ¬ Q x) items k)
+
+-- it tells whether each member of a like list has Q
+each_told : {X : Type 0} {items members : List X} → items ≡ members → (Q : X → Type 0) (b : Bool) → IsTestOfEach Q items b → Decides b ((x : X) → Contains members x → Q x)
+each_told {X} {items} {members} same Q b test =
+    let told = all_told Q items b test in (
+      λ yes x has. All-contains Q members x (subst (All Q) same (told.0 yes)) has,
+      λ each. told.1 (subst (All Q) (sym same) (all_by_members Q members each)),
+    )
+
+-- what is so of each pair in the list is so of each in the set, which has them all
+pub pairs_told : {items pairs : List (OpKey × OpKey)} → items ≡ pairs → (Q : OpKey × OpKey → Type 0) (b : Bool) → IsTestOfEach Q items b → Decides b ((p o : OpKey) → IsPairOf (from_list pairs) p o → Q (p, o))
+pairs_told {items} {pairs} same Q b test =
+    let told = each_told same Q b test in (
+      λ yes p o is. told.0 yes (p, o) (from_set pair_cmp_total pair_cmp-IsAntisymmetric pairs (p, o) is),
+      λ may. told.1 (λ pair has. may pair.0 pair.1 (in_set pair_cmp_total pair_cmp-IsAntisymmetric pairs pair has)),
+    )
 
 module _ (items pairs : List (OpKey × OpKey)) (same : items ≡ pairs) where
-  -- what is so of each pair in the list is so of each in the set, which has them all
-  pub pairs_told : (Q : OpKey × OpKey → Type 0) → All Q items → (p o : OpKey) → IsPairOf (from_list pairs) p o → Q (p, o)
-  pairs_told Q all p o is = All-contains Q pairs (p, o) (subst (All Q) same all) (from_set pair_cmp_total pair_cmp-IsAntisymmetric pairs (p, o) is)
+  pub each_pair : (Q : OpKey × OpKey → Type 0) → All Q items → (p o : OpKey) → IsPairOf (from_list pairs) p o → Q (p, o)
+  each_pair Q all p o is = All-contains Q pairs (p, o) (subst (All Q) same all) (from_set pair_cmp_total pair_cmp-IsAntisymmetric pairs (p, o) is)
 
   pub pair_read : (i : ℕ) (pair : OpKey × OpKey) → i < length items → pair ≡ get_or items i pair → IsPairOf (from_list pairs) pair.0 pair.1
   pair_read i pair lt is = in_set pair_cmp_total pair_cmp-IsAntisymmetric pairs pair (subst (λ (xs : List (OpKey × OpKey)). Contains xs pair) same (i, lt, sym is))
 
-module _ {K X : Type 0} {R : K → K → Ordering} (total : IsTotalOrder R) (exact : IsAntisymmetric R) (items rows : List (K × X)) (same : items ≡ rows) where
-  -- what is so of each row is so of each value in the map, which has them all
-  pub rows_told : (Q : X → Type 0) → All (λ row. Q row.1) items → (k : K) (x : X) → get {R = R} (from_entries rows) k ≡ Some x → Q x
-  rows_told Q all k x is = All-contains (λ (row : K × X). Q row.1) rows (k, x) (subst (λ (xs : List (K × X)). All (λ row. Q row.1) xs) same all) (row_found total exact rows k x is)
+-- what is so of each row is so of each value in the map, which has them all
+pub rows_told : {K X : Type 0} {R : K → K → Ordering} → IsTotalOrder R → IsAntisymmetric R → {items rows : List (K × X)} → items ≡ rows → IsStrictlySortedBy R (keys_of rows) → (Q : X → Type 0) (b : Bool)
+    → IsTestOfEach (λ row. Q row.1) items b → Decides b ((k : K) (x : X) → get {R = R} (from_entries rows) k ≡ Some x → Q x)
+rows_told {K} {X} {R} total exact {items} {rows} same up Q b test =
+    let told = each_told same (λ (row : K × X). Q row.1) b test in (
+      λ yes k x is. told.0 yes (k, x) (row_found total exact rows k x is),
+      λ may. told.1 (λ row has. may row.0 row.1 (get_row total exact rows row.0 row.1 (rows_apart total exact rows up) has)),
+    )
 
-  pub row_read : IsStrictlySortedBy R (keys_of rows) → (i : ℕ) (row : K × X) → i < length items → row ≡ get_or items i row → get {R = R} (from_entries rows) row.0 ≡ Some row.1
-  row_read up i row lt is = get_row total exact rows row.0 row.1 (rows_apart total exact rows up) (subst (λ (xs : List (K × X)). Contains xs row) same (i, lt, sym is))
-
--- ---- the special resources of an operation
-
-module _ (P : Plan) (op : Operation) (needs : List Need) (same : op.needs ≡ usages_of needs) (sorted : AreInNameOrder needs) where
-  -- they are in the plan where that of each need in the list is
-  pub resources_told : All (λ need. contains_key P.resources need.name ≡ true) needs → HasResources P op
-  resources_told all r usage is =
-      let n = need_by_usage needs sorted r usage (subst (λ u. get u r ≡ Some usage) same is) in
-      subst (λ z. contains_key P.resources z ≡ true) n.2 (All-contains (λ (need : Need). contains_key P.resources need.name ≡ true) needs n.0 all n.1)
-
-  pub resource_read : HasResources P op → (i : ℕ) (need : Need) → i < length needs → need ≡ get_or needs i need → contains_key P.resources need.name ≡ true
-  resource_read has i need lt is = has need.name (usage_of need) (subst (λ u. get u need.name ≡ Some (usage_of need)) (sym same) (usage_by_need needs sorted need (i, lt, sym is)))
+-- the special resources of an operation are in the plan where that of each need in the list is
+pub resources_told : (P : Plan) (op : Operation) (needs : List Need) → op.needs ≡ usages_of needs → AreInNameOrder needs → (b : Bool)
+    → IsTestOfEach (λ need. contains_key P.resources need.name ≡ true) needs b → Decides b (HasResources P op)
+resources_told P op needs same sorted b test =
+    let told = each_told refl (λ (need : Need). contains_key P.resources need.name ≡ true) b test in (
+      λ yes r usage is.
+          let n = need_by_usage needs sorted r usage (subst (λ u. get u r ≡ Some usage) same is) in
+          subst (λ z. contains_key P.resources z ≡ true) n.2 (told.0 yes n.0 n.1),
+      λ has. told.1 (λ need listed. has need.name (usage_of need) (subst (λ u. get u need.name ≡ Some (usage_of need)) (sym same) (usage_by_need needs sorted need listed))),
+    )

@@ -41,10 +41,6 @@ module _ (P : Plan) (o : OpKey) where
     pub is_running : holds_server (Some x.status) ≡ true → HasStatus P o status.Started ⊎ HasStatus P o status.Undecided
     is_running = running_by x.status is.status
 
-    pub not_running : holds_server (Some x.status) ≡ false → ¬ (HasStatus P o status.Started ⊎ HasStatus P o status.Undecided)
-    not_running e (inl h) = true≢false (subst (λ s. holds_server (Some s) ≡ false) (sym (is.alone status.Started h)) e)
-    not_running e (inr h) = true≢false (subst (λ s. holds_server (Some s) ≡ false) (sym (is.alone status.Undecided h)) e)
-
     pub is_ready : is_ready_status x.status ≡ true → IsReady P o
     is_ready = ready_by x.status is.status
 
@@ -52,9 +48,6 @@ module _ (P : Plan) (o : OpKey) where
     ready_told (inl h) = subst (λ s. is_ready_status s ≡ true) (is.alone status.Arriving h) refl
     ready_told (inr (inl h)) = subst (λ s. is_ready_status s ≡ true) (is.alone status.ReadyAfterNonreporting h) refl
     ready_told (inr (inr h)) = subst (λ s. is_ready_status s ≡ true) (is.alone status.Ready h) refl
-
-    pub not_ready : is_ready_status x.status ≡ false → ¬ IsReady P o
-    not_ready e h = true≢false (sym (ready_told h) ∙ e)
 
     -- what may be started where starts are reported
     pub startable : (m : ℕ) → x.attribute ≡ attribute.StartAndCompletion → IsStartable x.status → MayStart P o x.operation m refusal.WrongStatus

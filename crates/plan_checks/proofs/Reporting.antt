@@ -5,13 +5,16 @@ use Rattle.plan_basics.specs.declared.Attr.{Attr}
 use Rattle.plan_basics.specs.declared.Refusal.{Refusal}
 use Rattle.plan_basics.specs.declared.Refusal.TheVariants as refusal
 use Rattle.plan_basics.specs.declared.keys.OpKey.{OpKey}
+use Rattle.plan_basics.specs.Keys.{Name}
 use Rattle.plan_basics.specs.Refusals.{number_of}
 use Rattle.plan_laws.proofs.Looks.{same_some}
 use Rattle.plan_model.specs.Plan.{Operation, Plan, attribute_at}
-use Rattle.plan_records.specs.Accepting.{MayBeDone, OfOperation, AllHold, FailsFirstAt}
+use Rattle.plan_records.specs.Accepting.{AllHold, FailsFirstAt, MayBeCompleted, MayBeDone, MayBeEnded, MayBeFlagged, MayBeInterrupted, MayBeRerun, MayBeStarted, MayBeUndecided, OfOperation}
 use Rattle.plan_records.specs.Contents.{plan_of}
 use Rattle.plan_records.specs.declared.What.{What}
+use Rattle.plan_records.specs.declared.What.TheVariants as what
 use Rattle.plan_records.specs.declared.contents.PlanContents.{PlanContents}
+use Rattle.plan_checks.proofs.Searching.{if_err}
 use Rattle.plan_checks.specs.Barring.{FailsAt, FailsPastKeys, IsBarred, IsPermitted, IsReported, MeetsAll}
 use Rattle.plan_checks.specs.declared.checks.Reported.{Reported}
 
@@ -43,8 +46,70 @@ module _ (c : PlanContents) (o : OpKey) (x : Reported) (lines : Plan → OpKey �
 abbrev pub AsksOf : Type 1
 AsksOf = Plan → OpKey → Option Attr → Operation → Refusal → Type 0
 
--- the request w, which v is, asks these lines of the operation o, of which x is known
-module _ (c : PlanContents) (m : ℕ) (lines : AsksOf) {v w : What} (is : v ≡ w) {o : OpKey} {x : Reported} (known : (clock : ℕ) → IsReported (plan_of clock c) o x) where
+-- at minute m the request w asks these lines of the operation o
+pub record Asks (m : ℕ) (w : What) (o : OpKey) (lines : AsksOf) : Type 0 where
+  pub each : (P : Plan) (r : Refusal) → OfOperation P o (λ op. lines P o (attribute_at P op.workstation) op) r ↔ MayBeDone P m w r
+
+-- what each request asks of its operation
+abbrev start : ℕ → AsksOf
+start m P q a op = MayBeStarted P m q op a
+
+abbrev end : AsksOf
+end P q a op = MayBeEnded P q op a
+
+abbrev interruption : AsksOf
+interruption P q a op = MayBeInterrupted P q op
+
+abbrev unknown : AsksOf
+unknown P q a op = MayBeUndecided P q
+
+abbrev flag : AsksOf
+flag P q a op = MayBeFlagged P q
+
+abbrev rerun : AsksOf
+rerun P q a op = MayBeRerun P q
+
+abbrev completion : AsksOf
+completion P q a op = MayBeCompleted P q op
+
+-- what a request asks by its definition, one that is it asks
+asks_as : {m : ℕ} {v : What} {o : OpKey} (w : What) (lines : AsksOf) → ((P : Plan) (r : Refusal) → OfOperation P o (λ op. lines P o (attribute_at P op.workstation) op) r ↔ MayBeDone P m w r) → v ≡ w → Asks m v o lines
+asks_as {m} {v} {o} w lines each is = subst (λ z. Asks m z o lines) (sym is) (record { each = each })
+
+module _ {m : ℕ} {v : What} {o : OpKey} where
+  pub asks_start : v ≡ what.Started o → Asks m v o (start m)
+  asks_start = asks_as (what.Started o) (start m) (λ P r. (λ h. h, λ h. h))
+
+  pub asks_end : (v ≡ what.Ended o) ⊎ ((code : Name) × (v ≡ what.Error o code)) → Asks m v o end
+  asks_end (inl is) = asks_as (what.Ended o) end (λ P r. (λ h. h, λ h. h)) is
+  asks_end (inr (code, is)) = asks_as (what.Error o code) end (λ P r. (λ h. h, λ h. h)) is
+
+  pub asks_interruption : v ≡ what.Interrupted o → Asks m v o interruption
+  asks_interruption = asks_as (what.Interrupted o) interruption (λ P r. (λ h. h, λ h. h))
+
+  pub asks_unknown : v ≡ what.Unknown o → Asks m v o unknown
+  asks_unknown = asks_as (what.Unknown o) unknown (λ P r. (λ h. h, λ h. h))
+
+  pub asks_flag : (v ≡ what.Hold o) ⊎ (v ≡ what.Release o) ⊎ (v ≡ what.Nop o) ⊎ (v ≡ what.Unnop o) → Asks m v o flag
+  asks_flag (inl is) = asks_as (what.Hold o) flag (λ P r. (λ h. h, λ h. h)) is
+  asks_flag (inr (inl is)) = asks_as (what.Release o) flag (λ P r. (λ h. h, λ h. h)) is
+  asks_flag (inr (inr (inl is))) = asks_as (what.Nop o) flag (λ P r. (λ h. h, λ h. h)) is
+  asks_flag (inr (inr (inr is))) = asks_as (what.Unnop o) flag (λ P r. (λ h. h, λ h. h)) is
+
+  pub asks_rerun : v ≡ what.Rerun o → Asks m v o rerun
+  asks_rerun = asks_as (what.Rerun o) rerun (λ P r. (λ h. h, λ h. h))
+
+  pub asks_completion : v ≡ what.Complete o → Asks m v o completion
+  asks_completion = asks_as (what.Complete o) completion (λ P r. (λ h. h, λ h. h))
+
+-- what an answer says of the request v, by the plan of these contents at minute m
+abbrev pub Tells : {T : Type 0} → PlanContents → ℕ → What → Result T Refusal → Type 0
+Tells c m v answer =
+    OnOk answer ((clock : ℕ) → IsPermitted (plan_of clock c) m v)
+    × IfErr answer (λ r. (r ≡ refusal.Memory) ⊎ ((clock : ℕ) → IsBarred (plan_of clock c) m v r))
+
+-- the request v asks these lines of the operation o, of which x is known
+module _ (c : PlanContents) (m : ℕ) {v : What} {o : OpKey} {x : Reported} {lines : AsksOf} (asks : Asks m v o lines) (known : (clock : ℕ) → IsReported (plan_of clock c) o x) where
   abbrev rest : Plan → Operation → Refusal → Type 0
   rest P op = lines P o (attribute_at P op.workstation) op
 
@@ -54,39 +119,31 @@ module _ (c : PlanContents) (m : ℕ) (lines : AsksOf) {v w : What} (is : v ≡ 
   abbrev its : Plan → OpKey → Refusal → Type 0
   its P q = lines P q (Some x.attribute) x.operation
 
-  module _ (asks : (P : Plan) (r : Refusal) → OfOperation P o (rest P) r ↔ MayBeDone P m w r) where
-    permitted : (clock : ℕ) → AllHold (its (at clock) o) → IsPermitted (at clock) m v
-    permitted clock all = subst (IsPermitted (at clock) m) (sym is) (λ r. (asks (at clock) r).0
-        (of_found (at clock) o (rest (at clock)) x.operation (known clock).operation r (subst (λ a. lines (at clock) o a x.operation r) (sym (known clock).attribute) (all r))))
+  permitted : (clock : ℕ) → AllHold (its (at clock) o) → IsPermitted (at clock) m v
+  permitted clock all = λ r. (asks.each (at clock) r).0
+      (of_found (at clock) o (rest (at clock)) x.operation (known clock).operation r (subst (λ a. lines (at clock) o a x.operation r) (sym (known clock).attribute) (all r)))
 
-    barred : (clock : ℕ) (r : Refusal) → 5 < number_of r → FailsFirstAt (its (at clock) o) r → IsBarred (at clock) m v r
-    barred clock r past first =
-        let on = sym (known clock).attribute in
-        let fails = subst (λ a. FailsFirstAt (lines (at clock) o a x.operation) r) on first in
-        subst (λ z. IsBarred (at clock) m z r) (sym is) (
-          omega (arith, past),
-          (
-            λ may. not_of_found (at clock) o (rest (at clock)) x.operation (known clock).operation r past fails.0 ((asks (at clock) r).1 may),
-            λ lower less. (asks (at clock) lower).0 (of_found (at clock) o (rest (at clock)) x.operation (known clock).operation lower (fails.1 lower less)),
-          ),
-        )
+  barred : (clock : ℕ) (r : Refusal) → 5 < number_of r → FailsFirstAt (its (at clock) o) r → IsBarred (at clock) m v r
+  barred clock r past first =
+      let on = sym (known clock).attribute in
+      let fails = subst (λ a. FailsFirstAt (lines (at clock) o a x.operation) r) on first in (
+        omega (arith, past),
+        (
+          λ may. not_of_found (at clock) o (rest (at clock)) x.operation (known clock).operation r past fails.0 ((asks.each (at clock) r).1 may),
+          λ lower less. (asks.each (at clock) lower).0 (of_found (at clock) o (rest (at clock)) x.operation (known clock).operation lower (fails.1 lower less)),
+        ),
+      )
 
-    pub if_met : {T : Type 0} (answer : Result T Refusal) → OnOk answer ((clock : ℕ) → AllHold (its (plan_of clock c) o)) → OnOk answer ((clock : ℕ) → IsPermitted (plan_of clock c) m v)
-    if_met (Ok t) all = λ clock. permitted clock (all clock)
-    if_met (Err e) all = tt
+  -- what is known of these contents' plan at each clock
+  pub told_here : {T : Type 0} (answer : Result T Refusal) → OnOk answer ((clock : ℕ) → AllHold (its (plan_of clock c) o))
+      → IfErr answer (λ r. (r ≡ refusal.Memory) ⊎ ((clock : ℕ) → FailsPastKeys (its (plan_of clock c) o) r)) → Tells c m v answer
+  told_here (Ok t) all fails = (λ clock. permitted clock (all clock), tt)
+  told_here (Err e) all (inl memory) = (tt, inl memory)
+  told_here (Err e) all (inr fails) = (tt, inr (λ clock. barred clock e (fails clock).0 (fails clock).1))
 
-    pub if_failed : {T : Type 0} (answer : Result T Refusal) → IfErr answer (λ r. (r ≡ refusal.Memory) ⊎ ((clock : ℕ) → FailsPastKeys (its (plan_of clock c) o) r))
-        → IfErr answer (λ r. (r ≡ refusal.Memory) ⊎ ((clock : ℕ) → IsBarred (plan_of clock c) m v r))
-    if_failed (Ok t) h = tt
-    if_failed (Err e) (inl memory) = inl memory
-    if_failed (Err e) (inr h) = inr (λ clock. barred clock e (h clock).0 (h clock).1)
-
-    -- what all plans say
-    pub report_met : {T : Type 0} (answer : Result T Refusal) → OnOk answer (MeetsAll x its) → OnOk answer ((clock : ℕ) → IsPermitted (plan_of clock c) m v)
-    report_met answer h = if_met answer (met_at c o x its known answer h)
-
-    pub report_failed : {T : Type 0} (answer : Result T Refusal) → IfErr answer (FailsAt x its) → IfErr answer (λ r. (r ≡ refusal.Memory) ⊎ ((clock : ℕ) → IsBarred (plan_of clock c) m v r))
-    report_failed answer h = if_failed answer (failed_at c o x its known answer h)
+  -- and of all plans
+  pub told_anywhere : {T : Type 0} (answer : Result T Refusal) → OnOk answer (MeetsAll x its) → IfErr answer (FailsAt x its) → Tells c m v answer
+  told_anywhere answer all fails = told_here answer (met_at c o x its known answer all) (failed_at c o x its known answer fails)
 
 -- ---- a request that asks these lines of the plan
 
@@ -109,3 +166,7 @@ module _ (c : PlanContents) (m : ℕ) {v w : What} (is : v ≡ w) where
   if_one_fails (Ok t) h = tt
   if_one_fails (Err e) (inl memory) = inl memory
   if_one_fails (Err e) (inr h) = inr (λ clock. is_barred clock e (let past = (h clock).0 in omega (arith, past), (h clock).1))
+
+  pub if_fails : {T : Type 0} (answer : Result T Refusal) → IfErr answer (λ r. (clock : ℕ) → FailsPastKeys (MayBeDone (plan_of clock c) m w) r)
+      → IfErr answer (λ r. (r ≡ refusal.Memory) ⊎ ((clock : ℕ) → IsBarred (plan_of clock c) m v r))
+  if_fails answer fails = if_one_fails answer (if_err answer fails (λ r h. inr h))

@@ -1,10 +1,8 @@
 // What stands in the way of an occurrence that comes in.
-ghost use Rattle.std.specs.Prelude.{◌≡◌, ◌<◌, ◌⊎◌, ℕ, Decides, IfErr, IfOk, MatchOption, OnOk};
-ghost use Rattle.std.specs.Map.{keys_of};
+ghost use Rattle.std.specs.Prelude.{◌≡◌, ◌<◌, ◌⊎◌, ℕ, Decides, IfErr, MatchOption, OnOk};
 ghost use Rattle.plan_basics.specs.Refusals.{number_of};
 ghost use Rattle.plan_basics.specs.declared.Refusal.{Refusal};
-ghost use Rattle.plan_graph.specs.PlanGraphs.{AreAmong};
-ghost use Rattle.plan_model.specs.Valid.{IsAcyclic, IsWithinLimits};
+ghost use Rattle.plan_model.specs.Valid.{IsWithinLimits};
 ghost use Rattle.plan_records.specs.Accepting.{AllHold, FailsFirstAt, IsOld, MayBeAdded};
 ghost use Rattle.plan_records.specs.Contents.{plan_of, incoming, AreContents, AreValidContents};
 ghost use Rattle.plan_records.specs.Drafts.{IsAddition};
@@ -19,11 +17,9 @@ use super::known::{
 use super::loaded::LoadedPlan;
 use plan_basics::{OpKey, Refusal};
 use plan_changes::with_addition;
-use plan_graph::graph_of;
-use plan_model::OperationRecord;
-use plan_records::{Addition, NewOccurrence, PlanContents, place_of};
+use plan_records::{Addition, NewOccurrence, PlanContents, is_acyclic, place_of};
 use status_rules::Status;
-use std::alloc::{AllocError, Global};
+use std::alloc::Global;
 
 // The status of an operation of the plan's other occurrences.
 fn old_status(loaded: &LoadedPlan, parts: &NewOccurrence, key: &OpKey) -> Option<Status>
@@ -78,24 +74,6 @@ fn are_pairs_open(loaded: &LoadedPlan, parts: &NewOccurrence) -> bool
         }
     }
     true
-}
-
-// The rows' keys.
-fn keys(alloc: Global, rows: &[(OpKey, OperationRecord)]) -> Result<Vec<OpKey>, AllocError>
-    ensures { IfOk result (λ v. v.items ≡ keys_of rows.now) }
-{
-    rows.iter().map(|row| row.0).collect(alloc)
-}
-
-// Whether no path of pairs returns to its start.
-fn is_acyclic(alloc: Global, contents: &PlanContents) -> Result<bool, AllocError>
-    requires in_order { AreContents contents.now }
-    requires ends { AreAmong (keys_of contents.now.operations.items) contents.now.pairs.items }
-    ensures { IfOk result (λ told. Decides told (IsAcyclic (plan_of 0 contents.now).pairs)) }
-{
-    let keys = keys(alloc, &contents.operations)?;
-    let graph = graph_of(alloc, &keys, &contents.pairs)?;
-    Ok(graph.is_some())
 }
 
 // Whether the contents are no more than a plan may hold.

@@ -1,6 +1,8 @@
 // What stands in the way of an operator's command.
-ghost use Rattle.std.specs.Prelude.{◌≡◌, ◌⊎◌, ℕ, OnOk, IfErr};
+ghost use Rattle.std.specs.Prelude.{◌≡◌, ◌⊎◌, ℕ, true, None, OnOk, IfOk, IfErr};
+ghost use Rattle.std.specs.FinMap.{contains_key, get};
 ghost use Rattle.plan_basics.specs.declared.Refusal.{Refusal};
+ghost use Rattle.plan_model.specs.Status.{HasOccurrenceStatus};
 ghost use Rattle.plan_records.specs.Accepting.{MayBeCompleted, MayBeDeleted, MayBeFlagged, MayBeOpenBy, MayBeRerun, MayBeSetAvailable, AllHold};
 ghost use Rattle.plan_records.specs.Contents.{plan_of, AreValidContents};
 ghost use Rattle.plan_checks.specs.Commanding.{may_be_completed, may_be_rerun, waits_or_is_ready};
@@ -103,17 +105,27 @@ pub fn check_rerun(
     }
 }
 
+// The status of the occurrence of a key, if it is in the plan.
+fn occurrence_status_of(loaded: &LoadedPlan, occurrence: &OccKey) -> Result<OccStatus, Refusal>
+    requires { IsHeldAtSome loaded.now }
+    ensures known { OnOk result ((clock : ℕ) → contains_key (plan_of clock loaded.now.contents).occurrences occurrence.now ≡ true) }
+    ensures found { IfOk result (λ status. (clock : ℕ) → HasOccurrenceStatus (plan_of clock loaded.now.contents) occurrence.now status) }
+    ensures unknown { IfErr result (λ r. (r ≡ Refusal.UnknownOccurrence) × (get (plan_of 0 loaded.now.contents).occurrences occurrence.now ≡ None)) }
+{
+    let place = occurrence_place(&loaded.contents.occurrences, occurrence).ok_or(
+        Refusal::UnknownOccurrence,
+    )?;
+    Ok(occurrence_status_with(loaded.tallies[place]))
+}
+
 /// The deletion of an occurrence may be commanded where it isn't deleted, and none of its operations is under way.
 pub fn check_deleted(loaded: &LoadedPlan, occurrence: &OccKey) -> Result<(), Refusal>
     requires { IsHeldAtSome loaded.now }
     ensures ok { OnOk result ((clock : ℕ) → AllHold (MayBeDeleted (plan_of clock loaded.now.contents) occurrence.now)) }
     ensures refused { IfErr result (λ r. (clock : ℕ) → FailsPastKeys (MayBeDeleted (plan_of clock loaded.now.contents) occurrence.now) r) }
 {
-    let contents = &loaded.contents;
-    let place = occurrence_place(&contents.occurrences, occurrence).ok_or(
-        Refusal::UnknownOccurrence,
-    )?;
-    if occurrence_status_with(loaded.tallies[place]) == OccStatus::Deleted {
+    let status = occurrence_status_of(loaded, occurrence)?;
+    if status == OccStatus::Deleted {
         return Err(Refusal::WrongStatus);
     }
     if is_occurrence_under_way(loaded, occurrence) {

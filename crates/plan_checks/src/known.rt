@@ -1,11 +1,12 @@
 // Whether the plan has what an occurrence that comes in names.
-ghost use Rattle.std.specs.Prelude.{◌≡◌, Decides};
+ghost use Rattle.std.specs.Prelude.{◌≡◌, true, Decides};
+ghost use Rattle.std.specs.FinMap.{contains_key};
 ghost use Rattle.plan_basics.specs.declared.Refusal.{Refusal};
 ghost use Rattle.plan_records.specs.Accepting.{MayBeAdded};
 ghost use Rattle.plan_records.specs.Contents.{plan_of, incoming, AreAdditionParts, AreContents};
 ghost use Rattle.plan_checks.specs.Adding.{HasResources, HasWorkstation, IsKnown, IsKnownPair};
 
-use plan_basics::OpKey;
+use plan_basics::{OpKey, ResName};
 use plan_model::OperationRecord;
 use plan_records::{
     NewOccurrence, PlanContents, occurrence_place, place_of, resource_place, workstation_place,
@@ -39,12 +40,10 @@ pub fn are_ends_known(contents: &PlanContents, parts: &NewOccurrence) -> bool
     requires parts { AreAdditionParts parts.now }
     ensures { Decides result (MayBeAdded (plan_of 0 contents.now) (incoming parts.now) Refusal.UnknownOperation) }
 {
-    for pair in &parts.pairs {
-        if !is_known_pair(contents, parts, pair) {
-            return false;
-        }
-    }
-    true
+    parts
+        .pairs
+        .iter()
+        .all(|pair| is_known_pair(contents, parts, pair))
 }
 
 // Whether the operation's workstation is in the plan.
@@ -61,12 +60,18 @@ pub fn are_workstations_known(contents: &PlanContents, parts: &NewOccurrence) ->
     requires parts { AreAdditionParts parts.now }
     ensures { Decides result (MayBeAdded (plan_of 0 contents.now) (incoming parts.now) Refusal.UnknownWorkstation) }
 {
-    for row in &parts.operations {
-        if !has_workstation(contents, &row.1) {
-            return false;
-        }
-    }
-    true
+    parts
+        .operations
+        .iter()
+        .all(|row| has_workstation(contents, &row.1))
+}
+
+// Whether the special resource is in the plan.
+fn has_resource(contents: &PlanContents, name: &ResName) -> bool
+    requires { AreContents contents.now }
+    ensures { Decides result (contains_key (plan_of 0 contents.now).resources name.now ≡ true) }
+{
+    resource_place(&contents.resources, name).is_some()
 }
 
 // Whether the special resources that the operation needs are in the plan.
@@ -74,12 +79,11 @@ fn has_resources(contents: &PlanContents, operation: &OperationRecord) -> bool
     requires { AreContents contents.now }
     ensures { Decides result (HasResources (plan_of 0 contents.now) operation.now) }
 {
-    for need in operation.needs.as_slice() {
-        if resource_place(&contents.resources, &need.name).is_none() {
-            return false;
-        }
-    }
-    true
+    operation
+        .needs
+        .as_slice()
+        .iter()
+        .all(|need| has_resource(contents, &need.name))
 }
 
 /// Whether the plan has the special resources that the operations that come in need.
@@ -88,12 +92,10 @@ pub fn are_resources_known(contents: &PlanContents, parts: &NewOccurrence) -> bo
     requires parts { AreAdditionParts parts.now }
     ensures { Decides result (MayBeAdded (plan_of 0 contents.now) (incoming parts.now) Refusal.UnknownResource) }
 {
-    for row in &parts.operations {
-        if !has_resources(contents, &row.1) {
-            return false;
-        }
-    }
-    true
+    parts
+        .operations
+        .iter()
+        .all(|row| has_resources(contents, &row.1))
 }
 
 /// Whether the plan has no occurrence of the key of what comes in.

@@ -1,5 +1,5 @@
 -- The choice from a ready list by the gate that counts what is given out and held.
-use Rattle.std.proofs.Common.{◌≡◌, ◌⊎◌, inl, inr, refl, sym, ap, subst, ◌∙◌, true≢false, arith, ℕ, Bool, true, false, ◌||◌, List, [], ◌∷◌, ◌++◌, slice_get, Some, Contains}
+use Rattle.std.proofs.Common.{◌≡◌, inl, inr, refl, sym, ap, subst, ◌∙◌, true≢false, arith, ℕ, true, false, List, [], ◌∷◌, ◌++◌, slice_get, Some, Contains}
 use Rattle.std.specs.FinMap.{get}
 use Rattle.std.specs.Ordering.{eq_by_cmp}
 use Rattle.std.proofs.lemmas.List.{map-append}
@@ -9,6 +9,7 @@ use Rattle.plan_basics.specs.declared.Attr.{Attr}
 use Rattle.plan_basics.specs.declared.Attr.TheVariants.{Automatic, StartAndCompletion, CompletionOnly, Nonreporting}
 use Rattle.plan_basics.specs.declared.Refusal.{Refusal}
 use Rattle.plan_basics.specs.declared.keys.OpKey.{OpKey}
+use Rattle.std.proofs.lemmas.Bool.{cases_Bool, or_cases}
 use Rattle.ready_list.specs.Choice.{is_among, operations_of}
 use Rattle.ready_list.specs.Entries.{is_automatic, keys_of, on_automatic}
 use Rattle.ready_list.specs.Gates.{AnswersInTurn, IsAsked, RefusesInTurn, TellAttributes, TellsAllowed, ready_operations}
@@ -42,14 +43,6 @@ pub record Stands (c : PlanContents) (m : ℕ) (os : List OpKey) (g : Counted) :
   pub given : AreAt c.workstations.items g.given (given_out (named os (plan_of m c)))
   pub holders : AreHeldIn (named os (plan_of m c)) g.held
 
-either : (a b : Bool) → (a || b) ≡ true → (a ≡ true) ⊎ (b ≡ true)
-either true b e = inl refl
-either false b e = inr e
-
-true_or_false : (b : Bool) → (b ≡ true) ⊎ (b ≡ false)
-true_or_false true = inl refl
-true_or_false false = inr refl
-
 automatic_alone : (a : Attr) → is_automatic a ≡ true → a ≡ Automatic
 automatic_alone Automatic e = refl
 automatic_alone StartAndCompletion e = absurd (true≢false (sym e))
@@ -78,7 +71,7 @@ counted_in c m os g stands = record {
 -- what is among these keys is ready, where they all are
 ready_among : (P : Plan) (keys : List ReadyKey) → ((k : ReadyKey) → Contains keys k → IsReady P k.op) → (o : OpKey) → is_among (operations_of keys) o ≡ true → IsReady P o
 ready_among P [] all o e = absurd (true≢false (sym e))
-ready_among P (k ∷ keys) all o e = elim (either (eq_by_cmp operation_cmp o k.op) (is_among (operations_of keys) o) e) [
+ready_among P (k ∷ keys) all o e = elim (or_cases (eq_by_cmp operation_cmp o k.op) (is_among (operations_of keys) o) e) [
   | inl here ↦ subst (IsReady P) (sym (same_key o k.op here)) (all k (contains_head k keys))
   | inr later ↦ ready_among P keys (λ q has. all q (contains_later k keys q has)) o later
 ]
@@ -124,7 +117,7 @@ module _ (c : PlanContents) (h : AreValidContents c) (m : ℕ) (es : List ReadyE
     ready = all_ready e.key (subst (λ ks. Contains ks e.key) (sym keys_split) (Contains-append_right (keys_of asked.before) (e.key ∷ keys_of asked.after) e.key (contains_head e.key (keys_of asked.after))))
 
     each_ready : (o : OpKey) → is_among os o ≡ true → IsReady P o
-    each_ready o among = elim (true_or_false (is_among (ready_operations asked.before) o)) [
+    each_ready o among = elim (cases_Bool (is_among (ready_operations asked.before) o)) [
       | inl here ↦
           ready_among P (keys_of asked.before)
           (λ k has. all_ready k (subst (λ ks. Contains ks k) (sym keys_split) (Contains-append_left (keys_of asked.before) (e.key ∷ keys_of asked.after) k has))) o here

@@ -36,14 +36,15 @@ mark_live (mark.Error code) h = refl
 mark_live mark.Done h = refl
 mark_live mark.Deleted h = absurd (h refl)
 
-abbrev number_of : Option Operation → (Operation → ℕ) → ℕ
+-- a number of the operation, 0 where there is none
+abbrev pub number_of : Option Operation → (Operation → ℕ) → ℕ
 number_of (Some op) f = f op
 number_of None f = 0
 
-abbrev duration_in : Plan → OpKey → ℕ
+abbrev pub duration_in : Plan → OpKey → ℕ
 duration_in P o = number_of (get P.operations o) (λ op. op.duration)
 
-abbrev deadline_in : Plan → OpKey → ℕ
+abbrev pub deadline_in : Plan → OpKey → ℕ
 deadline_in P o = number_of (get P.operations o) (λ op. op.deadline)
 
 -- what latest starts go by, row by row

@@ -19,7 +19,10 @@ use Rattle.plan_records.proofs.MadeEntries.{each_made, entries-revise, key_of}
 use Rattle.plan_choice.specs.Taking.{IsAtMost, takes_server, with_one_more}
 use Rattle.plan_choice.proofs.Entries.{bits_and, less_of, not_equal}
 use Rattle.plan_choice.proofs.GivenSums.{at_another, at_its_own, given_at_most, same_capacity}
-use Rattle.plan_choice.proofs.Naming.{was}
+use Rattle.plan_laws.proofs.Kept.{is_among-append}
+use Rattle.plan_status.proofs.Naming.{row_before}
+use Rattle.std.proofs.Math.Bool.{or-false}
+use Rattle.std.proofs.lemmas.Bool.{or_right}
 
 -- ---- a sum over entries that are made anew in two ways
 
@@ -70,34 +73,14 @@ same_number number same false op = refl
 
 module _ (os : List OpKey) (k : OpKey) where
   pub among_more : (o : OpKey) → is_among (os ++ k ∷ []) o ≡ (is_among os o || eq_by_cmp operation_cmp o k)
-  among_more o = any_more os
-    where
-      or_assoc : (a b c : Bool) → (a || (b || c)) ≡ ((a || b) || c)
-      or_assoc true b c = refl
-      or_assoc false b c = refl
-
-      or_none : (a : Bool) → (a || false) ≡ a
-      or_none true = refl
-      or_none false = refl
-
-      any_more : (xs : List OpKey) → is_among (xs ++ k ∷ []) o ≡ (is_among xs o || eq_by_cmp operation_cmp o k)
-      any_more [] = or_none (eq_by_cmp operation_cmp o k)
-      any_more (x ∷ xs) = ap (λ b. eq_by_cmp operation_cmp o x || b) (any_more xs) ∙ or_assoc (eq_by_cmp operation_cmp o x) (is_among xs o) (eq_by_cmp operation_cmp o k)
-
-  or_nothing : (a b : Bool) → b ≡ false → (a || b) ≡ a
-  or_nothing true b e = refl
-  or_nothing false b e = e
-
-  or_this : (a b : Bool) → b ≡ true → (a || b) ≡ true
-  or_this true b e = refl
-  or_this false b e = e
+  among_more o = is_among-append os (k ∷ []) o ∙ ap (λ b. is_among os o || b) (or-false (eq_by_cmp operation_cmp o k))
 
   others_same : (o : OpKey) (op : Operation) → eq_by_cmp operation_cmp k o ≡ false → mark_named (os ++ k ∷ []) o op ≡ mark_named os o op
   others_same o op e =
-      ap (λ b. cond b (with_mark mark.Named op) op) (among_more o ∙ or_nothing (is_among os o) (eq_by_cmp operation_cmp o k) ((eq_by_cmp_equiv operation_cmp_total).symm o k ∙ e))
+      ap (λ b. cond b (with_mark mark.Named op) op) (among_more o ∙ ap (λ b. is_among os o || b) ((eq_by_cmp_equiv operation_cmp_total).symm o k ∙ e) ∙ or-false (is_among os o))
 
   it_is_named : (op : Operation) → mark_named (os ++ k ∷ []) k op ≡ with_mark mark.Named op
-  it_is_named op = ap (λ b. cond b (with_mark mark.Named op) op) (among_more k ∙ or_this (is_among os k) (eq_by_cmp operation_cmp k k) ((eq_by_cmp_equiv operation_cmp_total).refl k))
+  it_is_named op = ap (λ b. cond b (with_mark mark.Named op) op) (among_more k ∙ or_right (is_among os k) (eq_by_cmp operation_cmp k k) ((eq_by_cmp_equiv operation_cmp_total).refl k))
 
 sum_named : (P : Plan) (os : List OpKey) (w : Name) (number : Operation → ℕ)
     → sum_given_out (named os P) w number ≡ sum_made (λ op. cond (is_serving P w op) (number op) 0) (mark_named os) (entries P.operations)
@@ -171,7 +154,7 @@ module _ (P : Plan) (os : List OpKey) where
   named_at_most few each w =
       given_at_most (named os P) (subst (λ n. n ≤ 20000) (sym (len-revise (mark_named os) P.operations)) few) w
       (λ o op is.
-      let before = was os P o op is in
+      let before = row_before P os o op is in
       let small = each o before.0 before.1 in (
         subst (λ n. n ≤ 99) (sym (same_number (λ x. x.r1) (λ x. refl) (is_among os o) before.0) ∙ ap (λ (x : Operation). x.r1) before.2) small.0,
         subst (λ n. n ≤ 99) (sym (same_number (λ x. x.r2) (λ x. refl) (is_among os o) before.0) ∙ ap (λ (x : Operation). x.r2) before.2) small.1,

@@ -19,7 +19,9 @@ use Rattle.plan_laws.proofs.Looks.{get-named, same_key, same_some}
 use Rattle.plan_choice.specs.Choosing.{AreHeldIn}
 use Rattle.plan_choice.specs.Taking.{HaveTaken}
 use Rattle.plan_choice.proofs.NamedGiven.{among_more}
-use Rattle.plan_choice.proofs.Naming.{now, still}
+use Rattle.plan_choice.proofs.Naming.{still}
+use Rattle.plan_status.proofs.Naming.{row_after}
+use Rattle.std.proofs.Math.Bool.{or-false, or-true}
 
 -- two plans with the same workstations, whose operations are alike at a key
 module _ (P Q : Plan) (stations : Q.workstations ≡ P.workstations) (o : OpKey) (same : get Q.operations o ≡ get P.operations o) where
@@ -30,14 +32,6 @@ module _ (P Q : Plan) (stations : Q.workstations ≡ P.workstations) (o : OpKey)
 none_of : {A : Type 0} (x : Option A) → ((a : A) → ¬ (x ≡ Some a)) → x ≡ None
 none_of None none = refl
 none_of (Some a) none = absurd (none a refl)
-
-or_true : (b : Bool) → (b || true) ≡ true
-or_true true = refl
-or_true false = refl
-
-or_false : (b : Bool) → (b || false) ≡ b
-or_false true = refl
-or_false false = refl
 
 module _ (P : Plan) (os : List OpKey) (k : OpKey) (op : Operation) (is : get P.operations k ≡ Some op) (out : is_among os k ≡ false) (unmarked : op.mark ≡ mark.Unmarked)
     (automatic : HasAttribute P op.workstation Automatic) where
@@ -55,13 +49,13 @@ module _ (P : Plan) (os : List OpKey) (k : OpKey) (op : Operation) (is : get P.o
   same_row : (o : OpKey) → eq_by_cmp operation_cmp o k ≡ false → get after.operations o ≡ get before.operations o
   same_row o apart =
       get-named (os ++ k ∷ []) P o
-      ∙ ap (λ b. option_map (λ x. cond b (with_mark mark.Named x) x) (get P.operations o)) (among_more os k o ∙ ap (λ b. is_among os o || b) apart ∙ or_false (is_among os o))
+      ∙ ap (λ b. option_map (λ x. cond b (with_mark mark.Named x) x) (get P.operations o)) (among_more os k o ∙ ap (λ b. is_among os o || b) apart ∙ or-false (is_among os o))
       ∙ sym (get-named os P o)
 
   named_row : get after.operations k ≡ Some (with_mark mark.Named op)
   named_row =
-      now (os ++ k ∷ []) P k op is
-      ∙ ap (λ b. Some (cond b (with_mark mark.Named op) op)) (among_more os k k ∙ ap (λ b. is_among os k || b) ((eq_by_cmp_equiv operation_cmp_total).refl k) ∙ or_true (is_among os k))
+      row_after P (os ++ k ∷ []) k op is
+      ∙ ap (λ b. Some (cond b (with_mark mark.Named op) op)) (among_more os k k ∙ ap (λ b. is_among os k || b) ((eq_by_cmp_equiv operation_cmp_total).refl k) ∙ or-true (is_among os k))
 
   -- what is unmarked holds nothing
   holds_nothing : (r : Name) (usage : Usage) → ¬ Holds before k r usage

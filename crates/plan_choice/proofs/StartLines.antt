@@ -66,11 +66,5 @@ module _ (c : PlanContents) (op : Operation) (ws : Workstation) (found : get (pl
 
     -- each line is met by what is left and by what is held
     pub line_met : (o : OpKey) (r : Refusal) → IsStartLine r → HasRoom ws m taken op.r1 op.r2 r → CanMeetNeeds (plan_of 0 c).resources held o op.needs → MayStart P o op m r
-    line_met o refusal.WrongStatus line room usable = absurd line
     line_met o refusal.ResourceBusy line room usable = free_at o usable
-    line_met o refusal.Held line room usable = free
-    line_met o refusal.TooEarly line room usable = after
-    line_met o refusal.Closed line room usable = fits_at refusal.Closed room
-    line_met o refusal.NoServer line room usable = fits_at refusal.NoServer room
-    line_met o refusal.NoFixed line room usable = fits_at refusal.NoFixed room
-    line_met o r line room usable = tt
+    line_met o r line room usable = lower_met o r line (λ e. cc) room

@@ -1,22 +1,14 @@
 -- Answers to requests, one after another.
 use Rattle.std.proofs.Common.{◌≡◌, refl, ap, subst, List, [], ◌∷◌, ◌++◌, map}
-use Rattle.plan_basics.specs.declared.Refusal.TheVariants as refusal
-use Rattle.plan_laws.proofs.Running.{plan_answers}
+use Rattle.plan_laws.proofs.Running.{answered, plan_answers}
 use Rattle.plan_laws.proofs.Runs.{accepted_alone}
-use Rattle.plan_laws.specs.Steps.{IsOfThePlan}
 use Rattle.plan_model.specs.Plan.{Plan}
 use Rattle.plan_records.specs.Answer.{Answer, accepted, refused}
-use Rattle.plan_records.specs.Run.{Answers, Call, CallStep, Run, State, Usable, accepted_calls, accepted_replies, plain, usable}
+use Rattle.plan_records.specs.Run.{Answers, Call, Run, State, Usable, accepted_calls, accepted_replies, plain, usable}
 use Rattle.plan_records.specs.Step.{Step}
 use Rattle.plan_records.specs.declared.Request.{Request}
 use Rattle.plan_core.specs.Requested.{IsAnswered}
 use Rattle.plan_core.specs.State.{AcceptedAnswerAll, AnswersAll, accepted_requests}
-
-answered : (s t : State) (c : Call) (x : Answer) → IsOfThePlan x → CallStep s c x t → Answers s usable c x t usable
-answered s t c (accepted chosen) own h = (h, refl)
-answered s t c (refused refusal.Memory) own h = absurd own
-answered s t c (refused refusal.Store) own h = absurd own
-answered s t c (refused r) own h = (h, refl)
 
 -- a step answers the request, whatever receipts stand beside the plan
 pub step_answers : (P Q : Plan) (q : Request) (x : Answer) → Step P q x Q → IsAnswered P q x Q

@@ -1,16 +1,16 @@
 -- What is left to be listed from a place on.
-use Rattle.std.proofs.Common.{◌≡◌, sym, ap, subst, ◌∙◌, arith, ℕ, ◌+◌, ◌<◌, ◌≤◌, true, true≢false, List, [], ◌∷◌, drop, length, slice_get, Option, Some, None, Bor}
+use Rattle.std.proofs.Common.{◌≡◌, sym, ap, subst, ◌∙◌, ◌↔◌, IsSome, arith, ℕ, ◌+◌, ◌<◌, ◌≤◌, true, true≢false, List, [], ◌∷◌, drop, length, slice_get, Option, Some, None, Bor}
 use Rattle.std.proofs.Math.Numerals.{add-one}
 use Rattle.std.proofs.lemmas.List.{drop_all}
 use Rattle.std.specs.FinMap.{contains_key, get-empty}
-use Rattle.std.specs.List.Sorted.{IsStrictlySortedBy}
 use Rattle.std.specs.Option.{is_some, option_copied}
-use Rattle.std.specs.declared.cmp.Ordering.{Ordering}
 use Rattle.plan_basics.specs.Keys.{occurrence_cmp, operation_cmp}
 use Rattle.plan_basics.specs.declared.keys.OccKey.{OccKey}
 use Rattle.plan_basics.specs.declared.keys.OpKey.{OpKey}
 use Rattle.plan_model.specs.Plan.{IsInPlan, Plan}
+use Rattle.plan_laws.proofs.Looks.{none_is_not_some}
 use Rattle.plan_records.proofs.Lists.{contains_none}
+use Rattle.special_resources.proofs.Splits.{none_in_order}
 use Rattle.plan_records.specs.Contents.{plan_of}
 use Rattle.plan_core.proofs.SideBySide.{left_from, length_viewed, length_zipped}
 use Rattle.plan_checks.specs.Held.{AreHeld, IsHeld, plan_held, IsHeldAtSome}
@@ -19,32 +19,29 @@ use Rattle.plan_checks.specs.declared.loaded.LoadedPlan.{LoadedPlan}
 
 -- ---- where nothing is loaded
 
-none_sorted : {K : Type 0} (R : K → K → Ordering) → IsStrictlySortedBy R []
-unfolding IsStrictlySortedBy
-none_sorted R = tt
-
-none_is_some : {A : Type 0} {a : A} → None ≡ Some a → ⊥
-none_is_some e = cc
-
 pub no_operation : (clock : ℕ) (o : OpKey) → IsInPlan (plan_held clock None) o → ⊥
-no_operation clock o there = none_is_some (sym (get-empty operation_cmp o) ∙ there.1)
+no_operation clock o there = none_is_not_some there.0 (sym (get-empty operation_cmp o) ∙ there.1)
 
 pub no_occurrence : (clock : ℕ) (c : OccKey) → contains_key (plan_held clock None).occurrences c ≡ true → ⊥
 no_occurrence clock c known = true≢false (sym known ∙ ap is_some (get-empty occurrence_cmp c))
 
 pub no_ops : (clock : ℕ) → AreOpViews (plan_held clock None) []
 no_ops clock = record {
-  in_order = none_sorted operation_cmp;
+  in_order = none_in_order operation_cmp;
   every = λ o. (λ has. absurd (contains_none o has), λ there. absurd (no_operation clock o there));
   each = λ v has. absurd (contains_none v has);
 }
 
 pub no_occs : (clock : ℕ) → AreOccViews (plan_held clock None) []
 no_occs clock = record {
-  in_order = none_sorted occurrence_cmp;
+  in_order = none_in_order occurrence_cmp;
   every = λ c. (λ has. absurd (contains_none c has), λ known. absurd (no_occurrence clock c known));
   each = λ v has. absurd (contains_none v has);
 }
+
+-- no answer is given of what isn't known
+pub none_known : {V : Type 0} (answer : Option V) → answer ≡ None → (IsKnown : Plan → Type 0) (clock : ℕ) (P : Plan) → plan_held clock None ≡ P → ¬ IsKnown (plan_held clock None) → IsSome answer ↔ IsKnown P
+none_known answer none IsKnown clock P is unknown = (λ some. absurd (true≢false (sym (subst IsSome none some))), λ known. absurd (unknown (subst IsKnown (sym is) known)))
 
 -- what is borrowed is held
 pub held_if_loaded : (clock : ℕ) (borrowed : Option (Bor LoadedPlan)) (loaded : Option LoadedPlan) → option_copied borrowed ≡ loaded → IsHeld clock loaded → IsHeldIfLoaded borrowed
@@ -65,8 +62,8 @@ module _ (h : LoadedPlan) (held : IsHeldAtSome h) where
 pub one_left : {X : Type 0} (xs : List X) (i : ℕ) (x : X) → slice_get xs i ≡ Some x → drop i xs ≡ x ∷ drop (i + 1) xs
 one_left xs i x at = left_from xs i x at ∙ ap (λ n. x ∷ drop n xs) (sym (add-one i))
 
-pub fewer : {X : Type 0} (xs ys : List X) (x : X) → xs ≡ x ∷ ys → length ys < length xs
-fewer xs ys x e = let n = ap length e in omega (arith, n)
+pub fewer : {X : Type 0} {xs ys : List X} {x : X} → xs ≡ x ∷ ys → length ys < length xs
+fewer e = let n = ap length e in omega (arith, n)
 
 -- ---- views of any kind
 
@@ -77,7 +74,7 @@ module _ {V : Type 0} (views : LoadedPlan → List V) where
   all_from Are none some clock None loaded e held = subst (λ l. Are (plan_held clock l) []) e (none clock)
   all_from Are none some clock (Some h) loaded e held = subst (λ l. Are (plan_held clock l) (views h.now)) e (some clock h.now (subst (IsHeld clock) (sym e) held))
 
-  module _ (left : List V) (borrowed : Option (Bor LoadedPlan)) (i : ℕ) (h : Bor LoadedPlan) (is : views_from views borrowed i ≡ left) (was : borrowed ≡ Some h) where
+  module _ {left : List V} {borrowed : Option (Bor LoadedPlan)} (i : ℕ) {h : Bor LoadedPlan} (is : views_from views borrowed i ≡ left) (was : borrowed ≡ Some h) where
     here : drop i (views h.now) ≡ left
     here = sym (ap (λ l. views_from views l i) was) ∙ is
 

@@ -28,23 +28,25 @@ module _ (c : PlanContents) (w : What) (legal : IsRequest w) where
   made_by : (new : PlanContents) → ((clock : ℕ) → Changes (plan_of clock c) w (plan_of clock new)) → AreContents new → (clock : ℕ) → AreMadeBy (plan_of clock c) w new
   made_by new changes in_order clock = record { is_request = legal; changed = plan_of clock new; changes = changes clock; plan = λ at. refl; in_order = in_order }
 
-  -- so of a result, r, of a request, v, that is this one
-  pub if_made : {E : Type 0} (v : What) → v ≡ w → (r : Result PlanContents E)
-      → IfOk r (λ new. (clock : ℕ) → Changes (plan_of clock c) w (plan_of clock new)) → IfOk r (λ new. AreContents new)
+  -- so of what is answered, r, to a request, v, that is this one
+  pub if_made : {E : Type 0} {r : Result PlanContents E} (v : What) → v ≡ w → (answer : Result PlanContents E) → r ≡ answer
+      → IfOk answer (λ new. (clock : ℕ) → Changes (plan_of clock c) w (plan_of clock new)) → IfOk answer (λ new. AreContents new)
       → IfOk r (λ new. (clock : ℕ) → AreMadeBy (plan_of clock c) v new)
-  if_made v is r changes in_order = subst (λ v. IfOk r (λ new. (clock : ℕ) → AreMadeBy (plan_of clock c) v new)) (sym is) (if_both_ok r made_by changes in_order)
+  if_made v is answer answered changes in_order =
+      subst (λ r. IfOk r (λ new. (clock : ℕ) → AreMadeBy (plan_of clock c) v new)) (sym answered)
+      (subst (λ v. IfOk answer (λ new. (clock : ℕ) → AreMadeBy (plan_of clock c) v new)) (sym is) (if_both_ok answer made_by changes in_order))
 
   -- where it marks one operation
-  pub if_marked : {E : Type 0} (o : OpKey) (mark : Mark) → ((P Q : Plan) → Q ≡ marked o mark P → Changes P w Q) → (v : What) → v ≡ w → (r : Result PlanContents E)
-      → IfOk r (λ new. (clock : ℕ) → plan_of clock new ≡ revised (is_among (o ∷ [])) (with_mark mark) (plan_of clock c)) → IfOk r (λ new. AreContents new)
+  pub if_marked : {E : Type 0} {r : Result PlanContents E} (o : OpKey) (mark : Mark) → ((P Q : Plan) → Q ≡ marked o mark P → Changes P w Q) → (v : What) → v ≡ w → (answer : Result PlanContents E) → r ≡ answer
+      → IfOk answer (λ new. (clock : ℕ) → plan_of clock new ≡ revised (is_among (o ∷ [])) (with_mark mark) (plan_of clock c)) → IfOk answer (λ new. AreContents new)
       → IfOk r (λ new. (clock : ℕ) → AreMadeBy (plan_of clock c) v new)
-  if_marked o mark changes v is r plan in_order =
-      if_made v is r (if_ok r (λ new h clock. changes (plan_of clock c) (plan_of clock new) (h clock ∙ one_marked o mark (plan_of clock c))) plan) in_order
+  if_marked o mark changes v is answer answered plan in_order =
+      if_made v is answer answered (if_ok answer (λ new h clock. changes (plan_of clock c) (plan_of clock new) (h clock ∙ one_marked o mark (plan_of clock c))) plan) in_order
 
 -- where it changes nothing
-pub if_alike : {E : Type 0} (c : PlanContents) → AreContents c → (v : What) → v ≡ what.Tick → (r : Result PlanContents E)
-    → IfOk r (λ new. (clock : ℕ) → (plan_of clock new ≡ plan_of clock c) × (AreContents c → AreContents new)) → IfOk r (λ new. (clock : ℕ) → AreMadeBy (plan_of clock c) v new)
-if_alike c order v is r copied = if_made c what.Tick tt v is r (if_ok r (λ new h clock. (h clock).0) copied) (if_ok r (λ new h. (h 0).1 order) copied)
+pub if_alike : {E : Type 0} {r : Result PlanContents E} (c : PlanContents) → AreContents c → (v : What) → v ≡ what.Tick → (answer : Result PlanContents E) → r ≡ answer
+    → IfOk answer (λ new. (clock : ℕ) → (plan_of clock new ≡ plan_of clock c) × (AreContents c → AreContents new)) → IfOk r (λ new. (clock : ℕ) → AreMadeBy (plan_of clock c) v new)
+if_alike c order v is answer answered copied = if_made c what.Tick tt v is answer answered (if_ok answer (λ new h clock. (h clock).0) copied) (if_ok answer (λ new h. (h 0).1 order) copied)
 
 -- where it loads a draft
 pub made_drafted : (c new : PlanContents) (d : Plan) → d ≡ plan_of 0 c → IsDraft d → plan_of 0 new ≡ plan_of 0 c → AreContents new → (P : Plan) → AreMadeBy P (what.Load (Some d)) new

@@ -6,6 +6,7 @@ use Rattle.std.specs.List.Sorted.{IsStrictlySortedBy}
 use Rattle.std.specs.Map.{keys_of}
 use Rattle.plan_basics.specs.Keys.{occurrence_cmp, occurrence_cmp_total, occurrence_cmp-IsAntisymmetric}
 use Rattle.plan_basics.specs.declared.keys.OccKey.{OccKey}
+use Rattle.plan_laws.proofs.Looks.{same_some}
 use Rattle.plan_laws.proofs.Waiting.{one_occurrence_status}
 use Rattle.plan_model.specs.Plan.{Plan}
 use Rattle.plan_model.specs.Status.{HasOccurrenceStatus}
@@ -88,12 +89,9 @@ module _ (clock : ℕ) (h : LoadedPlan) (held : AreHeld clock h) where
   tally_at : (i : ℕ) (c : OccKey) (x : Occurrence) → slice_get rows i ≡ Some (c, x) → (n : Counts) × (slice_get tallies i ≡ Some n)
   tally_at i c x row = row_at tallies i (let lt = slice_get_within rows i (c, x) row in omega (arith, lt, held.tallies.size))
 
-  same_view : {a b : OccView} → Some a ≡ Some b → a ≡ b
-  same_view e = cc
-
   -- the view at the place of a row
   pub occ_view_is : (i : ℕ) (c : OccKey) (x : Occurrence) (v : OccView) → slice_get rows i ≡ Some (c, x) → slice_get (occ_views h) i ≡ Some v → (v.key ≡ c) × IsOccView P v
   occ_view_is i c x v row at =
       let n = tally_at i c x row in
-      let e : seen c x n.0 ≡ v = same_view (sym (viewed_at occ_view_of rows tallies i (c, x) n.0 row n.1) ∙ at) in
+      let e : seen c x n.0 ≡ v = same_some (seen c x n.0) v (sym (viewed_at occ_view_of rows tallies i (c, x) n.0 row n.1) ∙ at) in
       (sym (ap (λ w. w.key) e), subst (IsOccView P) e (is_occ_view i c x n.0 row n.1))

@@ -7,6 +7,7 @@ use Rattle.std.specs.Map.{keys_of}
 use Rattle.plan_basics.specs.Keys.{occurrence_cmp, occurrence_cmp_total, occurrence_cmp-IsAntisymmetric, operation_cmp, operation_cmp_total, operation_cmp-IsAntisymmetric}
 use Rattle.plan_basics.specs.declared.Attr.{Attr}
 use Rattle.plan_basics.specs.declared.keys.OpKey.{OpKey}
+use Rattle.plan_laws.proofs.Looks.{same_some}
 use Rattle.plan_laws.proofs.Standing.{each_has_one_status}
 use Rattle.plan_model.specs.Plan.{HasAttribute, IsInPlan, Operation, Plan}
 use Rattle.plan_model.specs.Status.{HasStatus}
@@ -122,14 +123,11 @@ module _ (clock : ℕ) (h : LoadedPlan) (held : AreHeld clock h) where
   known_at : (i : ℕ) (o : OpKey) (op : Operation) → slice_get rows i ≡ Some (o, op) → (x : Standing × ℤ) × (slice_get known i ≡ Some x)
   known_at i o op row = row_at known i (let lt = slice_get_within rows i (o, op) row in omega (arith, lt, size))
 
-  same_view : {a b : OpView} → Some a ≡ Some b → a ≡ b
-  same_view e = cc
-
   -- the view at the place of a row
   pub op_view_is : (i : ℕ) (o : OpKey) (op : Operation) (v : OpView) → slice_get rows i ≡ Some (o, op) → slice_get (op_views h) i ≡ Some v → (v.key ≡ o) × IsOpView P v
   op_view_is i o op v row at =
       let x = known_at i o op row in
-      let e : seen o op x.0.0 x.0.1 ≡ v = same_view (sym (viewed_at (op_view_of P) rows known i (o, op) x.0 row x.1) ∙ at) in
+      let e : seen o op x.0.0 x.0.1 ≡ v = same_some (seen o op x.0.0 x.0.1) v (sym (viewed_at (op_view_of P) rows known i (o, op) x.0 row x.1) ∙ at) in
       (sym (ap (λ w. w.key) e), subst (IsOpView P) e (is_op_view i o op x.0.0 x.0.1 row x.1))
 
   -- and there is one

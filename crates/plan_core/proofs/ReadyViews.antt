@@ -11,6 +11,7 @@ use Rattle.plan_model.specs.Plan.{Operation, Plan}
 use Rattle.plan_records.proofs.Lists.{contains_cases, contains_head, contains_later, contains_none}
 use Rattle.plan_records.proofs.RowPlaces.{get_at, place_of_found}
 use Rattle.plan_records.specs.Contents.{plan_of}
+use Rattle.ready_list.proofs.Members.{contains_from_filter}
 use Rattle.ready_list.specs.Choice.{operations_of}
 use Rattle.ready_list.specs.Entries.{keys_of as entry_keys, is_on as is_entry_on, on_workstation}
 use Rattle.ready_list.specs.declared.entry.ReadyEntry.{ReadyEntry}
@@ -96,21 +97,11 @@ module _ (clock : ℕ) (h : LoadedPlan) (held : AreHeld clock h) where
         | inr rest ↦ each_is es (later e es of) v rest
       ]
 
-  in_filter : (test : ReadyEntry → Bool) (es : List ReadyEntry) (x : ReadyEntry) → Contains (filter test es) x → Contains es x
-  in_filter test [] x has = has
-  in_filter test (e ∷ es) x has = elim (test e) as (λ b. Contains (cond b (e ∷ filter test es) (filter test es)) x → Contains (e ∷ es) x) [
-    | true ↦ λ k. elim (contains_cases e (filter test es) x k) [
-      | inl same ↦ subst (Contains (e ∷ es)) same (contains_head e es)
-      | inr rest ↦ contains_later e es x (in_filter test es x rest)
-    ]
-    | false ↦ λ k. contains_later e es x (in_filter test es x k)
-  ] has
-
   of_all : AreOf h.ready.entries
   of_all e has = let its = held.ready.workstations e has in (its.0, its.1, its.2.0)
 
   pub of_listed : (w : Name) → AreOf (on_workstation w h.ready.entries)
-  of_listed w e has = of_all e (in_filter (is_entry_on w) h.ready.entries e has)
+  of_listed w e has = of_all e (contains_from_filter (is_entry_on w) h.ready.entries e has).0
 
   pub are_ready_views : (w : Name) → AreReadyViews P w (ready_views h (on_workstation w h.ready.entries))
   are_ready_views w = record {

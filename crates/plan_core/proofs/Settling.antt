@@ -1,11 +1,12 @@
 -- What is named is ready, and what stays as it is named.
-use Rattle.std.proofs.Common.{◌≡◌, inl, inr, sym, ap, subst, ◌∙◌, arith, ℕ, zero, suc, Bool, true, false, cond, List, [], ◌∷◌, Contains, filter, Some, slice_get, ℤ}
+use Rattle.std.proofs.Common.{◌≡◌, sym, ap, subst, ◌∙◌, arith, ℕ, zero, suc, true, List, [], ◌∷◌, Contains, Some, slice_get, ℤ}
 use Rattle.std.specs.FinSet.{from_list}
 use Rattle.std.specs.Map.{keys_of}
 use Rattle.plan_basics.specs.Keys.{operation_cmp-IsAntisymmetric}
 use Rattle.plan_basics.specs.declared.keys.OpKey.{OpKey}
 use Rattle.status_rules.specs.declared.Mark.{Mark}
 use Rattle.status_rules.specs.declared.Mark.TheVariants.{Named}
+use Rattle.ready_list.proofs.Members.{contains_from_filter}
 use Rattle.ready_list.specs.Choice.{is_among, operations_of}
 use Rattle.plan_model.specs.Plan.{Operation, Plan}
 use Rattle.plan_model.specs.Ready.{IsChosen, named}
@@ -15,7 +16,8 @@ use Rattle.plan_model.specs.Valid.{IsSound, IsValid}
 use Rattle.plan_records.specs.Contents.{AreContents, AreValidContents, IsGraphFor, plan_of}
 use Rattle.plan_records.specs.declared.contents.PlanContents.{PlanContents}
 use Rattle.plan_records.specs.Places.{AreByPlace}
-use Rattle.plan_records.proofs.Lists.{contains_cases, contains_head, contains_later, from_map, length_map}
+use Rattle.plan_records.proofs.Lists.{from_map, length_map}
+use Rattle.plan_laws.proofs.Clock.{valid_later}
 use Rattle.plan_laws.proofs.Finite.{member_if}
 use Rattle.plan_laws.proofs.Looks.{same_some}
 use Rattle.plan_laws.proofs.Kept.{choice_keeps_sound}
@@ -31,20 +33,10 @@ use Rattle.plan_changes.proofs.Marks.{rows_marked}
 
 -- ---- what is chosen is ready
 
-kept_is_in : {X : Type 0} (test : X → Bool) (xs : List X) (x : X) → Contains (filter test xs) x → Contains xs x
-kept_is_in test [] x h = h
-kept_is_in test (a ∷ xs) x h = elim (test a) as (λ b. Contains (cond b (a ∷ filter test xs) (filter test xs)) x → Contains (a ∷ xs) x) [
-  | true ↦ λ k. elim (contains_cases a (filter test xs) x k) [
-    | inl same ↦ subst (Contains (a ∷ xs)) same (contains_head a xs)
-    | inr later ↦ contains_later a xs x (kept_is_in test xs x later)
-  ]
-  | false ↦ λ k. contains_later a xs x (kept_is_in test xs x k)
-] h
-
 chosen_is_ready : (P : Plan) (m : ℕ) (os : List OpKey) → IsChosen P m os → (o : OpKey) → is_among os o ≡ true → IsReady P o
 chosen_is_ready P m os c o h =
     let has : Contains os o = member_if operation_cmp-IsAntisymmetric os o h in
-    let in_ready = kept_is_in (is_among os) (operations_of c.ready) o (subst (λ xs. Contains xs o) c.choice.in_order has) in
+    let in_ready = (contains_from_filter (is_among os) (operations_of c.ready) o (subst (λ xs. Contains xs o) c.choice.in_order has)).0 in
     let key = from_map (λ k. k.op) c.ready o in_ready in
     subst (IsReady P) key.2 ((c.is_ready_list.has_all key.0).0 key.1).0
 
@@ -67,20 +59,7 @@ known_kept is still os mark rows xs keeps known = record {
 -- ---- contents at another clock
 
 pub valid_contents : (c : PlanContents) (m : ℕ) → AreContents c → IsValid (plan_of m c) → AreValidContents c
-valid_contents c m order v = record {
-  in_order = order;
-  valid = record {
-    clock = omega arith;
-    workstations = v.workstations;
-    resources = v.resources;
-    occurrences = v.occurrences;
-    have_workstations = v.have_workstations;
-    have_resources = v.have_resources;
-    pairs = v.pairs;
-    acyclic = v.acyclic;
-    limits = record { workstations = v.limits.workstations; resources = v.limits.resources; occurrences = v.limits.occurrences; operations = v.limits.operations; pairs = v.limits.pairs };
-  };
-}
+valid_contents c m order v = record { in_order = order; valid = valid_later (plan_of m c) 0 (omega arith) v }
 
 -- ---- contents in which what is chosen is marked named
 

@@ -3,10 +3,9 @@ use Rattle.std.proofs.Common.{◌≡◌, ◌⊎◌, inl, inr, refl, sym, ◌∙�
 use Rattle.std.specs.Prelude.{AllPairs, slice_index_or}
 use Rattle.std.specs.Ordering.{eq_by_cmp, nat_cmp}
 use Rattle.std.specs.Cmp.{Equal-is, nat_cmp_total}
-use Rattle.std.specs.FinMap.{FinMap, get, insert, get-insert, len, len-insert, len-empty, contains_key, from_entries, get-from_entries, nat_cmp-IsAntisymmetric, get-empty}
-use Rattle.std.specs.FinMap.Entries.{find}
+use Rattle.std.specs.FinMap.{FinMap, get, insert, get-insert, len, len-insert, len-empty, contains_key, from_entries, get-empty}
 use Rattle.std.proofs.lemmas.List.Elements.{All-contains}
-use Rattle.std.proofs.lemmas.Bool.{cases_order}
+use Rattle.std.proofs.lemmas.Bool.{cases_order, cond_both}
 use Rattle.plan_basics.specs.declared.Refusal.TheVariants as refusal
 use Rattle.status_rules.specs.declared.Mark.TheVariants as mark
 use Rattle.plan_records.specs.declared.What.TheVariants as what
@@ -16,9 +15,7 @@ use Rattle.plan_basics.specs.Intervals.{AreApart, IsInterval, IsOpenAt, OpenInte
 use Rattle.plan_basics.specs.Keys.{Name, name_cmp, name_cmp-IsAntisymmetric, name_cmp_total}
 use Rattle.plan_basics.specs.Names.{IsName}
 use Rattle.plan_basics.specs.declared.keys.OpKey.{OpKey}
-use Rattle.plan_laws.proofs.Looks.{found_key, mapped, none_is_not_some, same_some}
-use Rattle.plan_laws.proofs.Revising.{of_either}
-use Rattle.plan_laws.proofs.Sorted.{contains_head, contains_later}
+use Rattle.plan_laws.proofs.Looks.{found_key, mapped, same_some}
 use Rattle.plan_model.specs.Holdings.{Holds, holds_resource, takes}
 use Rattle.plan_model.specs.Plan.{Operation, Plan, attribute_at, no_plan}
 use Rattle.plan_model.specs.Revise.{get-revise, len-revise, revise}
@@ -29,6 +26,7 @@ use Rattle.plan_records.specs.Laws.{ChangeKeepsSound}
 use Rattle.special_resources.specs.Holders.{Usage}
 use Rattle.status_rules.specs.LeastSet.{LeastSet, by_all_before, by_given}
 use Rattle.status_rules.specs.Table.{marked_status}
+use Rattle.workstations.proofs.Lookups.{got_among}
 use Rattle.workstations.specs.Workstations.{IsWorkstation, Workstation, with_intervals}
 
 -- ---- a load
@@ -105,14 +103,6 @@ availability_keeps_sound r available P Q at sound may request c = subst IsSound 
 abbrev entries_of : List OpenInterval → List (ℕ × OpenInterval)
 entries_of items = map (λ x. (x.from, x)) items
 
-found_at_head : (y : OpenInterval) (items : List OpenInterval) (k : ℕ) (x : OpenInterval) → (find nat_cmp k (entries_of items) ≡ Some x → (k ≡ x.from) × Contains items x) → (b : Bool) → eq_by_cmp nat_cmp k y.from ≡ b → cond b (Some y) (find nat_cmp k (entries_of items)) ≡ Some x → (k ≡ x.from) × Contains (y ∷ items) x
-found_at_head y items k x rest true t h = let same : y ≡ x = same_some y x h in (nat_cmp-IsAntisymmetric k y.from ((Equal-is (nat_cmp k y.from)).0 t) ∙ ap (λ z. z.from) same, subst (Contains (y ∷ items)) same (contains_head y items))
-found_at_head y items k x rest false t h = let r = rest h in (r.0, contains_later y items x r.1)
-
-found_among : (items : List OpenInterval) (k : ℕ) (x : OpenInterval) → find nat_cmp k (entries_of items) ≡ Some x → (k ≡ x.from) × Contains items x
-found_among [] k x e = absurd (none_is_not_some x e)
-found_among (y ∷ items) k x e = found_at_head y items k x (found_among items k x) (eq_by_cmp nat_cmp k y.from) refl e
-
 one_more : (b : Bool) (n m : ℕ) → n ≤ m → cond b n (n + 1) ≤ m + 1
 one_more true n m h = omega arith
 one_more false n m h = omega arith
@@ -132,10 +122,10 @@ module _ (items : List OpenInterval) (each : All IsInterval items) (apart : AllP
 
   pub intervals_are : (w : Workstation) → IsWorkstation (with_intervals items w)
   intervals_are w = record {
-    intervals = λ from x e. let h = found_among items from x (sym (get-from_entries nat_cmp_total (entries_of items) from) ∙ e) in (h.0, All-contains IsInterval items x each h.1);
+    intervals = λ from x e. let h = got_among items from x e in (h.0, All-contains IsInterval items x each h.1);
     disjoint = λ a b m x y ex ey ox oy.
-        let hx = found_among items a x (sym (get-from_entries nat_cmp_total (entries_of items) a) ∙ ex) in
-        let hy = found_among items b y (sym (get-from_entries nat_cmp_total (entries_of items) b) ∙ ey) in
+        let hx = got_among items a x ex in
+        let hy = got_among items b y ey in
         hx.0 ∙ ap (λ z. z.from) (one x y m ox oy hx.1 hy.1) ∙ sym hy.0;
     few = let l = as_long items in omega (arith, l, few);
   }
@@ -193,7 +183,7 @@ module _ (P : Plan) (sound : IsSound P) (w : Name) (known : contains_key P.works
   each_workstation v ws e =
       let m = mapped (λ z. cond (eq_by_cmp name_cmp v w) (with_intervals items z) z) (get P.workstations v) ws (sym (found_at v) ∙ e) in
       let old = sound.valid.workstations v m.0 m.1 in
-      (old.0, subst IsWorkstation m.2 (of_either IsWorkstation (eq_by_cmp name_cmp v w) (with_intervals items m.0) m.0 (λ t. fine m.0) (λ t. old.1)))
+      (old.0, subst IsWorkstation m.2 (cond_both (eq_by_cmp name_cmp v w) (with_intervals items m.0) m.0 IsWorkstation (λ t. fine m.0) (λ t. old.1)))
 
   pub intervals_are_sound : IsSound reopened
   intervals_are_sound = let v = sound.valid in record {

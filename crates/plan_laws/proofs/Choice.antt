@@ -1,5 +1,6 @@
 -- There is one ready list, and one choice from it.
 use Rattle.std.proofs.Common.{◌≡◌, refl, sym, ◌∙◌, ap, ap₂, subst, Bool, true, false, cond, List, [], ◌∷◌, ◌++◌, append-nil, append_assoc, filter}
+use Rattle.std.proofs.lemmas.List.Elements.{filter-append}
 use Rattle.plan_basics.specs.declared.keys.OpKey.{OpKey}
 use Rattle.plan_laws.proofs.Sorted.{sorted_unique}
 use Rattle.plan_model.specs.Plan.{Plan}
@@ -15,11 +16,7 @@ one_ready_list P xs ys x y =
     (λ k h. (y.has_all k).1 ((x.has_all k).0 h))
     (λ k h. (x.has_all k).1 ((y.has_all k).0 h))
 
-pub filter-append : {A : Type 0} (p : A → Bool) (xs ys : List A) → filter p (xs ++ ys) ≡ filter p xs ++ filter p ys
-filter-append p [] ys = refl
-filter-append p (x ∷ xs) ys = elim (p x) as (λ b. cond b (x ∷ filter p (xs ++ ys)) (filter p (xs ++ ys)) ≡ cond b (x ∷ filter p xs) (filter p xs) ++ filter p ys) [ true ↦ ap (λ zs. x ∷ zs) (filter-append p xs ys) | false ↦ filter-append p xs ys ]
-
-pub kept : {A : Type 0} (p : A → Bool) (x : A) (xs : List A) → p x ≡ true → filter p (x ∷ xs) ≡ x ∷ filter p xs
+kept : {A : Type 0} (p : A → Bool) (x : A) (xs : List A) → p x ≡ true → filter p (x ∷ xs) ≡ x ∷ filter p xs
 kept p x xs e = ap (λ b. cond b (x ∷ filter p xs) (filter p xs)) e
 
 one_element : {A : Type 0} (p q : A → Bool) (x : A) → p x ≡ q x → filter p (x ∷ []) ≡ filter q (x ∷ [])

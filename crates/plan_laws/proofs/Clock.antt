@@ -18,7 +18,8 @@ module _ (P : Plan) (m : ℕ) where
   abbrev later : Plan
   later = record P { clock = m }
 
-  valid_later : IsMoment m → IsValid P → IsValid later
+  -- a valid plan stays valid at any moment
+  pub valid_later : IsMoment m → IsValid P → IsValid later
   valid_later h v = record {
     clock = h;
     workstations = v.workstations;

@@ -1,5 +1,5 @@
 -- Added occurrences and added pairs keep a plan sound.
-use Rattle.std.proofs.Common.{◌≡◌, ◌≢◌, ◌⊎◌, inl, inr, refl, sym, ◌∙◌, ap, subst, true≢false, Bool, true, false, ◌||◌, Option, Some, None, is_some}
+use Rattle.std.proofs.Common.{◌≡◌, ◌≢◌, ◌⊎◌, inl, inr, refl, sym, ◌∙◌, ap, subst, true≢false, true, false, Option, Some, None, is_some}
 use Rattle.std.proofs.lemmas.Bool.{or_cases}
 use Rattle.std.specs.Ordering.{eq_by_cmp}
 use Rattle.std.specs.Cmp.{IsTotalOrder}

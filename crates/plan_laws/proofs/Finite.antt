@@ -1,5 +1,5 @@
 -- The keys of finite maps and the members of finite sets, and the listed things of which something is so.
-use Rattle.std.proofs.Common.{◌≡◌, ◌⊎◌, ◌↔◌, inl, inr, refl, sym, ◌∙◌, ap, subst, true≢false, Bool, true, false, ◌||◌, List, [], ◌∷◌, ◌++◌, Contains, Some, is_some}
+use Rattle.std.proofs.Common.{◌≡◌, ◌⊎◌, ◌↔◌, inl, inr, sym, ◌∙◌, ap, subst, true≢false, true, ◌||◌, List, [], ◌∷◌, ◌++◌, Contains, Some, is_some}
 use Rattle.std.proofs.lemmas.Bool.{or_cases, or_right}
 use Rattle.std.specs.declared.cmp.Ordering.{Ordering}
 use Rattle.std.specs.List.{list_any}

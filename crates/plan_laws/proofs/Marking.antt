@@ -1,5 +1,6 @@
 -- A plan stays sound where one operation's mark changes as reports and choices change it.
-use Rattle.std.proofs.Common.{◌≡◌, ◌≢◌, ◌⊎◌, inl, inr, refl, sym, ◌∙◌, ap, subst, true≢false, true, false, cond, Some, option_map}
+use Rattle.std.proofs.Common.{◌≡◌, ◌≢◌, ◌⊎◌, inl, inr, refl, sym, ◌∙◌, ap, subst, true≢false, true, false, Some}
+use Rattle.std.proofs.lemmas.Bool.{cond-false}
 use Rattle.std.specs.Ordering.{is_eq}
 use Rattle.std.specs.Cmp.{tied_itself}
 use Rattle.std.specs.FinMap.{get, get-empty}
@@ -10,8 +11,8 @@ use Rattle.plan_basics.specs.Names.{IsName}
 use Rattle.plan_basics.specs.declared.Attr.{Attr}
 use Rattle.plan_basics.specs.declared.keys.OpKey.{OpKey}
 use Rattle.plan_laws.proofs.Entries.{same_operation}
-use Rattle.plan_laws.proofs.Looks.{get-revised, mapped, none_is_not_some, same_key, same_some}
-use Rattle.plan_laws.proofs.Revising.{at_itself, at_other, valid_revised, with_state}
+use Rattle.plan_laws.proofs.Looks.{none_is_not_some, same_key, same_some, told_flag}
+use Rattle.plan_laws.proofs.Revising.{now_at, now_elsewhere, valid_revised, was, with_state}
 use Rattle.plan_model.specs.Holdings.{Holds}
 use Rattle.plan_model.specs.Plan.{Has, HasAttribute, IsLive, LivePredecessor, Operation, Plan, attribute_at}
 use Rattle.plan_model.specs.Ready.{with_mark}
@@ -41,16 +42,13 @@ module _ (P : Plan) (o : OpKey) (op : Operation) (f : Operation → Operation) (
   after = revised (is_at o) f P
 
   found_at_o : get after.operations o ≡ Some (f op)
-  found_at_o =
-      get-revised (is_at o) f P o
-      ∙ ap (option_map (λ x. cond (is_at o o) (f x) x)) may.is
-      ∙ ap Some (at_itself (is_at o o) (ap is_eq (tied_itself operation_cmp_total o)) f op)
+  found_at_o = now_at (is_at o) f P o op (ap is_eq (tied_itself operation_cmp_total o)) may.is
+
+  not_at : (q : OpKey) → q ≢ o → is_at o q ≡ false
+  not_at q apart = told_flag (is_at o q) (λ t. apart (same_key q o t))
 
   found_elsewhere : (q : OpKey) (x : Operation) → q ≢ o → get P.operations q ≡ Some x → get after.operations q ≡ Some x
-  found_elsewhere q x apart e =
-      get-revised (is_at o) f P q
-      ∙ ap (option_map (λ z. cond (is_at o q) (f z) z)) e
-      ∙ ap Some (at_other (is_at o q) (λ t. apart (same_key q o t)) f x)
+  found_elsewhere q x apart e = now_elsewhere (is_at o) f P q x (not_at q apart) e
 
   -- what is found afterwards: the operation itself, or another as it was
   abbrev Found : OpKey → Operation → Type 0
@@ -58,8 +56,8 @@ module _ (P : Plan) (o : OpKey) (op : Operation) (f : Operation → Operation) (
 
   was_elsewhere : (q : OpKey) (x : Operation) → q ≢ o → get after.operations q ≡ Some x → get P.operations q ≡ Some x
   was_elsewhere q x apart e =
-      let m = mapped (λ z. cond (is_at o q) (f z) z) (get P.operations q) x (sym (get-revised (is_at o) f P q) ∙ e) in
-      m.1 ∙ ap Some (sym (at_other (is_at o q) (λ t. apart (same_key q o t)) f m.0) ∙ m.2)
+      let w = was (is_at o) f P q x e in
+      w.1 ∙ ap Some (sym (cond-false (is_at o q) (f w.0) w.0 (not_at q apart)) ∙ w.2)
 
   look : (q : OpKey) (x : Operation) → get after.operations q ≡ Some x → Found q x
   look q x e = elim (same_operation q o) [

@@ -1,17 +1,19 @@
 -- A valid plan has a ready list, in which each operation stands once.
-use Rattle.std.proofs.Common.{◌≡◌, inl, inr, refl, sym, ◌∙◌, ap, subst, Bool, true, false, ◌||◌, List, [], ◌∷◌, ◌++◌, Contains, Ordering, Less, Equal, Greater}
+use Rattle.std.proofs.Common.{◌≡◌, inl, inr, refl, sym, ◌∙◌, ap, subst, false, List, [], ◌∷◌, ◌++◌, Contains, Less}
 use Rattle.std.specs.List.Sorted.{IsStrictlySortedBy}
-use Rattle.std.specs.Ordering.{eq_by_cmp, int_cmp, nat_cmp, ordering_then}
-use Rattle.std.specs.FinMap.{IsAntisymmetric, get, int_cmp-IsAntisymmetric, keys, nat_cmp-IsAntisymmetric}
+use Rattle.std.proofs.lemmas.Bool.{or_from}
+use Rattle.std.specs.Ordering.{eq_by_cmp}
+use Rattle.std.specs.FinMap.{get, keys}
 use Rattle.plan_basics.specs.Keys.{operation_cmp, operation_cmp-IsAntisymmetric}
 use Rattle.plan_basics.specs.declared.keys.OpKey.{OpKey}
 use Rattle.ready_list.specs.Choice.{is_among, operations_of}
-use Rattle.ready_list.specs.Order.{ready_cmp, ready_cmp_total, urgency}
+use Rattle.ready_list.proofs.Members.{ready_cmp-IsAntisymmetric}
+use Rattle.ready_list.specs.Order.{ready_cmp, ready_cmp_total}
 use Rattle.ready_list.specs.declared.ReadyKey.{ReadyKey}
 use Rattle.status_rules.specs.declared.Status.TheVariants as status
 use Rattle.plan_laws.proofs.Finite.{Listed, alike_listed, in_keys, none_listed, one_listed, union_listed}
 use Rattle.plan_laws.proofs.Latest.{one_latest_start, some_latest_start}
-use Rattle.plan_laws.proofs.Looks.{found_key, same_key, same_some}
+use Rattle.plan_laws.proofs.Looks.{found_key, same_key, same_some, told_flag}
 use Rattle.plan_laws.proofs.Sorted.{contains_head, contains_later, not_itself}
 use Rattle.plan_laws.proofs.Sorting.{ascending, ascending_rest, less_before}
 use Rattle.plan_laws.proofs.Standing.{status_told}
@@ -29,25 +31,6 @@ ready_in_plan : (P : Plan) (o : OpKey) → IsReady P o → IsInPlan P o
 ready_in_plan P o (inl h) = (h.0, h.1, tt)
 ready_in_plan P o (inr (inl h)) = (h.0, h.1, tt)
 ready_in_plan P o (inr (inr h)) = (h.0, h.1, tt)
-
--- ---- only equal keys tie
-
-both_tie : (a b : Ordering) → ordering_then a b ≡ Equal → (a ≡ Equal) × (b ≡ Equal)
-both_tie Less b e = absurd (cc)
-both_tie Equal b e = (refl, e)
-both_tie Greater b e = absurd (cc)
-
-pub ready_cmp-IsAntisymmetric : IsAntisymmetric ready_cmp
-ready_cmp-IsAntisymmetric x y e =
-    let a = both_tie (nat_cmp (urgency x.priority) (urgency y.priority)) _ e in
-    let b = both_tie (int_cmp x.latest y.latest) _ a.1 in
-    let c = both_tie (nat_cmp y.priority x.priority) _ b.1 in
-    let d = both_tie (nat_cmp x.duration y.duration) _ c.1 in
-    let latest : x.latest ≡ y.latest = int_cmp-IsAntisymmetric x.latest y.latest b.0 in
-    let priority : y.priority ≡ x.priority = nat_cmp-IsAntisymmetric y.priority x.priority c.0 in
-    let duration : x.duration ≡ y.duration = nat_cmp-IsAntisymmetric x.duration y.duration d.0 in
-    let op : x.op ≡ y.op = operation_cmp-IsAntisymmetric x.op y.op d.1 in
-    λ i. record { latest = latest i; priority = sym priority i; duration = duration i; op = op i }
 
 -- ---- the entries
 
@@ -102,10 +85,6 @@ some_key (k ∷ ks) (b ∷ before) after o e =
     let found = some_key ks before after o tail in
     (found.0, contains_later k ks found.0 found.1, found.2)
 
-neither : (a b : Bool) → (a ≡ true → ⊥) → b ≡ false → (a || b) ≡ false
-neither true b h e = absurd (h refl)
-neither false b h e = e
-
 pub once : (ks : List ReadyKey) → IsStrictlySortedBy ready_cmp ks → ((k l : ReadyKey) → Contains ks k → Contains ks l → k.op ≡ l.op → k ≡ l) → (before after : List OpKey) (o : OpKey) → operations_of ks ≡ before ++ o ∷ after → is_among before o ≡ false
 once ks up one [] after o e = refl
 once [] up one (b ∷ before) after o e = absurd (cc)
@@ -113,8 +92,8 @@ once (k ∷ ks) up one (b ∷ before) after o e =
     let head : k.op ≡ b = cc in
     let tail : operations_of ks ≡ before ++ o ∷ after = cc in
     let found = some_key ks before after o tail in
-    neither (eq_by_cmp operation_cmp o b) (is_among before o)
-    (λ tie.
+    or_from (eq_by_cmp operation_cmp o b) (is_among before o)
+    (told_flag (eq_by_cmp operation_cmp o b) (λ tie.
     let same : k ≡ found.0 = one k found.0 (contains_head k ks) (contains_later k ks found.0 found.1) (head ∙ sym (same_key o b tie) ∙ sym found.2) in
-    not_itself ready_cmp_total k (subst (λ z. ready_cmp k z ≡ Less) (sym same) (less_before ready_cmp_total ready_cmp-IsAntisymmetric ks k found.0 up found.1)))
+    not_itself ready_cmp_total k (subst (λ z. ready_cmp k z ≡ Less) (sym same) (less_before ready_cmp_total ready_cmp-IsAntisymmetric ks k found.0 up found.1))))
     (once ks (ascending_rest ready_cmp_total ready_cmp-IsAntisymmetric ks k up) (λ x y hx hy. one x y (contains_later k ks x hx) (contains_later k ks y hy)) before after o tail)

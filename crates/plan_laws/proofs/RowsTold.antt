@@ -13,7 +13,7 @@ use Rattle.special_resources.specs.declared.Mode.TheVariants as mode
 use Rattle.status_rules.specs.declared.Mark.{Mark}
 use Rattle.status_rules.specs.declared.Mark.TheVariants as mark
 use Rattle.status_rules.specs.declared.OccStatus.{OccStatus}
-use Rattle.status_rules.specs.declared.OccStatus.TheVariants as occurrence
+use Rattle.status_rules.specs.Table.{occurrence_status_place}
 use Rattle.plan_laws.proofs.Allowing.{told_available}
 use Rattle.plan_laws.proofs.Decide.{told_attribute}
 use Rattle.plan_laws.proofs.Entries.{told_at, told_has}
@@ -21,7 +21,7 @@ use Rattle.plan_laws.proofs.Latest.{one_latest_start, some_latest_start}
 use Rattle.plan_laws.proofs.Looks.{none_is_not_some, same_some}
 use Rattle.plan_laws.proofs.Standing.{status_told}
 use Rattle.operation_graph.proofs.Telling.{Told, told_alike, told_and, told_equal, told_three, told_true}
-use Rattle.plan_laws.proofs.Waiting.{one_count, one_occurrence_status, some_occurrence_status, some_waiting}
+use Rattle.plan_laws.proofs.Waiting.{one_count, one_occurrence_status, same_precedence, some_occurrence_status, some_waiting}
 use Rattle.plan_model.specs.Plan.{LivePredecessor, Operation, Plan}
 use Rattle.plan_model.specs.Starting.{IsLatestStart}
 use Rattle.plan_model.specs.Status.{HasOccurrenceStatus, HasStatus, IsSatisfied}
@@ -82,13 +82,7 @@ same_mark mark.Deleted mark.Deleted = inl refl
 same_mark a b = inr (λ e. cc)
 
 same_occurrence_status : (a b : OccStatus) → Told (a ≡ b)
-same_occurrence_status occurrence.Deleted occurrence.Deleted = inl refl
-same_occurrence_status occurrence.Error occurrence.Error = inl refl
-same_occurrence_status occurrence.Undecided occurrence.Undecided = inl refl
-same_occurrence_status occurrence.Complete occurrence.Complete = inl refl
-same_occurrence_status occurrence.Started occurrence.Started = inl refl
-same_occurrence_status occurrence.Waiting occurrence.Waiting = inl refl
-same_occurrence_status a b = inr (λ e. cc)
+same_occurrence_status a b = told_alike (same_precedence a b) (ap occurrence_status_place) (same_nat (occurrence_status_place a) (occurrence_status_place b))
 
 -- where there is one, it is that one or it isn't
 told_the : {A : Type 0} (F : A → Type 0) → ((a b : A) → Told (a ≡ b)) → (v : A) → F v → ((u w : A) → F u → F w → u ≡ w) → (u : A) → Told (F u)

@@ -145,7 +145,8 @@ some_call : (s : State) (c : Call) → IsSound s.plan → IsCall c → (x : Answ
 some_call s (plain q) sound request = let step = some_step s.plan q sound request in (step.0, record { plan = step.1; receipts = s.receipts }, (step.2, refl))
 some_call s (numbered n) sound legal = let step = some_numbered_step s.plan s.receipts n sound legal.0 legal.1 in (step.0, record { plan = step.1; receipts = step.2 }, step.3)
 
-answered : (s t : State) (c : Call) (x : Answer) → IsOfThePlan x → CallStep s c x t → Answers s usable c x t usable
+-- a usable store gives each answer of the plan
+pub answered : (s t : State) (c : Call) (x : Answer) → IsOfThePlan x → CallStep s c x t → Answers s usable c x t usable
 answered s t c (accepted chosen) own h = (h, refl)
 answered s t c (refused refusal.Memory) own h = absurd own
 answered s t c (refused refusal.Store) own h = absurd own

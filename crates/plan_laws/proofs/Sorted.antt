@@ -1,14 +1,10 @@
 -- A strictly ascending list is known by its elements.
-use Rattle.std.proofs.Common.{◌≡◌, ◌⊎◌, inl, inr, refl, sym, ◌∙◌, ap, ap₂, subst, arith, zero, suc, List, [], ◌∷◌, Contains, Ordering, Less}
+use Rattle.std.proofs.Common.{◌≡◌, inl, inr, refl, sym, ◌∙◌, ap, ap₂, subst, List, [], ◌∷◌, Contains, Ordering, Less}
 use Rattle.std.specs.List.{AllByRecursion}
 use Rattle.std.specs.List.Sorted.{IsStrictlySortedBy}
 use Rattle.std.specs.Cmp.{IsTotalOrder}
 use Rattle.std.specs.Ordering.{ordering_reverse}
-pub use Rattle.operation_graph.proofs.Members.{contains_head, contains_later, contains_cases, contains_none}
-
-pub at_member : {K : Type 0} (P : K → Type 0) (xs : List K) (k : K) → AllByRecursion P xs → Contains xs k → P k
-at_member P [] k all has = absurd (contains_none k has)
-at_member P (x ∷ xs) k all has = elim (contains_cases x xs k has) [ inl e ↦ subst P e all.0 | inr later ↦ at_member P xs k all.1 later ]
+pub use Rattle.plan_records.proofs.Lists.{at_member, contains_head, contains_later, contains_cases, contains_none}
 
 module _ {K : Type 0} {R : K → K → Ordering} (o : IsTotalOrder R) where
   no_less : (x y : K) → R x y ≡ Less → R y x ≡ Less → ⊥

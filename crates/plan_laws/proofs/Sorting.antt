@@ -1,16 +1,12 @@
 -- Finitely many things have one strictly ascending list.
-use Rattle.std.proofs.Common.{◌≡◌, ◌⊎◌, ◌↔◌, inl, inr, refl, sym, ◌∙◌, ap, subst, List, [], ◌∷◌, Contains, Ordering, Less, Equal, Greater}
-use Rattle.std.specs.List.{AllByRecursion}
+use Rattle.std.proofs.Common.{◌≡◌, ◌⊎◌, ◌↔◌, inl, inr, refl, sym, ◌∙◌, ap, subst, arith, ◌+◌, List, [], ◌∷◌, length, Contains, Ordering, Less, Equal, Greater}
 use Rattle.std.specs.List.Sorted.{IsStrictlySortedBy}
 use Rattle.std.specs.Cmp.{IsTotalOrder}
 use Rattle.std.specs.FinMap.{IsAntisymmetric}
 use Rattle.std.specs.Ordering.{ordering_reverse}
+use Rattle.ready_list.proofs.Members.{all_by_members}
 use Rattle.plan_laws.proofs.Finite.{Listed}
 use Rattle.plan_laws.proofs.Sorted.{at_member, contains_cases, contains_head, contains_later}
-
-pub all_members : {K : Type 0} (P : K → Type 0) (xs : List K) → ((k : K) → Contains xs k → P k) → AllByRecursion P xs
-all_members P [] h = tt
-all_members P (x ∷ xs) h = (h x (contains_head x xs), all_members P xs (λ k has. h k (contains_later x xs k has)))
 
 module _ {K : Type 0} {R : K → K → Ordering} (o : IsTotalOrder R) (same : IsAntisymmetric R) where
   -- an ascending list of these
@@ -20,27 +16,37 @@ module _ {K : Type 0} {R : K → K → Ordering} (o : IsTotalOrder R) (same : Is
   either_way : (x : K) (xs : List K) (k : K) → Contains (x ∷ xs) k ↔ ((x ≡ k) ⊎ Contains xs k)
   either_way x xs k = (contains_cases x xs k, λ h. elim h [ inl e ↦ subst (Contains (x ∷ xs)) e (contains_head x xs) | inr later ↦ contains_later x xs k later ])
 
-  put_in : (x : K) (ys : List K) → IsStrictlySortedBy R ys → Ascending (λ k. (x ≡ k) ⊎ Contains ys k)
+  -- the list with x in its place: one longer, where x is new
+  abbrev pub With : K → List K → Type 0
+  With x ys = (zs : List K) × IsStrictlySortedBy R zs × ((k : K) → Contains zs k ↔ ((x ≡ k) ⊎ Contains ys k)) × (¬ Contains ys x → length zs ≡ length ys + 1)
+
+  pub put_in : (x : K) (ys : List K) → IsStrictlySortedBy R ys → With x ys
   unfolding IsStrictlySortedBy
-  put_in x [] up = (x ∷ [], (tt, tt), either_way x [])
-  put_in x (y ∷ ys) up = elim (R x y) as (λ r. R x y ≡ r → Ascending (λ k. (x ≡ k) ⊎ Contains (y ∷ ys) k)) [
+  put_in x [] up = (x ∷ [], (tt, tt), either_way x [], λ new. refl)
+  put_in x (y ∷ ys) up = elim (R x y) as (λ r. R x y ≡ r → With x (y ∷ ys)) [
     | Less ↦ λ e. (
       x ∷ y ∷ ys,
       (
-        all_members (λ k. R x k ≡ Less) (y ∷ ys) (λ k has. elim (contains_cases y ys k has) [
+        all_by_members (λ k. R x k ≡ Less) (y ∷ ys) (λ k has. elim (contains_cases y ys k has) [
           | inl is ↦ subst (λ z. R x z ≡ Less) is e
           | inr later ↦ o.trans x y k e (at_member (λ z. R y z ≡ Less) ys k up.0 later)
         ]),
         up,
       ),
       either_way x (y ∷ ys),
+      λ new. omega arith,
     )
-    | Equal ↦ λ e. (y ∷ ys, up, λ k. (inr, λ h. elim h [ inl is ↦ subst (Contains (y ∷ ys)) (sym (same x y e) ∙ is) (contains_head y ys) | inr has ↦ has ]))
+    | Equal ↦ λ e. (
+      y ∷ ys,
+      up,
+      λ k. (inr, λ h. elim h [ inl is ↦ subst (Contains (y ∷ ys)) (sym (same x y e) ∙ is) (contains_head y ys) | inr has ↦ has ]),
+      λ new. absurd (new (subst (Contains (y ∷ ys)) (sym (same x y e)) (contains_head y ys))),
+    )
     | Greater ↦ λ e.
         let rest = put_in x ys up.1 in (
           y ∷ rest.0,
           (
-            all_members (λ k. R y k ≡ Less) rest.0 (λ k has. elim ((rest.2 k).0 has) [
+            all_by_members (λ k. R y k ≡ Less) rest.0 (λ k has. elim ((rest.2 k).0 has) [
               | inl is ↦ subst (λ z. R y z ≡ Less) is (o.antisymm y x ∙ ap ordering_reverse e)
               | inr later ↦ at_member (λ z. R y z ≡ Less) ys k up.0 later
             ]),
@@ -59,6 +65,7 @@ module _ {K : Type 0} {R : K → K → Ordering} (o : IsTotalOrder R) (same : Is
               ]
             ],
           ),
+          λ new. let one_more = rest.3 (λ has. new (contains_later y ys x has)) in omega (arith, one_more),
         )
   ] refl
 

@@ -1,5 +1,6 @@
 -- No operation becomes started unless it may.
-use Rattle.std.proofs.Common.{◌≡◌, ◌⊎◌, inl, inr, refl, sym, ◌∙◌, ap, subst, true≢false, Bool, true, false, cond, ℕ, List, Option, Some, None, option_map, MatchOption}
+use Rattle.std.proofs.Common.{◌≡◌, ◌⊎◌, inl, inr, refl, sym, ◌∙◌, ap, subst, Bool, true, false, cond, ℕ, List, Option, Some, None, option_map, MatchOption}
+use Rattle.std.proofs.lemmas.Bool.{cond-false}
 use Rattle.std.specs.Ordering.{eq_by_cmp}
 use Rattle.std.specs.FinMap.{get}
 use Rattle.plan_basics.specs.declared.Attr.TheVariants as attribute
@@ -12,7 +13,7 @@ use Rattle.plan_basics.specs.Keys.{occurrence_cmp, operation_cmp_total}
 use Rattle.plan_basics.specs.declared.Attr.{Attr}
 use Rattle.plan_basics.specs.declared.Refusal.{Refusal}
 use Rattle.plan_basics.specs.declared.keys.OpKey.{OpKey}
-use Rattle.plan_laws.proofs.Looks.{found_key, get-named, get-revised, mapped, none_is_not_some, same_key, same_some, split_at}
+use Rattle.plan_laws.proofs.Looks.{found_key, get-named, get-revised, mapped, none_is_not_some, same_key, same_some, same_workstation, split_at}
 use Rattle.plan_model.specs.Plan.{Has, HasAttribute, Operation, Plan, attribute_at}
 use Rattle.plan_model.specs.Ready.{IsChosen, IsOnAutomatic, named, with_mark}
 use Rattle.plan_model.specs.Revise.{get-joined, or_else}
@@ -68,16 +69,12 @@ mark_starts_none : (m : Mark) → (marked_status m ≡ Some status.Started → �
 mark_starts_none m never op h = absurd (never h)
 
 -- the test is at o alone
-elsewhere : (b : Bool) → b ≡ false → (f : Operation → Operation) (op : Operation) → cond b (f op) op ≡ op
-elsewhere true e f op = absurd (true≢false e)
-elsewhere false e f op = refl
-
 -- marked running: either it is that operation, or it was started before
 running_cases : (P : Plan) (q o : OpKey) (b : Bool) → is_at q o ≡ b → IsStarted (revised (is_at q) (with_mark mark.Running) P) o → (o ≡ q) ⊎ IsStarted P o
 running_cases P q o true e h = inl (same_key o q e)
 running_cases P q o false e h =
     let m = mapped (λ op. cond (is_at q o) (with_mark mark.Running op) op) (get P.operations o) h.0 (sym (get-revised (is_at q) (with_mark mark.Running) P o) ∙ h.1) in
-    inr (m.0, m.1, subst (λ op. marked_status op.mark ≡ Some status.Started) (sym m.2 ∙ elsewhere (is_at q o) e (with_mark mark.Running) m.0) h.2)
+    inr (m.0, m.1, subst (λ op. marked_status op.mark ≡ Some status.Started) (sym m.2 ∙ cond-false (is_at q o) (with_mark mark.Running m.0) m.0 e) h.2)
 
 -- ---- ready, so its predecessors are satisfied
 
@@ -204,20 +201,19 @@ module _ (P : Plan) (sound : IsSound P) (m : ℕ) (o : OpKey) (not_started : ¬ 
 not_named : (os : List OpKey) (P : Plan) (o : OpKey) → is_among os o ≡ false → IsStarted (named os P) o → IsStarted P o
 not_named os P o e h =
     let m = mapped (λ op. cond (is_among os o) (with_mark mark.Named op) op) (get P.operations o) h.0 (sym (get-named os P o) ∙ h.1) in
-    (m.0, m.1, subst (λ op. marked_status op.mark ≡ Some status.Started) (sym m.2 ∙ elsewhere (is_among os o) e (with_mark mark.Named) m.0) h.2)
+    (m.0, m.1, subst (λ op. marked_status op.mark ≡ Some status.Started) (sym m.2 ∙ cond-false (is_among os o) (with_mark mark.Named m.0) m.0 e) h.2)
 
-same_workstation : (b : Bool) (op : Operation) → (cond b (with_mark mark.Named op) op).workstation ≡ op.workstation
-same_workstation true op = refl
-same_workstation false op = refl
-
--- its workstation is automatic, so it is not resumed
-pub not_resumed : (P : Plan) (before : List OpKey) (o : OpKey) (op : Operation) → IsOnAutomatic P o → get (named before P).operations o ≡ Some op → HasAttribute (named before P) op.workstation attribute.StartAndCompletion → ⊥
-not_resumed P before o op on is at =
+-- what stands on an automatic workstation does so once some are named
+pub automatic_kept : (P : Plan) (before : List OpKey) (o : OpKey) (op : Operation) (a : Attr) → IsOnAutomatic P o → get (named before P).operations o ≡ Some op → HasAttribute P op.workstation a → a ≡ attribute.Automatic
+automatic_kept P before o op a on is w =
     let m = mapped (λ x. cond (is_among before o) (with_mark mark.Named x) x) (get P.operations o) op (sym (get-named before P o) ∙ is) in
     let same_op : m.0 ≡ on.0 = same_some m.0 on.0 (sym m.1 ∙ on.1) in
     let same_ws : op.workstation ≡ on.0.workstation = ap (λ x. x.workstation) (sym m.2) ∙ same_workstation (is_among before o) m.0 ∙ ap (λ x. x.workstation) same_op in
-    let clash : attribute.StartAndCompletion ≡ attribute.Automatic = same_some attribute.StartAndCompletion attribute.Automatic (sym at ∙ ap (attribute_at P) same_ws ∙ on.2) in
-    cc
+    same_some a attribute.Automatic (sym w ∙ ap (attribute_at P) same_ws ∙ on.2)
+
+-- so it is not resumed
+pub not_resumed : (P : Plan) (before : List OpKey) (o : OpKey) (op : Operation) → IsOnAutomatic P o → get (named before P).operations o ≡ Some op → HasAttribute (named before P) op.workstation attribute.StartAndCompletion → ⊥
+not_resumed P before o op on is at = let clash : attribute.StartAndCompletion ≡ attribute.Automatic = automatic_kept P before o op attribute.StartAndCompletion on is at in cc
 
 chosen_is_provided_for : (P : Plan) (before : List OpKey) (o : OpKey) (m : ℕ) → IsOnAutomatic P o → IsAllowedToStart (named before P) o m → IsProvidedFor (named before P) o m
 chosen_is_provided_for P before o m on (op, is, may) = record {

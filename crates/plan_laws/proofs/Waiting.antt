@@ -91,7 +91,7 @@ by_precedence occurrence.Complete = refl
 by_precedence occurrence.Started = refl
 by_precedence occurrence.Waiting = refl
 
-same_precedence : (s t : OccStatus) → occurrence_status_place s ≡ occurrence_status_place t → s ≡ t
+pub same_precedence : (s t : OccStatus) → occurrence_status_place s ≡ occurrence_status_place t → s ≡ t
 same_precedence s t e = sym (by_precedence s) ∙ ap (at_place all_statuses) e ∙ by_precedence t
 
 pub some_occurrence_status : (P : Plan) → IsAcyclic P.pairs → (c : OccKey) → (s : OccStatus) × HasOccurrenceStatus P c s

@@ -16,7 +16,7 @@ use Rattle.plan_model.specs.Plan.{Plan}
 use Rattle.plan_model.specs.Starting.{Reaches}
 use Rattle.plan_model.specs.Valid.{IsAcyclic, IsValid}
 use Rattle.plan_records.specs.Rows.{AreChanges}
-use Rattle.plan_records.specs.Work.{HasChangedRow, IsAllowance, IsAllowanceByChange, IsWorkedOn, by_whole_plan, neighbours}
+use Rattle.plan_records.specs.Work.{HasChangedRow, IsAllowanceByChange, IsWorkedOn, by_whole_plan, neighbours}
 use Rattle.plan_records.specs.declared.PlanRow.{PlanRow}
 use Rattle.plan_records.specs.declared.PlanRow.TheVariants as row
 use Rattle.plan_records.specs.declared.RowKey.{RowKey}

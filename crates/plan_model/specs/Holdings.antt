@@ -19,7 +19,7 @@ holds_server (Some status.Started) = true
 holds_server (Some status.Undecided) = true
 holds_server _ = false
 
--- whether an operation of this status holds a special resource, which an error keeps or frees
+-- whether an operation of this status holds a special resource that it needs; one in error does where its need says keep
 abbrev pub holds_resource : Bool → Option Status → Bool
 holds_resource keep (Some status.Started) = true
 holds_resource keep (Some status.Undecided) = true

@@ -88,7 +88,7 @@ attribute_at P w = option_map (λ ws. ws.attribute) (get P.workstations w)
 abbrev pub HasAttribute : Plan → Name → Attr → Type 0
 HasAttribute P w a = attribute_at P w ≡ Some a
 
--- the pair is among these
+-- p comes before o, by these pairs
 abbrev pub IsPairOf : Pairs → OpKey → OpKey → Type 0
 IsPairOf pairs p o = contains pairs (p, o) ≡ true
 

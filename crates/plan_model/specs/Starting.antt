@@ -15,11 +15,11 @@ use Rattle.plan_model.specs.Plan.{Plan, Operation, Has, HasAttribute, Precedes, 
 use Rattle.plan_model.specs.Status.{HasStatus, IsReady}
 use Rattle.plan_model.specs.Holdings.{given_out, Holds}
 
--- one more operation fits on its workstation at m, beside what is given out there: by the line of this refusal
+-- what this refusal asks of the operation's workstation at m, beside what is given out there: Closed, that it is open; NoServer, that a server is left; NoFixed, that R1 and R2 are left
 abbrev pub FitsAt : Plan → Operation → ℕ → Refusal → Type 0
 FitsAt P op m line = (ws : Workstation) × (get P.workstations op.workstation ≡ Some ws) × HasRoom ws m (given_out P op.workstation) op.r1 op.r2 line
 
--- what o needs to start at m, under the refusal that is given where it fails
+-- what has to be so lest a start of o at m be refused so; a refusal that has no line here never stands in its way
 abbrev pub MayStart : Plan → OpKey → Operation → ℕ → Refusal → Type 0
 MayStart P o op m refusal.WrongStatus = IsReady P o ⊎ (HasStatus P o status.Interrupted × HasAttribute P op.workstation attribute.StartAndCompletion)
 MayStart P o op m refusal.Held = op.held ≡ false

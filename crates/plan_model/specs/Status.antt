@@ -89,6 +89,6 @@ OccurrenceCase P c occurrence.Waiting = Unit {0}
 abbrev pub HasOccurrenceStatus : Plan → OccKey → OccStatus → Type 0
 HasOccurrenceStatus P c s = OccurrenceCase P c s × ((t : OccStatus) → occurrence_status_place t < occurrence_status_place s → ¬ OccurrenceCase P c t)
 
--- each test that has what is done or deleted, and what passes by itself after what it has, has this operation
+-- o is in every set that has what is done or deleted, and what passes by itself once all its live predecessors are in the set
 abbrev pub IsInEachClosedSet : Plan → OpKey → Type 0
 IsInEachClosedSet P o = (test : OpKey → Bool) → IsClosed (IsDoneOrDeleted P) (PassesByItself P) (LivePredecessor P) test → test o ≡ true

@@ -1,5 +1,5 @@
 -- The steps in which the contents of a plan are put together from what its items say.
-use Rattle.std.proofs.Common.{◌≡◌, ◌≢◌, sym, subst, ap, arith, Bool, List, map, length, All, Contains}
+use Rattle.std.proofs.Common.{◌≡◌, sym, subst, arith, Bool, List, map, length, All, Contains}
 use Rattle.std.specs.List.{filter_map}
 use Rattle.std.specs.List.Sorted.{IsPermutation}
 use Rattle.std.specs.Map.{keys_of}
@@ -17,11 +17,12 @@ use Rattle.plan_model.specs.declared.Occurrence.{Occurrence}
 use Rattle.plan_items.specs.declared.Item.{Item}
 use Rattle.plan_items.specs.declared.OperationItem.{OperationItem}
 use Rattle.plan_records.specs.declared.contents.PlanContents.{PlanContents}
-use Rattle.plan_records.specs.Loading.{Fits, AreWorkstationsInOrder, AreResourcesInOrder, AreOccurrencesInOrder, AreOperations, AreRowsOf, IsNeedIn, AreNeedsInOrder, IsPairIn, ArePairs, ArePairsInOrder, CanBeLoaded, AreContentsOf, as_workstation, as_interval, as_occurrence, as_operation, as_pair, as_resource, as_need, keys_said, need_key, needs_of, occurrence_of, operation_of, row_of, terms_of}
-use Rattle.plan_records.proofs.Lists.{map_alike, all_by_members, differ_from_pairs}
-use Rattle.plan_records.proofs.Openings.{name_opened, name_said}
-use Rattle.plan_records.proofs.InOrder.{key_to_row, row_to_key}
-use Rattle.plan_records.proofs.NeedsSaid.{count_permuted, usages_permuted}
+use Rattle.plan_records.specs.Loading.{Fits, AreWorkstationsInOrder, AreResourcesInOrder, AreOccurrencesInOrder, AreOperations, AreRowsOf, IsNeedIn, AreNeedsInOrder, IsPairIn, ArePairs, ArePairsInOrder, CanBeLoaded, AreContentsOf, as_workstation, as_interval, as_occurrence, as_operation, as_pair, as_resource, as_need, keys_said, needs_of, occurrence_of, terms_of}
+use Rattle.plan_records.proofs.Lists.{all_by_members}
+use Rattle.plan_records.proofs.Openings.{station_in}
+use Rattle.plan_records.proofs.InOrder.{operation_in}
+use Rattle.plan_records.proofs.Keyed.{key_to_row, row_to_key}
+use Rattle.plan_records.proofs.NeedsSaid.{need_counts, rows_alike}
 
 -- ---- what is said goes by which keys there are, in any order
 
@@ -59,17 +60,6 @@ operations_over ms ns os ps needs others said names same counts are = record {
 }
 
 -- ---- the whole
--- the rows are the same in whatever order the needs are said
-rows_alike :
-    (occurrences : List (OccKey × Occurrence)) (needs sorted : List (OpKey × Need)) (said : List OperationItem) → AreNeedsInOrder needs sorted →
-    map (row_of occurrences needs) said ≡ map (row_of occurrences sorted) said
-rows_alike occurrences needs sorted said are = map_alike (row_of occurrences needs) (row_of occurrences sorted) said (λ s.
-    ap (λ usages. (s.key, record (operation_of (terms_of occurrences s.key.occurrence) needs s) { needs = usages }))
-    (usages_permuted needs sorted are.same (differ_from_pairs (λ a b. need_key a ≢ need_key b) needs are.distinct) s.key))
-
-need_counts : (needs sorted : List (OpKey × Need)) → AreNeedsInOrder needs sorted → (o : OpKey) → length (needs_of o needs) ≡ length (needs_of o sorted)
-need_counts needs sorted are = count_permuted needs sorted are.same (differ_from_pairs (λ a b. need_key a ≢ need_key b) needs are.distinct)
-
 module _ (items : List Item) where
   abbrev Stations : List (Name × Attr)
   Stations = filter_map as_workstation items
@@ -97,7 +87,7 @@ module _ (items : List Item) where
       (opened : List NamedWorkstation) (ordered : List (OccKey × Occurrence)) (sorted : List (OpKey × Need)) → AreWorkstationsInOrder Stations Intervals opened →
       AreOccurrencesInOrder Occurrences ordered → AreNeedsInOrder NeedRows sorted → ¬ AreOperations (keys_of opened) ordered sorted Said → ¬ CanBeLoaded items
   no_operations opened ordered sorted are in_order needs none can =
-      none (operations_over (keys_of Stations) (keys_of opened) Occurrences ordered NeedRows sorted Said (λ w has. name_opened Intervals Stations opened are.same w has) in_order.same (need_counts NeedRows sorted needs) can.operations)
+      none (operations_over (keys_of Stations) (keys_of opened) Occurrences ordered NeedRows sorted Said (λ w has. key_to_row (λ (row : Name × Attr). row.0) (station_in Intervals) Stations opened are.same w has) in_order.same (need_counts NeedRows sorted needs) can.operations)
 
   -- a need is of no operation or of no resource
   pub no_needs :
@@ -105,7 +95,7 @@ module _ (items : List Item) where
       AreResourcesInOrder Resources resources → AreNeedsInOrder NeedRows sorted → AreRowsOf names occurrences sorted Said rows →
       ¬ All (IsNeedIn (keys_of rows) (keys_of resources)) sorted → ¬ CanBeLoaded items
   no_needs names occurrences resources sorted rows named needs are none can =
-      none (needs_over (keys_said Said) (keys_of rows) (keys_of Resources) (keys_of resources) NeedRows sorted (key_to_row occurrences sorted Said rows are.same)
+      none (needs_over (keys_said Said) (keys_of rows) (keys_of Resources) (keys_of resources) NeedRows sorted (key_to_row (λ (s : OperationItem). s.key) (operation_in occurrences sorted) Said rows are.same)
       (λ r has. Contains-permutation (keys_of Resources) (keys_of resources) r (IsPermutation-map (λ (row : Name × Bool). row.0) Resources resources named.same) has)
       (IsPermutation-sym NeedRows sorted needs.same) can.needs.within)
 
@@ -113,7 +103,7 @@ module _ (items : List Item) where
   pub no_pairs :
       (names : List Name) (occurrences : List (OccKey × Occurrence)) (sorted : List (OpKey × Need)) (rows : List (OpKey × Operation)) →
       AreRowsOf names occurrences sorted Said rows → ¬ ArePairs (keys_of rows) Pairs → ¬ CanBeLoaded items
-  no_pairs names occurrences sorted rows are none can = none (pairs_over (keys_said Said) (keys_of rows) Pairs (key_to_row occurrences sorted Said rows are.same) can.pairs)
+  no_pairs names occurrences sorted rows are none can = none (pairs_over (keys_said Said) (keys_of rows) Pairs (key_to_row (λ (s : OperationItem). s.key) (operation_in occurrences sorted) Said rows are.same) can.pairs)
 
   pub contents_are :
       (c : PlanContents) (sorted : List (OpKey × Need)) → AreWorkstationsInOrder Stations Intervals c.workstations.items → AreResourcesInOrder Resources c.resources.items →
@@ -122,7 +112,7 @@ module _ (items : List Item) where
       All (IsNeedIn (keys_of c.operations.items) (keys_of c.resources.items)) sorted →
       ArePairsInOrder (keys_of c.operations.items) Pairs c.pairs.items → AreContentsOf items c
   contents_are c sorted stations resources occurrences needs rows within pairs =
-      let key_back = row_to_key c.occurrences.items sorted Said c.operations.items rows.same in
+      let key_back = row_to_key (λ (s : OperationItem). s.key) (operation_in c.occurrences.items sorted) Said c.operations.items rows.same in
       let counts : (o : OpKey) → length (needs_of o sorted) ≡ length (needs_of o NeedRows) = λ o. sym (need_counts NeedRows sorted needs o) in
       let back : IsPermutation c.resources.items Resources = IsPermutation-sym Resources c.resources.items resources.same in
       record {
@@ -131,7 +121,7 @@ module _ (items : List Item) where
           resources = resources.are;
           occurrences = occurrences.are;
           operations = operations_over (keys_of c.workstations.items) (keys_of Stations) c.occurrences.items Occurrences sorted NeedRows Said
-              (λ w has. name_said Intervals Stations c.workstations.items stations.same w has) (IsPermutation-sym Occurrences c.occurrences.items occurrences.same) counts rows.operations;
+              (λ w has. row_to_key (λ (row : Name × Attr). row.0) (station_in Intervals) Stations c.workstations.items stations.same w has) (IsPermutation-sym Occurrences c.occurrences.items occurrences.same) counts rows.operations;
           needs = record {
             within = needs_over (keys_of c.operations.items) (keys_said Said) (keys_of c.resources.items) (keys_of Resources) sorted NeedRows key_back
                 (λ r has. Contains-permutation (keys_of c.resources.items) (keys_of Resources) r (IsPermutation-map (λ (row : Name × Bool). row.0) c.resources.items Resources back) has)
@@ -143,7 +133,7 @@ module _ (items : List Item) where
         workstations = stations.same;
         resources = resources.same;
         occurrences = occurrences.same;
-        operations = subst (λ rs. IsPermutation rs c.operations.items) (sym (rows_alike c.occurrences.items NeedRows sorted Said needs)) rows.same;
+        operations = subst (λ rs. IsPermutation rs c.operations.items) (sym (rows_alike NeedRows sorted needs (λ s. terms_of c.occurrences.items s.key.occurrence) Said)) rows.same;
         pairs = pairs.same;
         in_order = record { workstations = stations.in_order; resources = resources.in_order; occurrences = occurrences.in_order; operations = rows.in_order; pairs = pairs.in_order };
       }

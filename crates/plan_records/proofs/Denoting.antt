@@ -12,8 +12,7 @@ use Rattle.plan_records.specs.Contents.{plan_of, AreDraftContents}
 use Rattle.plan_records.specs.Loading.{CanBeLoaded, AreContentsOf}
 use Rattle.plan_records.specs.Records.{records_of, StandsIn, IsItemOfPlan, AreItems, Denotes}
 use Rattle.plan_records.proofs.Needed.{needed}
-use Rattle.plan_records.proofs.Made.{are_items}
-use Rattle.plan_records.proofs.MadeDrafts.{some_workstation, some_occurrence, is_draft}
+use Rattle.plan_records.proofs.Made.{are_items, some_workstation, some_occurrence, is_draft}
 
 -- ---- one record after another
 abbrev Records : Type 0
@@ -36,6 +35,10 @@ said_at [] items i fields lt is said = absurd (omega arith)
 said_at (x ∷ xs) [] i fields lt is said = absurd said
 said_at (x ∷ xs) (y ∷ ys) zero fields lt is said = (y, subst (λ r. Says (fields_of r) y) (sym is) said.0)
 said_at (x ∷ xs) (y ∷ ys) (suc i) fields lt is said = said_at xs ys i fields (omega arith) is said.1
+
+-- what records say, where they and the items go by other names
+pub said_by : {read records : Records} {items said : List Item} → read ≡ records → items ≡ said → AllZip Says (records_of read) said → AllZip Says (records_of records) items
+said_by {read} {records} {items} {said} same are h = subst (λ xs. AllZip Says (records_of records) xs) (sym are) (subst (λ rs. AllZip Says (records_of rs) said) same h)
 
 -- records say one list of items at most
 pub same_items : (records : List Fields) (a b : List Item) → AllZip Says records a → AllZip Says records b → a ≡ b

@@ -1,7 +1,7 @@
 -- Occurrences, operations and pairs of a plan, as they are said and in key order.
-use Rattle.std.proofs.Common.{arith, ◌≡◌, ◌≢◌, ◌↔◌, refl, true≢false, IsTrue, Option, is_some, sym, subst, ap, ap₂, ◌∙◌, ℕ, ◌<◌, ◌≤◌, true, false, List, map, length, All, Contains, Some, None, unwrap_or}
+use Rattle.std.proofs.Common.{arith, ◌≡◌, ◌↔◌, refl, true≢false, IsTrue, Option, is_some, sym, subst, ap, ap₂, ◌∙◌, ℕ, ◌<◌, ◌≤◌, true, false, List, map, length, All, Contains, Some, None, unwrap_or}
 use Rattle.std.specs.Prelude.{MatchOption}
-use Rattle.std.specs.List.Sorted.{IsPermutation, IsSorted, IsSortedByKey, IsStrictlySortedBy}
+use Rattle.std.specs.List.Sorted.{IsPermutation, IsStrictlySortedBy}
 use Rattle.std.specs.Map.{keys_of}
 use Rattle.std.specs.FinMap.{get, contains_key, from_entries}
 use Rattle.std.specs.FinSet as set
@@ -19,10 +19,9 @@ use Rattle.plan_model.specs.Valid.{IsAcyclic}
 use Rattle.plan_model.specs.declared.Occurrence.{Occurrence}
 use Rattle.plan_graph.specs.PlanGraphs.{AreAmong}
 use Rattle.plan_items.specs.declared.OperationItem.{OperationItem}
-use Rattle.plan_records.specs.Loading.{Fits, AreOccurrencesInOrder, AreOperations, EachHasOperation, AreRowsOf, IsPairIn, ArePairs, ArePairsInOrder, keys_said, needs_of, occurrence_of, row_of}
-use Rattle.plan_records.proofs.Keyed.{ascend_by, apart_by}
-use Rattle.plan_records.proofs.Lists.{all_by_members, differ_from_pairs, pairs_from_differ, differ_map, differ_unmap, in_map, from_map}
-use Rattle.plan_records.proofs.Orders.{map_same}
+use Rattle.plan_records.specs.Loading.{Fits, AreOccurrencesInOrder, AreOperations, EachHasOperation, AreRowsOf, IsPairIn, ArePairsInOrder, keys_said, needs_of, occurrence_of, operation_of, row_of, terms_of}
+use Rattle.plan_records.proofs.Keyed.{apart_by, all_apart, key_to_row, row_to_key, said_apart}
+use Rattle.plan_records.proofs.Lists.{all_by_members, in_map, from_map}
 use Rattle.plan_records.proofs.Pairs.{pair_cmp_total, pair_cmp-IsAntisymmetric}
 use Rattle.plan_records.proofs.Tables.{no_some, in_set, key_found}
 use Rattle.plan_records.proofs.Terms.{found_key, terms_there}
@@ -79,26 +78,9 @@ pub unknown :
 unknown names occurrences needs said up e fits = no_some _ (e ∙ terms_there occurrences up said.key.occurrence fits.occurrence)
 
 -- ---- rows of operations
-pub rows_ascend :
-    (names : List Name) (occurrences : Terms) (needs : Wants) (said : List OperationItem) (rows : List (OpKey × Operation)) →
-    IsPermutation (map (row_of occurrences needs) said) rows → IsSortedByKey (λ row. row.0) operation_cmp rows → AreOperations names occurrences needs said →
-    IsStrictlySortedBy operation_cmp (keys_of rows)
-rows_ascend names occurrences needs said rows same sorted are =
-    ascend_by operation_cmp_total operation_cmp-IsAntisymmetric (λ (row : OpKey × Operation). row.0) (map (row_of occurrences needs) said) rows same sorted
-    (pairs_from_differ (λ a b. a.0 ≢ b.0) (map (row_of occurrences needs) said) (differ_map (row_of occurrences needs) (λ a b. a.0 ≢ b.0) said (differ_from_pairs (λ a b. a.key ≢ b.key) said are.distinct)))
-
-module _ (occurrences : Terms) (needs : Wants) (said : List OperationItem) (rows : List (OpKey × Operation)) (same : IsPermutation (map (row_of occurrences needs) said) rows) where
-  -- the operations that are said and those of the rows are the same
-  pub key_to_row : (o : OpKey) → Contains (keys_said said) o → Contains (keys_of rows) o
-  key_to_row o has =
-      let r = from_map (λ (s : OperationItem). s.key) said o has in
-      subst (Contains (keys_of rows)) r.2 (in_map (λ (row : OpKey × Operation). row.0) rows (row_of occurrences needs r.0) (Contains-permutation (map (row_of occurrences needs) said) rows (row_of occurrences needs r.0) same (in_map (row_of occurrences needs) said r.0 r.1)))
-
-  pub row_to_key : (o : OpKey) → Contains (keys_of rows) o → Contains (keys_said said) o
-  row_to_key o has =
-      let r = from_map (λ (row : OpKey × Operation). row.0) rows o has in
-      let s = from_map (row_of occurrences needs) said r.0 (Contains-permutation rows (map (row_of occurrences needs) said) r.0 (IsPermutation-sym (map (row_of occurrences needs) said) rows same) r.1) in
-      subst (Contains (keys_said said)) (ap (λ (row : OpKey × Operation). row.0) s.2 ∙ r.2) (in_map (λ (s : OperationItem). s.key) said s.0 s.1)
+-- an operation as its record says, with the terms of that one of these occurrences that it belongs to
+abbrev pub operation_in : Terms → Wants → OperationItem → Operation
+operation_in occurrences needs said = operation_of (terms_of occurrences said.key.occurrence) needs said
 
 -- each occurrence has one of more operations
 has_over :
@@ -112,13 +94,13 @@ pub rows_are :
     All (Fits names occurrences needs) said → IsPermutation (map (row_of occurrences needs) said) rows → IsStrictlySortedBy operation_cmp (keys_of rows) →
     EachHasOperation (keys_of rows) occurrences → AreRowsOf names occurrences needs said rows
 rows_are names occurrences needs said rows few fit same up has =
-    let apart = apart_by operation_cmp_total operation_cmp-IsAntisymmetric (λ (row : OpKey × Operation). row.0) (map (row_of occurrences needs) said) rows same up in
+    let make = operation_in occurrences needs in
     record {
       operations = record {
         few = few;
         fit = fit;
-        distinct = pairs_from_differ (λ a b. a.key ≢ b.key) said (differ_unmap (row_of occurrences needs) (λ a b. a.0 ≢ b.0) said (differ_from_pairs (λ a b. a.0 ≢ b.0) (map (row_of occurrences needs) said) apart));
-        not_empty = has_over (keys_of rows) (keys_said said) occurrences (row_to_key occurrences needs said rows same) has;
+        distinct = said_apart (λ (s : OperationItem). s.key) make said rows same operation_cmp_total operation_cmp-IsAntisymmetric up;
+        not_empty = has_over (keys_of rows) (keys_said said) occurrences (row_to_key (λ (s : OperationItem). s.key) make said rows same) has;
       };
       same = same;
       in_order = up;
@@ -128,7 +110,7 @@ rows_are names occurrences needs said rows few fit same up has =
 pub none_has :
     (names : List Name) (occurrences : Terms) (needs : Wants) (said : List OperationItem) (rows : List (OpKey × Operation)) →
     IsPermutation (map (row_of occurrences needs) said) rows → ¬ EachHasOperation (keys_of rows) occurrences → ¬ AreOperations names occurrences needs said
-none_has names occurrences needs said rows same none are = none (has_over (keys_said said) (keys_of rows) occurrences (key_to_row occurrences needs said rows same) are.not_empty)
+none_has names occurrences needs said rows same none are = none (has_over (keys_said said) (keys_of rows) occurrences (key_to_row (λ (s : OperationItem). s.key) (operation_in occurrences needs) said rows same) are.not_empty)
 
 -- ---- pairs
 
@@ -150,10 +132,6 @@ ends_known rows pairs known = all_by_members (λ (p : Pair). Contains (keys_of r
     (key_found operation_cmp_total operation_cmp-IsAntisymmetric rows p.0 both.0, key_found operation_cmp_total operation_cmp-IsAntisymmetric rows p.1 both.1))
 
 module _ (keys : List OpKey) (pairs ordered : List Pair) (same : IsPermutation pairs ordered) where
-  pub pairs_ascend : IsSorted pair_cmp ordered → ArePairs keys pairs → IsStrictlySortedBy pair_cmp ordered
-  pairs_ascend sorted are =
-      subst (IsStrictlySortedBy pair_cmp) (map_same ordered) (ascend_by pair_cmp_total pair_cmp-IsAntisymmetric (λ (p : Pair). p) pairs ordered same sorted are.distinct)
-
   -- between the keys in order too
   pub ends_among : All (IsPairIn keys) pairs → AreAmong keys ordered
   ends_among within =
@@ -172,7 +150,7 @@ module _ (keys : List OpKey) (pairs ordered : List Pair) (same : IsPermutation p
     are = record {
       few = few;
       within = within;
-      distinct = apart_by pair_cmp_total pair_cmp-IsAntisymmetric (λ (p : Pair). p) pairs ordered same (subst (IsStrictlySortedBy pair_cmp) (sym (map_same ordered)) up);
+      distinct = all_apart pair_cmp_total pair_cmp-IsAntisymmetric pairs ordered same up;
       acyclic = subst IsAcyclic (sym same_pairs) acyclic;
     };
     same = same;

@@ -25,7 +25,7 @@ pub record IsKind {Y Q : Type 0} (read : Item → Option Y) (item_of : Y → Ite
   pub tagged : (y : Y) → key_of (item_of y) ≡ tag (known y)
   pub back : (a : Item) (q : Q) → key_of a ≡ tag q → (y : Y) × (read a ≡ Some y) × (known y ≡ q)
 
-module _ {Y Q : Type 0} (read : Item → Option Y) (item_of : Y → Item) (known : Y → Q) (tag : Q → RowKey) (kind : IsKind read item_of known tag) where
+module _ {Y Q : Type 0} {read : Item → Option Y} {item_of : Y → Item} {known : Y → Q} {tag : Q → RowKey} (kind : IsKind read item_of known tag) where
   pub key_read : (a : Item) (y : Y) → read a ≡ Some y → key_of a ≡ tag (known y)
   key_read a y e = ap key_of (kind.is a y e) ∙ kind.tagged y
 

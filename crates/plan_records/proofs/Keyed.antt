@@ -1,16 +1,17 @@
 -- What is sorted by a key, and told apart by it.
-use Rattle.std.proofs.Common.{◌≡◌, ◌≢◌, ◌↔◌, refl, sym, subst, ◌∙◌, ℕ, true≢false, IsTrue, List, map, slice_get, Contains, Option, Some, None, is_some, IfSome, IsNone}
-use Rattle.std.specs.List.{AllPairs}
-use Rattle.std.specs.List.Sorted.{IsPermutation, IsSortedByKey, IsStrictlySortedBy}
+use Rattle.std.proofs.Common.{◌≡◌, ◌≢◌, ◌↔◌, refl, sym, subst, ap, ◌∙◌, ℕ, true, false, true≢false, cond, IsTrue, List, map, slice_get, Contains, Option, Some, None, is_some, IfSome, IsNone}
+use Rattle.std.specs.List.{AllPairs, filter_map}
+use Rattle.std.specs.List.Sorted.{IsPermutation, IsSorted, IsSortedByKey, IsStrictlySortedBy}
+use Rattle.std.specs.Ordering.{eq_by_cmp}
 use Rattle.std.specs.Map.{keys_of}
 use Rattle.std.specs.declared.cmp.Ordering.{Ordering}
 use Rattle.std.specs.Cmp.{IsTotalOrder}
 use Rattle.std.specs.FinMap.{IsAntisymmetric, get, from_entries}
-use Rattle.std.proofs.lemmas.List.Sorted.{IsPermutation-sym}
+use Rattle.std.proofs.lemmas.List.Sorted.{IsPermutation-sym, Contains-permutation}
 use Rattle.std.proofs.lemmas.Option.{slice_get_within, get_or_from_slice_get}
-use Rattle.plan_records.proofs.Lists.{in_map, from_map, differ_from_pairs, pairs_from_differ, differ_unmap}
-use Rattle.plan_records.proofs.Tables.{sorted_apart, rows_apart, get_row, no_some}
-use Rattle.plan_records.proofs.Orders.{differ_permuted, strict_from_sorted}
+use Rattle.plan_records.proofs.Lists.{in_map, from_map, in_filter, from_filter, differ_from_pairs, pairs_from_differ, differ_map, differ_unmap}
+use Rattle.plan_records.proofs.Tables.{sorted_apart, rows_apart, get_row, same_some, no_some, itself, same_key, other_key}
+use Rattle.plan_records.proofs.Orders.{differ_permuted, strict_from_sorted, map_same}
 
 module _ {K X : Type 0} {R : K → K → Ordering} (total : IsTotalOrder R) (exact : IsAntisymmetric R) (key : X → K) (said ordered : List X) (same : IsPermutation said ordered) where
   -- what is sorted by a key, no two of one key, ascends
@@ -22,6 +23,69 @@ module _ {K X : Type 0} {R : K → K → Ordering} (total : IsTotalOrder R) (exa
   apart_by up =
       pairs_from_differ (λ a b. key a ≢ key b) said (differ_permuted total exact key ordered said (IsPermutation-sym said ordered same)
       (differ_unmap key (λ a b. a ≢ b) ordered (sorted_apart total exact (map key ordered) up)))
+
+-- the same of what is its own key
+module _ {K : Type 0} {R : K → K → Ordering} (total : IsTotalOrder R) (exact : IsAntisymmetric R) (said ordered : List K) (same : IsPermutation said ordered) where
+  pub ascend : IsSorted R ordered → AllPairs (λ a b. a ≢ b) said → IsStrictlySortedBy R ordered
+  ascend sorted apart = subst (IsStrictlySortedBy R) (map_same ordered) (ascend_by total exact (λ (k : K). k) said ordered same sorted apart)
+
+  pub all_apart : IsStrictlySortedBy R ordered → AllPairs (λ a b. a ≢ b) said
+  all_apart up = apart_by total exact (λ (k : K). k) said ordered same (subst (IsStrictlySortedBy R) (sym (map_same ordered)) up)
+
+-- ---- rows that are made of what is said, each under its key, in any order
+module _ {S K X : Type 0} (key : S → K) (make : S → X) (said : List S) (rows : List (K × X)) (same : IsPermutation (map (λ s. (key s, make s)) said) rows) where
+  abbrev row : S → K × X
+  row s = (key s, make s)
+
+  -- the keys that are said and those of the rows are the same
+  pub key_to_row : (k : K) → Contains (map key said) k → Contains (keys_of rows) k
+  key_to_row k has =
+      let s = from_map key said k has in
+      subst (Contains (keys_of rows)) s.2 (in_map (λ (r : K × X). r.0) rows (row s.0) (Contains-permutation (map row said) rows (row s.0) same (in_map row said s.0 s.1)))
+
+  pub row_to_key : (k : K) → Contains (keys_of rows) k → Contains (map key said) k
+  row_to_key k has =
+      let r = from_map (λ (r : K × X). r.0) rows k has in
+      let s = from_map row said r.0 (Contains-permutation rows (map row said) r.0 (IsPermutation-sym (map row said) rows same) r.1) in
+      subst (Contains (map key said)) (ap (λ (r : K × X). r.0) s.2 ∙ r.2) (in_map key said s.0 s.1)
+
+  module _ {R : K → K → Ordering} (total : IsTotalOrder R) (exact : IsAntisymmetric R) where
+    pub rows_ascend : IsSortedByKey (λ r. r.0) R rows → AllPairs (λ a b. key a ≢ key b) said → IsStrictlySortedBy R (keys_of rows)
+    rows_ascend sorted apart =
+        ascend_by total exact (λ (r : K × X). r.0) (map row said) rows same sorted
+        (pairs_from_differ (λ a b. a.0 ≢ b.0) (map row said) (differ_map row (λ a b. a.0 ≢ b.0) said (differ_from_pairs (λ a b. key a ≢ key b) said apart)))
+
+    pub said_apart : IsStrictlySortedBy R (keys_of rows) → AllPairs (λ a b. key a ≢ key b) said
+    said_apart up =
+        let apart = apart_by total exact (λ (r : K × X). r.0) (map row said) rows same up in
+        pairs_from_differ (λ a b. key a ≢ key b) said (differ_unmap row (λ a b. a.0 ≢ b.0) said (differ_from_pairs (λ a b. a.0 ≢ b.0) (map row said) apart))
+
+-- ---- what is said of one key
+-- what a row says, if it is of that key
+abbrev pub own : {K X : Type 0} → (K → K → Ordering) → K → K × X → Option X
+own R k said = cond (eq_by_cmp R said.0 k) (Some said.1) None
+
+module _ {K X : Type 0} {R : K → K → Ordering} (total : IsTotalOrder R) (exact : IsAntisymmetric R) where
+  pub own_is : (k : K) (said : K × X) → said.0 ≡ k → own R k said ≡ Some said.1
+  own_is k said same = ap (λ b. cond b (Some said.1) None) (ap (λ z. eq_by_cmp R z k) same ∙ itself total exact k)
+
+  pub own_not : (k : K) (said : K × X) → said.0 ≢ k → own R k said ≡ None
+  own_not k said apart = ap (λ b. cond b (Some said.1) None) (other_key total exact said.0 k apart)
+
+  pub own_from : (k : K) (said : K × X) (x : X) → own R k said ≡ Some x → (said.0 ≡ k) × (said.1 ≡ x)
+  own_from k said x e = elim (eq_by_cmp R said.0 k) as (λ t. eq_by_cmp R said.0 k ≡ t → cond t (Some said.1) None ≡ Some x → (said.0 ≡ k) × (said.1 ≡ x)) [
+    | true ↦ λ t f. (same_key total exact said.0 k t, same_some said.1 x f)
+    | false ↦ λ t f. absurd (no_some x f)
+  ] refl e
+
+  pub in_own : (rows : List (K × X)) (k : K) (x : X) → Contains rows (k, x) → Contains (filter_map (own R k) rows) x
+  in_own rows k x has = in_filter (own R k) rows (k, x) x has (own_is k (k, x) refl)
+
+  pub from_own : (rows : List (K × X)) (k : K) (x : X) → Contains (filter_map (own R k) rows) x → Contains rows (k, x)
+  from_own rows k x has =
+      let r = from_filter (own R k) rows x has in
+      let is = own_from k r.0 x r.2 in
+      subst (Contains rows) (λ i. (is.0 i, is.1 i)) r.1
 
 -- a place that is looked up tells whether a row has the key
 pub key_told :

@@ -4,7 +4,6 @@ pub mod ItemKinds
 pub mod NeedsSaid
 pub mod Needed
 pub mod Made
-pub mod MadeDrafts
 pub mod Orders
 pub mod Terms
 pub mod Openings

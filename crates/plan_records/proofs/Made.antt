@@ -1,10 +1,10 @@
--- Contents of what items say are the plan of these items.
-use Rattle.std.proofs.Common.{◌≡◌, ◌≢◌, Bool, refl, sym, subst, ap, ◌∙◌, true, List, map, All, Contains, Option, Some, option_map}
+-- Contents of what items say are a draft, the plan of these items.
+use Rattle.std.proofs.Common.{◌≡◌, ◌≢◌, Bool, refl, sym, subst, ap, ◌∙◌, true, List, map, All, Contains, Option, Some, option_map, arith, ◌<◌, ◌≤◌, length}
 use Rattle.std.specs.List.{AllPairs, filter_map}
-use Rattle.std.specs.FinMap.{get, contains_key}
+use Rattle.std.specs.FinMap.{get, contains_key, len}
 use Rattle.std.specs.Map.{keys_of}
 use Rattle.std.proofs.lemmas.List.Elements.{All-contains}
-use Rattle.std.proofs.lemmas.List.Sorted.{Contains-permutation, IsPermutation-map, IsPermutation-sym}
+use Rattle.std.proofs.lemmas.List.Sorted.{Contains-permutation, IsPermutation-map, IsPermutation-sym, length_permutation}
 use Rattle.plan_basics.specs.declared.Attr.{Attr}
 use Rattle.plan_basics.specs.declared.keys.OccKey.{OccKey}
 use Rattle.plan_basics.specs.declared.keys.OpKey.{OpKey}
@@ -25,16 +25,23 @@ use Rattle.plan_records.specs.declared.RowKey.{RowKey}
 use Rattle.plan_records.specs.declared.RowKey.TheVariants as key
 use Rattle.plan_records.specs.Contents.{plan_of}
 use Rattle.plan_records.specs.Records.{key_of, StandsIn, IsItemOfPlan, AreItems}
-use Rattle.plan_records.specs.Loading.{Fits, IsNeedIn, IsPairIn, IsOpening, CanOpen, intervals_of, opened_in, AreContentsOf, as_workstation, as_interval, as_occurrence, as_operation, as_pair, as_resource, as_need, keys_said, need_key, needs_of, operation_of, row_of, terms_of}
-use Rattle.plan_records.proofs.Lists.{Differ, differ_from_pairs, pairs_from_differ, in_map, from_map, in_filter, from_filter, all_by_members, Kept, differ_kept}
-use Rattle.plan_records.proofs.Tables.{some_is, is_found, AreApart, rows_apart, get_row, row_found, in_set, from_set}
+use Rattle.plan_records.specs.Loading.{Fits, IsNeedIn, IsPairIn, IsOpening, CanOpen, intervals_of, opened_in, AreContentsOf, as_workstation, as_interval, as_occurrence, as_operation, as_pair, as_resource, as_need, keys_said, need_key, needs_of, operation_of, row_of, terms_of, occurrence_of}
+use Rattle.plan_records.proofs.Lists.{Differ, differ_from_pairs, pairs_from_differ, in_map, from_map, in_filter, all_by_members, Kept, differ_kept, length_map}
+use Rattle.plan_records.proofs.Tables.{some_is, is_found, AreApart, rows_apart, get_row, row_found, in_set, from_set, sorted_apart, len_rows, len_set}
 use Rattle.plan_records.proofs.Pairs.{pair_cmp_total, pair_cmp-IsAntisymmetric}
-use Rattle.plan_records.proofs.NeedsSaid.{NeedsDiffer, usage_got, usage_said}
+use Rattle.plan_records.proofs.NeedsSaid.{NeedsDiffer, usage_got, usage_said, in_range}
 use Rattle.plan_records.proofs.Terms.{terms_there}
-use Rattle.plan_records.proofs.Openings.{in_own}
+use Rattle.plan_records.proofs.Keyed.{in_own}
 use Rattle.plan_records.proofs.OwnTimes.{AreLegal, own_legal, intervals_apart, got_by, opened_is, first_said}
 use Rattle.plan_records.proofs.ItemKinds as kinds
-use Rattle.plan_records.proofs.ItemKinds.{key_out}
+use Rattle.plan_records.proofs.ItemKinds.{key_out, read_stands}
+use Rattle.std.specs.FinSet as set
+use Rattle.plan_basics.specs.Names.{IsName, IsResourceName}
+use Rattle.special_resources.specs.Holders.{Usage}
+use Rattle.plan_model.specs.Valid.{IsValid, IsAcyclic, IsOccurrence, IsOperation, AreOccurrences, IsWithinLimits, IsUntouched}
+use Rattle.plan_items.specs.Items.{Fields, Says, IsOperationItem}
+use Rattle.plan_records.specs.Drafts.{IsDraft}
+use Rattle.plan_records.proofs.InOrder.{same_pairs}
 
 -- items that tie in no kind differ in their keys
 pub combined :
@@ -84,10 +91,7 @@ module _ (items : List Item) (c : PlanContents) (legal_items : All items_of.IsIt
   NeedRows = filter_map as_need items
 
   legal : AreLegal Intervals
-  legal y has =
-      let r = from_filter as_interval items y has in
-      let is : items_of.IsItem (item.Interval y.0 y.1) = subst items_of.IsItem (kinds.intervals.is r.0 y r.2) (All-contains items_of.IsItem items r.0 legal_items r.1) in
-      is.1
+  legal y has = (read_stands kinds.intervals items_of.IsItem items legal_items y has).1
 
   kept_pairs : {Y : Type 0} (f : Item → Option Y) (R : Y → Y → Type 0) → Differ R (filter_map f items) → AllPairs (Kept f R) items
   kept_pairs f R d = pairs_from_differ (Kept f R) items (differ_kept f R items d)
@@ -221,7 +225,7 @@ module _ (items : List Item) (c : PlanContents) (legal_items : All items_of.IsIt
   stands (item.Interval n x) has =
       let said = in_filter as_interval items (item.Interval n x) (n, x) has refl in
       let there = workstation_there n (All-contains (λ (y : Name × OpenInterval). Contains (keys_of Stations) y.0) Intervals (n, x) made.items_are.workstations.no_others said) in
-      ((opened_in Intervals there.0).1, there.3, interval_at there.0 there.1 x (subst (λ w. Contains (intervals_of w Intervals) x) (sym there.2) (in_own Intervals n x said)))
+      ((opened_in Intervals there.0).1, there.3, interval_at there.0 there.1 x (subst (λ w. Contains (intervals_of w Intervals) x) (sym there.2) (in_own name_cmp_total name_cmp-IsAntisymmetric Intervals n x said)))
   stands (item.Occurrence k q d) has = let x : Occurrence = record { priority = q; deadline = d } in occurrence_at (k, x) (in_filter as_occurrence items (item.Occurrence k q d) (k, x) has refl)
   stands (item.Operation said) has =
       let in_said = in_filter as_operation items (item.Operation said) said has refl in
@@ -241,32 +245,130 @@ module _ (items : List Item) (c : PlanContents) (legal_items : All items_of.IsIt
   described : (k : RowKey) → IsItemOfPlan P k → (i : Item) × Contains items i × (key_of i ≡ k)
   described (key.Workstation w) e =
       let found = is_found (get P.workstations w) e in
-      key_out as_workstation (λ y. item.Workstation y.0 y.1) (λ y. y.0) (λ q. key.Workstation q) kinds.workstations items w
+      key_out kinds.workstations items w
       (each_workstation (λ w ws. Contains (keys_of Stations) w) (λ row has. in_map (λ (y : Name × Attr). y.0) Stations row has) w found.0 found.1)
   described (key.Interval w m) (ws, there, e) =
       let Q : Name → Workstation → Type 0 = λ w ws. contains_key ws.intervals m ≡ true → Contains (map kinds.interval_key Intervals) (w, m) in
-      key_out as_interval (λ y. item.Interval y.0 y.1) kinds.interval_key (λ q. key.Interval q.0 q.1) kinds.intervals items (w, m)
+      key_out kinds.intervals items (w, m)
       (each_workstation Q (λ row has f. first_said Intervals row.0 m f) w ws there e)
   described (key.Occurrence k) e =
       let found = is_found (get P.occurrences k) e in
-      key_out as_occurrence (λ y. item.Occurrence y.0 y.1.priority y.1.deadline) (λ y. y.0) (λ q. key.Occurrence q) kinds.occurrences items k
+      key_out kinds.occurrences items k
       (in_map (λ (y : OccKey × Occurrence). y.0) Occurrences (k, found.0) (occurrence_from k found.0 found.1))
   described (key.Operation o) e =
       let found = is_found (get P.operations o) e in
       let keys = keys_said Said in
-      key_out as_operation (λ y. item.Operation y) (λ y. y.key) (λ q. key.Operation q) kinds.operations items o
+      key_out kinds.operations items o
       (each_row (λ o op. Contains keys o) (λ said has. in_map (λ (said : OperationItem). said.key) Said said has) o found.0 found.1)
   described (key.Dependency p o) e =
-      key_out as_pair (λ y. item.Dependency y.0 y.1) (λ y. y) (λ q. key.Dependency q.0 q.1) kinds.pairs items (p, o) (in_map (λ (y : OpKey × OpKey). y) Pairs (p, o) (pair_from (p, o) e))
+      key_out kinds.pairs items (p, o) (in_map (λ (y : OpKey × OpKey). y) Pairs (p, o) (pair_from (p, o) e))
   described (key.Resource r) e =
       let found = is_found (get P.resources r) e in
-      key_out as_resource (λ y. item.Resource y.0 y.1) (λ y. y.0) (λ q. key.Resource q) kinds.resources items r
+      key_out kinds.resources items r
       (in_map (λ (y : Name × Bool). y.0) Resources (r, found.0) (resource_from r found.0 found.1))
   described (key.Need o r) (op, there, e) =
       let Q : OpKey → Operation → Type 0 = λ o op. contains_key op.needs r ≡ true → Contains (map need_key NeedRows) (o, r) in
-      key_out as_need (λ y. item.Need y.0 y.1) need_key (λ q. key.Need q.0 q.1) kinds.needs items (o, r)
+      key_out kinds.needs items (o, r)
       (each_row Q (λ said has f. need_said said.key r f) o op there e)
   described key.Meta e = absurd e
 
   pub are_items : AreItems (StandsIn P) (IsItemOfPlan P) items
   are_items = record { distinct = distinct; stand = all_by_members (StandsIn P) items stands; all = described }
+
+  -- ---- the parts are in range
+  name_legal : (row : Name × Attr) → Contains Stations row → IsName 4 row.0
+  name_legal row has = read_stands kinds.workstations items_of.IsItem items legal_items row has
+
+  resource_legal : (r : Name) → contains_key P.resources r ≡ true → IsResourceName r
+  resource_legal r e =
+      let found = is_found (get P.resources r) e in
+      read_stands kinds.resources items_of.IsItem items legal_items (r, found.0) (resource_from r found.0 found.1)
+
+  occurrence_legal : (k : OccKey) (x : Occurrence) → get P.occurrences k ≡ Some x → IsOccurrence k x
+  occurrence_legal k x e =
+      let is = read_stands kinds.occurrences items_of.IsItem items legal_items (k, x) (occurrence_from k x e) in
+      record { key = is.0; priority = (omega arith, omega arith); deadline = is.2 }
+
+  said_legal : (said : OperationItem) → Contains Said said → IsOperationItem said
+  said_legal said has = read_stands kinds.operations items_of.IsItem items legal_items said has
+
+  -- a special resource that an operation uses is there
+  used_there : (o : OpKey) (r : Name) (usage : Usage) → get (usages_of (needs_of o NeedRows)) r ≡ Some usage → contains_key P.resources r ≡ true
+  used_there o r usage e =
+      let n = usage_said NeedRows o r usage e in
+      subst (λ z. contains_key P.resources z ≡ true) n.2 (resource_there n.0.name (need_within (o, n.0) n.1).resource)
+
+  operation_legal : (said : OperationItem) → Contains Said said → IsOperation said.key (made_of items c said)
+  operation_legal said has =
+      in_range NeedRows needs_apart (terms_in c said) said (said_legal said has) (fits said has).few_needs (occurrence_legal said.key.occurrence (terms_in c said) (terms_at said has)).deadline
+      (λ r usage e. resource_legal r (used_there said.key r usage e))
+
+  -- ---- the plan is a draft
+  occurrences_are : AreOccurrences P.occurrences P.operations
+  occurrences_are = record {
+    each_occurrence = occurrence_legal;
+    each_operation = each_row (λ o op. IsOperation o op × (contains_key P.occurrences o.occurrence ≡ true)) (λ said has. (operation_legal said has, some_is (get P.occurrences said.key.occurrence) (terms_in c said) (terms_at said has)));
+    not_empty = λ k e.
+        let found = is_found (get P.occurrences k) e in
+        let of : Contains (map occurrence_of (keys_said Said)) k = All-contains (λ (row : OccKey × Occurrence). Contains (map occurrence_of (keys_said Said)) row.0) Occurrences (k, found.0) made.items_are.operations.not_empty (occurrence_from k found.0 found.1) in
+        let o = from_map occurrence_of (keys_said Said) k of in
+        (o.0, o.2, end_there o.0 o.1);
+  }
+
+  acyclic : IsAcyclic P.pairs
+  acyclic = subst IsAcyclic (same_pairs (keys_said Said) Pairs c.pairs.items made.pairs) made.items_are.pairs.acyclic
+
+  occurrences_count : len P.occurrences ≡ length Occurrences
+  occurrences_count =
+      len_rows occurrence_cmp_total occurrence_cmp-IsAntisymmetric c.occurrences.items occurrences_apart
+      ∙ length_permutation Occurrences c.occurrences.items made.occurrences
+
+  workstations_count : len P.workstations ≡ length Stations
+  workstations_count =
+      len_rows name_cmp_total name_cmp-IsAntisymmetric c.workstations.items workstations_apart
+      ∙ length_permutation (map (opened_in (filter_map as_interval items)) Stations) c.workstations.items made.workstations
+      ∙ length_map (opened_in (filter_map as_interval items)) Stations
+
+  resources_count : len P.resources ≡ length Resources
+  resources_count =
+      len_rows name_cmp_total name_cmp-IsAntisymmetric c.resources.items resources_apart
+      ∙ length_permutation Resources c.resources.items made.resources
+
+  limits : IsWithinLimits P
+  limits = record {
+    workstations = let few : length Stations ≤ 99 = made.items_are.workstations.few in omega (arith, workstations_count);
+    resources = let few : length Resources ≤ 999 = made.items_are.resources.few in omega (arith, resources_count);
+    occurrences = let few : length Occurrences ≤ 5000 = made.items_are.occurrences.few in omega (arith, occurrences_count);
+    operations =
+        let rows : len P.operations ≡ length c.operations.items = len_rows operation_cmp_total operation_cmp-IsAntisymmetric c.operations.items apart in
+        let same : length c.operations.items ≡ length Said = length_permutation (map (row_of c.occurrences.items NeedRows) Said) c.operations.items made.operations ∙ length_map (row_of c.occurrences.items NeedRows) Said in
+        let few : length Said ≤ 20000 = made.items_are.operations.few in
+        omega arith;
+    pairs =
+        let all : set.len P.pairs ≡ length c.pairs.items = len_set pair_cmp_total pair_cmp-IsAntisymmetric c.pairs.items (sorted_apart pair_cmp_total pair_cmp-IsAntisymmetric c.pairs.items made.in_order.pairs) in
+        let same : length c.pairs.items ≡ length Pairs = length_permutation Pairs c.pairs.items made.pairs in
+        let few : length Pairs ≤ 100000 = made.items_are.pairs.few in
+        omega arith;
+  }
+
+  valid : IsValid P
+  valid = record {
+    clock = omega arith;
+    workstations = each_workstation (λ w ws. IsName 4 w × IsWorkstation ws) (λ row has. (name_legal row has, workstation_is row has));
+    resources = resource_legal;
+    occurrences = occurrences_are;
+    have_workstations = each_row (λ o op. contains_key P.workstations op.workstation ≡ true) (λ said has. let there = workstation_there said.workstation (fits said has).workstation in some_is (get P.workstations said.workstation) _ there.3);
+    have_resources = each_row (λ o op. (r : Name) (usage : Usage) → get op.needs r ≡ Some usage → contains_key P.resources r ≡ true) (λ said has. used_there said.key);
+    pairs = λ p o e. (end_there p (pair_in p o e).first, end_there o (pair_in p o e).second);
+    acyclic = acyclic;
+    limits = limits;
+  }
+
+  pub some_workstation : 0 < len P.workstations
+  some_workstation = let some : 0 < length Stations = made.items_are.workstations.some in omega (arith, workstations_count)
+
+  pub some_occurrence : 0 < len P.occurrences
+  some_occurrence = let some : 0 < length Occurrences = made.items_are.occurrences.some in omega (arith, occurrences_count)
+
+  pub is_draft : IsDraft P
+  is_draft = record { valid = valid; loaded = refl; untouched = each_row (λ o op. IsUntouched op) (λ said has. (refl, refl, refl)) }

@@ -1,5 +1,5 @@
 -- The parts of what items say, where these come in, are the addition of these items.
-use Rattle.std.proofs.Common.{◌≡◌, ◌≢◌, ◌⊎◌, inl, inr, refl, sym, subst, ap, ◌∙◌, arith, ◌<◌, ◌≤◌, ◌+◌, ℕ, true, false, cond, List, [], ◌∷◌, map, length, All, Contains, Option, Some, None, unwrap_or, MatchOption, is_some}
+use Rattle.std.proofs.Common.{◌≡◌, ◌≢◌, ◌⊎◌, inl, inr, refl, sym, subst, ap, ◌∙◌, arith, ◌<◌, ◌+◌, true, false, cond, List, [], ◌∷◌, map, length, All, Contains, Option, Some, is_some}
 use Rattle.std.specs.List.{AllPairs, filter_map}
 use Rattle.std.specs.Ordering.{eq_by_cmp}
 use Rattle.std.specs.FinMap.{get, contains_key, empty, insert, len, get-insert, get-empty, len-insert, len-empty}
@@ -8,7 +8,6 @@ use Rattle.std.proofs.lemmas.List.Sorted.{Contains-permutation, IsPermutation-sy
 use Rattle.plan_basics.specs.declared.keys.OccKey.{OccKey}
 use Rattle.plan_basics.specs.declared.keys.OpKey.{OpKey}
 use Rattle.plan_basics.specs.Keys.{Name, IsOperationKey, occurrence_cmp, occurrence_cmp_total, occurrence_cmp-IsAntisymmetric, operation_cmp_total, operation_cmp-IsAntisymmetric}
-use Rattle.plan_basics.specs.Minutes.{IsMoment}
 use Rattle.plan_basics.specs.Names.{IsResourceName}
 use Rattle.special_resources.specs.declared.Need.{Need}
 use Rattle.special_resources.specs.Holders.{Usage}
@@ -33,10 +32,10 @@ use Rattle.plan_records.specs.Adding.{MayComeIn, ComesWith, new_row, IsNeedOf, I
 use Rattle.plan_records.proofs.Lists.{Differ, differ_from_pairs, pairs_from_differ, contains_head, contains_cases, contains_none, no_members, in_map, from_map, in_filter, from_filter, all_by_members, Kept, differ_kept}
 use Rattle.plan_records.proofs.Tables.{some_is, is_found, same_some, no_some, itself, same_key, AreApart, rows_apart, get_row, row_found, in_set, from_set}
 use Rattle.plan_records.proofs.Pairs.{pair_cmp_total, pair_cmp-IsAntisymmetric}
-use Rattle.plan_records.proofs.NeedsSaid.{NeedsDiffer, usage_got, usage_said, usages_count}
+use Rattle.plan_records.proofs.NeedsSaid.{NeedsDiffer, in_range, usage_got, usage_said}
 use Rattle.plan_records.proofs.Made.{combined}
 use Rattle.plan_records.proofs.ItemKinds as kinds
-use Rattle.plan_records.proofs.ItemKinds.{key_out}
+use Rattle.plan_records.proofs.ItemKinds.{key_out, read_stands}
 
 -- ---- one occurrence
 module _ (c : OccKey) (terms : Occurrence) where
@@ -185,18 +184,18 @@ module _ (items : List Item) (n : NewOccurrence) (legal : All items_of.IsItem it
   described key.Meta e = absurd e
   described (key.Occurrence k) e =
       let found = is_found (get S.occurrences k) e in
-      key_out as_occurrence (λ y. item.Occurrence y.0 y.1.priority y.1.deadline) (λ y. y.0) (λ q. key.Occurrence q) kinds.occurrences items k
+      key_out kinds.occurrences items k
       (subst (Contains (map (λ (y : OccKey × Occurrence). y.0) OccurrenceRows)) (sym (sole_key n.key n.terms k found.0 found.1).0) (in_map (λ (y : OccKey × Occurrence). y.0) OccurrenceRows (n.key, n.terms) occurrence_said))
   described (key.Operation o) e =
       let found = is_found (get S.operations o) e in
       let keys = keys_said Said in
-      key_out as_operation (λ y. item.Operation y) (λ y. y.key) (λ q. key.Operation q) kinds.operations items o
+      key_out kinds.operations items o
       (each_row (λ o op. Contains keys o) (λ said has. in_map (λ (said : OperationItem). said.key) Said said has) o found.0 found.1)
   described (key.Dependency p o) e =
-      key_out as_pair (λ y. item.Dependency y.0 y.1) (λ y. y) (λ q. key.Dependency q.0 q.1) kinds.pairs items (p, o) (in_map (λ (y : OpKey × OpKey). y) Pairs (p, o) (pair_from (p, o) e))
+      key_out kinds.pairs items (p, o) (in_map (λ (y : OpKey × OpKey). y) Pairs (p, o) (pair_from (p, o) e))
   described (key.Need o r) (op, there, e) =
       let Q : OpKey → Operation → Type 0 = λ o op. contains_key op.needs r ≡ true → Contains (map need_key NeedRows) (o, r) in
-      key_out as_need (λ y. item.Need y.0 y.1) need_key (λ q. key.Need q.0 q.1) kinds.needs items (o, r)
+      key_out kinds.needs items (o, r)
       (each_row Q (λ said has f. need_said said.key r f) o op there e)
 
   pub come_as_items : AreItems (StandsInSupplement S) (IsItemOf S) items
@@ -205,47 +204,23 @@ module _ (items : List Item) (n : NewOccurrence) (legal : All items_of.IsItem it
   -- ---- the parts are in range
   occurrence_legal : IsOccurrence n.key n.terms
   occurrence_legal =
-      let r = from_filter as_occurrence items (n.key, n.terms) occurrence_said in
-      let is : items_of.IsItem (item.Occurrence n.key n.terms.priority n.terms.deadline) = subst items_of.IsItem (kinds.occurrences.is r.0 (n.key, n.terms) r.2) (All-contains items_of.IsItem items r.0 legal r.1) in
+      let is = read_stands kinds.occurrences items_of.IsItem items legal (n.key, n.terms) occurrence_said in
       record { key = is.0; priority = (omega arith, omega arith); deadline = is.2 }
 
   said_legal : (said : OperationItem) → Contains Said said → IsOperationItem said
-  said_legal said has =
-      let r = from_filter as_operation items said has in
-      subst items_of.IsItem (kinds.operations.is r.0 said r.2) (All-contains items_of.IsItem items r.0 legal r.1)
+  said_legal said has = read_stands kinds.operations items_of.IsItem items legal said has
 
   pair_legal : (p : OpKey × OpKey) → Contains Pairs p → IsOperationKey p.0 × IsOperationKey p.1
-  pair_legal p has =
-      let r = from_filter as_pair items p has in
-      subst items_of.IsItem (kinds.pairs.is r.0 p r.2) (All-contains items_of.IsItem items r.0 legal r.1)
+  pair_legal p has = read_stands kinds.pairs items_of.IsItem items legal p has
 
   resource_legal : (o : OpKey) (r : Name) (usage : Usage) → get (usages_of (needs_of o NeedRows)) r ≡ Some usage → IsResourceName r
   resource_legal o r usage e =
       let m = usage_said NeedRows o r usage e in
-      let f = from_filter as_need items (o, m.0) m.1 in
-      let is : items_of.IsItem (item.Need o m.0) = subst items_of.IsItem (kinds.needs.is f.0 (o, m.0) f.2) (All-contains items_of.IsItem items f.0 legal f.1) in
-      subst IsResourceName m.2 is.1
+      subst IsResourceName m.2 (read_stands kinds.needs items_of.IsItem items legal (o, m.0) m.1).1
 
   operation_legal : (said : OperationItem) → Contains Said said → IsOperation said.key (made_as said)
   operation_legal said has =
-      let is = said_legal said has in
-      let few : length (needs_of said.key NeedRows) ≤ 16 = (comes said has).few_needs in
-      let count = usages_count NeedRows needs_apart said.key in
-      record {
-        key = is.key;
-        workstation = is.workstation;
-        duration = (omega arith, omega arith);
-        fixed = (omega arith, omega arith);
-        not_before = is.not_before;
-        deadline = due said.deadline is.deadline;
-        needs = resource_legal said.key;
-        few_needs = omega (arith, few, count);
-        code = λ code e. absurd (cc);
-      }
-    where
-      due : (d : Option ℕ) → MatchOption d (Unit {0}) IsMoment → IsMoment (unwrap_or d n.terms.deadline)
-      due None h = occurrence_legal.deadline
-      due (Some m) h = h
+      in_range NeedRows needs_apart n.terms said (said_legal said has) (comes said has).few_needs occurrence_legal.deadline (resource_legal said.key)
 
   -- ---- they are an addition
   first_of : {X : Type 0} (xs : List X) → 0 < length xs → (x : X) × Contains xs x

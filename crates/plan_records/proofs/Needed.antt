@@ -17,7 +17,6 @@ use Rattle.plan_model.specs.Plan.{Plan, Operation, IsPairOf, pair_cmp}
 use Rattle.plan_model.specs.Valid.{IsValid, IsAcyclic}
 use Rattle.plan_model.specs.declared.Occurrence.{Occurrence}
 use Rattle.plan_items.specs.declared.Item.{Item}
-use Rattle.plan_items.specs.declared.Item.TheVariants as item
 use Rattle.plan_items.specs.declared.OperationItem.{OperationItem}
 use Rattle.plan_records.specs.declared.RowKey.TheVariants as key
 use Rattle.plan_records.specs.Records.{key_of, StandsIn, IsItemOfPlan, AreItems, IsAsSaid}
@@ -25,7 +24,7 @@ use Rattle.plan_records.specs.Loading.{own_interval, intervals_of, IsOpening, Ca
 use Rattle.plan_records.proofs.Lists.{Differ, differ_from_pairs, pairs_from_differ, differ_filter, differ_map, length_map, in_map, from_map, all_by_members}
 use Rattle.plan_records.proofs.Tables.{some_is, same_some, no_some, map_count, set_count, in_set, from_set}
 use Rattle.plan_records.proofs.Pairs.{pair_cmp_total, pair_cmp-IsAntisymmetric}
-use Rattle.plan_records.proofs.Openings.{in_own, from_own, own_from}
+use Rattle.plan_records.proofs.Keyed.{in_own, from_own, own_from}
 use Rattle.plan_records.proofs.OwnTimes.{opening_by}
 use Rattle.plan_records.proofs.NeedsSaid.{NeedsDiffer, as_many_said}
 use Rattle.plan_records.proofs.ItemKinds as kinds
@@ -65,10 +64,10 @@ module _ (P : Plan) (valid : IsValid P) (some_station : 0 < len P.workstations) 
   NeedRows = filter_map as_need items
 
   workstation_is : (y : Name × Attr) → Contains (filter_map as_workstation items) y → (ws : Workstation) × (get P.workstations y.0 ≡ Some ws) × (ws.attribute ≡ y.1)
-  workstation_is y has = found_attribute (get P.workstations y.0) y.1 (read_stands as_workstation (λ y. item.Workstation y.0 y.1) (λ y. y.0) (λ q. key.Workstation q) kinds.workstations (StandsIn P) items are.stand y has)
+  workstation_is y has = found_attribute (get P.workstations y.0) y.1 (read_stands kinds.workstations (StandsIn P) items are.stand y has)
 
   name_in : (w : Name) → contains_key P.workstations w ≡ true → Contains Names w
-  name_in w e = key_in as_workstation (λ y. item.Workstation y.0 y.1) (λ y. y.0) (λ q. key.Workstation q) kinds.workstations items w (are.all (key.Workstation w) e)
+  name_in w e = key_in kinds.workstations items w (are.all (key.Workstation w) e)
 
   name_there : (w : Name) → Contains Names w → contains_key P.workstations w ≡ true
   name_there w has =
@@ -79,13 +78,13 @@ module _ (P : Plan) (valid : IsValid P) (some_station : 0 < len P.workstations) 
   workstations_count : length Stations ≡ len P.workstations
   workstations_count =
       sym (length-keys_of Stations)
-      ∙ map_count name_cmp_total name_cmp-IsAntisymmetric Names P.workstations (keys_apart as_workstation (λ y. item.Workstation y.0 y.1) (λ y. y.0) (λ q. key.Workstation q) kinds.workstations items apart) name_there name_in
+      ∙ map_count name_cmp_total name_cmp-IsAntisymmetric Names P.workstations (keys_apart kinds.workstations items apart) name_there name_in
 
   occurrence_is : (y : OccKey × Occurrence) → Contains (filter_map as_occurrence items) y → get P.occurrences y.0 ≡ Some y.1
-  occurrence_is y has = read_stands as_occurrence (λ y. item.Occurrence y.0 y.1.priority y.1.deadline) (λ y. y.0) (λ q. key.Occurrence q) kinds.occurrences (StandsIn P) items are.stand y has
+  occurrence_is y has = read_stands kinds.occurrences (StandsIn P) items are.stand y has
 
   occurrence_in : (c : OccKey) → contains_key P.occurrences c ≡ true → Contains OccurrenceKeys c
-  occurrence_in c e = key_in as_occurrence (λ y. item.Occurrence y.0 y.1.priority y.1.deadline) (λ y. y.0) (λ q. key.Occurrence q) kinds.occurrences items c (are.all (key.Occurrence c) e)
+  occurrence_in c e = key_in kinds.occurrences items c (are.all (key.Occurrence c) e)
 
   occurrence_there : (c : OccKey) → Contains OccurrenceKeys c → contains_key P.occurrences c ≡ true
   occurrence_there c has =
@@ -95,20 +94,20 @@ module _ (P : Plan) (valid : IsValid P) (some_station : 0 < len P.workstations) 
   occurrences_count : length (filter_map as_occurrence items) ≡ len P.occurrences
   occurrences_count =
       sym (length-keys_of (filter_map as_occurrence items))
-      ∙ map_count occurrence_cmp_total occurrence_cmp-IsAntisymmetric OccurrenceKeys P.occurrences (keys_apart as_occurrence (λ y. item.Occurrence y.0 y.1.priority y.1.deadline) (λ y. y.0) (λ q. key.Occurrence q) kinds.occurrences items apart) occurrence_there occurrence_in
+      ∙ map_count occurrence_cmp_total occurrence_cmp-IsAntisymmetric OccurrenceKeys P.occurrences (keys_apart kinds.occurrences items apart) occurrence_there occurrence_in
 
   are_occurrences : AreOccurrenceRows (filter_map as_occurrence items)
   are_occurrences = record {
     some = omega (arith, some, occurrences_count);
     few = let most : len P.occurrences ≤ 5000 = valid.limits.occurrences in omega (arith, occurrences_count);
-    distinct = pairs_from_differ (λ a b. a.0 ≢ b.0) (filter_map as_occurrence items) (read_apart as_occurrence (λ y. item.Occurrence y.0 y.1.priority y.1.deadline) (λ y. y.0) (λ q. key.Occurrence q) kinds.occurrences items apart);
+    distinct = pairs_from_differ (λ a b. a.0 ≢ b.0) (filter_map as_occurrence items) (read_apart kinds.occurrences items apart);
   }
 
   operation_is : (y : OperationItem) → Contains (filter_map as_operation items) y → (op : Operation) × (c : Occurrence) × (get P.operations y.key ≡ Some op) × (get P.occurrences y.key.occurrence ≡ Some c) × IsAsSaid y c op
-  operation_is y has = read_stands as_operation (λ y. item.Operation y) (λ y. y.key) (λ q. key.Operation q) kinds.operations (StandsIn P) items are.stand y has
+  operation_is y has = read_stands kinds.operations (StandsIn P) items are.stand y has
 
   operation_in : (o : OpKey) → contains_key P.operations o ≡ true → Contains OperationKeys o
-  operation_in o e = key_in as_operation (λ y. item.Operation y) (λ y. y.key) (λ q. key.Operation q) kinds.operations items o (are.all (key.Operation o) e)
+  operation_in o e = key_in kinds.operations items o (are.all (key.Operation o) e)
 
   operation_there : (o : OpKey) → Contains OperationKeys o → contains_key P.operations o ≡ true
   operation_there o has =
@@ -119,17 +118,17 @@ module _ (P : Plan) (valid : IsValid P) (some_station : 0 < len P.workstations) 
   operations_count : length (filter_map as_operation items) ≡ len P.operations
   operations_count =
       sym (length_map (λ (y : OperationItem). y.key) (filter_map as_operation items))
-      ∙ map_count operation_cmp_total operation_cmp-IsAntisymmetric OperationKeys P.operations (keys_apart as_operation (λ y. item.Operation y) (λ y. y.key) (λ q. key.Operation q) kinds.operations items apart) operation_there operation_in
+      ∙ map_count operation_cmp_total operation_cmp-IsAntisymmetric OperationKeys P.operations (keys_apart kinds.operations items apart) operation_there operation_in
 
   pair_is : (y : OpKey × OpKey) → Contains (filter_map as_pair items) y → IsPairOf P.pairs y.0 y.1
-  pair_is y has = read_stands as_pair (λ y. item.Dependency y.0 y.1) (λ y. y) (λ q. key.Dependency q.0 q.1) kinds.pairs (StandsIn P) items are.stand y has
+  pair_is y has = read_stands kinds.pairs (StandsIn P) items are.stand y has
 
   pairs_apart : Differ (λ a b. a ≢ b) (filter_map as_pair items)
-  pairs_apart = read_apart as_pair (λ y. item.Dependency y.0 y.1) (λ y. y) (λ q. key.Dependency q.0 q.1) kinds.pairs items apart
+  pairs_apart = read_apart kinds.pairs items apart
 
   -- ---- the intervals of each workstation
   interval_is : (y : Name × OpenInterval) → Contains Intervals y → (ws : Workstation) × (get P.workstations y.0 ≡ Some ws) × (get ws.intervals y.1.from ≡ Some y.1)
-  interval_is y has = read_stands as_interval (λ y. item.Interval y.0 y.1) kinds.interval_key (λ q. key.Interval q.0 q.1) kinds.intervals (StandsIn P) items are.stand y has
+  interval_is y has = read_stands kinds.intervals (StandsIn P) items are.stand y has
 
   module _ (w : Name) (ws : Workstation) (there : get P.workstations w ≡ Some ws) where
     abbrev Own : List OpenInterval
@@ -140,19 +139,19 @@ module _ (P : Plan) (valid : IsValid P) (some_station : 0 < len P.workstations) 
 
     own_there : (x : OpenInterval) → Contains Own x → get ws.intervals x.from ≡ Some x
     own_there x has =
-        let s = interval_is (w, x) (from_own Intervals w x has) in
+        let s = interval_is (w, x) (from_own name_cmp_total name_cmp-IsAntisymmetric Intervals w x has) in
         let one : s.0 ≡ ws = same_some s.0 ws (sym s.1 ∙ there) in
         subst (λ (v : Workstation). get v.intervals x.from ≡ Some x) one s.2
 
     own_apart : Differ (λ x y. x.from ≢ y.from) Own
     own_apart = differ_filter (own_interval w) (λ a b. kinds.interval_key a ≢ kinds.interval_key b) (λ x y. x.from ≢ y.from)
         (λ a b y z e f differ same.
-        let p = own_from w a y e in
-        let q = own_from w b z f in
+        let p = own_from name_cmp_total name_cmp-IsAntisymmetric w a y e in
+        let q = own_from name_cmp_total name_cmp-IsAntisymmetric w b z f in
         let names : a.0 ≡ b.0 = p.0 ∙ sym q.0 in
         let firsts : a.1.from ≡ b.1.from = ap (λ (x : OpenInterval). x.from) p.1 ∙ same ∙ sym (ap (λ (x : OpenInterval). x.from) q.1) in
         differ (λ i. (names i, firsts i)))
-        Intervals (read_apart as_interval (λ y. item.Interval y.0 y.1) kinds.interval_key (λ q. key.Interval q.0 q.1) kinds.intervals items apart)
+        Intervals (read_apart kinds.intervals items apart)
 
     first_there : (m : ℕ) → Contains Firsts m → contains_key ws.intervals m ≡ true
     first_there m has =
@@ -161,10 +160,10 @@ module _ (P : Plan) (valid : IsValid P) (some_station : 0 < len P.workstations) 
 
     first_in : (m : ℕ) → contains_key ws.intervals m ≡ true → Contains Firsts m
     first_in m e =
-        let k = key_in as_interval (λ y. item.Interval y.0 y.1) kinds.interval_key (λ q. key.Interval q.0 q.1) kinds.intervals items (w, m) (are.all (key.Interval w m) (ws, there, e)) in
+        let k = key_in kinds.intervals items (w, m) (are.all (key.Interval w m) (ws, there, e)) in
         let r = from_map kinds.interval_key Intervals (w, m) k in
         let has : Contains Intervals (w, r.0.1) = subst (λ n. Contains Intervals (n, r.0.1)) (ap (λ q. q.0) r.2) r.1 in
-        subst (Contains Firsts) (ap (λ q. q.1) r.2) (in_map (λ (x : OpenInterval). x.from) Own r.0.1 (in_own Intervals w r.0.1 has))
+        subst (Contains Firsts) (ap (λ q. q.1) r.2) (in_map (λ (x : OpenInterval). x.from) Own r.0.1 (in_own name_cmp_total name_cmp-IsAntisymmetric Intervals w r.0.1 has))
 
     is_opening : IsOpening Own
     is_opening =
@@ -178,17 +177,17 @@ module _ (P : Plan) (valid : IsValid P) (some_station : 0 < len P.workstations) 
   are_workstations = record {
     some = omega (arith, some_station, workstations_count);
     few = let most : len P.workstations ≤ 99 = valid.limits.workstations in omega (arith, workstations_count);
-    distinct = pairs_from_differ (λ a b. a.0 ≢ b.0) Stations (read_apart as_workstation (λ y. item.Workstation y.0 y.1) (λ y. y.0) (λ q. key.Workstation q) kinds.workstations items apart);
+    distinct = pairs_from_differ (λ a b. a.0 ≢ b.0) Stations (read_apart kinds.workstations items apart);
     opening = all_by_members (CanOpen Intervals) Stations (λ y has. let ws = workstation_is y has in is_opening y.0 ws.0 ws.1);
     no_others = all_by_members (λ y. Contains Names y.0) Intervals (λ y has. let s = interval_is y has in name_in y.0 (some_is (get P.workstations y.0) s.0 s.1));
   }
 
   -- ---- special resources and needs
   resource_is : (y : Name × Bool) → Contains Resources y → get P.resources y.0 ≡ Some y.1
-  resource_is y has = read_stands as_resource (λ y. item.Resource y.0 y.1) (λ y. y.0) (λ q. key.Resource q) kinds.resources (StandsIn P) items are.stand y has
+  resource_is y has = read_stands kinds.resources (StandsIn P) items are.stand y has
 
   resource_in : (r : Name) → contains_key P.resources r ≡ true → Contains ResourceNames r
-  resource_in r e = key_in as_resource (λ y. item.Resource y.0 y.1) (λ y. y.0) (λ q. key.Resource q) kinds.resources items r (are.all (key.Resource r) e)
+  resource_in r e = key_in kinds.resources items r (are.all (key.Resource r) e)
 
   resource_there : (r : Name) → Contains ResourceNames r → contains_key P.resources r ≡ true
   resource_there r has =
@@ -198,19 +197,19 @@ module _ (P : Plan) (valid : IsValid P) (some_station : 0 < len P.workstations) 
   resources_count : length Resources ≡ len P.resources
   resources_count =
       sym (length-keys_of Resources)
-      ∙ map_count name_cmp_total name_cmp-IsAntisymmetric ResourceNames P.resources (keys_apart as_resource (λ y. item.Resource y.0 y.1) (λ y. y.0) (λ q. key.Resource q) kinds.resources items apart) resource_there resource_in
+      ∙ map_count name_cmp_total name_cmp-IsAntisymmetric ResourceNames P.resources (keys_apart kinds.resources items apart) resource_there resource_in
 
   are_resources : AreResources Resources
   are_resources = record {
     few = let most : len P.resources ≤ 999 = valid.limits.resources in omega (arith, resources_count);
-    distinct = pairs_from_differ (λ a b. a.0 ≢ b.0) Resources (read_apart as_resource (λ y. item.Resource y.0 y.1) (λ y. y.0) (λ q. key.Resource q) kinds.resources items apart);
+    distinct = pairs_from_differ (λ a b. a.0 ≢ b.0) Resources (read_apart kinds.resources items apart);
   }
 
   need_is : (y : OpKey × Need) → Contains NeedRows y → (op : Operation) × (get P.operations y.0 ≡ Some op) × (get op.needs y.1.name ≡ Some (usage_of y.1))
-  need_is y has = read_stands as_need (λ y. item.Need y.0 y.1) need_key (λ q. key.Need q.0 q.1) kinds.needs (StandsIn P) items are.stand y has
+  need_is y has = read_stands kinds.needs (StandsIn P) items are.stand y has
 
   needs_apart : NeedsDiffer NeedRows
-  needs_apart = read_apart as_need (λ y. item.Need y.0 y.1) need_key (λ q. key.Need q.0 q.1) kinds.needs items apart
+  needs_apart = read_apart kinds.needs items apart
 
   are_needs : AreNeeds OperationKeys ResourceNames NeedRows
   are_needs = record {
@@ -226,7 +225,7 @@ module _ (P : Plan) (valid : IsValid P) (some_station : 0 < len P.workstations) 
   few_of : (o : OpKey) (op : Operation) → get P.operations o ≡ Some op → length (needs_of o NeedRows) ≤ 16
   few_of o op there =
       let most : len op.needs ≤ 16 = (valid.occurrences.each_operation o op there).0.few_needs in
-      let count = as_many_said NeedRows needs_apart P.operations need_is o op there (λ r e. key_in as_need (λ y. item.Need y.0 y.1) need_key (λ q. key.Need q.0 q.1) kinds.needs items (o, r) (are.all (key.Need o r) (op, there, e))) in
+      let count = as_many_said NeedRows needs_apart P.operations need_is o op there (λ r e. key_in kinds.needs items (o, r) (are.all (key.Need o r) (op, there, e))) in
       omega (arith, most, count)
 
   fits : (y : OperationItem) → Contains (filter_map as_operation items) y → Fits Names (filter_map as_occurrence items) NeedRows y
@@ -247,13 +246,13 @@ module _ (P : Plan) (valid : IsValid P) (some_station : 0 < len P.workstations) 
   are_operations = record {
     few = let most : len P.operations ≤ 20000 = valid.limits.operations in omega (arith, operations_count);
     fit = all_by_members (Fits Names (filter_map as_occurrence items) NeedRows) (filter_map as_operation items) fits;
-    distinct = pairs_from_differ (λ a b. a.key ≢ b.key) (filter_map as_operation items) (read_apart as_operation (λ y. item.Operation y) (λ y. y.key) (λ q. key.Operation q) kinds.operations items apart);
+    distinct = pairs_from_differ (λ a b. a.key ≢ b.key) (filter_map as_operation items) (read_apart kinds.operations items apart);
     not_empty = all_by_members (λ y. Contains (map occurrence_of OperationKeys) y.0) (filter_map as_occurrence items) has_operation;
   }
 
   pair_in : (y : OpKey × OpKey) → IsPairOf P.pairs y.0 y.1 → Contains (filter_map as_pair items) y
   pair_in y e =
-      let k = key_in as_pair (λ y. item.Dependency y.0 y.1) (λ y. y) (λ q. key.Dependency q.0 q.1) kinds.pairs items y (are.all (key.Dependency y.0 y.1) e) in
+      let k = key_in kinds.pairs items y (are.all (key.Dependency y.0 y.1) e) in
       let r = from_map (λ (z : OpKey × OpKey). z) (filter_map as_pair items) y k in
       subst (Contains (filter_map as_pair items)) r.2 r.1
 

@@ -69,10 +69,10 @@ module _ (s : Supplement) (addition : IsAddition s) (items : List Item) (are : A
 
   -- ---- the occurrence
   occurrence_is : (y : OccKey × Occurrence) → Contains Occurrences y → get s.occurrences y.0 ≡ Some y.1
-  occurrence_is y has = read_stands as_occurrence (λ y. item.Occurrence y.0 y.1.priority y.1.deadline) (λ y. y.0) (λ q. key.Occurrence q) kinds.occurrences (StandsInSupplement s) items are.stand y has
+  occurrence_is y has = read_stands kinds.occurrences (StandsInSupplement s) items are.stand y has
 
   occurrence_in : (c : OccKey) → contains_key s.occurrences c ≡ true → Contains OccurrenceKeys c
-  occurrence_in c e = key_in as_occurrence (λ y. item.Occurrence y.0 y.1.priority y.1.deadline) (λ y. y.0) (λ q. key.Occurrence q) kinds.occurrences items c (are.all (key.Occurrence c) e)
+  occurrence_in c e = key_in kinds.occurrences items c (are.all (key.Occurrence c) e)
 
   occurrence_there : (c : OccKey) → Contains OccurrenceKeys c → contains_key s.occurrences c ≡ true
   occurrence_there c has =
@@ -82,23 +82,23 @@ module _ (s : Supplement) (addition : IsAddition s) (items : List Item) (are : A
   occurrences_count : length Occurrences ≡ len s.occurrences
   occurrences_count =
       sym (length-keys_of Occurrences)
-      ∙ map_count occurrence_cmp_total occurrence_cmp-IsAntisymmetric OccurrenceKeys s.occurrences (keys_apart as_occurrence (λ y. item.Occurrence y.0 y.1.priority y.1.deadline) (λ y. y.0) (λ q. key.Occurrence q) kinds.occurrences items apart) occurrence_there occurrence_in
+      ∙ map_count occurrence_cmp_total occurrence_cmp-IsAntisymmetric OccurrenceKeys s.occurrences (keys_apart kinds.occurrences items apart) occurrence_there occurrence_in
 
   -- ---- operations, needs and pairs
   operation_is : (y : OperationItem) → Contains Said y → (op : Operation) × (c : Occurrence) × (get s.operations y.key ≡ Some op) × (get s.occurrences y.key.occurrence ≡ Some c) × IsAsSaid y c op
-  operation_is y has = read_stands as_operation (λ y. item.Operation y) (λ y. y.key) (λ q. key.Operation q) kinds.operations (StandsInSupplement s) items are.stand y has
+  operation_is y has = read_stands kinds.operations (StandsInSupplement s) items are.stand y has
 
   operation_in : (o : OpKey) → contains_key s.operations o ≡ true → Contains OperationKeys o
-  operation_in o e = key_in as_operation (λ y. item.Operation y) (λ y. y.key) (λ q. key.Operation q) kinds.operations items o (are.all (key.Operation o) e)
+  operation_in o e = key_in kinds.operations items o (are.all (key.Operation o) e)
 
   pair_is : (y : OpKey × OpKey) → Contains Pairs y → IsPairOf s.pairs y.0 y.1
-  pair_is y has = read_stands as_pair (λ y. item.Dependency y.0 y.1) (λ y. y) (λ q. key.Dependency q.0 q.1) kinds.pairs (StandsInSupplement s) items are.stand y has
+  pair_is y has = read_stands kinds.pairs (StandsInSupplement s) items are.stand y has
 
   need_is : (y : OpKey × Need) → Contains NeedRows y → (op : Operation) × (get s.operations y.0 ≡ Some op) × (get op.needs y.1.name ≡ Some (usage_of y.1))
-  need_is y has = read_stands as_need (λ y. item.Need y.0 y.1) need_key (λ q. key.Need q.0 q.1) kinds.needs (StandsInSupplement s) items are.stand y has
+  need_is y has = read_stands kinds.needs (StandsInSupplement s) items are.stand y has
 
   needs_apart : NeedsDiffer NeedRows
-  needs_apart = read_apart as_need (λ y. item.Need y.0 y.1) need_key (λ q. key.Need q.0 q.1) kinds.needs items apart
+  needs_apart = read_apart kinds.needs items apart
 
   are_needs : AreNewNeeds OperationKeys NeedRows
   are_needs = record {
@@ -109,7 +109,7 @@ module _ (s : Supplement) (addition : IsAddition s) (items : List Item) (are : A
   few_of : (o : OpKey) (op : Operation) → get s.operations o ≡ Some op → length (needs_of o NeedRows) ≤ 16
   few_of o op there =
       let most : len op.needs ≤ 16 = (addition.occurrences.each_operation o op there).0.few_needs in
-      let count = as_many_said NeedRows needs_apart s.operations need_is o op there (λ r e. key_in as_need (λ y. item.Need y.0 y.1) need_key (λ q. key.Need q.0 q.1) kinds.needs items (o, r) (are.all (key.Need o r) (op, there, e))) in
+      let count = as_many_said NeedRows needs_apart s.operations need_is o op there (λ r e. key_in kinds.needs items (o, r) (are.all (key.Need o r) (op, there, e))) in
       omega (arith, most, count)
 
   -- ---- all of one occurrence
@@ -140,7 +140,7 @@ module _ (s : Supplement) (addition : IsAddition s) (items : List Item) (are : A
           let m = from_map (λ (y : OperationItem). y.key) Said o.0 (operation_in o.0 o.2) in
           some_of Said m.0 m.1;
       come = all_by_members (ComesWith c NeedRows) Said comes;
-      distinct = pairs_from_differ (λ a b. a.key ≢ b.key) Said (read_apart as_operation (λ y. item.Operation y) (λ y. y.key) (λ q. key.Operation q) kinds.operations items apart);
+      distinct = pairs_from_differ (λ a b. a.key ≢ b.key) Said (read_apart kinds.operations items apart);
     }
 
     is_own : (o : OpKey) → o.occurrence ≡ c → IsOwn s o
@@ -158,7 +158,7 @@ module _ (s : Supplement) (addition : IsAddition s) (items : List Item) (are : A
             first = is_among y.0 so.0;
             second = is_among y.1 so.1;
           });
-      distinct = pairs_from_differ (λ a b. a ≢ b) Pairs (read_apart as_pair (λ y. item.Dependency y.0 y.1) (λ y. y) (λ q. key.Dependency q.0 q.1) kinds.pairs items apart);
+      distinct = pairs_from_differ (λ a b. a ≢ b) Pairs (read_apart kinds.pairs items apart);
     }
 
   pub needed_addition : CanComeIn items

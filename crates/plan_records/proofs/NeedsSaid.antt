@@ -1,41 +1,29 @@
 -- The needs that are said, and those of one operation: which resources they are of, and how these are used.
-use Rattle.std.proofs.Common.{◌≡◌, ◌≢◌, refl, sym, subst, ap, ◌∙◌, true, false, cond, List, map, length, Contains, Some, None}
+use Rattle.std.proofs.Common.{◌≡◌, ◌≢◌, sym, subst, ap, ◌∙◌, arith, ℕ, ◌≤◌, true, List, map, length, Contains, Option, Some, None, unwrap_or, MatchOption}
 use Rattle.std.specs.List.Sorted.{IsPermutation}
 use Rattle.std.specs.FinMap.{get, contains_key, len}
-use Rattle.std.specs.Ordering.{eq_by_cmp}
 use Rattle.std.proofs.lemmas.List.Sorted.{Contains-permutation, IsPermutation-sym}
 use Rattle.plan_basics.specs.declared.keys.OpKey.{OpKey}
-use Rattle.plan_basics.specs.Keys.{Name, name_cmp_total, name_cmp-IsAntisymmetric, operation_cmp, operation_cmp_total, operation_cmp-IsAntisymmetric}
+use Rattle.plan_basics.specs.Keys.{Name, name_cmp_total, name_cmp-IsAntisymmetric, operation_cmp_total, operation_cmp-IsAntisymmetric}
+use Rattle.plan_basics.specs.Minutes.{IsMoment}
+use Rattle.plan_basics.specs.Names.{IsResourceName}
 use Rattle.special_resources.specs.declared.Need.{Need}
 use Rattle.special_resources.specs.Holders.{Usage}
 use Rattle.special_resources.specs.Holdings.{usage_of}
 use Rattle.special_resources.specs.Needs.{entry_of, usages_of}
 use Rattle.plan_model.specs.Plan.{Operation, Operations}
-use Rattle.plan_records.specs.Loading.{need_key, needs_of, own_need}
-use Rattle.plan_records.proofs.Lists.{Differ, differ_filter, differ_map, length_map, in_map, from_map, in_filter, from_filter}
-use Rattle.plan_records.proofs.Tables.{AreApart, get_row, row_found, len_rows, itself, same_key, some_is, same_some, no_some, same_entries}
+use Rattle.plan_model.specs.declared.Occurrence.{Occurrence}
+use Rattle.plan_items.specs.declared.OperationItem.{OperationItem}
+use Rattle.plan_items.specs.Items.{IsOperationItem}
+use Rattle.plan_model.specs.Valid.{IsOperation}
+use Rattle.plan_records.specs.Loading.{AreNeedsInOrder, need_key, needs_of, operation_of, own_need}
+use Rattle.plan_records.proofs.Lists.{Differ, differ_from_pairs, map_alike, differ_filter, differ_map, length_map, in_map, from_map}
+use Rattle.plan_records.proofs.Tables.{AreApart, get_row, row_found, len_rows, some_is, same_some, same_entries}
 use Rattle.plan_records.proofs.Orders.{differ_permuted}
+use Rattle.plan_records.proofs.Keyed.{own_from, from_own, in_own}
 use Rattle.plan_records.proofs.OwnNeeds.{need_cmp_total, need_cmp-IsAntisymmetric}
 
 -- ---- the needs of one operation
-own_need_is : (o : OpKey) (said : OpKey × Need) → said.0 ≡ o → own_need o said ≡ Some said.1
-own_need_is o said same = ap (λ b. cond b (Some said.1) None) (ap (λ k. eq_by_cmp operation_cmp k o) same ∙ itself operation_cmp_total operation_cmp-IsAntisymmetric o)
-
-own_need_from : (o : OpKey) (said : OpKey × Need) (n : Need) → own_need o said ≡ Some n → (said.0 ≡ o) × (said.1 ≡ n)
-own_need_from o said n e = elim (eq_by_cmp operation_cmp said.0 o) as (λ t. eq_by_cmp operation_cmp said.0 o ≡ t → cond t (Some said.1) None ≡ Some n → (said.0 ≡ o) × (said.1 ≡ n)) [
-  | true ↦ λ t f. (same_key operation_cmp_total operation_cmp-IsAntisymmetric said.0 o t, same_some said.1 n f)
-  | false ↦ λ t f. absurd (no_some n f)
-] refl e
-
-in_needs : (needs : List (OpKey × Need)) (o : OpKey) (n : Need) → Contains needs (o, n) → Contains (needs_of o needs) n
-in_needs needs o n has = in_filter (own_need o) needs (o, n) n has (own_need_is o (o, n) refl)
-
-from_needs : (needs : List (OpKey × Need)) (o : OpKey) (n : Need) → Contains (needs_of o needs) n → Contains needs (o, n)
-from_needs needs o n has =
-    let r = from_filter (own_need o) needs n has in
-    let is = own_need_from o r.0 n r.2 in
-    subst (Contains needs) (λ i. (is.0 i, is.1 i)) r.1
-
 -- no two are of one operation and one resource
 abbrev pub NeedsDiffer : List (OpKey × Need) → Type 0
 NeedsDiffer needs = Differ (λ a b. need_key a ≢ need_key b) needs
@@ -46,14 +34,14 @@ pub usage_said :
     (n : Need) × Contains needs (o, n) × (n.name ≡ r) × (usage_of n ≡ usage)
 usage_said needs o r usage e =
     let m = from_map entry_of (needs_of o needs) (r, usage) (row_found name_cmp_total name_cmp-IsAntisymmetric (map entry_of (needs_of o needs)) r usage e) in
-    (m.0, from_needs needs o m.0 m.1, ap (λ (p : Name × Usage). p.0) m.2, ap (λ (p : Name × Usage). p.1) m.2)
+    (m.0, from_own operation_cmp_total operation_cmp-IsAntisymmetric needs o m.0 m.1, ap (λ (p : Name × Usage). p.0) m.2, ap (λ (p : Name × Usage). p.1) m.2)
 
 module _ (needs : List (OpKey × Need)) (apart : NeedsDiffer needs) (o : OpKey) where
   names_apart : Differ (λ (m n : Need). m.name ≢ n.name) (needs_of o needs)
   names_apart = differ_filter (own_need o) (λ a b. need_key a ≢ need_key b) (λ (m n : Need). m.name ≢ n.name)
       (λ a b m n e f differ same.
-      let p = own_need_from o a m e in
-      let q = own_need_from o b n f in
+      let p = own_from operation_cmp_total operation_cmp-IsAntisymmetric o a m e in
+      let q = own_from operation_cmp_total operation_cmp-IsAntisymmetric o b n f in
       let operations : a.0 ≡ b.0 = p.0 ∙ sym q.0 in
       let names : a.1.name ≡ b.1.name = ap (λ (x : Need). x.name) p.1 ∙ same ∙ sym (ap (λ (x : Need). x.name) q.1) in
       differ (λ i. (operations i, names i)))
@@ -64,7 +52,7 @@ module _ (needs : List (OpKey × Need)) (apart : NeedsDiffer needs) (o : OpKey) 
 
   -- what is said is used
   pub usage_got : (n : Need) → Contains needs (o, n) → get (usages_of (needs_of o needs)) n.name ≡ Some (usage_of n)
-  usage_got n has = get_row name_cmp_total name_cmp-IsAntisymmetric (map entry_of (needs_of o needs)) n.name (usage_of n) entries_apart (in_map entry_of (needs_of o needs) n (in_needs needs o n has))
+  usage_got n has = get_row name_cmp_total name_cmp-IsAntisymmetric (map entry_of (needs_of o needs)) n.name (usage_of n) entries_apart (in_map entry_of (needs_of o needs) n (in_own operation_cmp_total operation_cmp-IsAntisymmetric needs o n has))
 
   pub usages_count : len (usages_of (needs_of o needs)) ≡ length (needs_of o needs)
   usages_count = len_rows name_cmp_total name_cmp-IsAntisymmetric (map entry_of (needs_of o needs)) entries_apart ∙ length_map entry_of (needs_of o needs)
@@ -114,3 +102,41 @@ module _ (needs ordered : List (OpKey × Need)) (same : IsPermutation needs orde
   -- and has as many needs
   pub count_permuted : (o : OpKey) → length (needs_of o needs) ≡ length (needs_of o ordered)
   count_permuted o = sym (usages_count needs apart o) ∙ ap len (usages_permuted o) ∙ usages_count ordered ordered_apart o
+
+-- ---- an operation as its record says, where this is in range
+pub in_range :
+    (needs : List (OpKey × Need)) → NeedsDiffer needs → (terms : Occurrence) (said : OperationItem) → IsOperationItem said → length (needs_of said.key needs) ≤ 16 → IsMoment terms.deadline →
+    ((r : Name) (usage : Usage) → get (usages_of (needs_of said.key needs)) r ≡ Some usage → IsResourceName r) → IsOperation said.key (operation_of terms needs said)
+in_range needs apart terms said is few moment named =
+    let count = usages_count needs apart said.key in
+    record {
+      key = is.key;
+      workstation = is.workstation;
+      duration = (omega arith, omega arith);
+      fixed = (omega arith, omega arith);
+      not_before = is.not_before;
+      deadline = due said.deadline is.deadline;
+      needs = named;
+      few_needs = omega (arith, few, count);
+      code = λ code e. absurd (cc);
+    }
+  where
+    due : (d : Option ℕ) → MatchOption d (Unit {0}) IsMoment → IsMoment (unwrap_or d terms.deadline)
+    due None h = moment
+    due (Some m) h = h
+
+-- ---- in whatever order the needs are said
+-- the row of an operation, where these are its occurrence's terms
+abbrev pub row_with : (OperationItem → Occurrence) → List (OpKey × Need) → OperationItem → OpKey × Operation
+row_with terms needs said = (said.key, operation_of (terms said) needs said)
+
+module _ (needs sorted : List (OpKey × Need)) (are : AreNeedsInOrder needs sorted) where
+  -- each operation has as many
+  pub need_counts : (o : OpKey) → length (needs_of o needs) ≡ length (needs_of o sorted)
+  need_counts = count_permuted needs sorted are.same (differ_from_pairs (λ a b. need_key a ≢ need_key b) needs are.distinct)
+
+  -- and the operations that are said have the same rows
+  pub rows_alike : (terms : OperationItem → Occurrence) (said : List OperationItem) → map (row_with terms needs) said ≡ map (row_with terms sorted) said
+  rows_alike terms said = map_alike (row_with terms needs) (row_with terms sorted) said (λ s.
+      ap (λ usages. (s.key, record (operation_of (terms s) needs s) { needs = usages }))
+      (usages_permuted needs sorted are.same (differ_from_pairs (λ a b. need_key a ≢ need_key b) needs are.distinct) s.key))

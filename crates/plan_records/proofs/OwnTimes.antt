@@ -8,14 +8,14 @@ use Rattle.std.specs.FinMap.{FinMap, empty, from_entries, get, contains_key, len
 use Rattle.std.proofs.lemmas.Bool.{cases_lt}
 use Rattle.std.proofs.lemmas.List.Elements.{All-contains, Contains-get_or}
 use Rattle.plan_basics.specs.declared.Attr.{Attr}
-use Rattle.plan_basics.specs.Keys.{Name}
+use Rattle.plan_basics.specs.Keys.{Name, name_cmp_total, name_cmp-IsAntisymmetric}
 use Rattle.plan_basics.specs.Intervals.{OpenInterval, IsInterval, IsOpenAt, AreApart}
 use Rattle.workstations.specs.Workstations.{Workstation, IsWorkstation, with_intervals}
 use Rattle.plan_records.specs.Loading.{own_interval, intervals_of, IsOpening, CanOpen, AreWorkstations}
 use Rattle.plan_records.proofs.Lists.{Differ, differ_from_pairs, pairs_from_differ, differ_weaken, differ_map, differ_kept, Kept, in_map, from_map, length_map, contains_cases, contains_none}
 use Rattle.plan_records.proofs.Tables.{is_found, get_row, row_found, len_rows}
 use Rattle.plan_records.proofs.ItemKinds.{interval_key}
-use Rattle.plan_records.proofs.Openings.{own_is, from_own}
+use Rattle.plan_records.proofs.Keyed.{own_is, from_own}
 
 -- all are in range
 abbrev pub AreLegal : List (Name × OpenInterval) → Type 0
@@ -25,7 +25,7 @@ abbrev pub AreIntervals : List OpenInterval → Type 0
 AreIntervals xs = (x : OpenInterval) → Contains xs x → IsInterval x
 
 pub own_legal : (intervals : List (Name × OpenInterval)) (name : Name) → AreLegal intervals → AreIntervals (intervals_of name intervals)
-own_legal intervals name legal x has = legal (name, x) (from_own intervals name x has)
+own_legal intervals name legal x has = legal (name, x) (from_own name_cmp_total name_cmp-IsAntisymmetric intervals name x has)
 
 -- intervals that are apart begin at different minutes
 clash : (a b : OpenInterval) → IsInterval a → IsInterval b → AreApart a b → a.from ≡ b.from → ⊥
@@ -49,7 +49,7 @@ intervals_apart stations intervals legal are = differ_from_pairs (λ y z. interv
     let starts = starts_differ (intervals_of w intervals) (own_legal intervals w legal) opening.apart in
     let R : OpenInterval → OpenInterval → Type 0 = λ a b. a.from ≢ b.from in
     let kept = pairs_from_differ (Kept (own_interval w) R) intervals (differ_kept (own_interval w) R intervals starts) in
-    kept i j d before in_list y.1 z.1 (own_is w y (sym r.2)) (own_is w z (sym (ap (λ q. q.0) same) ∙ sym r.2)) (ap (λ q. q.1) same))
+    kept i j d before in_list y.1 z.1 (own_is name_cmp_total name_cmp-IsAntisymmetric w y (sym r.2)) (own_is name_cmp_total name_cmp-IsAntisymmetric w z (sym (ap (λ q. q.0) same) ∙ sym r.2)) (ap (λ q. q.1) same))
 
 -- ---- the map of intervals that can be taken
 abbrev entries_of : List OpenInterval → List (ℕ × OpenInterval)
@@ -111,7 +111,7 @@ pub first_said :
 first_said intervals name m e =
     let found = is_found (get (timetable_of (intervals_of name intervals)) m) e in
     let r = found_among (intervals_of name intervals) m found.0 found.1 in
-    subst (λ k. Contains (map interval_key intervals) (name, k)) (sym r.0) (in_map interval_key intervals (name, found.0) (from_own intervals name found.0 r.1))
+    subst (λ k. Contains (map interval_key intervals) (name, k)) (sym r.0) (in_map interval_key intervals (name, found.0) (from_own name_cmp_total name_cmp-IsAntisymmetric intervals name found.0 r.1))
 
 -- ---- intervals of a workstation can be taken
 separate : (ws : Workstation) → IsWorkstation ws → (a b : OpenInterval) → get ws.intervals a.from ≡ Some a → get ws.intervals b.from ≡ Some b → a.from ≢ b.from → AreApart a b

@@ -1,5 +1,5 @@
 -- Pairs as they come in one after another.
-use Rattle.std.proofs.Common.{◌≡◌, ◌⊎◌, inl, inr, refl, sym, ap, ◌∙◌, true≢false, ℕ, zero, suc, Bool, true, false, ◌||◌, List, [], ◌∷◌, ◌++◌, drop}
+use Rattle.std.proofs.Common.{◌≡◌, ◌⊎◌, inl, inr, sym, ap, ◌∙◌, true≢false, ℕ, zero, suc, ◌||◌, List, [], ◌∷◌, ◌++◌, drop}
 use Rattle.std.proofs.lemmas.Bool.{or_cases, or_right}
 use Rattle.std.specs.Cmp.{Equal-is, eq_by_cmp_equiv}
 use Rattle.std.specs.FinSet.{contains, contains-empty, contains-insert, from_list, from_list_push}

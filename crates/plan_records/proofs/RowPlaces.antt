@@ -138,13 +138,20 @@ module _ {K X : Type 0} (R : K → K → Ordering) (o : IsTotalOrder R) (same : 
   none_found i point None e = refl
   none_found i point (Some v) e = absurd (apart v i point e)
 
-  pub search_finds : (r : Result ℕ ℕ) → IsSearchInRange r (length rows) → IsBinarySearchResult (λ row. R row.0 k) rows r → IfSome (result_ok r) (λ i. (v : X) × (slice_get rows i ≡ Some (k, v)))
-  search_finds (Ok i) within h = at_place i within h
-  search_finds (Err i) within h = tt
+  found_at : (r : Result ℕ ℕ) → IsSearchInRange r (length rows) → IsBinarySearchResult (λ row. R row.0 k) rows r → IfSome (result_ok r) (λ i. (v : X) × (slice_get rows i ≡ Some (k, v)))
+  found_at (Ok i) within h = at_place i within h
+  found_at (Err i) within h = tt
 
-  pub search_misses : (r : Result ℕ ℕ) → IsBinarySearchResult (λ row. R row.0 k) rows r → IsNone (result_ok r) → get {R = R} (from_entries rows) k ≡ None
-  search_misses (Ok i) h none = cc
-  search_misses (Err i) h none = get-from_entries o rows k ∙ none_found i (h (searchable_from_sorted o (λ (row : K × X). row.0) rows k in_order)) (find R k rows) refl
+  missed : (r : Result ℕ ℕ) → IsBinarySearchResult (λ row. R row.0 k) rows r → IsNone (result_ok r) → get {R = R} (from_entries rows) k ≡ None
+  missed (Ok i) h none = cc
+  missed (Err i) h none = get-from_entries o rows k ∙ none_found i (h (searchable_from_sorted o (λ (row : K × X). row.0) rows k in_order)) (find R k rows) refl
+
+  module _ (r : Result ℕ ℕ) (within : IsSearchInRange r (length rows)) (h : IsBinarySearchResult (λ row. R row.0 k) rows r) (place : Option ℕ) (is : place ≡ result_ok r) where
+    pub search_finds : IfSome place (λ i. (v : X) × (slice_get rows i ≡ Some (k, v)))
+    search_finds = rw is (found_at r within h)
+
+    pub search_misses : IsNone place → get {R = R} (from_entries rows) k ≡ None
+    search_misses none = missed r h (subst IsNone is none)
 
 -- a place below the length has an element
 pub row_at : {X : Type 0} (xs : List X) (i : ℕ) → i < length xs → (x : X) × (slice_get xs i ≡ Some x)

@@ -83,7 +83,7 @@ IsOld P s o = IsInPlan P o × ¬ IsOwn s o
 abbrev pub IsNew : Supplement → OpKey → Type 0
 IsNew s o = contains_key s.operations o ≡ true
 
--- what comes in finds all that it names, precedes only what waits or is ready, and closes no path
+-- what comes in is new and finds all that it names; of the plan it precedes only what waits or is ready, and follows nothing deleted; no path returns, and the limits hold
 abbrev pub MayBeAdded : Plan → Supplement → Refusal → Type 0
 MayBeAdded P s refusal.UnknownOperation = (p o : OpKey) → IsPairOf s.pairs p o → (IsNew s p ⊎ IsOld P s p) × (IsNew s o ⊎ IsOld P s o)
 MayBeAdded P s refusal.UnknownWorkstation = HaveWorkstations P.workstations s.operations
@@ -94,7 +94,7 @@ MayBeAdded P s refusal.Cycle = IsAcyclic (with_supplement P s).pairs
 MayBeAdded P s refusal.Limit = IsWithinLimits (with_supplement P s)
 MayBeAdded P s _ = Unit {0}
 
--- one operation may be made to wait for another
+-- s may be made to wait for p: both are in the plan, p isn't deleted, s waits or is ready, the pair is new, no path returns by it, and the limits hold
 abbrev pub MayBePaired : Plan → OpKey → OpKey → Refusal → Type 0
 MayBePaired P p s refusal.UnknownOperation = IsInPlan P p × IsInPlan P s
 MayBePaired P p s refusal.WrongStatus = ¬ HasStatus P p status.Deleted × IsWaitingOrReady P s

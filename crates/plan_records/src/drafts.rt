@@ -42,16 +42,10 @@ impl PlanDraft {
         ensures memory { IfErr result (λ r. r ≡ Refusal.Memory) }
     {
         let alloc = *records.allocator();
-        let Ok(read) = read_items(alloc, &records) else {
-            return Err(Refusal::Memory);
-        };
-        let Some(items) = read else {
+        let Some(items) = read_items(alloc, &records)? else {
             return Ok(None);
         };
-        let Ok(found) = contents_of(alloc, &items) else {
-            return Err(Refusal::Memory);
-        };
-        let Some(contents) = found else {
+        let Some(contents) = contents_of(alloc, &items)? else {
             return Ok(None);
         };
         Ok(Some(PlanDraft { contents }))
@@ -97,16 +91,10 @@ impl Addition {
         ensures memory { IfErr result (λ r. r ≡ Refusal.Memory) }
     {
         let alloc = *records.allocator();
-        let Ok(read) = read_items(alloc, &records) else {
-            return Err(Refusal::Memory);
-        };
-        let Some(items) = read else {
+        let Some(items) = read_items(alloc, &records)? else {
             return Ok(None);
         };
-        let Ok(found) = parts_of(alloc, &items) else {
-            return Err(Refusal::Memory);
-        };
-        let Some(parts) = found else {
+        let Some(parts) = parts_of(alloc, &items)? else {
             return Ok(None);
         };
         Ok(Some(Addition { parts }))

@@ -1,8 +1,12 @@
 // The graph of what a plan holds.
-ghost use Rattle.std.specs.Prelude.{IfOk};
-ghost use Rattle.plan_records.specs.Contents.{AreValidContents, IsGraphFor};
+ghost use Rattle.std.specs.Prelude.{Decides, IfOk};
+ghost use Rattle.std.specs.Map.{keys_of};
+ghost use Rattle.plan_graph.specs.PlanGraphs.{AreAmong};
+ghost use Rattle.plan_model.specs.Valid.{IsAcyclic};
+ghost use Rattle.plan_records.specs.Contents.{plan_of, AreContents, AreValidContents, IsGraphFor};
 
 use super::contents::PlanContents;
+use super::in_order;
 use super::in_order::keys;
 use operation_graph::Graph;
 use plan_graph::graph_of;
@@ -16,4 +20,14 @@ pub fn graph_for(alloc: Global, contents: &PlanContents) -> Result<Graph, AllocE
     let keys = keys(alloc, &contents.operations)?;
     let graph = graph_of(alloc, &keys, &contents.pairs)?;
     Ok(graph.unwrap())
+}
+
+/// Whether no path of pairs returns to its start.
+pub fn is_acyclic(alloc: Global, contents: &PlanContents) -> Result<bool, AllocError>
+    requires in_order { AreContents contents.now }
+    requires ends { AreAmong (keys_of contents.now.operations.items) contents.now.pairs.items }
+    ensures { IfOk result (λ told. Decides told (IsAcyclic (plan_of 0 contents.now).pairs)) }
+{
+    let keys = keys(alloc, &contents.operations)?;
+    in_order::is_acyclic(alloc, &keys, &contents.pairs)
 }

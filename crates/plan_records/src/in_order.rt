@@ -2,7 +2,7 @@
 ghost use Rattle.std.specs.Prelude.{◌≡◌, ◌↔◌, ◌<◌, ◌≤◌, map, length, All, Contains, IsTrue, IfOk, MatchOption};
 ghost use Rattle.std.specs.FinMap.{get, from_entries};
 ghost use Rattle.std.specs.FinSet.{from_list};
-ghost use Rattle.std.specs.List.Sorted.{IsPermutation, IsSortedByKey, IsStrictlySortedBy};
+ghost use Rattle.std.specs.List.Sorted.{IsStrictlySortedBy};
 ghost use Rattle.std.specs.Map.{keys_of};
 ghost use Rattle.plan_basics.specs.Keys.{name_cmp, occurrence_cmp, operation_cmp};
 ghost use Rattle.plan_model.specs.Plan.{pair_cmp};
@@ -133,26 +133,6 @@ fn rows(
     Ok(Some(rows))
 }
 
-// The operations' rows sorted by key, where each fits.
-fn sorted_rows(
-    alloc: Global,
-    workstations: &[Workstation],
-    occurrences: &[(OccKey, Occurrence)],
-    needs: &[(OpKey, Need)],
-    said: &[OperationItem],
-) -> Result<Option<Vec<(OpKey, OperationRecord)>>, AllocError>
-    requires named { IsStrictlySortedBy name_cmp (keys_of workstations.now) }
-    requires in_order { IsStrictlySortedBy occurrence_cmp (keys_of occurrences.now) }
-    requires needs { IsStrictlySortedBy need_cmp (map need_key needs.now) }
-    ensures { IfOk result (λ found. MatchOption found (¬ All (Fits (keys_of workstations.now) occurrences.now needs.now) said.now) (λ v. All (Fits (keys_of workstations.now) occurrences.now needs.now) said.now × IsPermutation (map (row_of occurrences.now needs.now) said.now) v.items × IsSortedByKey (λ row. row.0) operation_cmp v.items)) }
-{
-    let Some(mut rows) = rows(alloc, workstations, occurrences, needs, said)? else {
-        return Ok(None);
-    };
-    rows.sort_by_key(|row| row.0)?;
-    Ok(Some(rows))
-}
-
 // Whether one of these operations is of an occurrence.
 fn has_operation(keys: &[OpKey], occurrence: &OccKey) -> bool
     requires { IsStrictlySortedBy operation_cmp keys.now }
@@ -186,9 +166,10 @@ pub fn operations_in_order(
     if said.len() > 20_000 {
         return Ok(None);
     }
-    let Some(rows) = sorted_rows(alloc, workstations, occurrences, needs, said)? else {
+    let Some(mut rows) = rows(alloc, workstations, occurrences, needs, said)? else {
         return Ok(None);
     };
+    rows.sort_by_key(|row| row.0)?;
     let keys = keys(alloc, &rows)?;
     if !ascends(&keys) {
         return Ok(None);
@@ -224,7 +205,11 @@ fn are_pairs_in(keys: &[OpKey], pairs: &[(OpKey, OpKey)]) -> bool
 }
 
 // Whether no path of these pairs returns to its start.
-fn is_acyclic(alloc: Global, keys: &[OpKey], pairs: &[(OpKey, OpKey)]) -> Result<bool, AllocError>
+pub fn is_acyclic(
+    alloc: Global,
+    keys: &[OpKey],
+    pairs: &[(OpKey, OpKey)],
+) -> Result<bool, AllocError>
     requires keys { IsStrictlySortedBy operation_cmp keys.now }
     requires pairs { IsStrictlySortedBy pair_cmp pairs.now }
     requires ends { AreAmong keys.now pairs.now }

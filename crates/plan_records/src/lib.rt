@@ -16,7 +16,7 @@ mod places;
 pub use building::Record;
 pub use contents::{NewOccurrence, PlanContents};
 pub use drafts::{Addition, PlanDraft};
-pub use graphs::graph_for;
+pub use graphs::{graph_for, is_acyclic};
 pub use places::{
     known_occurrence, known_place, known_workstation, occurrence_place, place_of, resource_place,
     workstation_place,

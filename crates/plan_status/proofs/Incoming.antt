@@ -11,7 +11,8 @@ use Rattle.plan_status.specs.Standings.{IsStanding}
 use Rattle.plan_status.specs.declared.standings.Standing.{Standing}
 use Rattle.plan_status.proofs.Alike.{IsOnNonreporting, count_alike, standing_alike}
 use Rattle.plan_status.proofs.CountOneMore.{count_more}
-use Rattle.plan_status.proofs.Satisfied.{both, both_are, either, either_is}
+use Rattle.std.proofs.lemmas.Bool.{and_from, and_parts, or_cases}
+use Rattle.plan_status.proofs.Satisfied.{either_is}
 
 module _ (P : Plan) (pairs : List (OpKey × OpKey)) (pair : OpKey × OpKey) (next : ComesAfter pairs pair) where
   abbrev was : Plan
@@ -126,11 +127,11 @@ module _ (P : Plan) (pairs : List (OpKey × OpKey)) (pair : OpKey × OpKey) (nex
       preds = record {
         live = (λ _. (pair.0, this_precedes), λ _. is_live);
         satisfied = (
-          λ e. let h = both s.preds.satisfied satisfied (sym is_satisfied ∙ e) in all_now (is.preds.satisfied.0 h.0) (d.0 h.1),
-          λ all. is_satisfied ∙ both_are s.preds.satisfied satisfied (is.preds.satisfied.1 (all_then all)) (d.1 (this_then all)),
+          λ e. let h = and_parts s.preds.satisfied satisfied (sym is_satisfied ∙ e) in all_now (is.preds.satisfied.0 h.0) (d.0 h.1),
+          λ all. is_satisfied ∙ and_from s.preds.satisfied satisfied (is.preds.satisfied.1 (all_then all)) (d.1 (this_then all)),
         );
         nonreporting = (
-          λ e. follows_now (elim (either s.preds.nonreporting nonreporting (sym is_nonreporting ∙ e)) [ inl h ↦ inl (is.preds.nonreporting.0 h) | inr h ↦ inr (f.0 h) ]),
+          λ e. follows_now (elim (or_cases s.preds.nonreporting nonreporting (sym is_nonreporting ∙ e)) [ inl h ↦ inl (is.preds.nonreporting.0 h) | inr h ↦ inr (f.0 h) ]),
           λ h. is_nonreporting ∙ either_is s.preds.nonreporting nonreporting (elim (follows_then h) [ inl x ↦ inl (is.preds.nonreporting.1 x) | inr x ↦ inr (f.1 x) ]),
         );
       };

@@ -1,5 +1,6 @@
 -- Whether an operation is satisfied, by its mark, its flags and whether all its predecessors are.
 use Rattle.std.proofs.Common.{◌≡◌, ◌⊎◌, inl, inr, refl, sym, ◌∙◌, ap, subst, true≢false, Bool, true, false, not, ◌&&◌, ◌||◌, Decides, Some}
+use Rattle.std.proofs.lemmas.Bool.{and_from, and_parts, not-true, or_cases, or_left, or_right}
 use Rattle.std.specs.FinMap.{get}
 use Rattle.plan_basics.specs.declared.Attr.{Attr}
 use Rattle.plan_basics.specs.declared.Attr.TheVariants as attribute
@@ -12,29 +13,12 @@ use Rattle.plan_model.specs.Status.{AllPredecessorsSatisfied, IsSatisfied, Needs
 use Rattle.plan_laws.proofs.Decide.{invert}
 use Rattle.plan_laws.proofs.Looks.{same_some}
 
-pub both : (a b : Bool) → (a && b) ≡ true → (a ≡ true) × (b ≡ true)
-both true b e = (refl, e)
-both false b e = absurd (true≢false (sym e))
-
-pub either : (a b : Bool) → (a || b) ≡ true → (a ≡ true) ⊎ (b ≡ true)
-either true b e = inl refl
-either false b e = inr e
-
-pub both_are : (a b : Bool) → a ≡ true → b ≡ true → (a && b) ≡ true
-both_are true b e f = f
-both_are false b e f = e
-
 pub either_is : (a b : Bool) → (a ≡ true) ⊎ (b ≡ true) → (a || b) ≡ true
-either_is true b h = refl
-either_is false b (inl e) = absurd (true≢false (sym e))
-either_is false b (inr e) = e
+either_is a b (inl e) = or_left a b e
+either_is a b (inr e) = or_right a b e
 
 pub decides_as : {A : Type 0} {a b : Bool} → a ≡ b → Decides a A → Decides b A
 decides_as e d = (λ t. d.0 (e ∙ t), λ h. sym e ∙ d.1 h)
-
-not_true : (a : Bool) → not a ≡ true → a ≡ false
-not_true true e = absurd (true≢false (sym e))
-not_true false e = refl
 
 is_nonreporting : (a : Attr) → not (reports a) ≡ true → a ≡ attribute.Nonreporting
 is_nonreporting attribute.Nonreporting e = refl
@@ -49,7 +33,7 @@ passes op a = not op.held && (op.nop || not (reports a))
 
 module _ (P : Plan) (o : OpKey) (op : Operation) (a : Attr) (is : get P.operations o ≡ Some op) (on : HasAttribute P op.workstation a) where
   needs_no_report : (op.nop || not (reports a)) ≡ true → NeedsNoReport P op
-  needs_no_report e = elim (either op.nop (not (reports a)) e) [
+  needs_no_report e = elim (or_cases op.nop (not (reports a)) e) [
     | inl nop ↦ inl nop
     | inr non ↦ inr (subst (HasAttribute P op.workstation) (is_nonreporting a non) on)
   ]
@@ -79,12 +63,12 @@ module _ (P : Plan) (o : OpKey) (op : Operation) (a : Attr) (is : get P.operatio
   pub unmarked_decides : op.mark ≡ mark.Unmarked → (all : Bool) → Decides all (AllPredecessorsSatisfied P o) → Decides (passes op a && all) (IsSatisfied P o)
   unmarked_decides unmarked all d = (
     λ e.
-        let h = both (passes op a) all e in
-        let p = both (not op.held) (op.nop || not (reports a)) h.0 in
-        by_all_before (op, is, (unmarked, not_true op.held p.0, needs_no_report p.1)) (d.0 h.1),
+        let h = and_parts (passes op a) all e in
+        let p = and_parts (not op.held) (op.nop || not (reports a)) h.0 in
+        by_all_before (op, is, (unmarked, not-true op.held p.0, needs_no_report p.1)) (d.0 h.1),
     λ s. elim (the_case s) [
       | inl done ↦ absurd (cc)
       | inr (inl deleted) ↦ absurd (cc)
-      | inr (inr u) ↦ both_are (passes op a) all (both_are (not op.held) (op.nop || not (reports a)) (ap not u.1) (no_report_is_needed u.2)) (d.1 u.3)
+      | inr (inr u) ↦ and_from (passes op a) all (and_from (not op.held) (op.nop || not (reports a)) (ap not u.1) (no_report_is_needed u.2)) (d.1 u.3)
     ],
   )

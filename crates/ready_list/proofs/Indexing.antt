@@ -2,7 +2,7 @@
 use Rattle.std.proofs.Common.{◌≡◌, refl, sym, ap, subst, ◌∙◌, true≢false, arith, ◌+◌, ◌&&◌, Bool, true, false, not, cond, List, [], ◌∷◌, ◌++◌, length, filter, Contains, length-append}
 use Rattle.std.specs.declared.cmp.Ordering.{Ordering}
 use Rattle.std.specs.declared.cmp.Ordering.TheVariants.{Less, Equal, Greater}
-use Rattle.std.specs.Cmp.{IsEquivalence, eq_by_cmp_equiv}
+use Rattle.std.specs.Cmp.{IsEquivalence, eq_by_cmp_equiv, tied_then}
 use Rattle.std.specs.Ordering.{is_eq, is_lt, ordering_then}
 use Rattle.std.specs.List.{AllByRecursion}
 use Rattle.std.specs.List.Sorted.{IsStrictlySortedBy}
@@ -28,11 +28,6 @@ abbrev pub Entries : Type 0
 Entries = List ReadyEntry
 
 -- ---- tests
-
-both_tie : (a b : Ordering) → is_eq (ordering_then a b) ≡ (is_eq a && is_eq b)
-both_tie Less b = refl
-both_tie Equal b = refl
-both_tie Greater b = refl
 
 and_false : (a b : Bool) → b ≡ false → (a && b) ≡ false
 and_false true b e = e
@@ -117,7 +112,7 @@ module _ (es st : Entries) (indexed : AreIndexed es st) where
     pub indexed_more : AreIndexed (with_entry x es) (with_entry_by_workstation x st)
     indexed_more = record {
       in_order = keys_sorted (λ (e : ReadyEntry). e.key) ready_cmp (with_entry x es) (sorted_placed (λ (e : ReadyEntry). e.key) ready_cmp_total x es sorted (all_by_members (λ y. has_key x.key y ≡ false) es (λ y has. other_key y x.key (λ is. free (y, has, is)))));
-      in_workstation_order = sorted_placed (λ (e : ReadyEntry). e) workstation_cmp_total x st indexed.in_workstation_order (all_by_members (λ y. stands_at x y ≡ false) st (λ y has. both_tie (name_cmp y.ws x.ws) (ready_cmp y.key x.key) ∙ and_false (is_eq (name_cmp y.ws x.ws)) (has_key x.key y) (other_key y x.key (λ is. free (y, listed_has y has, is)))));
+      in_workstation_order = sorted_placed (λ (e : ReadyEntry). e) workstation_cmp_total x st indexed.in_workstation_order (all_by_members (λ y. stands_at x y ≡ false) st (λ y has. sym (tied_then (name_cmp y.ws x.ws) (ready_cmp y.key x.key)) ∙ and_false (is_eq (name_cmp y.ws x.ws)) (has_key x.key y) (other_key y x.key (λ is. free (y, listed_has y has, is)))));
       same = λ ws. by_workstation ws (is_on ws x) refl;
     }
       where
@@ -163,4 +158,4 @@ module _ (es st : Entries) (indexed : AreIndexed es st) where
         alike y there true tie =
             let one : y ≡ x = one_that_ties entry_cmp (λ a b. laws.symm a.key b.key) es sorted y x there has tie in
             ap (stands_at x) one ∙ ap is_eq (tied_itself workstation_cmp_total x) ∙ sym of_key ∙ ap (has_key k) (sym one)
-        alike y there false apart = both_tie (name_cmp y.ws x.ws) (ready_cmp y.key x.key) ∙ and_false (is_eq (name_cmp y.ws x.ws)) (has_key x.key y) apart ∙ sym apart ∙ key_alike y
+        alike y there false apart = sym (tied_then (name_cmp y.ws x.ws) (ready_cmp y.key x.key)) ∙ and_false (is_eq (name_cmp y.ws x.ws)) (has_key x.key y) apart ∙ sym apart ∙ key_alike y

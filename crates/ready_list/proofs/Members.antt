@@ -1,10 +1,10 @@
 -- Which entries a list has, once one is put in or taken out.
 use Rattle.std.proofs.Common.{◌≡◌, ◌≢◌, ◌⊎◌, ◌↔◌, inl, inr, refl, sym, ap, subst, ◌∙◌, true≢false, arith, ℕ, zero, suc, ◌<◌, Bool, true, false, not, cond, List, [], ◌∷◌, length, filter, get_or, Contains, Option, Some, None, IsTrue}
 use Rattle.std.specs.declared.cmp.Ordering.{Ordering}
-use Rattle.std.specs.declared.cmp.Ordering.TheVariants.{Less, Equal, Greater}
+use Rattle.std.specs.declared.cmp.Ordering.TheVariants.{Less}
 use Rattle.std.specs.Cmp.{Equal-is}
 use Rattle.std.specs.FinMap.{IsAntisymmetric, nat_cmp-IsAntisymmetric, int_cmp-IsAntisymmetric}
-use Rattle.std.specs.Ordering.{is_eq, nat_cmp, int_cmp, ordering_then}
+use Rattle.std.specs.Ordering.{is_eq, nat_cmp, int_cmp}
 use Rattle.std.specs.Option.{IfSome, IfNone, is_some}
 use Rattle.std.specs.List.{AllByRecursion, HoldsAt}
 use Rattle.std.specs.List.Sorted.{IsStrictlySortedBy}
@@ -13,17 +13,13 @@ use Rattle.std.proofs.lemmas.Cmp.{tied_itself}
 use Rattle.std.proofs.lemmas.List.{get_or_default}
 use Rattle.std.proofs.lemmas.List.Elements.{All-contains, All-from_recursion}
 use Rattle.std.proofs.lemmas.Map.Keys.{Less-from_sorted}
-use Rattle.plan_basics.specs.Keys.{operation_cmp-IsAntisymmetric}
+use Rattle.plan_basics.specs.Keys.{both_equal, operation_cmp-IsAntisymmetric}
+use Rattle.plan_basics.proofs.Members.{contains_head, contains_later, contains_cases, contains_none}
 use Rattle.ready_list.specs.declared.ReadyKey.{ReadyKey}
 use Rattle.ready_list.specs.declared.entry.ReadyEntry.{ReadyEntry}
 use Rattle.ready_list.specs.Order.{ready_cmp, ready_cmp_total, urgency}
 use Rattle.ready_list.specs.Entries.{IsListed, keys_of, has_key, without}
 use Rattle.ready_list.proofs.Filters.{all_map, filter_all, not_false}
-
-both_equal : (a b : Ordering) → ordering_then a b ≡ Equal → (a ≡ Equal) × (b ≡ Equal)
-both_equal Less b e = absurd (cc)
-both_equal Equal b e = (refl, e)
-both_equal Greater b e = absurd (cc)
 
 -- keys that tie are one
 pub ready_cmp-IsAntisymmetric : IsAntisymmetric ready_cmp
@@ -37,19 +33,6 @@ ready_cmp-IsAntisymmetric a b e =
     let duration = nat_cmp-IsAntisymmetric a.duration b.duration d.0 in
     let op = operation_cmp-IsAntisymmetric a.op b.op d.1 in
     λ i. record { latest = latest i; priority = priority i; duration = duration i; op = op i }
-
-contains_head : {X : Type 0} (x : X) (xs : List X) → Contains (x ∷ xs) x
-contains_head x xs = (0, omega arith, refl)
-
-contains_later : {X : Type 0} (x : X) (xs : List X) (y : X) → Contains xs y → Contains (x ∷ xs) y
-contains_later x xs y (i, h, e) = (suc i, omega arith, e)
-
-contains_cases : {X : Type 0} (x : X) (xs : List X) (y : X) → Contains (x ∷ xs) y → (x ≡ y) ⊎ Contains xs y
-contains_cases x xs y (zero, h, e) = inl e
-contains_cases x xs y (suc i, h, e) = inr (i, omega arith, e)
-
-contains_none : {X : Type 0} (y : X) → Contains [] y → ⊥
-contains_none y (i, h, e) = omega arith
 
 -- what stands at a place
 some_member : {X : Type 0} (xs : List X) (i : ℕ) → i < length xs → (x : X) × Contains xs x × (get_or xs i x ≡ x)

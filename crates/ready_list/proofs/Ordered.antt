@@ -2,7 +2,7 @@
 use Rattle.std.proofs.Common.{◌≡◌, inl, inr, refl, sym, ap, subst, ◌∙◌, true≢false, arith, ℕ, zero, suc, ◌<◌, ◌≤◌, Bool, true, false, not, cond, List, [], ◌∷◌, ◌++◌, map, length, filter, get_or, Result, Ok, Err}
 use Rattle.std.specs.declared.cmp.Ordering.{Ordering}
 use Rattle.std.specs.declared.cmp.Ordering.TheVariants.{Less, Equal, Greater}
-use Rattle.std.specs.Cmp.{IsTotalOrder}
+use Rattle.std.specs.Cmp.{IsTotalOrder, Equal-is}
 use Rattle.std.specs.Ordering.{is_lt, is_eq, ordering_index, ordering_reverse}
 use Rattle.std.specs.List.{AllByRecursion, AllWithin, HoldsAt, remove}
 use Rattle.std.specs.List.Sorted.{IsStrictlySortedBy, IsPartitionedBy, IsNonDecreasingBy, IsBinarySearchResult, IsSearchInRange}
@@ -23,11 +23,6 @@ pub greater_from_tests : (o : Ordering) → is_lt o ≡ false → is_eq o ≡ fa
 greater_from_tests Less e f = absurd (true≢false e)
 greater_from_tests Equal e f = absurd (true≢false f)
 greater_from_tests Greater e f = refl
-
-equal_from_test : (o : Ordering) → is_eq o ≡ true → o ≡ Equal
-equal_from_test Less e = absurd (true≢false (sym e))
-equal_from_test Equal e = refl
-equal_from_test Greater e = absurd (true≢false (sym e))
 
 -- a list in the order of its keys, and the keys
 module _ {X K : Type 0} (f : X → K) (R : K → K → Ordering) where
@@ -112,13 +107,13 @@ module _ {X K : Type 0} (f : X → K) {R : K → K → Ordering} (total : IsTota
   unfolding IsStrictlySortedBy
   taken_out [] s k i within at = absurd (omega (arith, within))
   taken_out (x ∷ xs) s k zero within at =
-      let same : R (f x) k ≡ Equal = equal_from_test (R (f x) k) (at x) in
+      let same : R (f x) k ≡ Equal = (Equal-is (R (f x) k)).0 (at x) in
       sym (
       ap (λ o. cond (not (is_eq o)) (x ∷ filter (λ y. not (is_eq (R (f y) k))) xs) (filter (λ y. not (is_eq (R (f y) k))) xs)) same
       ∙ filter_all (λ y. not (is_eq (R (f y) k))) xs (all_map (λ y. by x y ≡ Less) (λ y. not (is_eq (R (f y) k)) ≡ true) (λ y lt. ap (λ o. not (is_eq o)) (flipped k (f y) (sym (total.congr (f x) k (f y) same) ∙ lt))) xs s.0)
       )
   taken_out (x ∷ xs) s k (suc i) within at =
-      let first : R (f x) k ≡ Less = sym (alike_right total _ _ (f x) (equal_from_test _ (at x))) ∙ less_before (x ∷ xs) s k 0 (suc i) x (omega arith) (omega (arith, within)) in
+      let first : R (f x) k ≡ Less = sym (alike_right total _ _ (f x) ((Equal-is _).0 (at x))) ∙ less_before (x ∷ xs) s k 0 (suc i) x (omega arith) (omega (arith, within)) in
       ap (λ (ys : List X). x ∷ ys) (taken_out xs s.1 k i (omega (arith, within)) (λ d. at d))
       ∙ sym (ap (λ o. cond (not (is_eq o)) (x ∷ filter (λ y. not (is_eq (R (f y) k))) xs) (filter (λ y. not (is_eq (R (f y) k))) xs)) first)
 

@@ -1,21 +1,16 @@
 -- The rows, and what the map that they are has at their keys.
 use Rattle.std.proofs.Common.{◌≡◌, refl, sym, ap, subst, ◌∙◌, true≢false, arith, ℕ, suc, ◌<◌, ◌≤◌}
-use Rattle.std.proofs.Common.{Bool, true, false, cond, List, [], ◌∷◌, ◌++◌, take, drop, length, get_or, Contains, Option, Some, None}
+use Rattle.std.proofs.Common.{true, false, cond, List, ◌∷◌, ◌++◌, take, drop, length, get_or, Contains, Option, Some, None}
 use Rattle.std.specs.Prelude.{IsSome, is_some}
 use Rattle.std.specs.Cmp.{IsTotalOrder, Equal-is, tied_itself}
-use Rattle.std.specs.Ordering.{eq_by_cmp, is_eq}
+use Rattle.std.specs.Ordering.{is_eq}
 use Rattle.std.specs.declared.cmp.Ordering.{Ordering}
 use Rattle.std.specs.FinMap.{IsAntisymmetric, get, get-from_entries}
 use Rattle.std.proofs.lemmas.List.{length-drop, take-append-drop}
 use Rattle.std.proofs.Math.Seq.{drop-cons}
+use Rattle.plan_basics.proofs.Members.{row_found}
 use Rattle.special_resources.proofs.Keyed.{AreSorted, entries_from, look_up, map_of, find_with, sorted_before}
 use Rattle.special_resources.proofs.Splits.{Parts, at_place}
-
-contains_head : {T : Type 0} (x : T) (xs : List T) → Contains (x ∷ xs) x
-contains_head x xs = (0, omega arith, refl)
-
-contains_later : {T : Type 0} (x : T) (xs : List T) (h : T) → Contains xs h → Contains (x ∷ xs) h
-contains_later x xs h (i, lt, e) = (suc i, omega arith, e)
 
 module _ {T K X : Type 0} (R : K → K → Ordering) (o : IsTotalOrder R) (same : IsAntisymmetric R) (key : T → K) (value : T → X) where
   find_row : (xs ys : List T) (h : T) → AreSorted R key (xs ++ h ∷ ys) → look_up R key value (key h) (xs ++ h ∷ ys) ≡ Some (value h)
@@ -31,19 +26,9 @@ module _ {T K X : Type 0} (R : K → K → Ordering) (o : IsTotalOrder R) (same 
       get-from_entries o (entries_from key value rows) (key h)
       ∙ subst (λ l. look_up R key value (key h) l ≡ Some (value h)) parts (find_row (take i rows) (drop (suc i) rows) h (subst (λ l. AreSorted R key l) (sym parts) sorted))
 
-  row_found : (rows : List T) (k : K) (v : X) → look_up R key value k rows ≡ Some v → (h : T) × Contains rows h × (key h ≡ k) × (value h ≡ v)
-  row_found [] k v e = absurd (cc)
-  row_found (x ∷ xs) k v e = at (eq_by_cmp R k (key x)) refl e (row_found xs k v)
-    where
-      at : (b : Bool) → eq_by_cmp R k (key x) ≡ b → cond b (Some (value x)) (look_up R key value k xs) ≡ Some v
-          → (look_up R key value k xs ≡ Some v → (h : T) × Contains xs h × (key h ≡ k) × (value h ≡ v))
-          → (h : T) × Contains (x ∷ xs) h × (key h ≡ k) × (value h ≡ v)
-      at true t found later = (x, contains_head x xs, sym (same k (key x) ((Equal-is (R k (key x))).0 t)), cc)
-      at false t found later = let r = later found in (r.0, contains_later x xs r.0 r.1, r.2, r.3)
-
   -- what the map has is a row's
   pub row_by_got : (rows : List T) (k : K) (v : X) → get (map_of R key value rows) k ≡ Some v → (h : T) × Contains rows h × (key h ≡ k) × (value h ≡ v)
-  row_by_got rows k v e = row_found rows k v (sym (get-from_entries o (entries_from key value rows) k) ∙ e)
+  row_by_got rows k v e = row_found R same key value rows k v (sym (get-from_entries o (entries_from key value rows) k) ∙ e)
 
   -- the row at a place where its key ties
   pub got_at : (rows : List T) → AreSorted R key rows → (k : K) (i : ℕ) → i < length rows → (h : T) → h ≡ get_or rows i h → is_eq (R (key h) k) ≡ true

@@ -1,5 +1,5 @@
 -- Intervals found by their first minutes.
-use Rattle.std.proofs.Common.{◌≡◌, ◌⊎◌, ◌↔◌, inl, inr, refl, sym, ◌∙◌, ap, subst, true≢false, arith, ℕ, suc, zero, ◌+◌, ◌≤◌, Bool, true, false, cond, List, [], ◌∷◌, map, length, Contains, Option, Some, None}
+use Rattle.std.proofs.Common.{◌≡◌, ◌↔◌, inl, inr, refl, sym, ◌∙◌, ap, subst, true≢false, arith, ℕ, ◌+◌, ◌≤◌, Bool, true, false, cond, List, [], ◌∷◌, map, length, Contains, Option, Some, None}
 use Rattle.std.specs.Ordering.{eq_by_cmp, nat_cmp, is_eq}
 use Rattle.std.specs.Cmp.{Equal-is, nat_cmp_total}
 use Rattle.std.proofs.lemmas.Cmp.{tied_itself}
@@ -14,33 +14,16 @@ use Rattle.std.proofs.lemmas.List.Elements.{All-contains}
 use Rattle.workstations.specs.Workstations.{Workstation, IsWorkstation, with_intervals, HasCapacity, capacity_of}
 use Rattle.plan_basics.specs.declared.Attr.{Attr}
 use Rattle.plan_basics.specs.Keys.{Name}
+use Rattle.plan_basics.proofs.Members.{contains_head, contains_later, contains_cases, contains_none, row_found}
 use Rattle.workstations.specs.Timetables.{IsTimetable, NamedWorkstation, workstation_by, reopened}
 use Rattle.workstations.proofs.Spans.{one_open, one_start}
 
 abbrev entries_of : List OpenInterval → List (ℕ × OpenInterval)
 entries_of items = map (λ x. (x.from, x)) items
 
-contains_head : {A : Type 0} (x : A) (xs : List A) → Contains (x ∷ xs) x
-contains_head x xs = (0, omega arith, refl)
-
-contains_later : {A : Type 0} (x : A) (xs : List A) (k : A) → Contains xs k → Contains (x ∷ xs) k
-contains_later x xs k (i, h, e) = (suc i, omega arith, e)
-
-contains_cases : {A : Type 0} (x : A) (xs : List A) (k : A) → Contains (x ∷ xs) k → (x ≡ k) ⊎ Contains xs k
-contains_cases x xs k (zero, h, e) = inl e
-contains_cases x xs k (suc i, h, e) = inr (i, omega arith, e)
-
-contains_none : {A : Type 0} (k : A) → Contains [] k → ⊥
-contains_none k (i, h, e) = omega arith
-
 -- what is found at a minute is of the list, and begins then
 pub found_among : (items : List OpenInterval) (k : ℕ) (x : OpenInterval) → find nat_cmp k (entries_of items) ≡ Some x → (k ≡ x.from) × Contains items x
-found_among [] k x e = absurd (none-some x e)
-found_among (y ∷ items) k x e = at_head (eq_by_cmp nat_cmp k y.from) refl e (found_among items k x)
-  where
-    at_head : (b : Bool) → eq_by_cmp nat_cmp k y.from ≡ b → cond b (Some y) (find nat_cmp k (entries_of items)) ≡ Some x → (find nat_cmp k (entries_of items) ≡ Some x → (k ≡ x.from) × Contains items x) → (k ≡ x.from) × Contains (y ∷ items) x
-    at_head true t h rest = let same : y ≡ x = same_Some y x h in (nat_cmp-IsAntisymmetric k y.from ((Equal-is (nat_cmp k y.from)).0 t) ∙ ap (λ z. z.from) same, subst (Contains (y ∷ items)) same (contains_head y items))
-    at_head false t h rest = let r = rest h in (r.0, contains_later y items x r.1)
+found_among items k x e = let r = row_found nat_cmp nat_cmp-IsAntisymmetric (λ z. z.from) (λ z. z) items k x e in (sym r.2 ∙ ap (λ z. z.from) r.3, subst (Contains items) r.3 r.1)
 
 -- what is of the list, and alone begins at its minute, is found there
 pub found_by : (items : List OpenInterval) (x : OpenInterval) → Contains items x → ((z : OpenInterval) → Contains items z → z.from ≡ x.from → z ≡ x) → find nat_cmp x.from (entries_of items) ≡ Some x

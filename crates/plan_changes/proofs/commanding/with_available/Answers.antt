@@ -1,10 +1,10 @@
-use Rattle.std.proofs.Common.{◌<◌, Bool, refl, sym, subst, arith, length, List}
-use Rattle.std.proofs.lemmas.Option.{slice_get_within}
+use Rattle.std.proofs.Common.{Bool, refl, sym, subst, arith, List}
 use Rattle.std.specs.FinMap.{insert}
 use Rattle.std.specs.List.Sorted.{IsStrictlySortedBy}
 use Rattle.std.specs.Map.{keys_of}
 use Rattle.plan_basics.specs.Keys.{Name, name_cmp}
 use Rattle.plan_changes.proofs.Commanded.{IsChanged, resource_found, resource_put}
+use Rattle.plan_changes.proofs.OneRow.{place_within}
 use Rattle.plan_changes.proofs.commanding.with_available.Goals as goal
 use Rattle.plan_changes.proofs.commanding.with_available.Goals.{in-Some, in_default}
 
@@ -12,10 +12,7 @@ pub resource_place-requires : goal.resource_place-requires
 resource_place-requires c = subst (λ (rows : List (Name × Bool)). IsStrictlySortedBy name_cmp (keys_of rows)) (sym c.deref.ensures.value) ((c.in_ok-new.ensures 0).1 c.requires.in_order).resources
 
 pub index_mut-requires : goal.index_mut-requires
-index_mut-requires c =
-    let h = c.in-Some.ensures.found in
-    let within : c.in-Some.place < length c.deref.result.now = slice_get_within c.deref.result.now c.in-Some.place (c.args.name.now, h.0) h.1 in
-    omega arith
+index_mut-requires c = omega (arith, place_within c.deref.result.now c.in-Some.place c.args.name.now c.in-Some.ensures.found)
 
 pub returns : goal.returns
 returns c =

@@ -1,5 +1,4 @@
-use Rattle.std.proofs.Common.{◌<◌, refl, sym, subst, arith, length, List}
-use Rattle.std.proofs.lemmas.Option.{slice_get_within}
+use Rattle.std.proofs.Common.{refl, sym, subst, arith, List}
 use Rattle.std.specs.List.Sorted.{IsStrictlySortedBy}
 use Rattle.std.specs.Map.{keys_of}
 use Rattle.plan_basics.specs.Keys.{Name, name_cmp}
@@ -7,6 +6,7 @@ use Rattle.workstations.specs.Workstations.{Workstation}
 use Rattle.plan_records.specs.Contents.{plan_of}
 use Rattle.plan_changes.specs.Opening.{opened}
 use Rattle.plan_changes.proofs.Commanded.{IsChanged, is_taken, reopened_in, workstation_left, workstation_put}
+use Rattle.plan_changes.proofs.OneRow.{place_within}
 use Rattle.plan_changes.proofs.commanding.with_intervals.Goals as goal
 use Rattle.plan_changes.proofs.commanding.with_intervals.Goals.{in-Some+in_ok-own, in_default}
 
@@ -14,10 +14,7 @@ pub workstation_place-requires : goal.workstation_place-requires
 workstation_place-requires c = subst (λ (rows : List (Name × Workstation)). IsStrictlySortedBy name_cmp (keys_of rows)) (sym c.deref.ensures.value) ((c.in_ok-new.ensures 0).1 c.requires.in_order).workstations
 
 pub index_mut-requires : goal.index_mut-requires
-index_mut-requires c =
-    let h = c.in-Some.ensures.found in
-    let within : c.in-Some.place < length c.deref.result.now = slice_get_within c.deref.result.now c.in-Some.place (c.args.name.now, h.0) h.1 in
-    omega arith
+index_mut-requires c = omega (arith, place_within c.deref.result.now c.in-Some.place c.args.name.now c.in-Some.ensures.found)
 
 pub unwrap-requires : goal.unwrap-requires
 unwrap-requires c = is_taken (plan_of 0 c.args.contents.now) c.args.name.now c.args.intervals.now c.in_ok-own.own.items c.in_ok-own.ensures.items c.requires.open c.replace_intervals.result c.replace_intervals.ensures.refused

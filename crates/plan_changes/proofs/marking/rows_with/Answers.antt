@@ -1,11 +1,11 @@
-use Rattle.std.proofs.Common.{◌≡◌, ◌∙◌, ℕ, ◌+◌, ◌<◌, List, [], ◌∷◌, ◌++◌, arith, sym, ap, get_or, length, refl, slice_get, take, Some}
+use Rattle.std.proofs.Common.{◌≡◌, ◌∙◌, ℕ, ◌+◌, ◌<◌, List, [], ◌∷◌, ◌++◌, arith, sym, ap, get_or, length, refl, take}
 use Rattle.std.proofs.lemmas.List.{take_more}
-use Rattle.std.proofs.lemmas.Option.{slice_get_within}
 use Rattle.plan_basics.specs.declared.keys.OpKey.{OpKey}
 use Rattle.status_rules.specs.declared.Mark.{Mark}
 use Rattle.plan_model.specs.Plan.{Operation}
 use Rattle.plan_changes.specs.Marking.{marked_rows}
 use Rattle.plan_changes.proofs.MarkedRows.{absent_marked, length_marked, none_marked, set_at}
+use Rattle.plan_changes.proofs.OneRow.{place_within}
 use Rattle.plan_changes.proofs.marking.rows_with.Goals as goal
 use Rattle.plan_changes.proofs.marking.rows_with.Goals.{in-Some, in_default}
 
@@ -13,10 +13,6 @@ use Rattle.plan_changes.proofs.marking.rows_with.Goals.{in-Some, in_default}
 keys_more : (keys : List OpKey) (i : ℕ) (key : OpKey) → i < length keys → key ≡ get_or keys i key → (mark : Mark) (rows : List (OpKey × Operation))
     → marked_rows (take i keys ++ key ∷ []) mark rows ≡ marked_rows (take (i + 1) keys) mark rows
 keys_more keys i key lt is mark rows = ap (λ os. marked_rows os mark rows) (ap (λ (k : OpKey). take i keys ++ k ∷ []) is ∙ sym (take_more keys i key lt))
-
--- a place at which a row stands
-place_within : (rows : List (OpKey × Operation)) (place : ℕ) (key : OpKey) → (op : Operation) × (slice_get rows place ≡ Some (key, op)) → place < length rows
-place_within rows place key at = slice_get_within rows place (key, at.0) at.1
 
 pub loop-key-init : goal.loop-key-init
 loop-key-init c = c.in_ok-new.ensures.items ∙ sym (none_marked c.args.mark.now c.args.rows.now)

@@ -2,7 +2,7 @@ use Rattle.std.proofs.Common.{refl, sym, true≢false, arith}
 use Rattle.std.proofs.lemmas.List.Elements.{AllWithin-more, at_read}
 use Rattle.plan_records.specs.Contents.{plan_of, incoming}
 use Rattle.plan_checks.specs.Adding.{IsOpenPair}
-use Rattle.plan_checks.proofs.ComingIn.{pair_read, pairs_told}
+use Rattle.plan_checks.proofs.ComingIn.{pair_read, each_pair}
 use Rattle.plan_checks.proofs.admitting.are_pairs_open.Goals as goal
 
 pub loop-pair-preserved : goal.loop-pair-preserved
@@ -25,6 +25,6 @@ returns-then-not-is_open_pair c = (
 pub returns : goal.returns
 returns c =
     let is_open = IsOpenPair (plan_of 0 c.args.loaded.now.contents) (incoming c.args.parts.now) in (
-      λ _. pairs_told c.deref-pair-items.result.now c.args.parts.now.pairs.items c.deref-pair-items.ensures.value is_open (λ k d lt. c.loop-pair.invariant k d (omega arith) (omega arith)),
+      λ _. each_pair c.deref-pair-items.result.now c.args.parts.now.pairs.items c.deref-pair-items.ensures.value is_open (λ k d lt. c.loop-pair.invariant k d (omega arith) (omega arith)),
       λ _. refl,
     )

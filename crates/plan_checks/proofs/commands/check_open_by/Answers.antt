@@ -9,22 +9,17 @@ use Rattle.plan_checks.proofs.HeldRows.{found_at}
 use Rattle.plan_checks.proofs.Searching.{if_err, if_ok, row_known}
 use Rattle.plan_checks.proofs.commands.check_open_by.Goals as goal
 
-pub returns-clause-ok : goal.returns-clause-ok
-returns-clause-ok c =
+pub returns : goal.returns
+returns c =
     let rows = c.args.contents.now.workstations.items in
     let name = c.args.name.now in
+    let intervals = c.args.intervals.now in
     let at = found_at c.deref.result.now rows name c.workstation_place.result c.in_ok-place.place c.deref.ensures.value c.in_ok-place.ensures.ok_part c.workstation_place.ensures.found in
     let is_known = row_known name_cmp_total name_cmp-IsAntisymmetric rows c.requires.in_order.workstations c.in_ok-place.place name at.0 at.1 in
-    if_ok c.replace_intervals.result c.replace_intervals.ensures.taken (λ taken clock.
-    open_by (plan_of clock c.args.contents.now) c.args.name.now c.args.intervals.now is_known
-    (subst (λ (items : List OpenInterval). (r : Refusal) → MayBeTaken items r) c.in_ok-from_slice.ensures.items taken))
-
-pub returns-clause-refused : goal.returns-clause-refused
-returns-clause-refused c =
-    let rows = c.args.contents.now.workstations.items in
-    let name = c.args.name.now in
-    let at = found_at c.deref.result.now rows name c.workstation_place.result c.in_ok-place.place c.deref.ensures.value c.in_ok-place.ensures.ok_part c.workstation_place.ensures.found in
-    let is_known = row_known name_cmp_total name_cmp-IsAntisymmetric rows c.requires.in_order.workstations c.in_ok-place.place name at.0 at.1 in
-    if_err c.replace_intervals.result c.replace_intervals.ensures.refused (λ r least. inr (λ clock.
-    not_open_by (plan_of clock c.args.contents.now) c.args.name.now c.args.intervals.now is_known r
-    (subst (λ (items : List OpenInterval). IsLeastRefusal (MayBeTaken items) r) c.in_ok-from_slice.ensures.items least)))
+    let same = c.in_ok-from_slice.ensures.items in
+    record {
+      ok = if_ok c.replace_intervals.result c.replace_intervals.ensures.taken (λ taken clock.
+          open_by (plan_of clock c.args.contents.now) name intervals is_known (subst (λ (items : List OpenInterval). (r : Refusal) → MayBeTaken items r) same taken));
+      refused = if_err c.replace_intervals.result c.replace_intervals.ensures.refused (λ r least. inr (λ clock.
+          not_open_by (plan_of clock c.args.contents.now) name intervals is_known r (subst (λ (items : List OpenInterval). IsLeastRefusal (MayBeTaken items) r) same least)));
+    }

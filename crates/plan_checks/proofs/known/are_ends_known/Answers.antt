@@ -1,31 +1,12 @@
-use Rattle.std.proofs.Common.{refl, sym, true≢false, arith}
-use Rattle.std.proofs.lemmas.List.Elements.{AllWithin-more, at_read}
+use Rattle.std.proofs.Common.{rules, tests}
+use Rattle.std.proofs.lemmas.Iterator.{YieldsList-from_slice, cases_from_all}
 use Rattle.plan_records.specs.Contents.{plan_of, incoming}
 use Rattle.plan_checks.specs.Adding.{IsKnownPair}
-use Rattle.plan_checks.proofs.ComingIn.{pair_read, pairs_told}
+use Rattle.plan_checks.proofs.ComingIn.{pairs_told}
 use Rattle.plan_checks.proofs.known.are_ends_known.Goals as goal
-
-pub loop-pair-preserved : goal.loop-pair-preserved
-loop-pair-preserved c =
-    let known = IsKnownPair (plan_of 0 c.args.contents.now) (incoming c.args.parts.now) in
-    let pairs = c.deref-pair-items.result.now in
-    let i = c.loop-pair.pair-index in
-    AllWithin-more known pairs 0 i c.loop-pair.invariant (at_read pairs known i c.pair-item.result (omega arith) c.pair-item.is (c.if-not-is_known_pair.ensures.0 refl))
-
-pub returns-then-not-is_known_pair : goal.returns-then-not-is_known_pair
-returns-then-not-is_known_pair c = (
-  λ e. absurd (true≢false (sym e)),
-  λ may.
-      let pairs = c.deref-pair-items.result.now in
-      let pair = c.pair-item.result in
-      let comes = pair_read pairs c.args.parts.now.pairs.items c.deref-pair-items.ensures.value c.loop-pair.pair-index pair c.loop-pair-test.true c.pair-item.is in
-      absurd (true≢false (sym (c.if-not-is_known_pair.ensures.1 (may pair.0 pair.1 comes)))),
-)
 
 pub returns : goal.returns
 returns c =
-    let known = IsKnownPair (plan_of 0 c.args.contents.now) (incoming c.args.parts.now) in
-    let pairs = c.deref-pair-items.result.now in (
-      λ _. pairs_told pairs c.args.parts.now.pairs.items c.deref-pair-items.ensures.value known (λ k d lt. c.loop-pair.invariant k d (omega arith) (omega arith)),
-      λ _. refl,
-    )
+    let Q = IsKnownPair (plan_of 0 c.args.contents.now) (incoming c.args.parts.now) in
+    pairs_told c.deref.ensures.value Q c.all.result
+    (cases_from_all _ _ _ Q (λ x. ¬ Q x) c.all.ensures.ran (YieldsList-from_slice c.deref.result.now cc) (λ x q k. search (rules, tests)) (λ x q k. search (rules, tests)))

@@ -1,16 +1,13 @@
-use Rattle.std.proofs.Common.{◌≡◌, refl, sym, ap, subst, ◌∙◌, ◌+◌, arith, Option, Some, None, slice_get, is_some, true, false, true≢false}
+use Rattle.std.proofs.Common.{◌≡◌, sym, ap, subst, ◌∙◌, ◌+◌, arith, true, Some, None, is_some, slice_get}
 use Rattle.std.specs.FinMap.{get}
 use Rattle.std.proofs.lemmas.Option.{slice_get-get_or}
 use Rattle.special_resources.specs.Needs.{usages_of}
 use Rattle.plan_model.specs.Plan.{Operation}
+use Rattle.plan_records.proofs.Tables.{is_none}
 use Rattle.plan_choice.specs.Taking.{HaveTaken}
 use Rattle.plan_choice.proofs.NeedsTaken.{AreTakenSoFar, all_taken, held_already, not_held, taken_too}
 use Rattle.plan_choice.proofs.holders.take_marked.Goals as goal
 use Rattle.plan_choice.proofs.holders.take_marked.Goals.{then-holds_by+then-is_none, else-holds_by, else-holds_by-via-then-holds_by+else-is_none, else-holds_by-via-else-holds_by}
-
-nothing : {A : Type 0} (x : Option A) → is_some x ≡ false → x ≡ None
-nothing None e = refl
-nothing (Some a) e = absurd (true≢false e)
 
 pub loop-need-preserved : goal.loop-need-preserved
 loop-need-preserved c =
@@ -27,7 +24,7 @@ loop-need-preserved c =
     elim c.if-holds_by.branch [
       | then-holds_by+then-is_none w ↦
           let holds = sym c.holds_by.ensures ∙ w.if-holds_by.true in
-          let free : get now (need.name, o) ≡ None = sym w.mode_of.ensures ∙ nothing w.mode_of.result w.if-is_none.ensures in
+          let free : get now (need.name, o) ≡ None = sym w.mode_of.ensures ∙ is_none w.mode_of.result w.if-is_none.ensures in
           rw w.holdings-is
           record {
             room = omega (arith, room, w.take.ensures.room);

@@ -21,7 +21,7 @@ rerun-requires-clause-known c =
 
 pub returns-in-Rerun-clause-made : goal.returns-in-Rerun-clause-made
 returns-in-Rerun-clause-made c =
-    if_made c.args.loaded.now.contents (what.Rerun c.in-Rerun.key) tt c.args.what.now c.in-Rerun.is c.rerun.result c.rerun.ensures.plan c.rerun.ensures.in_order
+    if_made c.args.loaded.now.contents (what.Rerun c.in-Rerun.key) tt c.args.what.now c.in-Rerun.is c.rerun.result refl c.rerun.ensures.plan c.rerun.ensures.in_order
 
 pub with_available-new-requires-clause-known : goal.with_available-new-requires-clause-known
 with_available-new-requires-clause-known c =
@@ -53,68 +53,39 @@ returns-clause-made c =
     let in_order = c.requires.held.1.in_order in
     let is_made = λ (new : PlanContents). (clock : ℕ) → AreMadeBy (plan_of clock old) v new in
     let made : IfOk c.match-what.new is_made = elim c.match-what.branch [
-      | in-Tick w ↦ subst (λ r. IfOk r is_made) (sym w.new-is) (if_alike old in_order v w.in-Tick.is w.copy_of-new.result w.copy_of-new.ensures)
-      | in-Started w ↦
-          let new = w.with_marks-new in
-          subst (λ r. IfOk r is_made) (sym w.new-is)
-          (if_marked old (what.Started w.in-Started.key) tt w.in-Started.key mark.Running (λ P Q e. e) v w.in-Started.is new.result new.ensures.plan new.ensures.in_order)
+      | in-Tick w ↦ if_alike old in_order v w.in-Tick.is w.copy_of-new.result w.new-is w.copy_of-new.ensures
+      | in-Started w ↦ let new = w.with_marks-new in if_marked old (what.Started w.in-Started.key) tt w.in-Started.key mark.Running (λ P Q e. e) v w.in-Started.is new.result w.new-is new.ensures.plan new.ensures.in_order
       | in-Ended2 w ↦
           let new = w.with_marks-new-in-Ended in
           let key = w.in-Ended.key in
-          subst (λ r. IfOk r is_made) (sym w.new-is)
-          (elim w.in-Ended.is [
-            | inl is ↦ if_marked old (what.Ended key) tt key mark.Done (λ P Q e. e) v is new.result new.ensures.plan new.ensures.in_order
-            | inr is ↦ if_marked old (what.Complete key) tt key mark.Done (λ P Q e. e) v is new.result new.ensures.plan new.ensures.in_order
-          ])
+          elim w.in-Ended.is [
+            | inl is ↦ if_marked old (what.Ended key) tt key mark.Done (λ P Q e. e) v is new.result w.new-is new.ensures.plan new.ensures.in_order
+            | inr is ↦ if_marked old (what.Complete key) tt key mark.Done (λ P Q e. e) v is new.result w.new-is new.ensures.plan new.ensures.in_order
+          ]
       | in-Error w ↦
           let new = w.with_marks-new-in-Error in
           let key = w.in-Error.key in
           let code = w.error_mark.ensures in
-          subst (λ r. IfOk r is_made) (sym w.new-is)
-          (if_marked old (what.Error key w.in-Error.code) code.legal key w.error_mark.result (λ P Q e. e ∙ ap (λ m. marked key m P) code.mark) v w.in-Error.is new.result new.ensures.plan new.ensures.in_order)
-      | in-Interrupted w ↦
-          let new = w.with_marks-new-in-Interrupted in
-          subst (λ r. IfOk r is_made) (sym w.new-is)
-          (if_marked old (what.Interrupted w.in-Interrupted.key) tt w.in-Interrupted.key mark.Interrupted (λ P Q e. e) v w.in-Interrupted.is new.result new.ensures.plan new.ensures.in_order)
-      | in-Unknown w ↦
-          let new = w.with_marks-new-in-Unknown in
-          subst (λ r. IfOk r is_made) (sym w.new-is)
-          (if_marked old (what.Unknown w.in-Unknown.key) tt w.in-Unknown.key mark.Undecided (λ P Q e. e) v w.in-Unknown.is new.result new.ensures.plan new.ensures.in_order)
-      | in-Hold w ↦
-          let new = w.with_held-new in
-          subst (λ r. IfOk r is_made) (sym w.new-is) (if_made old (what.Hold w.in-Hold.key) tt v w.in-Hold.is new.result new.ensures.plan new.ensures.in_order)
-      | in-Release w ↦
-          let new = w.with_held-new-in-Release in
-          subst (λ r. IfOk r is_made) (sym w.new-is) (if_made old (what.Release w.in-Release.key) tt v w.in-Release.is new.result new.ensures.plan new.ensures.in_order)
-      | in-Nop w ↦
-          let new = w.with_nop-new in
-          subst (λ r. IfOk r is_made) (sym w.new-is) (if_made old (what.Nop w.in-Nop.key) tt v w.in-Nop.is new.result new.ensures.plan new.ensures.in_order)
-      | in-Unnop w ↦
-          let new = w.with_nop-new-in-Unnop in
-          subst (λ r. IfOk r is_made) (sym w.new-is) (if_made old (what.Unnop w.in-Unnop.key) tt v w.in-Unnop.is new.result new.ensures.plan new.ensures.in_order)
-      | in-DeleteOccurrence w ↦
-          let new = w.deleted-new in
-          subst (λ r. IfOk r is_made) (sym w.new-is) (if_made old (what.DeleteOccurrence w.in-DeleteOccurrence.key) tt v w.in-DeleteOccurrence.is new.result new.ensures.plan new.ensures.in_order)
+          if_marked old (what.Error key w.in-Error.code) code.legal key w.error_mark.result (λ P Q e. e ∙ ap (λ m. marked key m P) code.mark) v w.in-Error.is new.result w.new-is new.ensures.plan new.ensures.in_order
+      | in-Interrupted w ↦ let new = w.with_marks-new-in-Interrupted in if_marked old (what.Interrupted w.in-Interrupted.key) tt w.in-Interrupted.key mark.Interrupted (λ P Q e. e) v w.in-Interrupted.is new.result w.new-is new.ensures.plan new.ensures.in_order
+      | in-Unknown w ↦ let new = w.with_marks-new-in-Unknown in if_marked old (what.Unknown w.in-Unknown.key) tt w.in-Unknown.key mark.Undecided (λ P Q e. e) v w.in-Unknown.is new.result w.new-is new.ensures.plan new.ensures.in_order
+      | in-Hold w ↦ let new = w.with_held-new in if_made old (what.Hold w.in-Hold.key) tt v w.in-Hold.is new.result w.new-is new.ensures.plan new.ensures.in_order
+      | in-Release w ↦ let new = w.with_held-new-in-Release in if_made old (what.Release w.in-Release.key) tt v w.in-Release.is new.result w.new-is new.ensures.plan new.ensures.in_order
+      | in-Nop w ↦ let new = w.with_nop-new in if_made old (what.Nop w.in-Nop.key) tt v w.in-Nop.is new.result w.new-is new.ensures.plan new.ensures.in_order
+      | in-Unnop w ↦ let new = w.with_nop-new-in-Unnop in if_made old (what.Unnop w.in-Unnop.key) tt v w.in-Unnop.is new.result w.new-is new.ensures.plan new.ensures.in_order
+      | in-DeleteOccurrence w ↦ let new = w.deleted-new in if_made old (what.DeleteOccurrence w.in-DeleteOccurrence.key) tt v w.in-DeleteOccurrence.is new.result w.new-is new.ensures.plan new.ensures.in_order
       | in-AddOccurrence w ↦
           let new = w.added-new in
           let s = w.unwrap.result.now in
           let is : v ≡ what.AddOccurrence (Some s) = w.in-AddOccurrence.is ∙ ap what.AddOccurrence (sym w.as_ref.ensures.value ∙ ap option_copied w.unwrap.ensures) in
-          subst (λ r. IfOk r is_made) (sym w.new-is)
-          (if_made old (what.AddOccurrence (Some s)) new.ensures.legal v is new.result (if_ok new.result (λ x h clock. (s, refl, h clock)) new.ensures.plan) new.ensures.in_order)
-      | in-AddDependency w ↦
-          let new = w.with_pair-new in
-          subst (λ r. IfOk r is_made) (sym w.new-is)
-          (if_made old (what.AddDependency w.in-AddDependency.predecessor w.in-AddDependency.successor) tt v w.in-AddDependency.is new.result new.ensures.plan new.ensures.in_order)
-      | in-SetAvailable w ↦
-          let new = w.with_available-new in
-          subst (λ r. IfOk r is_made) (sym w.new-is)
-          (if_made old (what.SetAvailable w.in-SetAvailable.name w.in-SetAvailable.available) tt v w.in-SetAvailable.is new.result new.ensures.plan new.ensures.in_order)
+          if_made old (what.AddOccurrence (Some s)) new.ensures.legal v is new.result w.new-is (if_ok new.result (λ x h clock. (s, refl, h clock)) new.ensures.plan) new.ensures.in_order
+      | in-AddDependency w ↦ let new = w.with_pair-new in if_made old (what.AddDependency w.in-AddDependency.predecessor w.in-AddDependency.successor) tt v w.in-AddDependency.is new.result w.new-is new.ensures.plan new.ensures.in_order
+      | in-SetAvailable w ↦ let new = w.with_available-new in if_made old (what.SetAvailable w.in-SetAvailable.name w.in-SetAvailable.available) tt v w.in-SetAvailable.is new.result w.new-is new.ensures.plan new.ensures.in_order
       | in-ReplaceIntervals w ↦
           let new = w.with_intervals-new in
           let name = w.in-ReplaceIntervals.name in
           let legal : All IsInterval w.in-ReplaceIntervals.intervals.items = subst (λ items. All IsInterval items) w.deref.ensures.value w.look_at.ensures in
-          subst (λ r. IfOk r is_made) (sym w.new-is)
-          (if_made old (what.ReplaceIntervals name w.in-ReplaceIntervals.intervals) legal v w.in-ReplaceIntervals.is new.result
-          (subst (λ items. IfOk new.result (λ (x : PlanContents). (clock : ℕ) → plan_of clock x ≡ opened name items (plan_of clock old))) w.deref-in-ReplaceIntervals.ensures.value new.ensures.plan) new.ensures.in_order)
+          if_made old (what.ReplaceIntervals name w.in-ReplaceIntervals.intervals) legal v w.in-ReplaceIntervals.is new.result w.new-is
+          (subst (λ items. IfOk new.result (λ (x : PlanContents). (clock : ℕ) → plan_of clock x ≡ opened name items (plan_of clock old))) w.deref-in-ReplaceIntervals.ensures.value new.ensures.plan) new.ensures.in_order
     ] in
     subst (λ r. IfOk r is_made) c.in_ok-new.was made

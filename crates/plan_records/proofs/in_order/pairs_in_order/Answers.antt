@@ -5,7 +5,9 @@ use Rattle.plan_model.specs.Plan.{pair_cmp}
 use Rattle.plan_model.specs.Valid.{IsAcyclic}
 use Rattle.plan_graph.specs.PlanGraphs.{AreAmong}
 use Rattle.plan_records.specs.Loading.{IsPairIn}
-use Rattle.plan_records.proofs.InOrder.{ends_among, pairs_ascend, pairs_are, same_pairs}
+use Rattle.plan_records.proofs.InOrder.{ends_among, pairs_are, same_pairs}
+use Rattle.plan_records.proofs.Keyed.{ascend}
+use Rattle.plan_records.proofs.Pairs.{pair_cmp_total, pair_cmp-IsAntisymmetric}
 use Rattle.plan_records.proofs.in_order.pairs_in_order.Goals as goal
 
 pub returns-then-not-are_pairs_in : goal.returns-then-not-are_pairs_in
@@ -13,7 +15,7 @@ returns-then-not-are_pairs_in c = λ are. true≢false (sym (c.if-not-are_pairs_
 
 pub returns-then-not-ascends : goal.returns-then-not-ascends
 returns-then-not-ascends c = λ are.
-    let up = pairs_ascend c.args.keys.now c.args.pairs.items c.sort.new.self.items c.sort.ensures.permutation c.in_ok-sort.ensures.sorted are in
+    let up = ascend pair_cmp_total pair_cmp-IsAntisymmetric c.args.pairs.items c.sort.new.self.items c.sort.ensures.permutation c.in_ok-sort.ensures.sorted are.distinct in
     true≢false (sym (c.if-not-ascends.ensures.1 (subst (IsStrictlySortedBy pair_cmp) (sym c.deref-2.ensures.value) up)))
 
 pub is_acyclic-requires-clause-ends : goal.is_acyclic-requires-clause-ends

@@ -1,21 +1,15 @@
-use Rattle.std.proofs.Common.{rules, sym, subst, ◌≡◌, Some, IfSome, IsNone, slice_get, ℕ, Option}
+use Rattle.std.proofs.Common.{rules}
 use Rattle.std.proofs.lemmas.List.Sorted.{answers_always}
 use Rattle.plan_basics.specs.Keys.{operation_cmp, operation_cmp_total, operation_cmp-IsAntisymmetric}
-use Rattle.plan_model.specs.Plan.{Operation}
 use Rattle.plan_records.proofs.RowPlaces.{search_finds, search_misses}
 use Rattle.plan_records.proofs.places.place_of.Goals as goal
 
 pub returns-clause-found : goal.returns-clause-found
 returns-clause-found c =
-    let rows = c.args.rows.now in
-    let key = c.args.key.now in
-    let position = c.binary_search_by_key.ensures.position (λ row. row.0) (answers_always _ _ _ (λ f a r g k. search rules)) in
-    subst (λ (x : Option ℕ). IfSome x (λ i. (op : Operation) × (slice_get rows i ≡ Some (key, op)))) (sym c.ok.ensures.value)
-    (search_finds operation_cmp operation_cmp_total operation_cmp-IsAntisymmetric rows c.requires key c.binary_search_by_key.result c.binary_search_by_key.ensures.bound position)
+    search_finds operation_cmp operation_cmp_total operation_cmp-IsAntisymmetric c.args.rows.now c.requires c.args.key.now c.binary_search_by_key.result c.binary_search_by_key.ensures.bound
+    (c.binary_search_by_key.ensures.position (λ row. row.0) (answers_always _ _ _ (λ f a r g k. search rules))) c.ok.result c.ok.ensures.value
 
 pub returns-clause-absent : goal.returns-clause-absent
-returns-clause-absent c none =
-    let rows = c.args.rows.now in
-    let key = c.args.key.now in
-    let position = c.binary_search_by_key.ensures.position (λ row. row.0) (answers_always _ _ _ (λ f a r g k. search rules)) in
-    search_misses operation_cmp operation_cmp_total operation_cmp-IsAntisymmetric rows c.requires key c.binary_search_by_key.result position (subst (λ (x : Option ℕ). IsNone x) c.ok.ensures.value none)
+returns-clause-absent c =
+    search_misses operation_cmp operation_cmp_total operation_cmp-IsAntisymmetric c.args.rows.now c.requires c.args.key.now c.binary_search_by_key.result c.binary_search_by_key.ensures.bound
+    (c.binary_search_by_key.ensures.position (λ row. row.0) (answers_always _ _ _ (λ f a r g k. search rules))) c.ok.result c.ok.ensures.value

@@ -8,16 +8,14 @@ returns-then-place-len-clause-steps c =
     let h = c.in_ok-loaded.loaded in
     let size = length_ops h.now (subst IsHeldIfLoaded c.in_ok-loaded.was c.self.invariant) in
     let past : length (op_views h.now) ≤ c.self.inside.place = omega (arith, c.if-place-len.true, c.len.ensures, h.now.contents.operations.ok.0, size) in
-    let none = none_from op_views c.args.self.now c.self.inside.loaded c.self.inside.place h c.self.view_is c.in_ok-loaded.was past in
+    let none = none_from op_views c.self.inside.place c.self.view_is c.in_ok-loaded.was past in
     (none, none)
 
 rest_is : (c : goal.After-op_view) → c.args.self.now ≡ c.op_view.result ∷ views_from op_views c.self.inside.loaded (c.self.inside.place + 1)
-rest_is c = rest_from op_views c.args.self.now c.self.inside.loaded c.self.inside.place c.in_ok-loaded.loaded c.self.view_is c.in_ok-loaded.was c.op_view.result c.op_view.ensures
+rest_is c = rest_from op_views c.self.inside.place c.self.view_is c.in_ok-loaded.was c.op_view.result c.op_view.ensures
 
 pub returns-clause-steps : goal.returns-clause-steps
 returns-clause-steps c = rest_is c
 
 pub returns-clause-goes : goal.returns-clause-goes
-returns-clause-goes c =
-    let less = fewer c.args.self.now (views_from op_views c.self.inside.loaded (c.self.inside.place + 1)) c.op_view.result (rest_is c) in
-    record { on = λ finite. (tt, tt, less); keeps = tt; rests = λ finite. tt }
+returns-clause-goes c = record { on = λ finite. (tt, tt, fewer (rest_is c)); keeps = tt; rests = λ finite. tt }

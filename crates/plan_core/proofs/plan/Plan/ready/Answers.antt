@@ -1,4 +1,4 @@
-use Rattle.std.proofs.Common.{◌≡◌, Some, None, IsSome, List, All, true, true≢false, sym, ap, subst, ◌∙◌, refl, slice_get, slice_index_or}
+use Rattle.std.proofs.Common.{◌≡◌, Some, All, true, true≢false, sym, ap, subst, ◌∙◌, refl, slice_get, slice_index_or}
 use Rattle.std.proofs.lemmas.Option.{get_or_from_slice_get, slice_get-get_or}
 use Rattle.std.specs.FinMap.{contains_key, get, get-empty}
 use Rattle.std.specs.Option.{is_some}
@@ -10,24 +10,19 @@ use Rattle.plan_records.specs.Contents.{plan_of}
 use Rattle.ready_list.specs.Entries.{on_workstation}
 use Rattle.ready_list.specs.declared.entry.ReadyEntry.{ReadyEntry}
 use Rattle.workstations.specs.Workstations.{Workstation}
+use Rattle.plan_core.proofs.FromPlace.{none_known}
 use Rattle.plan_core.proofs.ReadyViews.{are_ready_views, of_listed}
 use Rattle.plan_core.proofs.plan.Plan.ready.Goals as goal
 use Rattle.plan_core.proofs.plan.Plan.ready.Goals.{In_ok-workstation_place}
 use Rattle.plan_checks.specs.Held.{AreHeld, IsHeld, plan_held}
 use Rattle.plan_core.specs.Views.{AreReadyViews, ready_views}
-use Rattle.plan_core.specs.declared.views.OpView.{OpView}
 
 pub returns-in_err-loaded-clause-some : goal.returns-in_err-loaded-clause-some
 returns-in_err-loaded-clause-some c =
-    let none = c.from_residual.ensures in
     let clock = c.self.inside.clock in
-    let nothing : plan_held clock None ≡ c.args.self.now.plan = ap (plan_held clock) c.in_err-loaded.ensures.value ∙ ap (λ s. s.plan) c.self.view_is in (
-      λ some. absurd (none_is_some (subst IsSome none some)),
-      λ known. absurd (true≢false (sym (subst (λ P. contains_key P.workstations c.args.workstation.now ≡ true) (sym nothing) known) ∙ ap is_some (get-empty name_cmp c.args.workstation.now))),
-    )
-  where
-    none_is_some : IsSome {T = List OpView} None → ⊥
-    none_is_some e = cc
+    let name = c.args.workstation.now in
+    none_known c.from_residual.result c.from_residual.ensures (λ P. contains_key P.workstations name ≡ true) clock c.args.self.now.plan
+    (ap (plan_held clock) c.in_err-loaded.ensures.value ∙ ap (λ s. s.plan) c.self.view_is) (λ known. true≢false (sym known ∙ ap is_some (get-empty name_cmp name)))
 
 at_place : (c : goal.In_ok-workstation_place) → (ws : Workstation) × (slice_get c.in_ok-loaded.loaded.now.contents.workstations.items c.in_ok-workstation_place.field-0 ≡ Some (c.args.workstation.now, ws))
 at_place c = subst (λ rows. (ws : Workstation) × (slice_get rows c.in_ok-workstation_place.field-0 ≡ Some (c.args.workstation.now, ws))) c.deref.ensures.value c.in_ok-workstation_place.ensures.found

@@ -1,27 +1,21 @@
-use Rattle.std.proofs.Common.{◌≡◌, Some, None, IsSome, true, sym, ap, subst, ◌∙◌, refl, slice_get}
+use Rattle.std.proofs.Common.{◌≡◌, Some, true, sym, ap, subst, ◌∙◌, refl, slice_get}
 use Rattle.std.proofs.lemmas.Option.{slice_get_within}
 use Rattle.std.specs.FinMap.{contains_key, get}
-use Rattle.plan_core.proofs.FromPlace.{no_occurrence}
+use Rattle.plan_core.proofs.FromPlace.{no_occurrence, none_known}
 use Rattle.plan_core.proofs.OccViews.{occ_view_is, row_in_plan}
 use Rattle.plan_core.proofs.plan.Plan.view_occ.Goals as goal
 use Rattle.plan_core.proofs.plan.Plan.view_occ.Goals.{In_ok-place}
 use Rattle.plan_checks.specs.Held.{AreHeld, IsHeld, plan_held}
 use Rattle.plan_core.specs.Views.{IsOccView}
-use Rattle.plan_core.specs.declared.views.OccView.{OccView}
 use Rattle.plan_model.specs.declared.Occurrence.{Occurrence}
 use Rattle.plan_records.proofs.Tables.{some_is}
 use Rattle.plan_records.specs.Contents.{plan_of}
 
 pub returns-in_err-loaded-clause-some : goal.returns-in_err-loaded-clause-some
 returns-in_err-loaded-clause-some c =
-    let none = c.from_residual.ensures in
-    let nothing : plan_held c.self.inside.clock None ≡ c.args.self.now.plan = ap (plan_held c.self.inside.clock) c.in_err-loaded.ensures.value ∙ ap (λ s. s.plan) c.self.view_is in (
-      λ some. absurd (none_is_some (subst IsSome none some)),
-      λ known. absurd (no_occurrence c.self.inside.clock c.args.key.now (subst (λ P. contains_key P.occurrences c.args.key.now ≡ true) (sym nothing) known)),
-    )
-  where
-    none_is_some : IsSome {T = OccView} None → ⊥
-    none_is_some e = cc
+    let clock = c.self.inside.clock in
+    none_known c.from_residual.result c.from_residual.ensures (λ P. contains_key P.occurrences c.args.key.now ≡ true) clock c.args.self.now.plan
+    (ap (plan_held clock) c.in_err-loaded.ensures.value ∙ ap (λ s. s.plan) c.self.view_is) (no_occurrence clock c.args.key.now)
 
 at_place : (c : goal.In_ok-place) → (terms : Occurrence) × (slice_get c.in_ok-loaded.loaded.now.contents.occurrences.items c.in_ok-place.place ≡ Some (c.args.key.now, terms))
 at_place c = subst (λ rows. (terms : Occurrence) × (slice_get rows c.in_ok-place.place ≡ Some (c.args.key.now, terms))) c.deref.ensures.value c.in_ok-place.ensures.found

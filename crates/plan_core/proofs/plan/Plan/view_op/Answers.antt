@@ -1,25 +1,19 @@
-use Rattle.std.proofs.Common.{◌≡◌, Some, None, IsSome, sym, ap, subst, ◌∙◌, refl, slice_get}
+use Rattle.std.proofs.Common.{◌≡◌, Some, sym, ap, subst, ◌∙◌, refl, slice_get}
 use Rattle.std.proofs.lemmas.Option.{slice_get_within}
-use Rattle.plan_core.proofs.FromPlace.{no_operation}
+use Rattle.plan_core.proofs.FromPlace.{no_operation, none_known}
 use Rattle.plan_core.proofs.OpViews.{op_view_is, row_in_plan}
 use Rattle.plan_core.proofs.plan.Plan.view_op.Goals as goal
 use Rattle.plan_core.proofs.plan.Plan.view_op.Goals.{In_ok-place}
 use Rattle.plan_checks.specs.Held.{AreHeld, IsHeld, plan_held}
 use Rattle.plan_core.specs.Views.{IsOpView}
-use Rattle.plan_core.specs.declared.views.OpView.{OpView}
 use Rattle.plan_model.specs.Plan.{IsInPlan, Operation}
 use Rattle.plan_records.specs.Contents.{plan_of}
 
 pub returns-in_err-loaded-clause-some : goal.returns-in_err-loaded-clause-some
 returns-in_err-loaded-clause-some c =
-    let none = c.from_residual.ensures in
-    let nothing : plan_held c.self.inside.clock None ≡ c.args.self.now.plan = ap (plan_held c.self.inside.clock) c.in_err-loaded.ensures.value ∙ ap (λ s. s.plan) c.self.view_is in (
-      λ some. absurd (none_is_some (subst IsSome none some)),
-      λ there. absurd (no_operation c.self.inside.clock c.args.key.now (subst (λ P. IsInPlan P c.args.key.now) (sym nothing) there)),
-    )
-  where
-    none_is_some : IsSome {T = OpView} None → ⊥
-    none_is_some e = cc
+    let clock = c.self.inside.clock in
+    none_known c.from_residual.result c.from_residual.ensures (λ P. IsInPlan P c.args.key.now) clock c.args.self.now.plan
+    (ap (plan_held clock) c.in_err-loaded.ensures.value ∙ ap (λ s. s.plan) c.self.view_is) (no_operation clock c.args.key.now)
 
 at_place : (c : goal.In_ok-place) → (op : Operation) × (slice_get c.in_ok-loaded.loaded.now.contents.operations.items c.in_ok-place.place ≡ Some (c.args.key.now, op))
 at_place c = subst (λ rows. (op : Operation) × (slice_get rows c.in_ok-place.place ≡ Some (c.args.key.now, op))) c.deref.ensures.value c.in_ok-place.ensures.found

@@ -35,6 +35,4 @@ pub returns-clause-steps : goal.returns-clause-steps
 returns-clause-steps c = rest_is c
 
 pub returns-clause-goes : goal.returns-clause-goes
-returns-clause-goes c =
-    let less = fewer c.args.self.now (ready_from c.self.inside.loaded.now c.self.inside.entries.now (c.self.inside.place + 1)) c.op_view.result (rest_is c) in
-    record { on = λ finite. (tt, tt, less); keeps = tt; rests = λ finite. tt }
+returns-clause-goes c = record { on = λ finite. (tt, tt, fewer (rest_is c)); keeps = tt; rests = λ finite. tt }

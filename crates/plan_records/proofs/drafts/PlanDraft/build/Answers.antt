@@ -1,24 +1,18 @@
-use Rattle.std.proofs.Common.{sym, subst}
-use Rattle.std.specs.List.{AllZip}
-use Rattle.plan_items.specs.Items.{Says}
 use Rattle.plan_records.specs.Records.{records_of}
-use Rattle.plan_records.proofs.Denoting.{are_draft_contents, are_denoted, none_denoted}
+use Rattle.plan_records.proofs.Denoting.{are_draft_contents, are_denoted, none_denoted, said_by}
 use Rattle.plan_records.proofs.drafts.PlanDraft.build.Goals as goal
 
-pub returns-in_default-found-clause-denoted : goal.returns-in_default-found-clause-denoted
-returns-in_default-found-clause-denoted c =
-    let read = rw c.in-Some.is at c.in-Ok.ensures in
-    let said = subst (λ items. AllZip Says (records_of c.args.records.items) items) (sym c.deref-2.ensures.value) (subst (λ rs. AllZip Says (records_of rs) c.in-Some.items.items) c.deref.ensures.value read) in
-    none_denoted (records_of c.args.records.items) c.deref-2.result.now said (rw c.in_default-found.is at c.in-Ok-contents_of.ensures)
+pub returns-in_default-2-clause-denoted : goal.returns-in_default-2-clause-denoted
+returns-in_default-2-clause-denoted c =
+    let said = said_by c.deref.ensures.value c.deref-2.ensures.value (rw c.in-Some.is at c.in_ok-items.ensures) in
+    none_denoted (records_of c.args.records.items) c.deref-2.result.now said (rw c.in_default-2.is at c.in_ok-contents.ensures)
 
 pub invariant_of-result : goal.invariant_of-result
 invariant_of-result c =
-    let read = rw c.in-Some.is at c.in-Ok.ensures in
-    let said = subst (λ items. AllZip Says (records_of c.args.records.items) items) (sym c.deref-2.ensures.value) (subst (λ rs. AllZip Says (records_of rs) c.in-Some.items.items) c.deref.ensures.value read) in
-    are_draft_contents (records_of c.args.records.items) c.deref-2.result.now said c.in-Some-found.contents (rw c.in-Some-found.is at c.in-Ok-contents_of.ensures)
+    let said = said_by c.deref.ensures.value c.deref-2.ensures.value (rw c.in-Some.is at c.in_ok-items.ensures) in
+    are_draft_contents (records_of c.args.records.items) c.deref-2.result.now said c.in-Some-2.contents (rw c.in-Some-2.is at c.in_ok-contents.ensures)
 
 pub returns-clause-denoted : goal.returns-clause-denoted
 returns-clause-denoted c =
-    let read = rw c.in-Some.is at c.in-Ok.ensures in
-    let said = subst (λ items. AllZip Says (records_of c.args.records.items) items) (sym c.deref-2.ensures.value) (subst (λ rs. AllZip Says (records_of rs) c.in-Some.items.items) c.deref.ensures.value read) in
-    are_denoted (records_of c.args.records.items) c.deref-2.result.now said c.in-Some-found.contents (rw c.in-Some-found.is at c.in-Ok-contents_of.ensures)
+    let said = said_by c.deref.ensures.value c.deref-2.ensures.value (rw c.in-Some.is at c.in_ok-items.ensures) in
+    are_denoted (records_of c.args.records.items) c.deref-2.result.now said c.in-Some-2.contents (rw c.in-Some-2.is at c.in_ok-contents.ensures)
