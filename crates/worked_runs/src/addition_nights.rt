@@ -10,7 +10,7 @@ shows WAWWWW WW
 shows ADDDDD WD
 21:00 delete PAYROLL | refused 9
 21:00 delete OTHER | refused 6
-21:00 add RUNS CHAIN KEEPS | refused 18
+21:00 add RUNS PRINTING CHAIN LAST KEEPS | refused 18
 shows ADDDDD WD
 
 UNDER_WAY after BILLS_IN: an occurrence under way is not deleted
@@ -29,7 +29,7 @@ REFUSED after BILLS_IN: what does not come in changes nothing. One thing alone i
 22:50 add REPORTS TO_DELETED | refused 9
 22:50 add REPORTS FROM_DELETED | refused 9
 22:50 add BILLS | refused 18
-22:50 add RUNS CHAIN KEEPS | refused 18
+22:50 add RUNS PRINTING CHAIN LAST KEEPS | refused 18
 22:50 add REPORTS AROUND | refused 19
 22:50 add REPORTS MORE_REPORTS IN_A_RING | refused 19
 22:50 add REPORTS TO_ITSELF | refused 19

@@ -3,15 +3,15 @@
 /// Each beginning has a line with its name and what it holds, and then its turns.
 pub const BEGINNINGS: &str = "LOADED_WITHOUT_FILE: the night without special resources is loaded
 keys 5 10 20 30 40 / PAYROLL
-21:00 load STATIONS RUNS CHAIN | names -
+21:00 load STATIONS RUNS PRINTING CHAIN LAST | names -
 
 LOADED: the night with its file is loaded
 keys 5 10 20 30 40 / PAYROLL
-21:00 load STATIONS RUNS CHAIN FILE KEEPS | names -
+21:00 load STATIONS RUNS PRINTING CHAIN LAST FILE KEEPS | names -
 
 BILLS_IN: the second run has the file when the bills come in
 keys BILLING.10 5 10 20 30 40 / BILLING PAYROLL
-21:00 load STATIONS RUNS CHAIN FILE KEEPS | names -
+21:00 load STATIONS RUNS PRINTING CHAIN LAST FILE KEEPS | names -
 22:00 started 5 | names -
 22:10 ended 5 | names 10
 22:40 ended 10 | names 20
@@ -19,7 +19,7 @@ keys BILLING.10 5 10 20 30 40 / BILLING PAYROLL
 
 BILLS_DELETED: and then they are deleted
 keys BILLING.10 5 10 20 30 40 / BILLING PAYROLL
-21:00 load STATIONS RUNS CHAIN FILE KEEPS | names -
+21:00 load STATIONS RUNS PRINTING CHAIN LAST FILE KEEPS | names -
 22:00 started 5 | names -
 22:10 ended 5 | names 10
 22:40 ended 10 | names 20
@@ -28,7 +28,7 @@ keys BILLING.10 5 10 20 30 40 / BILLING PAYROLL
 
 ADDED_WITH_PAIR: the bills come in with the pair by which they wait for the printing
 keys 5 10 20 30 40 / PAYROLL
-21:00 load STATIONS RUNS CHAIN FILE KEEPS | names -
+21:00 load STATIONS RUNS PRINTING CHAIN LAST FILE KEEPS | names -
 21:00 add BILLS BILLS_LAST | names -
 
 ";

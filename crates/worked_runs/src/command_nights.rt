@@ -54,7 +54,7 @@ shows SCCCC* SS
 
 NOT_COMPLETED: a held operation is not completed
 keys BILLING.10 5 10 20 30 40 / BILLING PAYROLL
-21:00 load STATIONS RUNS CHAIN FILE KEEPS BILLS | names -
+21:00 load STATIONS RUNS PRINTING CHAIN LAST FILE KEEPS BILLS | names -
 21:00 hold BILLING.10 | names -
 21:00 complete BILLING.10 | refused 11
 shows AAWWWW WW
@@ -81,7 +81,7 @@ shows CCCC* S
 
 FEWER_SERVERS: fewer servers than are taken
 keys AAA.10 BBB.10 CCC.10 / AAA BBB CCC
-22:00 load FIXED | names AAA.10 CCC.10
+22:00 load OPEN FIXED | names AAA.10 CCC.10
 22:05 open CPU1 22:00 06:00 1 3 0,05:59 07:00 1 3 0 | refused 21
 22:05 open-times 401 CPU1 22:00 06:00 1 3 0 | refused 20
 22:05 open-times 401 CPU2 22:00 06:00 1 3 0 | refused 7
@@ -92,7 +92,7 @@ shows CSC CSC
 
 CLOSED: a workstation that is closed. A workstation without open intervals starts nothing.
 keys AAA.10 BBB.10 CCC.10 / AAA BBB CCC
-22:00 load FIXED | names AAA.10 CCC.10
+22:00 load OPEN FIXED | names AAA.10 CCC.10
 22:05 open CPU1 - | names -
 22:10 ended AAA.10 | names -
 22:20 ended CCC.10 | names -

@@ -2,47 +2,47 @@
 use super::nights::pass;
 
 const NIGHTS: &str = "TWO_RUNS: names what may start: the first of two
-22:00 load HEAD TWO_RUNS | names DAILY.10
+22:00 load OPEN DAILY TWO_RUNS | names DAILY.10
 clock 22:00
 
 EQUAL_RUNS: two equal operations
-22:00 load HEAD EQUAL_RUNS | names DAILY.10 DAILY.20
+22:00 load OPEN DAILY EQUAL_RUNS | names DAILY.10 DAILY.20
 clock 22:00
 
 ONE_SERVER: with one server, one of them
-22:00 load HEAD_OF_ONE_SERVER EQUAL_RUNS | names DAILY.10
+22:00 load OPEN_WITH_ONE_SERVER DAILY EQUAL_RUNS | names DAILY.10
 clock 22:00
 
 LONGEST_FIRST: the longest of three, which has the earliest latest start
-22:00 load HEAD_OF_ONE_SERVER THREE_RUNS | names DAILY.20
+22:00 load OPEN_WITH_ONE_SERVER DAILY THREE_RUNS | names DAILY.20
 clock 22:00
 
 TWO_OF_THREE: with two servers, also the first of the other two
-22:00 load HEAD THREE_RUNS | names DAILY.20 DAILY.10
+22:00 load OPEN DAILY THREE_RUNS | names DAILY.20 DAILY.10
 clock 22:00
 
 FOLLOWED: the one that comes before two more
-22:00 load HEAD_OF_ONE_SERVER THREE_RUNS FOLLOWED | names DAILY.30
+22:00 load OPEN_WITH_ONE_SERVER DAILY THREE_RUNS FOLLOWED | names DAILY.30
 clock 22:00
 
 LATER: the one whose minute has come
-22:00 load HEAD_OF_ONE_SERVER LATER | names DAILY.20
+22:00 load OPEN_WITH_ONE_SERVER DAILY LATER | names DAILY.20
 clock 22:00
 
 TOO_EARLY: nothing before the interval
-21:59 load HEAD TWO_RUNS | names -
+21:59 load OPEN DAILY TWO_RUNS | names -
 clock 21:59
 
 LAST_MINUTE: in the last minute of the interval
-05:59 load HEAD TWO_RUNS | names DAILY.10
+05:59 load OPEN DAILY TWO_RUNS | names DAILY.10
 clock 05:59
 
 AT_THE_END: nothing at its end
-06:00 load HEAD TWO_RUNS | names -
+06:00 load OPEN DAILY TWO_RUNS | names -
 clock 06:00
 
 LAST_MOMENT: nothing at the last moment of all
-2071-12-31T23:59 load HEAD TWO_RUNS | names -
+2071-12-31T23:59 load OPEN DAILY TWO_RUNS | names -
 clock 2071-12-31T23:59
 
 LEAST: refuses for the least number. Several refusals apply to each of these loads but the one that is accepted.
@@ -50,14 +50,14 @@ keys DAILY.10 DAILY.20 / DAILY
 1971-12-31T23:59 load - | refused 1
 2072-01-01T00:00 load - | refused 2
 22:00 load - | refused 21
-22:00 load HEAD TWO_RUNS | names DAILY.10
+22:00 load OPEN DAILY TWO_RUNS | names DAILY.10
 21:59 load - | refused 1
 2072-01-01T00:00 load - | refused 2
 22:00 load - | refused 4
 shows SW S
 
 VIEWS: views the day
-22:00 load HEAD TWO_RUNS | names DAILY.10
+22:00 load OPEN DAILY TWO_RUNS | names DAILY.10
 mark DAILY.10 named
 duration DAILY.10 30
 priority DAILY.10 5

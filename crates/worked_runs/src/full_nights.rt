@@ -2,7 +2,7 @@
 use super::nights::pass;
 
 const NIGHTS: &str = "FILLED: loads a full occurrence
-22:00 load-filled HEAD | names DAILY.1
+22:00 load-filled OPEN DAILY | names DAILY.1
 waits DAILY.255 254
 
 ALMOST_FULL: a plan of one occurrence less than it may hold takes one more

@@ -3,7 +3,7 @@ use super::nights::pass;
 
 const NIGHTS: &str = "LOADED_TWICE after LOADED: the night is loaded. It is loaded once only.
 shows AWWWW W
-21:00 load STATIONS RUNS CHAIN FILE KEEPS | refused 4
+21:00 load STATIONS RUNS PRINTING CHAIN LAST FILE KEEPS | refused 4
 shows AWWWW W
 
 ALONG_THE_CHAIN after LOADED: latest starts along a chain. Without anything after the printing.
@@ -14,7 +14,7 @@ latest 30 04:39
 latest 40 04:40
 
 EQUAL: latest starts that are equal
-22:00 load LONGER | names CCC.10 AAA.10
+22:00 load OPEN LONGER | names CCC.10 AAA.10
 latest AAA.10 03:30
 latest BBB.10 03:30
 
@@ -51,18 +51,18 @@ latest 40 02:10
 latest BILLING.10 02:30
 
 CLOSED_PATH: a path that returns is no plan. A path returns to its start.
-21:00 load STATIONS RUNS CHAIN FILE KEEPS BACK | refused 21
+21:00 load STATIONS RUNS PRINTING CHAIN LAST FILE KEEPS BACK | refused 21
 no-plan
 
 FROM_GREATER: a pair leads from the greater key. The printing comes before the set-up, and nothing else waits.
 keys 5 10 20 30 40 / PAYROLL
-21:00 load STATIONS RUNS FILE KEEPS BACK | names -
+21:00 load STATIONS RUNS PRINTING FILE KEEPS BACK | names -
 shows WAACA S
 latest 5 04:50
 latest 40 04:30
 
 BEFORE_ALL_MOMENTS: a latest start before all moments. The first operation had to start before the first minute that a text can show.
-21:00 load OLD | names -
+21:00 load OPEN OLD | names -
 latest OLD/1972-01-01T00:00/010 ----------------
 latest OLD/1972-01-01T00:00/020 1972-01-01T00:10
 latest-minute OLD/1972-01-01T00:00/010 -10
@@ -70,7 +70,7 @@ latest-minute OLD/1972-01-01T00:00/020 10
 ready CPU1 OLD/1972-01-01T00:00/010 AAA.10
 
 TO_THE_PRINTING: ready on each workstation. The bills are held from the beginning; the runs are done, and then the printing may begin.
-21:00 load STATIONS RUNS CHAIN FILE KEEPS BILLS | names -
+21:00 load STATIONS RUNS PRINTING CHAIN LAST FILE KEEPS BILLS | names -
 21:00 hold BILLING.10 | names -
 ready SETP 5
 ready CPU1 BILLING.10
@@ -84,7 +84,7 @@ ready CPU1 BILLING.10
 ready PRT1 40
 
 THREE: ready in the order of the list
-21:00 load THREE | names -
+21:00 load OPEN THREE HALF_HOURS | names -
 ready CPU1 CCC.10 BBB.10 AAA.10
 
 COUNTED: predecessors that are waited for

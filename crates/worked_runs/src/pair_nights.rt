@@ -52,7 +52,7 @@ latest BILLING.10 02:30
 
 THROUGH_DELETED: paths lead through deleted operations. Paths lead through what is deleted, too.
 keys AAA.10 BBB.10 CCC.10 / AAA BBB CCC
-21:00 load IN_A_ROW | names -
+21:00 load OPEN IN_A_ROW HALF_HOURS | names -
 shows AWW WWW
 21:00 delete BBB | names -
 shows ADA WDW

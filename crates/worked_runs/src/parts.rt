@@ -9,18 +9,22 @@ W,DUMM,N,,,,,,,
 I,CPU1,2024-03-01T22:00,2024-03-02T06:00,2,3,0,,,
 I,SETP,2024-03-01T22:00,2024-03-02T02:00,1,0,0,,,
 
-RUNS: a set-up that is reported, two automatic runs, a check that isn't reported, and printing, of which the completion is reported
+RUNS: a set-up that is reported, two automatic runs, and a check that isn't reported
 O,PAYROLL,2024-03-01T22:00,5,2024-03-02T05:00,,,,,
 P,PAYROLL,2024-03-01T22:00,5,SETP,10,0,0,,
 P,PAYROLL,2024-03-01T22:00,10,CPU1,30,0,0,,
 P,PAYROLL,2024-03-01T22:00,20,CPU1,60,0,0,,
 P,PAYROLL,2024-03-01T22:00,30,DUMM,1,0,0,,
+
+PRINTING: the last operation, of which the completion is reported
 P,PAYROLL,2024-03-01T22:00,40,PRT1,20,0,0,,
 
-CHAIN: its runs one after another
+CHAIN: the runs one after another
 D,PAYROLL,2024-03-01T22:00,5,PAYROLL,2024-03-01T22:00,10,,,
 D,PAYROLL,2024-03-01T22:00,10,PAYROLL,2024-03-01T22:00,20,,,
 D,PAYROLL,2024-03-01T22:00,20,PAYROLL,2024-03-01T22:00,30,,,
+
+LAST: the printing after them
 D,PAYROLL,2024-03-01T22:00,30,PAYROLL,2024-03-01T22:00,40,,,
 
 FILE: a file
@@ -52,17 +56,19 @@ SET_UP_FILE: the set-up needs a file for itself
 X,SETFILE,Y,,,,,,,
 N,PAYROLL,2024-03-01T22:00,5,SETFILE,X,F,,,
 
-DAILY: two operations on one automatic workstation, the first before the second
-W,CPU1,A,,,,,,,
-I,CPU1,1972-01-01T00:00,2071-12-31T23:59,2,0,0,,,
-O,DAILY,2024-03-01T22:00,5,2024-03-02T05:00,,,,,
-P,DAILY,2024-03-01T22:00,10,CPU1,30,0,0,,
-P,DAILY,2024-03-01T22:00,20,CPU1,60,0,0,,
-D,DAILY,2024-03-01T22:00,10,DAILY,2024-03-01T22:00,20,,,
-
-TWO: two occurrences on a workstation that opens at 22:00
+OPEN: an automatic workstation with two servers, open from 22:00 to 06:00
 W,CPU1,A,,,,,,,
 I,CPU1,2024-03-01T22:00,2024-03-02T06:00,2,3,0,,,
+
+OPEN_WITH_ONE_SERVER: the same with one server
+W,CPU1,A,,,,,,,
+I,CPU1,2024-03-01T22:00,2024-03-02T06:00,1,3,0,,,
+
+ALWAYS_OPEN: one that is open all the time
+W,CPU1,A,,,,,,,
+I,CPU1,1972-01-01T00:00,2071-12-31T23:59,2,0,0,,,
+
+TWO: two occurrences
 O,OTHER,2024-03-01T22:00,5,2024-03-02T05:00,,,,,
 O,DAILY,2024-03-01T22:00,5,2024-03-02T04:00,,,,,
 P,OTHER,2024-03-01T22:00,10,CPU1,30,0,0,,
@@ -70,19 +76,17 @@ P,DAILY,2024-03-01T22:00,20,CPU1,60,0,0,,
 P,DAILY,2024-03-01T22:00,10,CPU1,30,0,0,,
 D,DAILY,2024-03-01T22:00,10,DAILY,2024-03-01T22:00,20,,,
 
-THREE: three occurrences of one operation each, of priorities 5, 5 and 9
-W,CPU1,A,,,,,,,
-I,CPU1,2024-03-01T22:00,2024-03-02T06:00,2,3,0,,,
-O,AAA,2024-03-01T22:00,5,2024-03-02T04:00,,,,,
-O,BBB,2024-03-01T22:00,5,2024-03-02T03:30,,,,,
-O,CCC,2024-03-01T22:00,9,2024-03-02T05:00,,,,,
+HALF_HOURS: an operation of half an hour of each of three occurrences
 P,AAA,2024-03-01T22:00,10,CPU1,30,0,0,,
 P,BBB,2024-03-01T22:00,10,CPU1,30,0,0,,
 P,CCC,2024-03-01T22:00,10,CPU1,30,0,0,,
 
+THREE: three occurrences, of priorities 5, 5 and 9
+O,AAA,2024-03-01T22:00,5,2024-03-02T04:00,,,,,
+O,BBB,2024-03-01T22:00,5,2024-03-02T03:30,,,,,
+O,CCC,2024-03-01T22:00,9,2024-03-02T05:00,,,,,
+
 LONGER: three occurrences, of which the second takes 40 minutes and has to end at 04:10, so that its latest start is that of the first
-W,CPU1,A,,,,,,,
-I,CPU1,2024-03-01T22:00,2024-03-02T06:00,2,3,0,,,
 O,AAA,2024-03-01T22:00,5,2024-03-02T04:00,,,,,
 O,BBB,2024-03-01T22:00,5,2024-03-02T04:10,,,,,
 O,CCC,2024-03-01T22:00,9,2024-03-02T05:00,,,,,
@@ -91,18 +95,11 @@ P,BBB,2024-03-01T22:00,10,CPU1,40,0,0,,
 P,CCC,2024-03-01T22:00,10,CPU1,30,0,0,,
 
 EQUAL: three occurrences, the second as the first in all but its key
-W,CPU1,A,,,,,,,
-I,CPU1,2024-03-01T22:00,2024-03-02T06:00,2,3,0,,,
 O,AAA,2024-03-01T22:00,5,2024-03-02T04:00,,,,,
 O,BBB,2024-03-01T22:00,5,2024-03-02T04:00,,,,,
 O,CCC,2024-03-01T22:00,9,2024-03-02T05:00,,,,,
-P,AAA,2024-03-01T22:00,10,CPU1,30,0,0,,
-P,BBB,2024-03-01T22:00,10,CPU1,30,0,0,,
-P,CCC,2024-03-01T22:00,10,CPU1,30,0,0,,
 
 FIXED: three occurrences, of which the second needs all three of R1, and the first takes one
-W,CPU1,A,,,,,,,
-I,CPU1,2024-03-01T22:00,2024-03-02T06:00,2,3,0,,,
 O,AAA,2024-03-01T22:00,5,2024-03-02T03:00,,,,,
 O,BBB,2024-03-01T22:00,5,2024-03-02T04:00,,,,,
 O,CCC,2024-03-01T22:00,5,2024-03-02T05:00,,,,,
@@ -188,15 +185,10 @@ COMPUTED: reports that an automatic workstation makes
 O,REPORTS,2024-03-01T22:00,5,2024-03-02T05:00,,,,,
 P,REPORTS,2024-03-01T22:00,10,CPU1,15,0,0,,
 
-IN_A_ROW: three occurrences, one after another, before their workstation opens
-W,CPU1,A,,,,,,,
-I,CPU1,2024-03-01T22:00,2024-03-02T06:00,2,3,0,,,
+IN_A_ROW: three occurrences, one after another
 O,AAA,2024-03-01T22:00,5,2024-03-02T05:00,,,,,
 O,BBB,2024-03-01T22:00,5,2024-03-02T05:00,,,,,
 O,CCC,2024-03-01T22:00,5,2024-03-02T05:00,,,,,
-P,AAA,2024-03-01T22:00,10,CPU1,30,0,0,,
-P,BBB,2024-03-01T22:00,10,CPU1,30,0,0,,
-P,CCC,2024-03-01T22:00,10,CPU1,30,0,0,,
 D,AAA,2024-03-01T22:00,10,BBB,2024-03-01T22:00,10,,,
 D,BBB,2024-03-01T22:00,10,CCC,2024-03-01T22:00,10,,,
 
@@ -207,8 +199,6 @@ D,CCC,2024-03-01T22:00,10,DDD,2024-03-01T22:00,10,,,
 D,DDD,2024-03-01T22:00,10,AAA,2024-03-01T22:00,10,,,
 
 OLD: one operation at the first minute that a plan can name, and one after it: the first had to start before
-W,CPU1,A,,,,,,,
-I,CPU1,2024-03-01T22:00,2024-03-02T06:00,2,3,0,,,
 O,AAA,2024-03-01T22:00,5,2024-03-02T04:00,,,,,
 P,AAA,2024-03-01T22:00,10,CPU1,30,0,0,,
 O,OLD,1972-01-01T00:00,5,1972-01-01T00:30,,,,,
@@ -227,14 +217,7 @@ P,CCC,2024-03-01T22:00,10,PRT1,30,0,0,,
 D,AAA,2024-03-01T22:00,10,CCC,2024-03-01T22:00,10,,,
 D,BBB,2024-03-01T22:00,10,CCC,2024-03-01T22:00,10,,,
 
-HEAD: one automatic workstation with two servers, and one occurrence
-W,CPU1,A,,,,,,,
-I,CPU1,2024-03-01T22:00,2024-03-02T06:00,2,3,0,,,
-O,DAILY,2024-03-01T22:00,5,2024-03-02T05:00,,,,,
-
-HEAD_OF_ONE_SERVER: the same with one server
-W,CPU1,A,,,,,,,
-I,CPU1,2024-03-01T22:00,2024-03-02T06:00,1,3,0,,,
+DAILY: one occurrence
 O,DAILY,2024-03-01T22:00,5,2024-03-02T05:00,,,,,
 
 TWO_RUNS: two operations, the first before the second
@@ -261,34 +244,11 @@ LATER: two operations that wait for a minute of their own, the first until 22:01
 P,DAILY,2024-03-01T22:00,10,CPU1,60,0,0,2024-03-01T22:01,
 P,DAILY,2024-03-01T22:00,20,CPU1,30,0,0,2024-03-01T22:00,
 
-FRONT: the night but for its resource, its last operation and the pair to it
-W,CPU1,A,,,,,,,
-W,SETP,S,,,,,,,
-W,PRT1,C,,,,,,,
-W,DUMM,N,,,,,,,
-I,CPU1,2024-03-01T22:00,2024-03-02T06:00,2,3,0,,,
-I,SETP,2024-03-01T22:00,2024-03-02T02:00,1,0,0,,,
-O,PAYROLL,2024-03-01T22:00,5,2024-03-02T05:00,,,,,
-P,PAYROLL,2024-03-01T22:00,5,SETP,10,0,0,,
-P,PAYROLL,2024-03-01T22:00,10,CPU1,30,0,0,,
-P,PAYROLL,2024-03-01T22:00,20,CPU1,60,0,0,,
-P,PAYROLL,2024-03-01T22:00,30,DUMM,1,0,0,,
-N,PAYROLL,2024-03-01T22:00,20,CUSTFILE,X,K,,,
-D,PAYROLL,2024-03-01T22:00,5,PAYROLL,2024-03-01T22:00,10,,,
-D,PAYROLL,2024-03-01T22:00,10,PAYROLL,2024-03-01T22:00,20,,,
-D,PAYROLL,2024-03-01T22:00,20,PAYROLL,2024-03-01T22:00,30,,,
-
 FILE_OF_NINE_FIELDS: a record that lacks a field
 X,CUSTFILE,Y,,,,,,
 
-PRINTING: the last operation
-P,PAYROLL,2024-03-01T22:00,40,PRT1,20,0,0,,
-
 PRINTING_OF_6000_MINUTES: one that takes too long
 P,PAYROLL,2024-03-01T22:00,40,PRT1,6000,0,0,,
-
-LAST: the pair to it
-D,PAYROLL,2024-03-01T22:00,30,PAYROLL,2024-03-01T22:00,40,,,
 
 NUMBER_256: the printing has the number 256
 P,PAYROLL,2024-03-01T22:00,256,PRT1,20,0,0,,

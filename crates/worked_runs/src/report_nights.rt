@@ -3,7 +3,7 @@ use super::nights::pass;
 
 const NIGHTS: &str = "FAILING: an operation ends and the next fails
 keys DAILY.10 DAILY.20 / DAILY
-22:00 load DAILY | names DAILY.10
+22:00 load ALWAYS_OPEN DAILY TWO_RUNS | names DAILY.10
 22:00 started DAILY.10 | names -
 22:00 started DAILY.10 | refused 9
 22:30 ended DAILY.10 | names DAILY.20
@@ -31,8 +31,8 @@ shows AWWWW W
 
 TWO_OCCURRENCES: occurrences by their operations
 keys DAILY.10 DAILY.20 OTHER.10 / DAILY OTHER
-21:00 load TWO | names -
-21:00 load TWO | refused 4
+21:00 load OPEN TWO | names -
+21:00 load OPEN TWO | refused 4
 shows AWA WW
 22:00 tick | names DAILY.10 OTHER.10
 shows SWS SS
@@ -45,22 +45,22 @@ shows CSC SC
 
 BY_PRIORITY: the order of the ready list
 keys AAA.10 BBB.10 CCC.10 / AAA BBB CCC
-22:00 load THREE | names CCC.10 BBB.10
+22:00 load OPEN THREE HALF_HOURS | names CCC.10 BBB.10
 shows ASS WSS
 
 BY_DURATION: the order of the ready list
 keys AAA.10 BBB.10 CCC.10 / AAA BBB CCC
-22:00 load LONGER | names CCC.10 AAA.10
+22:00 load OPEN LONGER | names CCC.10 AAA.10
 shows SAS SWS
 
 BY_KEY: the order of the ready list
 keys AAA.10 BBB.10 CCC.10 / AAA BBB CCC
-22:00 load EQUAL | names CCC.10 AAA.10
+22:00 load OPEN EQUAL HALF_HOURS | names CCC.10 AAA.10
 shows SAS SWS
 
 PASSED_OVER: what does not fit is passed over
 keys AAA.10 BBB.10 CCC.10 / AAA BBB CCC
-22:00 load FIXED | names AAA.10 CCC.10
+22:00 load OPEN FIXED | names AAA.10 CCC.10
 shows SAS SWS
 
 SET_UP after LOADED LOADED_WITHOUT_FILE: a set-up that is reported
@@ -133,12 +133,12 @@ shows ES ES
 
 TEXTS: texts that denote no plan. The night itself is a plan, and so is that in which the printing has the last number.
 keys 5 10 20 30 255 / PAYROLL
-21:00 load FRONT FILE NUMBER_256 | refused 21
-21:00 load FRONT FILE PRINTING_OF_6000_MINUTES LAST | refused 21
-21:00 load FRONT FILE PRINTING LAST SEVENTEEN | refused 21
-21:00 load FRONT FILE_OF_NINE_FIELDS PRINTING LAST | refused 21
-21:00 load FRONT FILE PRINTING LAST LAST | refused 21
-21:00 load FRONT FILE NUMBER_255 | names -
+21:00 load STATIONS RUNS CHAIN KEEPS FILE NUMBER_256 | refused 21
+21:00 load STATIONS RUNS CHAIN KEEPS FILE PRINTING_OF_6000_MINUTES LAST | refused 21
+21:00 load STATIONS RUNS CHAIN KEEPS FILE PRINTING LAST SEVENTEEN | refused 21
+21:00 load STATIONS RUNS CHAIN KEEPS FILE_OF_NINE_FIELDS PRINTING LAST | refused 21
+21:00 load STATIONS RUNS CHAIN KEEPS FILE PRINTING LAST LAST | refused 21
+21:00 load STATIONS RUNS CHAIN KEEPS FILE NUMBER_255 | names -
 shows AWWWW W
 
 ";
