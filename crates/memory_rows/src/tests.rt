@@ -65,55 +65,42 @@ fn records(alloc: Global, without: usize) -> Result<Vec<Record>, AllocError> {
     Ok(all)
 }
 
-/// Whether records are built into a draft; or it is refused for want of memory.
-fn is_built(records: Vec<Record>) -> Result<bool, &'static str> {
-    match PlanDraft::build(records) {
+/// Whether it was built; or it is refused for want of memory.
+fn is_built<T: Drop>(answer: Result<Option<T>, Refusal>) -> Result<bool, &'static str> {
+    match answer {
         Ok(Some(_)) => Ok(true),
-        Ok(None) => Err("the records denote no plan"),
+        Ok(None) => Err("the records don't denote it"),
         Err(Refusal::Memory) => Ok(false),
         Err(_) => Err("another refusal"),
     }
-}
-
-/// The same while all memory is taken.
-fn is_built_without_memory(alloc: Global) -> Result<bool, &'static str> {
-    let records = records(alloc, 0).or(Err("no memory for records"))?;
-    let held = take_all(alloc).or(Err("no memory to begin with"))?;
-    let is_built = is_built(records);
-    drop(held);
-    is_built
 }
 
 #[test]
 fn a_draft_without_memory_is_refused(rt: HostRuntime) -> Result<(), Fail> {
-    assert_eq!(rt; is_built_without_memory(rt.alloc()), Ok(false));
-    assert_eq!(rt; is_built(records(rt.alloc(), 0)?), Ok(true));
+    let lines = records(rt.alloc(), 0)?;
+    let held = take_all(rt.alloc())?;
+    let without = is_built(PlanDraft::build(lines));
+    drop(held);
+    assert_eq!(rt; without, Ok(false));
+    assert_eq!(rt;
+        is_built(PlanDraft::build(records(rt.alloc(), 0)?)),
+        Ok(true)
+    );
     Ok(())
 }
 
-/// Whether records are built into an occurrence that comes in; or it is refused for want of memory.
-fn is_added(records: Vec<Record>) -> Result<bool, &'static str> {
-    match Addition::build(records) {
-        Ok(Some(_)) => Ok(true),
-        Ok(None) => Err("the records denote no occurrence"),
-        Err(Refusal::Memory) => Ok(false),
-        Err(_) => Err("another refusal"),
-    }
-}
-
-/// The same while all memory is taken, of the day without its workstation and interval.
-fn is_added_without_memory(alloc: Global) -> Result<bool, &'static str> {
-    let records = records(alloc, 2).or(Err("no memory for records"))?;
-    let held = take_all(alloc).or(Err("no memory to begin with"))?;
-    let is_added = is_added(records);
-    drop(held);
-    is_added
-}
-
+/// An occurrence comes in by the day without its workstation and interval.
 #[test]
 fn an_addition_without_memory_is_refused(rt: HostRuntime) -> Result<(), Fail> {
-    assert_eq!(rt; is_added_without_memory(rt.alloc()), Ok(false));
-    assert_eq!(rt; is_added(records(rt.alloc(), 2)?), Ok(true));
+    let lines = records(rt.alloc(), 2)?;
+    let held = take_all(rt.alloc())?;
+    let without = is_built(Addition::build(lines));
+    drop(held);
+    assert_eq!(rt; without, Ok(false));
+    assert_eq!(rt;
+        is_built(Addition::build(records(rt.alloc(), 2)?)),
+        Ok(true)
+    );
     Ok(())
 }
 
