@@ -75,4 +75,4 @@ module _ (records : List Fields) (items : List Item) (said : AllZip Says records
   pub none_denoted : ¬ CanBeLoaded items → (P : Plan) → ¬ Denotes records P
   none_denoted none P d =
       let same = same_items records d.described.items items d.described.said said in
-      none (needed P d.draft.valid d.some_workstation d.some_occurrence items (subst (AreItems (StandsIn P) (IsItemOfPlan P)) same d.described.are))
+      none (needed P d.draft d.some_workstation d.some_occurrence items (subst (AreItems (StandsIn P) (IsItemOfPlan P)) same d.described.are))

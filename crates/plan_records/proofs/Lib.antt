@@ -2,7 +2,9 @@ pub mod Lists
 pub mod Tables
 pub mod ItemKinds
 pub mod NeedsSaid
+pub mod ItemsHeld
 pub mod Needed
+pub mod MadeParts
 pub mod Made
 pub mod Orders
 pub mod Terms

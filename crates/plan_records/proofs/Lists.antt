@@ -6,6 +6,9 @@ use Rattle.std.proofs.lemmas.Bool.{MatchBool-at_true}
 use Rattle.std.proofs.lemmas.Iterator.Search.{true_from_All}
 use Rattle.std.proofs.lemmas.List.Elements.{All-contains, All-from_all_within, Contains-get_or}
 use Rattle.std.proofs.lemmas.List.Kept.{AllPairs-cons}
+use Rattle.std.proofs.lemmas.List.Sorted.{Contains-permutation, IsPermutation-map}
+use Rattle.std.specs.List.Sorted.{IsPermutation}
+use Rattle.std.specs.Map.{keys_of}
 use Rattle.operation_graph.proofs.Members.{contains_mapped, mapped_contains}
 pub use Rattle.operation_graph.proofs.Members.{contains_head, contains_later, contains_cases, contains_none}
 
@@ -42,6 +45,13 @@ module _ {X : Type 0} where
   pub at_member : (P : X → Type 0) (xs : List X) (x : X) → AllByRecursion P xs → Contains xs x → P x
   at_member P [] x all has = absurd (contains_none x has)
   at_member P (a ∷ xs) x all has = elim (contains_cases a xs x has) [ inl e ↦ subst P e all.0 | inr later ↦ at_member P xs x all.1 later ]
+
+  -- a list of one has it, and no other
+  pub sole_there : (xs : List X) (x : X) → xs ≡ x ∷ [] → Contains xs x
+  sole_there xs x one = subst (λ ys. Contains ys x) (sym one) (contains_head x [])
+
+  pub sole_member : (xs : List X) (x y : X) → xs ≡ x ∷ [] → Contains xs y → x ≡ y
+  sole_member xs x y one has = elim (contains_cases x [] y (subst (λ ys. Contains ys y) one has)) [ inl e ↦ e | inr later ↦ absurd (contains_none y later) ]
 
 module _ {X Y : Type 0} (f : X → Y) where
   pub in_map : (xs : List X) (x : X) → Contains xs x → Contains (map f xs) (f x)
@@ -117,3 +127,7 @@ map_alike f g (x ∷ xs) same = λ i. same x i ∷ map_alike f g xs same i
 -- what a test of each element told: whether all have P
 pub all_told : {X : Type 0} (P : X → Type 0) (xs : List X) (r : Bool) → MatchBool r (AllWithin P xs 0 (length xs)) ((k : ℕ) × (k < length xs) × HoldsAt (λ x. ¬ P x) xs k) → (r ≡ true) ↔ All P xs
 all_told P xs r told = (λ t. All-from_all_within P xs (MatchBool-at_true _ _ t told), λ all. true_from_All P (λ x. ¬ P x) r xs (λ x has never. never has) told all)
+
+-- rows in another order have the same keys
+pub keys_permuted : {K X : Type 0} (xs ys : List (K × X)) → IsPermutation xs ys → (k : K) → Contains (keys_of xs) k → Contains (keys_of ys) k
+keys_permuted {K} {X} xs ys same k has = Contains-permutation (keys_of xs) (keys_of ys) k (IsPermutation-map (λ (row : K × X). row.0) xs ys same) has

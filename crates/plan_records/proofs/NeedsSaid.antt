@@ -1,7 +1,10 @@
 -- The needs that are said, and those of one operation: which resources they are of, and how these are used.
 use Rattle.std.proofs.Common.{◌≡◌, ◌≢◌, sym, subst, ap, ◌∙◌, arith, ℕ, ◌≤◌, true, List, map, length, Contains, Option, Some, None, unwrap_or, MatchOption}
 use Rattle.std.specs.List.Sorted.{IsPermutation}
-use Rattle.std.specs.FinMap.{get, contains_key, len}
+use Rattle.std.specs.List.{filter_map}
+use Rattle.std.specs.Cmp.{IsTotalOrder}
+use Rattle.std.specs.declared.cmp.Ordering.{Ordering}
+use Rattle.std.specs.FinMap.{IsAntisymmetric, get, contains_key, len}
 use Rattle.std.proofs.lemmas.List.Sorted.{Contains-permutation, IsPermutation-sym}
 use Rattle.plan_basics.specs.declared.keys.OpKey.{OpKey}
 use Rattle.plan_basics.specs.Keys.{Name, name_cmp_total, name_cmp-IsAntisymmetric, operation_cmp_total, operation_cmp-IsAntisymmetric}
@@ -16,12 +19,30 @@ use Rattle.plan_model.specs.declared.Occurrence.{Occurrence}
 use Rattle.plan_items.specs.declared.OperationItem.{OperationItem}
 use Rattle.plan_items.specs.Items.{IsOperationItem}
 use Rattle.plan_model.specs.Valid.{IsOperation}
-use Rattle.plan_records.specs.Loading.{AreNeedsInOrder, need_key, needs_of, operation_of, own_need}
+use Rattle.plan_records.specs.Loading.{AreNeedsInOrder, need_key, needs_of, operation_of}
 use Rattle.plan_records.proofs.Lists.{Differ, differ_from_pairs, map_alike, differ_filter, differ_map, length_map, in_map, from_map}
 use Rattle.plan_records.proofs.Tables.{AreApart, get_row, row_found, len_rows, some_is, same_some, same_entries}
 use Rattle.plan_records.proofs.Orders.{differ_permuted}
-use Rattle.plan_records.proofs.Keyed.{own_from, from_own, in_own}
+use Rattle.plan_records.proofs.Keyed.{own, own_from, from_own, in_own}
 use Rattle.plan_records.proofs.OwnNeeds.{need_cmp_total, need_cmp-IsAntisymmetric}
+
+-- ---- what is said of one key
+-- the key, and a name of what is said
+abbrev key_and : {K X N : Type 0} → (X → N) → K × X → K × N
+key_and name said = (said.0, name said.1)
+
+-- where rows differ in these, those of one key differ in the name
+pub own_apart :
+    {K X N : Type 0} {R : K → K → Ordering} → IsTotalOrder R → IsAntisymmetric R → (name : X → N) (k : K) (rows : List (K × X)) →
+    Differ (λ a b. key_and name a ≢ key_and name b) rows → Differ (λ x y. name x ≢ name y) (filter_map (own R k) rows)
+own_apart {R = R} total exact name k rows apart = differ_filter (own R k) (λ a b. key_and name a ≢ key_and name b) (λ x y. name x ≢ name y)
+    (λ a b x y e f differ same.
+    let p = own_from total exact k a x e in
+    let q = own_from total exact k b y f in
+    let keys : a.0 ≡ b.0 = p.0 ∙ sym q.0 in
+    let names : name a.1 ≡ name b.1 = ap name p.1 ∙ same ∙ sym (ap name q.1) in
+    differ (λ i. (keys i, names i)))
+    rows apart
 
 -- ---- the needs of one operation
 -- no two are of one operation and one resource
@@ -38,14 +59,7 @@ usage_said needs o r usage e =
 
 module _ (needs : List (OpKey × Need)) (apart : NeedsDiffer needs) (o : OpKey) where
   names_apart : Differ (λ (m n : Need). m.name ≢ n.name) (needs_of o needs)
-  names_apart = differ_filter (own_need o) (λ a b. need_key a ≢ need_key b) (λ (m n : Need). m.name ≢ n.name)
-      (λ a b m n e f differ same.
-      let p = own_from operation_cmp_total operation_cmp-IsAntisymmetric o a m e in
-      let q = own_from operation_cmp_total operation_cmp-IsAntisymmetric o b n f in
-      let operations : a.0 ≡ b.0 = p.0 ∙ sym q.0 in
-      let names : a.1.name ≡ b.1.name = ap (λ (x : Need). x.name) p.1 ∙ same ∙ sym (ap (λ (x : Need). x.name) q.1) in
-      differ (λ i. (operations i, names i)))
-      needs apart
+  names_apart = own_apart operation_cmp_total operation_cmp-IsAntisymmetric (λ (n : Need). n.name) o needs apart
 
   entries_apart : AreApart (map entry_of (needs_of o needs))
   entries_apart = differ_map entry_of (λ a b. a.0 ≢ b.0) (needs_of o needs) names_apart
