@@ -16,7 +16,7 @@ ghost use Rattle.plan_changes.specs.Opening.{opened};
 use super::marking::{copy_of, with_marks};
 use plan_basics::{Interval, OccKey, OpKey, ResName, WsName};
 use plan_model::OperationRecord;
-use plan_records::{PlanContents, place_of, resource_place, workstation_place};
+use plan_records::{PlanContents, row_place, workstation_place};
 use status_rules::Mark;
 use std::alloc::{AllocError, Global};
 
@@ -34,7 +34,7 @@ fn with_changed<F: Fn(&OperationRecord) -> OperationRecord + Drop>(
     ensures in_order { IfOk result (λ new. AreContents new) }
 {
     let mut new = copy_of(alloc, contents)?;
-    if let Some(place) = place_of(&new.operations, key) {
+    if let Some(place) = row_place(&new.operations, key) {
         let operation = change(&new.operations[place].1);
         new.operations[place] = (*key, operation);
     }
@@ -92,7 +92,7 @@ pub fn with_available(
     ensures in_order { IfOk result (λ new. AreContents new) }
 {
     let mut new = copy_of(alloc, contents)?;
-    if let Some(place) = resource_place(&new.resources, name) {
+    if let Some(place) = row_place(&new.resources, name) {
         new.resources[place] = (*name, available);
     }
     Ok(new)

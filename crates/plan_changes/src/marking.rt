@@ -11,7 +11,7 @@ ghost use Rattle.plan_changes.specs.Marking.{marked_rows};
 
 use plan_basics::OpKey;
 use plan_model::OperationRecord;
-use plan_records::{PlanContents, place_of};
+use plan_records::{PlanContents, row_place};
 use status_rules::Mark;
 use std::alloc::{AllocError, Global};
 use workstations::Workstation;
@@ -62,7 +62,7 @@ fn rows_with(
 {
     let mut new = Vec::from_slice(alloc, rows)?;
     for key in keys {
-        if let Some(place) = place_of(rows, key) {
+        if let Some(place) = row_place(rows, key) {
             new[place] = (*key, marked(&rows[place].1, mark));
         }
     }

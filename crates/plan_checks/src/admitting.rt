@@ -17,7 +17,7 @@ use super::known::{
 use super::loaded::LoadedPlan;
 use plan_basics::{OpKey, Refusal};
 use plan_changes::with_addition;
-use plan_records::{Addition, NewOccurrence, PlanContents, is_acyclic, place_of};
+use plan_records::{Addition, NewOccurrence, PlanContents, is_acyclic, row_place};
 use status_rules::Status;
 use std::alloc::Global;
 
@@ -29,7 +29,7 @@ fn old_status(loaded: &LoadedPlan, parts: &NewOccurrence, key: &OpKey) -> Option
     if key.occurrence == parts.key {
         return None;
     }
-    let place = place_of(&loaded.contents.operations, key)?;
+    let place = row_place(&loaded.contents.operations, key)?;
     Some(reported_at(loaded, place).status)
 }
 

@@ -20,7 +20,7 @@ use super::pairing::check_paired;
 use plan_basics::{Attr, Moment, OpKey, Refusal};
 use plan_choice::{check_start, given_out_of, holdings_of, is_ready};
 use plan_model::OperationRecord;
-use plan_records::{PlanContents, PlanDraft, What, known_workstation, place_of};
+use plan_records::{PlanContents, PlanDraft, What, known_workstation, row_place};
 use plan_status::{attribute_of, status_with};
 use status_rules::{Mark, Status};
 use std::alloc::{AllocError, Global};
@@ -57,7 +57,7 @@ fn reported_of(loaded: &LoadedPlan, key: &OpKey) -> Result<Reported, Refusal>
     ensures found { IfOk result (λ x. (clock : ℕ) → IsReported (plan_of clock loaded.now.contents) key.now x) }
     ensures unknown { IfErr result (λ r. (r ≡ Refusal.UnknownOperation) × (get (plan_of 0 loaded.now.contents).operations key.now ≡ None)) }
 {
-    let place = place_of(&loaded.contents.operations, key).ok_or(Refusal::UnknownOperation)?;
+    let place = row_place(&loaded.contents.operations, key).ok_or(Refusal::UnknownOperation)?;
     Ok(reported_at(loaded, place))
 }
 

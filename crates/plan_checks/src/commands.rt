@@ -14,7 +14,7 @@ use super::loaded::LoadedPlan;
 use super::reaching::reached_keys;
 use super::under_way::{is_another_under_way, is_occurrence_under_way};
 use plan_basics::{Interval, OccKey, OpKey, Refusal, ResName, WsName};
-use plan_records::{PlanContents, occurrence_place, resource_place, workstation_place};
+use plan_records::{PlanContents, row_place, workstation_place};
 use plan_status::occurrence_status_with;
 use status_rules::{OccStatus, Status};
 use std::alloc::Global;
@@ -112,7 +112,7 @@ fn occurrence_status_of(loaded: &LoadedPlan, occurrence: &OccKey) -> Result<OccS
     ensures found { IfOk result (λ status. (clock : ℕ) → HasOccurrenceStatus (plan_of clock loaded.now.contents) occurrence.now status) }
     ensures unknown { IfErr result (λ r. (r ≡ Refusal.UnknownOccurrence) × (get (plan_of 0 loaded.now.contents).occurrences occurrence.now ≡ None)) }
 {
-    let place = occurrence_place(&loaded.contents.occurrences, occurrence).ok_or(
+    let place = row_place(&loaded.contents.occurrences, occurrence).ok_or(
         Refusal::UnknownOccurrence,
     )?;
     Ok(occurrence_status_with(loaded.tallies[place]))
@@ -141,7 +141,7 @@ pub fn check_available(contents: &PlanContents, name: &ResName) -> Result<(), Re
     ensures ok { OnOk result ((clock : ℕ) → AllHold (MayBeSetAvailable (plan_of clock contents.now) name.now)) }
     ensures refused { IfErr result (λ r. (clock : ℕ) → FailsPastKeys (MayBeSetAvailable (plan_of clock contents.now) name.now) r) }
 {
-    match resource_place(&contents.resources, name) {
+    match row_place(&contents.resources, name) {
         Some(_) => Ok(()),
         None => Err(Refusal::UnknownResource),
     }

@@ -8,9 +8,7 @@ ghost use Rattle.plan_checks.specs.Adding.{HasResources, HasWorkstation, IsKnown
 
 use plan_basics::{OpKey, ResName};
 use plan_model::OperationRecord;
-use plan_records::{
-    NewOccurrence, PlanContents, occurrence_place, place_of, resource_place, workstation_place,
-};
+use plan_records::{NewOccurrence, PlanContents, row_place, workstation_place};
 
 // Whether an operation comes in, or is one of the plan's other occurrences.
 fn is_known(contents: &PlanContents, parts: &NewOccurrence, key: &OpKey) -> bool
@@ -19,9 +17,9 @@ fn is_known(contents: &PlanContents, parts: &NewOccurrence, key: &OpKey) -> bool
     ensures { Decides result (IsKnown (plan_of 0 contents.now) (incoming parts.now) key.now) }
 {
     if key.occurrence == parts.key {
-        place_of(&parts.operations, key).is_some()
+        row_place(&parts.operations, key).is_some()
     } else {
-        place_of(&contents.operations, key).is_some()
+        row_place(&contents.operations, key).is_some()
     }
 }
 
@@ -71,7 +69,7 @@ fn has_resource(contents: &PlanContents, name: &ResName) -> bool
     requires { AreContents contents.now }
     ensures { Decides result (contains_key (plan_of 0 contents.now).resources name.now ≡ true) }
 {
-    resource_place(&contents.resources, name).is_some()
+    row_place(&contents.resources, name).is_some()
 }
 
 // Whether the special resources that the operation needs are in the plan.
@@ -103,5 +101,5 @@ pub fn is_new_occurrence(contents: &PlanContents, parts: &NewOccurrence) -> bool
     requires { AreContents contents.now }
     ensures { Decides result (MayBeAdded (plan_of 0 contents.now) (incoming parts.now) Refusal.Duplicate) }
 {
-    occurrence_place(&contents.occurrences, &parts.key).is_none()
+    row_place(&contents.occurrences, &parts.key).is_none()
 }

@@ -15,7 +15,7 @@ use super::commands::check_flagged;
 use super::loaded::LoadedPlan;
 use operation_graph::EdgeFault;
 use plan_basics::{OpKey, Refusal};
-use plan_records::place_of;
+use plan_records::row_place;
 use status_rules::Status;
 
 // What a dependency asks of the statuses of its two operations: the first isn't deleted, the second waits or is ready.
@@ -58,8 +58,8 @@ pub fn check_paired(
     ensures refused { IfErr result (λ r. (r ≡ Refusal.Memory) ⊎ ((clock : ℕ) → (3 < number_of r) × FailsFirstAt (MayBePaired (plan_of clock loaded.now.contents) predecessor.now successor.now) r)) }
 {
     let rows = &loaded.contents.operations;
-    let before = place_of(rows, predecessor).ok_or(Refusal::UnknownOperation)?;
-    let after = place_of(rows, successor).ok_or(Refusal::UnknownOperation)?;
+    let before = row_place(rows, predecessor).ok_or(Refusal::UnknownOperation)?;
+    let after = row_place(rows, successor).ok_or(Refusal::UnknownOperation)?;
     check_ends(&reported_at(loaded, before), &reported_at(loaded, after))?;
     check_edge(loaded, before, after)?;
     if loaded.contents.pairs.len() < 100_000 {

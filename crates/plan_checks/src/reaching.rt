@@ -15,7 +15,7 @@ ghost use Rattle.plan_checks.specs.Held.{IsHeldAtSome};
 use super::loaded::LoadedPlan;
 use plan_basics::{OpKey, Refusal};
 use plan_model::OperationRecord;
-use plan_records::known_place;
+use plan_records::known_row;
 use status_rules::Mark;
 use std::alloc::{AllocError, Global};
 
@@ -71,7 +71,7 @@ pub fn reached_keys(alloc: Global, loaded: &LoadedPlan, key: &OpKey) -> Result<V
     ensures refused { IfErr result (λ r. r ≡ Refusal.Memory) }
 {
     let rows = &loaded.contents.operations;
-    let place = known_place(rows, key);
+    let place = known_row(rows, key);
     let live = live_of(alloc, rows)?;
     let places = loaded.graph.reach(place, &live)?;
     Ok(keys_at(alloc, rows, &places)?)

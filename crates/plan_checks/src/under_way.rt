@@ -9,7 +9,7 @@ ghost use Rattle.plan_checks.specs.Held.{IsHeldAtSome};
 use super::checks::reported_at;
 use super::loaded::LoadedPlan;
 use plan_basics::{OccKey, OpKey};
-use plan_records::known_place;
+use plan_records::known_row;
 use status_rules::Status;
 
 // Whether operations of this status are under way: started, interrupted or undecided.
@@ -28,7 +28,7 @@ fn is_other_under_way(loaded: &LoadedPlan, key: &OpKey, other: &OpKey) -> bool
     requires known { IsInPlan (plan_of 0 loaded.now.contents) other.now }
     ensures { Decides result (IsOtherUnderWay (plan_of 0 loaded.now.contents) key.now other.now) }
 {
-    let place = known_place(&loaded.contents.operations, other);
+    let place = known_row(&loaded.contents.operations, other);
     other != key && is_under_way(reported_at(loaded, place).status)
 }
 

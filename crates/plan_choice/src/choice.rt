@@ -8,7 +8,7 @@ ghost use Rattle.plan_choice.specs.Choosing.{AreReadyEntries};
 use super::holders::{holdings_of, take_needs};
 use super::taken::{check_start, given_out_of, with_operation};
 use plan_basics::{Moment, OpKey, Refusal};
-use plan_records::{PlanContents, known_workstation, place_of};
+use plan_records::{PlanContents, known_workstation, row_place};
 use ready_list::{Gate, ReadyList};
 use special_resources::Holdings;
 use std::alloc::Global;
@@ -48,7 +48,7 @@ impl<'a> Gate for StartGate<'a> {
 
     fn name(&mut self, op: &OpKey) -> Result<bool, Refusal> {
         let contents = self.contents;
-        let Some(place) = place_of(&contents.operations, op) else {
+        let Some(place) = row_place(&contents.operations, op) else {
             return Ok(false);
         };
         let operation = &contents.operations[place].1;

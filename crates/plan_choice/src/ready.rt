@@ -16,7 +16,7 @@ ghost use Rattle.plan_choice.specs.Readying.{AreAllReady, IsReadyEntry};
 use latest_start::Latest;
 use plan_basics::{OccKey, OpKey, Refusal};
 use plan_model::{Occurrence, OperationRecord};
-use plan_records::{PlanContents, known_occurrence};
+use plan_records::{PlanContents, known_row};
 use plan_status::attribute_of;
 use ready_list::{ReadyEntry, ReadyKey, ReadyList};
 use status_rules::Status;
@@ -38,7 +38,7 @@ fn priority_of(rows: &[(OccKey, Occurrence)], occurrence: &OccKey) -> u8
     requires known { IsSome (get {R = occurrence_cmp} (from_entries rows.now) occurrence.now) }
     ensures { (c : Occurrence) → get {R = occurrence_cmp} (from_entries rows.now) occurrence.now ≡ Some c → result ≡ c.priority }
 {
-    let place = known_occurrence(rows, occurrence);
+    let place = known_row(rows, occurrence);
     rows[place].1.priority
 }
 

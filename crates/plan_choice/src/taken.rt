@@ -13,7 +13,7 @@ ghost use Rattle.plan_choice.specs.Taking.{CanMeetNeed, CanMeetNeeds, CanStart, 
 
 use plan_basics::{Attr, Moment, OpKey, Refusal, ResName};
 use plan_model::OperationRecord;
-use plan_records::{PlanContents, known_workstation, resource_place};
+use plan_records::{PlanContents, known_workstation, row_place};
 use plan_status::attribute_of;
 use special_resources::{Holdings, Need};
 use status_rules::Mark;
@@ -95,7 +95,7 @@ fn is_available(contents: &PlanContents, name: &ResName) -> bool
     requires { AreValidContents contents.now }
     ensures { IsTrue result ↔ (get (plan_of 0 contents.now).resources name.now ≡ Some true) }
 {
-    match resource_place(&contents.resources, name) {
+    match row_place(&contents.resources, name) {
         Some(place) => contents.resources[place].1,
         None => false,
     }

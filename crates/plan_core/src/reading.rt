@@ -9,7 +9,7 @@ use super::plan::Plan;
 use super::readying::Ready;
 use super::views::{OccView, OpView, occ_view, op_view};
 use plan_basics::{OccKey, OpKey, WsName};
-use plan_records::{occurrence_place, place_of, workstation_place};
+use plan_records::{row_place, workstation_place};
 
 impl Plan {
     /// Whether a plan is loaded.
@@ -25,7 +25,7 @@ impl Plan {
         ensures view { IfSome result (λ v. (v.key ≡ key.now) × IsOpView self.now.plan v) }
     {
         let loaded = self.loaded.as_ref()?;
-        let place = place_of(&loaded.contents.operations, key)?;
+        let place = row_place(&loaded.contents.operations, key)?;
         Some(op_view(loaded, place))
     }
 
@@ -35,7 +35,7 @@ impl Plan {
         ensures view { IfSome result (λ v. (v.key ≡ key.now) × IsOccView self.now.plan v) }
     {
         let loaded = self.loaded.as_ref()?;
-        let place = occurrence_place(&loaded.contents.occurrences, key)?;
+        let place = row_place(&loaded.contents.occurrences, key)?;
         Some(occ_view(loaded, place))
     }
 

@@ -5,7 +5,7 @@ ghost use Rattle.plan_core.specs.Views.{ready_from, AreEntriesOf};
 
 use super::views::{OpView, op_view};
 use plan_checks::LoadedPlan;
-use plan_records::known_place;
+use plan_records::known_row;
 use ready_list::ReadyEntry;
 use std::marker::Model;
 
@@ -58,7 +58,7 @@ impl<'a> Iterator for Ready<'a> {
         }
         let key = self.entries[place].key.op;
         self.place = place + 1;
-        let row = known_place(&self.loaded.contents.operations, &key);
+        let row = known_row(&self.loaded.contents.operations, &key);
         Some(op_view(self.loaded, row))
     }
 }

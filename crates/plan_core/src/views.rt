@@ -5,7 +5,7 @@ ghost use Rattle.plan_core.specs.Views.{op_views, occ_views};
 
 use plan_basics::{Moment, OccKey, OpKey, WsName};
 use plan_checks::LoadedPlan;
-use plan_records::known_occurrence;
+use plan_records::known_row;
 use plan_status::{attribute_of, occurrence_status_with, status_with};
 use status_rules::{Mark, OccStatus, Status};
 
@@ -60,7 +60,7 @@ pub(crate) fn op_view(loaded: &LoadedPlan, place: usize) -> OpView
 {
     let (key, operation) = loaded.contents.operations[place];
     let standing = loaded.standings[place];
-    let occurrence = known_occurrence(&loaded.contents.occurrences, &key.occurrence);
+    let occurrence = known_row(&loaded.contents.occurrences, &key.occurrence);
     let attribute = attribute_of(&loaded.contents, &operation);
     let latest = loaded.latest.of(place);
     OpView {

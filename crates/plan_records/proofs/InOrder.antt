@@ -1,12 +1,13 @@
 -- Occurrences, operations and pairs of a plan, as they are said and in key order.
-use Rattle.std.proofs.Common.{arith, ◌≡◌, ◌↔◌, refl, true≢false, IsTrue, Option, is_some, sym, subst, ap, ap₂, ◌∙◌, ℕ, ◌<◌, ◌≤◌, true, false, List, map, length, All, Contains, Some, None, unwrap_or}
-use Rattle.std.specs.Prelude.{MatchOption}
+use Rattle.std.proofs.Common.{arith, ◌≡◌, ◌↔◌, refl, true≢false, IsTrue, Option, is_some, sym, subst, ap, ap₂, ◌∙◌, ℕ, ◌<◌, ◌≤◌, true, false, List, [], ◌∷◌, map, length, inl, inr, All, Contains, Some, None, unwrap_or}
+use Rattle.std.specs.Prelude.{◌≢◌, MatchOption}
+use Rattle.std.specs.List.{AllPairs}
 use Rattle.std.specs.List.Sorted.{IsPermutation, IsStrictlySortedBy}
 use Rattle.std.specs.Map.{keys_of}
 use Rattle.std.specs.FinMap.{get, contains_key, from_entries}
 use Rattle.std.specs.FinSet as set
 use Rattle.std.specs.Ordering.{eq_by_cmp}
-use Rattle.std.proofs.lemmas.List.Elements.{All-contains, All-weaker}
+use Rattle.std.proofs.lemmas.List.Elements.{All-contains, All-head, All-tail, All-weaker}
 use Rattle.std.proofs.lemmas.List.Sorted.{IsPermutation-sym, Contains-permutation, list_any-IsPermutation}
 use Rattle.plan_basics.specs.declared.keys.OccKey.{OccKey}
 use Rattle.plan_basics.specs.declared.keys.OpKey.{OpKey}
@@ -19,21 +20,15 @@ use Rattle.plan_model.specs.Valid.{IsAcyclic}
 use Rattle.plan_model.specs.declared.Occurrence.{Occurrence}
 use Rattle.plan_graph.specs.PlanGraphs.{AreAmong}
 use Rattle.plan_items.specs.declared.OperationItem.{OperationItem}
-use Rattle.plan_records.specs.Loading.{Fits, AreOccurrencesInOrder, AreOperations, EachHasOperation, AreRowsOf, IsPairIn, ArePairsInOrder, keys_said, needs_of, occurrence_of, operation_of, row_of, terms_of}
-use Rattle.plan_records.proofs.Keyed.{apart_by, all_apart, key_to_row, row_to_key, said_apart}
-use Rattle.plan_records.proofs.Lists.{all_by_members, in_map, from_map}
+use Rattle.plan_records.specs.Loading.{Fits, IsOneOf, BelongsTo, AreOperations, EachHasOperation, AreRowsOf, IsPairIn, ArePairsInOrder, keys_said, needs_of, occurrence_of, operation_of, row_of, terms_of}
+use Rattle.plan_records.proofs.Keyed.{key_to_row, row_to_key, said_apart}
+use Rattle.plan_records.proofs.Lists.{all_by_members, contains_cases, contains_head, contains_none, in_map, from_map}
 use Rattle.plan_records.proofs.Pairs.{pair_cmp_total, pair_cmp-IsAntisymmetric}
+use Rattle.plan_records.proofs.RowPlaces.{get_at}
 use Rattle.plan_records.proofs.Tables.{no_some, in_set, key_found}
 use Rattle.plan_records.proofs.Terms.{found_key, terms_there}
-use Rattle.plan_records.specs.Adding.{new_row}
-
--- ---- occurrences
-pub occurrences_are :
-    (said ordered : List (OccKey × Occurrence)) → 0 < length said → length said ≤ 5000 → IsPermutation said ordered →
-    IsStrictlySortedBy occurrence_cmp (keys_of ordered) → AreOccurrencesInOrder said ordered
-occurrences_are said ordered some few same up =
-    let apart = apart_by occurrence_cmp_total occurrence_cmp-IsAntisymmetric (λ (row : OccKey × Occurrence). row.0) said ordered same up in
-    record { are = record { some = some; few = few; distinct = apart }; same = same; in_order = up }
+use Rattle.plan_records.specs.Adding.{ComesWith, new_row}
+use Rattle.plan_records.specs.Sorting.{AreInKeyOrder}
 
 -- ---- the row of an operation
 
@@ -59,23 +54,58 @@ row_made occurrences needs said terms due own e is own_is =
     let found = ap (λ o. unwrap_or said.deadline (due_of (unwrap_or o (record { priority = 0; deadline = 0 })))) e in
     ap₂ (λ d u. (said.key, operation_with said d u)) (is ∙ sym found) own_is
 
--- what its row tells of an operation whose occurrence and workstation are there
+-- what its row tells of an operation whose occurrence is there
 pub row_told :
-    (names : List Name) (occurrences : Terms) (needs : Wants) (said : OperationItem) (terms : Occurrence) (found : Option (OpKey × Operation)) → Contains names said.workstation →
+    (occurrences : Terms) (needs : Wants) (said : OperationItem) (terms : Occurrence) (found : Option (OpKey × Operation)) →
     get {R = occurrence_cmp} (from_entries occurrences) said.key.occurrence ≡ Some terms →
     MatchOption found (16 < length (needs_of said.key needs)) (λ row. (length (needs_of said.key needs) ≤ 16) × (row ≡ new_row terms needs said)) →
-    MatchOption found (¬ Fits names occurrences needs said) (λ row. Fits names occurrences needs said × (row ≡ row_of occurrences needs said))
-row_told names occurrences needs said terms None named e many = λ fits. let few = fits.few_needs in absurd (omega (arith, many, few))
-row_told names occurrences needs said terms (Some row) named e own = (
-  record { workstation = named; occurrence = found_key occurrences said.key.occurrence terms e; few_needs = own.0 },
+    MatchOption found (¬ BelongsTo occurrences needs said) (λ row. BelongsTo occurrences needs said × (row ≡ row_of occurrences needs said))
+row_told occurrences needs said terms None e many = λ belongs. let few = belongs.few_needs in absurd (omega (arith, many, few))
+row_told occurrences needs said terms (Some row) e own = (
+  record { occurrence = found_key occurrences said.key.occurrence terms e; few_needs = own.0 },
   own.1 ∙ row_made occurrences needs said terms (unwrap_or said.deadline terms.deadline) (usages_of (needs_of said.key needs)) e refl refl,
 )
 
--- an operation of no occurrence doesn't fit
+-- an operation of no occurrence belongs to none
 pub unknown :
-    (names : List Name) (occurrences : Terms) (needs : Wants) (said : OperationItem) → IsStrictlySortedBy occurrence_cmp (keys_of occurrences) →
-    None ≡ get {R = occurrence_cmp} (from_entries occurrences) said.key.occurrence → ¬ Fits names occurrences needs said
-unknown names occurrences needs said up e fits = no_some _ (e ∙ terms_there occurrences up said.key.occurrence fits.occurrence)
+    (occurrences : Terms) (needs : Wants) (said : OperationItem) → IsStrictlySortedBy occurrence_cmp (keys_of occurrences) →
+    None ≡ get {R = occurrence_cmp} (from_entries occurrences) said.key.occurrence → ¬ BelongsTo occurrences needs said
+unknown occurrences needs said up e belongs = no_some _ (e ∙ terms_there occurrences up said.key.occurrence belongs.occurrence)
+
+-- what fits is of one of the workstations, and belongs to one of the occurrences
+pub fitting :
+    (names : List Name) (occurrences : Terms) (needs : Wants) (said : List OperationItem) → All (IsOneOf names) said → All (BelongsTo occurrences needs) said →
+    All (Fits names occurrences needs) said
+fitting names occurrences needs said named belong = λ k d lt. let is = belong k d lt in record { workstation = named k d lt; occurrence = is.occurrence; few_needs = is.few_needs }
+
+pub named : (names : List Name) (occurrences : Terms) (needs : Wants) (said : List OperationItem) → All (Fits names occurrences needs) said → All (IsOneOf names) said
+named names occurrences needs said fit = λ k d lt. (fit k d lt).workstation
+
+pub belonging : (names : List Name) (occurrences : Terms) (needs : Wants) (said : List OperationItem) → All (Fits names occurrences needs) said → All (BelongsTo occurrences needs) said
+belonging names occurrences needs said fit = λ k d lt. let is = fit k d lt in record { occurrence = is.occurrence; few_needs = is.few_needs }
+
+-- ---- the rows of a sole occurrence
+module _ (c : OccKey) (terms : Occurrence) (needs : Wants) where
+  abbrev Sole : Terms
+  Sole = (c, terms) ∷ []
+
+  pub sole_in_order : IsStrictlySortedBy occurrence_cmp (keys_of Sole)
+  unfolding IsStrictlySortedBy
+  sole_in_order = (tt, tt)
+
+  pub comes : (said : OperationItem) → BelongsTo Sole needs said → ComesWith c needs said
+  comes said is = record { occurrence = elim (contains_cases c [] said.key.occurrence is.occurrence) [ inl e ↦ sym e | inr none ↦ absurd (contains_none _ none) ]; few_needs = is.few_needs }
+
+  pub belongs : (said : OperationItem) → ComesWith c needs said → BelongsTo Sole needs said
+  belongs said is = record { occurrence = subst (Contains (c ∷ [])) (sym is.occurrence) (contains_head c []); few_needs = is.few_needs }
+
+  -- they are as of an occurrence that comes in
+  pub sole_rows : (said : List OperationItem) → All (BelongsTo Sole needs) said → map (row_of Sole needs) said ≡ map (new_row terms needs) said
+  sole_rows [] come = refl
+  sole_rows (s ∷ said) come =
+      let is = (comes s (All-head (BelongsTo Sole needs) s said come)).occurrence in
+      let own : terms_of Sole s.key.occurrence ≡ terms = ap (terms_of Sole) is ∙ ap (λ o. unwrap_or o (record { priority = 0; deadline = 0 })) (get_at occurrence_cmp occurrence_cmp_total occurrence_cmp-IsAntisymmetric Sole sole_in_order 0 c terms refl) in
+      ap₂ (λ t rows. new_row t needs s ∷ rows) own (sole_rows said (All-tail (BelongsTo Sole needs) s said come))
 
 -- ---- rows of operations
 -- an operation as its record says, with the terms of that one of these occurrences that it belongs to
@@ -91,19 +121,19 @@ has_over ks ls occurrences all has = All-weaker (λ row. Contains (map occurrenc
 
 pub rows_are :
     (names : List Name) (occurrences : Terms) (needs : Wants) (said : List OperationItem) (rows : List (OpKey × Operation)) → length said ≤ 20000 →
-    All (Fits names occurrences needs) said → IsPermutation (map (row_of occurrences needs) said) rows → IsStrictlySortedBy operation_cmp (keys_of rows) →
+    All (Fits names occurrences needs) said → AreInKeyOrder operation_cmp (λ row. row.0) (map (row_of occurrences needs) said) rows →
     EachHasOperation (keys_of rows) occurrences → AreRowsOf names occurrences needs said rows
-rows_are names occurrences needs said rows few fit same up has =
+rows_are names occurrences needs said rows few fit ordered has =
     let make = operation_in occurrences needs in
     record {
       operations = record {
         few = few;
         fit = fit;
-        distinct = said_apart (λ (s : OperationItem). s.key) make said rows same operation_cmp_total operation_cmp-IsAntisymmetric up;
-        not_empty = has_over (keys_of rows) (keys_said said) occurrences (row_to_key (λ (s : OperationItem). s.key) make said rows same) has;
+        distinct = said_apart (λ (s : OperationItem). s.key) make said ordered.distinct;
+        not_empty = has_over (keys_of rows) (keys_said said) occurrences (row_to_key (λ (s : OperationItem). s.key) make said rows ordered.same) has;
       };
-      same = same;
-      in_order = up;
+      same = ordered.same;
+      in_order = ordered.in_order;
     }
 
 -- where the rows' keys leave out an occurrence, so do those that are said
@@ -145,12 +175,13 @@ module _ (keys : List OpKey) (pairs ordered : List Pair) (same : IsPermutation p
       set.contains-from_list pair_cmp_total pairs q ∙ list_any-IsPermutation (eq_by_cmp pair_cmp q) pairs ordered same ∙ sym (set.contains-from_list pair_cmp_total ordered q))
 
   pub pairs_are :
-      length pairs ≤ 100000 → All (IsPairIn keys) pairs → IsStrictlySortedBy pair_cmp ordered → IsAcyclic (set.from_list ordered) → ArePairsInOrder keys pairs ordered
-  pairs_are few within up acyclic = record {
+      length pairs ≤ 100000 → All (IsPairIn keys) pairs → AllPairs (λ a b. a ≢ b) pairs → IsStrictlySortedBy pair_cmp ordered → IsAcyclic (set.from_list ordered) →
+      ArePairsInOrder keys pairs ordered
+  pairs_are few within distinct up acyclic = record {
     are = record {
       few = few;
       within = within;
-      distinct = all_apart pair_cmp_total pair_cmp-IsAntisymmetric pairs ordered same up;
+      distinct = distinct;
       acyclic = subst IsAcyclic (sym same_pairs) acyclic;
     };
     same = same;

@@ -1,7 +1,8 @@
 -- What is sorted by a key, and told apart by it.
-use Rattle.std.proofs.Common.{◌≡◌, ◌≢◌, ◌↔◌, refl, sym, subst, ap, ◌∙◌, ℕ, true, false, true≢false, cond, IsTrue, List, map, slice_get, Contains, Option, Some, None, is_some, IfSome, IsNone}
+use Rattle.std.proofs.Common.{◌≡◌, ◌≢◌, ◌↔◌, refl, sym, subst, ap, ◌∙◌, ℕ, true, false, true≢false, cond, IsTrue, List, map, slice_get, Contains, Option, Some, None, is_some, IfSome, IsNone, Result, Ok, Err}
+use Rattle.std.specs.Prelude.{IfOk, MatchOption}
 use Rattle.std.specs.List.{AllPairs, filter_map}
-use Rattle.std.specs.List.Sorted.{IsPermutation, IsSorted, IsSortedByKey, IsStrictlySortedBy}
+use Rattle.std.specs.List.Sorted.{IsPermutation, IsSortedByKey, IsStrictlySortedBy}
 use Rattle.std.specs.Ordering.{eq_by_cmp}
 use Rattle.std.specs.Map.{keys_of}
 use Rattle.std.specs.declared.cmp.Ordering.{Ordering}
@@ -11,7 +12,7 @@ use Rattle.std.proofs.lemmas.List.Sorted.{IsPermutation-sym, Contains-permutatio
 use Rattle.std.proofs.lemmas.Option.{slice_get_within, get_or_from_slice_get}
 use Rattle.plan_records.proofs.Lists.{in_map, from_map, in_filter, from_filter, differ_from_pairs, pairs_from_differ, differ_map, differ_unmap}
 use Rattle.plan_records.proofs.Tables.{sorted_apart, rows_apart, get_row, same_some, no_some, itself, same_key, other_key}
-use Rattle.plan_records.proofs.Orders.{differ_permuted, strict_from_sorted, map_same}
+use Rattle.plan_records.proofs.Orders.{differ_permuted, strict_from_sorted}
 
 module _ {K X : Type 0} {R : K → K → Ordering} (total : IsTotalOrder R) (exact : IsAntisymmetric R) (key : X → K) (said ordered : List X) (same : IsPermutation said ordered) where
   -- what is sorted by a key, no two of one key, ascends
@@ -24,41 +25,38 @@ module _ {K X : Type 0} {R : K → K → Ordering} (total : IsTotalOrder R) (exa
       pairs_from_differ (λ a b. key a ≢ key b) said (differ_permuted total exact key ordered said (IsPermutation-sym said ordered same)
       (differ_unmap key (λ a b. a ≢ b) ordered (sorted_apart total exact (map key ordered) up)))
 
--- the same of what is its own key
-module _ {K : Type 0} {R : K → K → Ordering} (total : IsTotalOrder R) (exact : IsAntisymmetric R) (said ordered : List K) (same : IsPermutation said ordered) where
-  pub ascend : IsSorted R ordered → AllPairs (λ a b. a ≢ b) said → IsStrictlySortedBy R ordered
-  ascend sorted apart = subst (IsStrictlySortedBy R) (map_same ordered) (ascend_by total exact (λ (k : K). k) said ordered same sorted apart)
+-- what is answered of P and A, answered of what follows from them
+pub answered : {V E P Q : Type 0} {A B : V → Type 0} (r : Result (Option V) E) → (Q → P) → ((v : V) → A v → B v) → IfOk r (λ found. MatchOption found (¬ P) A) → IfOk r (λ found. MatchOption found (¬ Q) B)
+answered (Ok (Some v)) none some h = some v h
+answered (Ok None) none some h = λ q. h (none q)
+answered (Err e) none some h = tt
 
-  pub all_apart : IsStrictlySortedBy R ordered → AllPairs (λ a b. a ≢ b) said
-  all_apart up = apart_by total exact (λ (k : K). k) said ordered same (subst (IsStrictlySortedBy R) (sym (map_same ordered)) up)
-
--- ---- rows that are made of what is said, each under its key, in any order
-module _ {S K X : Type 0} (key : S → K) (make : S → X) (said : List S) (rows : List (K × X)) (same : IsPermutation (map (λ s. (key s, make s)) said) rows) where
+-- ---- rows that are made of what is said, each under its key
+module _ {S K X : Type 0} (key : S → K) (make : S → X) (said : List S) where
   abbrev row : S → K × X
   row s = (key s, make s)
 
-  -- the keys that are said and those of the rows are the same
-  pub key_to_row : (k : K) → Contains (map key said) k → Contains (keys_of rows) k
-  key_to_row k has =
-      let s = from_map key said k has in
-      subst (Contains (keys_of rows)) s.2 (in_map (λ (r : K × X). r.0) rows (row s.0) (Contains-permutation (map row said) rows (row s.0) same (in_map row said s.0 s.1)))
+  -- no two rows have one key where no two that are said do
+  pub made_apart : AllPairs (λ a b. key a ≢ key b) said → AllPairs (λ a b. a.0 ≢ b.0) (map row said)
+  made_apart apart = pairs_from_differ (λ a b. a.0 ≢ b.0) (map row said) (differ_map row (λ a b. a.0 ≢ b.0) said (differ_from_pairs (λ a b. key a ≢ key b) said apart))
 
-  pub row_to_key : (k : K) → Contains (keys_of rows) k → Contains (map key said) k
-  row_to_key k has =
-      let r = from_map (λ (r : K × X). r.0) rows k has in
-      let s = from_map row said r.0 (Contains-permutation rows (map row said) r.0 (IsPermutation-sym (map row said) rows same) r.1) in
-      subst (Contains (map key said)) (ap (λ (r : K × X). r.0) s.2 ∙ r.2) (in_map key said s.0 s.1)
+  -- and the way back
+  pub said_apart : AllPairs (λ a b. a.0 ≢ b.0) (map row said) → AllPairs (λ a b. key a ≢ key b) said
+  said_apart apart = pairs_from_differ (λ a b. key a ≢ key b) said (differ_unmap row (λ a b. a.0 ≢ b.0) said (differ_from_pairs (λ a b. a.0 ≢ b.0) (map row said) apart))
 
-  module _ {R : K → K → Ordering} (total : IsTotalOrder R) (exact : IsAntisymmetric R) where
-    pub rows_ascend : IsSortedByKey (λ r. r.0) R rows → AllPairs (λ a b. key a ≢ key b) said → IsStrictlySortedBy R (keys_of rows)
-    rows_ascend sorted apart =
-        ascend_by total exact (λ (r : K × X). r.0) (map row said) rows same sorted
-        (pairs_from_differ (λ a b. a.0 ≢ b.0) (map row said) (differ_map row (λ a b. a.0 ≢ b.0) said (differ_from_pairs (λ a b. key a ≢ key b) said apart)))
+  -- they stand in any order
+  module _ (rows : List (K × X)) (same : IsPermutation (map row said) rows) where
+    -- the keys that are said and those of the rows are the same
+    pub key_to_row : (k : K) → Contains (map key said) k → Contains (keys_of rows) k
+    key_to_row k has =
+        let s = from_map key said k has in
+        subst (Contains (keys_of rows)) s.2 (in_map (λ (r : K × X). r.0) rows (row s.0) (Contains-permutation (map row said) rows (row s.0) same (in_map row said s.0 s.1)))
 
-    pub said_apart : IsStrictlySortedBy R (keys_of rows) → AllPairs (λ a b. key a ≢ key b) said
-    said_apart up =
-        let apart = apart_by total exact (λ (r : K × X). r.0) (map row said) rows same up in
-        pairs_from_differ (λ a b. key a ≢ key b) said (differ_unmap row (λ a b. a.0 ≢ b.0) said (differ_from_pairs (λ a b. a.0 ≢ b.0) (map row said) apart))
+    pub row_to_key : (k : K) → Contains (keys_of rows) k → Contains (map key said) k
+    row_to_key k has =
+        let r = from_map (λ (r : K × X). r.0) rows k has in
+        let s = from_map row said r.0 (Contains-permutation rows (map row said) r.0 (IsPermutation-sym (map row said) rows same) r.1) in
+        subst (Contains (map key said)) (ap (λ (r : K × X). r.0) s.2 ∙ r.2) (in_map key said s.0 s.1)
 
 -- ---- what is said of one key
 -- what a row says, if it is of that key

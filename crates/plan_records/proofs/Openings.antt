@@ -11,8 +11,9 @@ use Rattle.plan_basics.specs.Intervals.{OpenInterval}
 use Rattle.workstations.specs.Timetables.{NamedWorkstation}
 use Rattle.workstations.specs.Workstations.{Workstation}
 use Rattle.plan_records.specs.Loading.{own_interval, intervals_of, CanOpen, opened_in, AreOfThese, AreWorkstations, AreWorkstationsInOrder}
+use Rattle.plan_records.specs.Sorting.{AreInKeyOrder}
 use Rattle.plan_records.proofs.Lists.{all_by_members}
-use Rattle.plan_records.proofs.Keyed.{apart_by, key_to_row, row_to_key, own_is, own_not}
+use Rattle.plan_records.proofs.Keyed.{key_to_row, row_to_key, own_is, own_not}
 
 -- ---- the intervals of one workstation
 filter_map_next :
@@ -74,20 +75,20 @@ module _ (intervals : List (Name × OpenInterval)) where
       none (all_by_members (λ y. Contains (keys_of opened) y.0) intervals (λ y has. key_to_row (λ (row : Name × Attr). row.0) (station_in intervals) said opened moved y.0 (All-contains (λ z. Contains (keys_of said) z.0) intervals y are.no_others has)))
 
   pub stations_are :
-      (said rows : List (Name × Attr)) (opened : List NamedWorkstation) → 0 < length said → length said ≤ 99 → IsPermutation said rows →
-      IsStrictlySortedBy name_cmp (keys_of rows) → All (CanOpen intervals) rows → opened ≡ map (opened_in intervals) rows →
-      AreOfThese (keys_of opened) intervals → AreWorkstationsInOrder said intervals opened
-  stations_are said rows opened some few same up opening is these =
+      (said rows : List (Name × Attr)) (opened : List NamedWorkstation) → 0 < length said → length said ≤ 99 → AreInKeyOrder name_cmp (λ row. row.0) said rows →
+      All (CanOpen intervals) rows → opened ≡ map (opened_in intervals) rows → AreOfThese (keys_of opened) intervals → AreWorkstationsInOrder said intervals opened
+  stations_are said rows opened some few ordered opening is these =
+      let same : IsPermutation said rows = ordered.same in
       let back : IsPermutation rows said = IsPermutation-sym said rows same in
       let moved : IsPermutation (map (opened_in intervals) said) opened = subst (IsPermutation (map (opened_in intervals) said)) (sym is) (IsPermutation-map (opened_in intervals) said rows same) in
       record {
         are = record {
           some = some;
           few = few;
-          distinct = apart_by name_cmp_total name_cmp-IsAntisymmetric (λ (row : Name × Attr). row.0) said rows same up;
+          distinct = ordered.distinct;
           opening = opening_permuted rows said back opening;
           no_others = all_by_members (λ y. Contains (keys_of said) y.0) intervals (λ y has. row_to_key (λ (row : Name × Attr). row.0) (station_in intervals) said opened moved y.0 (All-contains (λ z. Contains (keys_of opened) z.0) intervals y these has));
         };
         same = moved;
-        in_order = opened_ascend rows opened is up;
+        in_order = opened_ascend rows opened is ordered.in_order;
       }

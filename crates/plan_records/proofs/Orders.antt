@@ -8,12 +8,13 @@ use Rattle.std.specs.declared.cmp.Ordering.TheVariants.{Less, Equal, Greater}
 use Rattle.std.specs.Ordering.{eq_by_cmp, is_lt, ordering_reverse}
 use Rattle.std.specs.Cmp.{IsTotalOrder, tied_itself, eq_by_cmp_equiv}
 use Rattle.std.specs.FinMap.{IsAntisymmetric}
+use Rattle.std.proofs.lemmas.List.{length-map}
 use Rattle.std.proofs.lemmas.List.Elements.{All-contains, recursion_from_All, All-from_recursion}
 use Rattle.std.proofs.lemmas.List.Sorted.{ranks_by, sorted_far, searchable_from_sorted, IsPermutation-map}
 use Rattle.std.proofs.lemmas.Map.Keys.{IsDistinct-IsPermutation, Less-from_sorted, sorted_from_all_adjacent}
 use Rattle.plan_records.proofs.Lists.{all_by_members, in_map, from_map, Differ, differ_map, differ_unmap}
 use Rattle.std.proofs.lemmas.Option.{get_or_from_slice_get}
-use Rattle.plan_records.proofs.RowPlaces.{row_at}
+use Rattle.plan_records.proofs.RowPlaces.{neighbours, next_less, row_at}
 use Rattle.plan_records.proofs.Tables.{other_key, itself}
 
 pub map_same : {X : Type 0} (xs : List X) → map (λ x. x) xs ≡ xs
@@ -21,24 +22,27 @@ map_same [] = refl
 map_same (x ∷ xs) = ap (λ ys. x ∷ ys) (map_same xs)
 
 module _ {K : Type 0} {R : K → K → Ordering} (total : IsTotalOrder R) where
-  ascends_when : (xs : List K) → (k : ℕ) × (k + 1 < length xs) × ((d : K) → false ≡ is_lt (R (get_or xs k d) (get_or xs (k + 1) d))) → IsStrictlySortedBy R xs → ⊥
-  ascends_when [] (k, lt, f) up = omega arith
-  ascends_when (x ∷ xs) (k, lt, f) up = true≢false (ap is_lt (sym (Less-from_sorted R (x ∷ xs) k (k + 1) x up (omega arith) lt)) ∙ sym (f x))
-
   is_less : (o : Ordering) → true ≡ is_lt o → o ≡ Less
   is_less Less e = refl
   is_less Equal e = absurd (true≢false e)
   is_less Greater e = absurd (true≢false e)
 
-  ascends_then : (xs : List K) → ((k : ℕ) (d : K) → k + 1 < length xs → true ≡ is_lt (R (get_or xs k d) (get_or xs (k + 1) d))) → IsStrictlySortedBy R xs
-  unfolding IsStrictlySortedBy
-  ascends_then [] h = tt
-  ascends_then (x ∷ xs) h = sorted_from_all_adjacent total (x ∷ xs) x (λ k lt. is_less _ (h k x lt))
+  module _ {X : Type 0} (key : X → K) where
+    ascends_when : (xs : List X) → (k : ℕ) × (k + 1 < length xs) × ((d : X) → false ≡ is_lt (R (key (get_or xs k d)) (key (get_or xs (k + 1) d)))) → IsStrictlySortedBy R (map key xs) → ⊥
+    ascends_when [] (k, lt, f) up = omega arith
+    ascends_when (x ∷ xs) (k, lt, f) up = true≢false (ap is_lt (sym (next_less R key (x ∷ xs) up k x lt)) ∙ sym (f x))
 
-  -- a test of neighbours tells whether a list ascends
-  pub ascends_told : (xs : List K) (r : Bool) → IsAllAdjacentAnswer (λ x y b. b ≡ is_lt (R x y)) xs r → IsTrue r ↔ IsStrictlySortedBy R xs
-  ascends_told xs true h = (λ _. ascends_then xs h, λ _. refl)
-  ascends_told xs false h = (λ e. absurd (true≢false (sym e)), λ up. absurd (ascends_when xs h up))
+    ascends_then : (xs : List X) → ((k : ℕ) (d : X) → k + 1 < length xs → true ≡ is_lt (R (key (get_or xs k d)) (key (get_or xs (k + 1) d)))) → IsStrictlySortedBy R (map key xs)
+    unfolding IsStrictlySortedBy
+    ascends_then [] h = tt
+    ascends_then (x ∷ xs) h = sorted_from_all_adjacent total (map key (x ∷ xs)) (key x) (λ k lt.
+        let high : k + 1 < length (x ∷ xs) = omega (arith, lt, length-map (x ∷ xs) key) in
+        neighbours R key (x ∷ xs) k x high ∙ is_less _ (h k x high))
+
+    -- a test of neighbours tells whether the keys ascend
+    pub ascends_told : (xs : List X) (r : Bool) → IsAllAdjacentAnswer (λ x y b. b ≡ is_lt (R (key x) (key y))) xs r → IsTrue r ↔ IsStrictlySortedBy R (map key xs)
+    ascends_told xs true h = (λ _. ascends_then xs h, λ _. refl)
+    ascends_told xs false h = (λ e. absurd (true≢false (sym e)), λ up. absurd (ascends_when xs h up))
 
   sorted_from_strict : (xs : List K) → IsStrictlySortedBy R xs → IsSortedBy (λ a b. is_lt (R a b)) xs
   sorted_from_strict xs up = λ k d low high. ap is_lt (total.antisymm (get_or xs (k + 1) d) (get_or xs k d) ∙ ap ordering_reverse (Less-from_sorted R xs k (k + 1) d up (omega arith) high))

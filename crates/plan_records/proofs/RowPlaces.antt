@@ -1,5 +1,5 @@
 -- Rows in key order, and the map that they are.
-use Rattle.std.proofs.Common.{◌≡◌, inl, inr, refl, sym, ap, subst, ◌∙◌, true≢false, arith, ℕ, zero, suc, ◌+◌, ◌<◌, Bool, true, false, cond, List, [], ◌∷◌, length, get_or, slice_get, Option, Some, None, option_map, Result, Ok, Err, IfSome, IsNone}
+use Rattle.std.proofs.Common.{◌≡◌, inl, inr, refl, sym, ap, ap₂, subst, ◌∙◌, true≢false, arith, ℕ, zero, suc, ◌+◌, ◌<◌, Bool, true, false, cond, List, [], ◌∷◌, map, length, get_or, slice_get, Option, Some, None, option_map, Result, Ok, Err, IfSome, IsNone}
 use Rattle.std.specs.Result.{result_ok}
 use Rattle.std.specs.Option.{is_some}
 use Rattle.std.specs.List.{AllByRecursion}
@@ -17,6 +17,15 @@ use Rattle.std.proofs.lemmas.Option.{slice_get_cases, slice_get_within, get_or_f
 use Rattle.std.proofs.lemmas.Bool.{cases_lt}
 use Rattle.plan_model.specs.Revise.{get-revise, revise}
 use Rattle.plan_records.proofs.MadeEntries.{each_made, find-made, key_of}
+
+-- how two keys that stand beside one another are ordered
+module _ {K X : Type 0} (R : K → K → Ordering) (key : X → K) (xs : List X) where
+  pub neighbours : (k : ℕ) (d : X) → k + 1 < length xs → R (get_or (map key xs) k (key d)) (get_or (map key xs) (k + 1) (key d)) ≡ R (key (get_or xs k d)) (key (get_or xs (k + 1) d))
+  neighbours k d high = ap₂ R (get_or-map key xs k d (key d) (omega (arith, high))) (get_or-map key xs (k + 1) d (key d) high)
+
+  -- in keys that ascend, each is below the next
+  pub next_less : IsStrictlySortedBy R (map key xs) → (k : ℕ) (d : X) → k + 1 < length xs → R (key (get_or xs k d)) (key (get_or xs (k + 1) d)) ≡ Less
+  next_less up k d high = sym (neighbours k d high) ∙ Less-from_sorted R (map key xs) k (k + 1) (key d) up (omega arith) (omega (arith, high, length-map xs key))
 
 not_equal : (r : Ordering) → r ≡ Less → is_eq r ≡ false
 not_equal Less h = refl
@@ -109,13 +118,7 @@ not_after Greater h = cc
 
 module _ {K X : Type 0} (R : K → K → Ordering) (o : IsTotalOrder R) (same : IsAntisymmetric R) (rows : List (K × X)) (sorted : IsStrictlySortedBy R (keys_of rows)) (k : K) where
   in_order : IsSortedBy (λ a b. is_lt (R a.0 b.0)) rows
-  in_order i d low high =
-      let before : i < length rows = omega (arith, high) in
-      let less : R (get_or (keys_of rows) i d.0) (get_or (keys_of rows) (i + 1) d.0) ≡ Less = Less-from_sorted R (keys_of rows) i (i + 1) d.0 sorted (omega arith) (omega (arith, high, length-map rows (λ (row : K × X). row.0))) in
-      let at : get_or (keys_of rows) i d.0 ≡ (get_or rows i d).0 = get_or-map (λ (row : K × X). row.0) rows i d d.0 before in
-      let next : get_or (keys_of rows) (i + 1) d.0 ≡ (get_or rows (i + 1) d).0 = get_or-map (λ (row : K × X). row.0) rows (i + 1) d d.0 high in
-      let up : R (get_or rows i d).0 (get_or rows (i + 1) d).0 ≡ Less = subst (λ z. R z (get_or rows (i + 1) d).0 ≡ Less) at (subst (λ z. R (get_or (keys_of rows) i d.0) z ≡ Less) next less) in
-      ap is_lt (o.antisymm (get_or rows (i + 1) d).0 (get_or rows i d).0) ∙ not_after _ up
+  in_order i d low high = ap is_lt (o.antisymm (get_or rows (i + 1) d).0 (get_or rows i d).0) ∙ not_after _ (next_less R (λ (row : K × X). row.0) rows sorted i d high)
 
   at_place : (i : ℕ) → i < length rows → ((d : K × X) → R (get_or rows i d).0 k ≡ Equal) → (v : X) × (slice_get rows i ≡ Some (k, v))
   at_place i lt h = elim (slice_get_cases rows i).1 [

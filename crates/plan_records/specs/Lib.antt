@@ -10,6 +10,7 @@ pub mod Rows
 pub mod Work
 pub mod Laws
 pub mod Records
+pub mod Sorting
 pub mod Loading
 pub mod Adding
 pub mod Receipts

@@ -22,6 +22,7 @@ use Rattle.std.specs.List.Sorted.{IsPermutation, IsStrictlySortedBy}
 use Rattle.std.specs.Map.{keys_of}
 use Rattle.plan_records.specs.declared.contents.PlanContents.{PlanContents}
 use Rattle.plan_records.specs.Contents.{AreContents}
+use Rattle.plan_records.specs.Sorting.{AreInKeyOrder}
 use Rattle.plan_items.specs.declared.Item.TheVariants as item
 use Rattle.plan_items.specs.declared.OperationItem.{OperationItem}
 
@@ -94,6 +95,15 @@ row_of occurrences needs said = (said.key, operation_of (terms_of occurrences sa
 -- the occurrence of an operation
 abbrev pub occurrence_of : OpKey → OccKey
 occurrence_of o = o.occurrence
+
+-- an operation of one of these workstations
+abbrev pub IsOneOf : List Name → OperationItem → Type 0
+IsOneOf names said = Contains names said.workstation
+
+-- an operation of one of these occurrences, which has 16 of these needs at most
+pub record BelongsTo (occurrences : List (OccKey × Occurrence)) (needs : List (OpKey × Need)) (said : OperationItem) : Type 0 where
+  pub occurrence : Contains (keys_of occurrences) said.key.occurrence
+  pub few_needs : length (needs_of said.key needs) ≤ 16
 
 -- an operation of one of these workstations and of one of these occurrences, which has 16 of these needs at most
 pub record Fits (names : List Name) (occurrences : List (OccKey × Occurrence)) (needs : List (OpKey × Need)) (said : OperationItem) : Type 0 where
@@ -203,10 +213,8 @@ pub record AreResourcesInOrder (said ordered : List (Name × Bool)) : Type 0 whe
   pub in_order : IsStrictlySortedBy name_cmp (keys_of ordered)
 
 -- the needs by operation and then resource
-pub record AreNeedsInOrder (said ordered : List (OpKey × Need)) : Type 0 where
-  pub distinct : AllPairs (λ a b. need_key a ≢ need_key b) said
-  pub same : IsPermutation said ordered
-  pub in_order : IsStrictlySortedBy need_cmp (map need_key ordered)
+abbrev pub AreNeedsInOrder : List (OpKey × Need) → List (OpKey × Need) → Type 0
+AreNeedsInOrder said ordered = AreInKeyOrder need_cmp need_key said ordered
 
 -- the occurrences in key order
 pub record AreOccurrencesInOrder (said : List (OccKey × Occurrence)) (ordered : List (OccKey × Occurrence)) : Type 0 where

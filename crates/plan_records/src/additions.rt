@@ -9,8 +9,9 @@ ghost use Rattle.plan_records.specs.Adding.{MayComeIn, ComesWith, AreNewOperatio
 
 use super::building::{needs, occurrences, operations, pairs};
 use super::contents::NewOccurrence;
-use super::in_order::{ascends, is_among, keys, planned};
+use super::in_order::{is_among, rows};
 use super::needing::needs_in_order;
+use super::sorting::{in_key_order, keys};
 use plan_basics::{OccKey, OpKey};
 use plan_items::{Item, OperationItem};
 use plan_model::{Occurrence, OperationRecord};
@@ -44,43 +45,6 @@ fn sole(said: &[(OccKey, Occurrence)]) -> Option<(OccKey, Occurrence)>
     Some(*row)
 }
 
-// The row of an operation, where it is of that occurrence and has 16 needs at most.
-fn new_operation(
-    key: &OccKey,
-    terms: &Occurrence,
-    needs: &[(OpKey, Need)],
-    said: &OperationItem,
-) -> Option<(OpKey, OperationRecord)>
-    requires { IsStrictlySortedBy need_cmp (map need_key needs.now) }
-    ensures { MatchOption result (¬ ComesWith key.now needs.now said.now) (λ row. ComesWith key.now needs.now said.now × (row ≡ new_row terms.now needs.now said.now)) }
-{
-    if said.key.occurrence != *key {
-        return None;
-    }
-    planned(terms, needs, said)
-}
-
-// The operations' rows, where each is of that occurrence and has 16 needs at most.
-fn new_rows(
-    alloc: Global,
-    key: &OccKey,
-    terms: &Occurrence,
-    needs: &[(OpKey, Need)],
-    said: &[OperationItem],
-) -> Result<Option<Vec<(OpKey, OperationRecord)>>, AllocError>
-    requires { IsStrictlySortedBy need_cmp (map need_key needs.now) }
-    ensures { IfOk result (λ found. MatchOption found (¬ All (ComesWith key.now needs.now) said.now) (λ v. All (ComesWith key.now needs.now) said.now × (v.items ≡ map (new_row terms.now needs.now) said.now))) }
-{
-    let mut rows = Vec::new(alloc);
-    for said in said {
-        let Some(row) = new_operation(key, terms, needs, said) else {
-            return Ok(None);
-        };
-        rows.push(row)?;
-    }
-    Ok(Some(rows))
-}
-
 // The operations' rows in key order, where there is one at least, each comes with the occurrence and none stands twice.
 fn new_operations(
     alloc: Global,
@@ -95,15 +59,10 @@ fn new_operations(
     if said.is_empty() {
         return Ok(None);
     }
-    let Some(mut rows) = new_rows(alloc, key, terms, needs, said)? else {
+    let Some(rows) = rows(alloc, &[(*key, *terms)], needs, said)? else {
         return Ok(None);
     };
-    rows.sort_by_key(|row| row.0)?;
-    let sorted = keys(alloc, &rows)?;
-    if !ascends(&sorted) {
-        return Ok(None);
-    }
-    Ok(Some(rows))
+    in_key_order(rows, |row| row.0)
 }
 
 // Whether each need is of one of these operations.
@@ -143,7 +102,7 @@ fn are_new_pairs(key: &OccKey, keys: &[OpKey], pairs: &[(OpKey, OpKey)]) -> bool
 fn new_pairs(
     key: &OccKey,
     keys: &[OpKey],
-    mut pairs: Vec<(OpKey, OpKey)>,
+    pairs: Vec<(OpKey, OpKey)>,
 ) -> Result<Option<Vec<(OpKey, OpKey)>>, AllocError>
     requires { IsStrictlySortedBy operation_cmp keys.now }
     ensures { IfOk result (λ found. MatchOption found (¬ AreNewPairs key.now keys.now pairs.items) (λ v. AreNewPairsInOrder key.now keys.now pairs.items v.items)) }
@@ -151,11 +110,7 @@ fn new_pairs(
     if !are_new_pairs(key, keys, &pairs) {
         return Ok(None);
     }
-    pairs.sort()?;
-    if !ascends(&pairs) {
-        return Ok(None);
-    }
-    Ok(Some(pairs))
+    in_key_order(pairs, |pair| *pair)
 }
 
 /// The occurrence whose items these are, with its operations and pairs in order; `None` where they are those of none.
@@ -169,7 +124,7 @@ pub fn parts_of(alloc: Global, items: &[Item]) -> Result<Option<NewOccurrence>, 
     let Some(occurrence) = sole(&occurrences) else {
         return Ok(None);
     };
-    let Some(needs) = needs_in_order(alloc, needs(alloc, items)?)? else {
+    let Some(needs) = needs_in_order(needs(alloc, items)?)? else {
         return Ok(None);
     };
     let said = operations(alloc, items)?;

@@ -7,9 +7,10 @@ ghost use Rattle.plan_records.specs.Records.{records_of};
 ghost use Rattle.plan_records.specs.Loading.{as_workstation, as_interval, as_occurrence, as_operation, as_pair, as_resource, as_need, CanBeLoaded, AreContentsOf};
 
 use super::contents::PlanContents;
-use super::in_order::{keys, occurrences_in_order, operations_in_order, pairs_in_order};
+use super::in_order::{occurrences_in_order, operations_in_order, pairs_in_order};
 use super::needing::{are_needs_in, needs_in_order, resources_in_order};
 use super::opening::workstations_in_order;
+use super::sorting::keys;
 use plan_basics::{Attr, Interval, OccKey, OpKey, ResName, WsName};
 use plan_items::{Item, OperationItem, read_item};
 use plan_model::Occurrence;
@@ -161,13 +162,13 @@ pub fn contents_of(alloc: Global, items: &[Item]) -> Result<Option<PlanContents>
     else {
         return Ok(None);
     };
-    let Some(resources) = resources_in_order(alloc, resources(alloc, items)?)? else {
+    let Some(resources) = resources_in_order(resources(alloc, items)?)? else {
         return Ok(None);
     };
-    let Some(occurrences) = occurrences_in_order(alloc, occurrences(alloc, items)?)? else {
+    let Some(occurrences) = occurrences_in_order(occurrences(alloc, items)?)? else {
         return Ok(None);
     };
-    let Some(needs) = needs_in_order(alloc, needs(alloc, items)?)? else {
+    let Some(needs) = needs_in_order(needs(alloc, items)?)? else {
         return Ok(None);
     };
     let said = operations(alloc, items)?;

@@ -7,7 +7,7 @@ ghost use Rattle.plan_records.specs.Contents.{plan_of, AreContents, AreValidCont
 
 use super::contents::PlanContents;
 use super::in_order;
-use super::in_order::keys;
+use super::sorting::keys;
 use operation_graph::Graph;
 use plan_graph::graph_of;
 use std::alloc::{AllocError, Global};

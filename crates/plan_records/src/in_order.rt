@@ -9,11 +9,12 @@ ghost use Rattle.plan_model.specs.Plan.{pair_cmp};
 ghost use Rattle.plan_model.specs.Valid.{IsAcyclic};
 ghost use Rattle.plan_graph.specs.PlanGraphs.{AreAmong};
 ghost use Rattle.plan_records.specs.Adding.{new_row};
-ghost use Rattle.plan_records.specs.Loading.{row_of, occurrence_of, need_cmp, need_key, needs_of, Fits, AreOccurrenceRows, AreOccurrencesInOrder, AreOperations, EachHasOperation, AreRowsOf, IsPairIn, ArePairs, ArePairsInOrder};
+ghost use Rattle.plan_records.specs.Loading.{row_of, occurrence_of, need_cmp, need_key, needs_of, IsOneOf, BelongsTo, AreOccurrenceRows, AreOccurrencesInOrder, AreOperations, EachHasOperation, AreRowsOf, IsPairIn, ArePairs, ArePairsInOrder};
 
 use super::needing::own_needs;
 use super::opening::is_named;
-use super::places::occurrence_place;
+use super::places::row_place;
+use super::sorting::{in_key_order, keys};
 use plan_basics::{OccKey, OpKey};
 use plan_graph::graph_of;
 use plan_items::OperationItem;
@@ -21,39 +22,18 @@ use plan_model::{Occurrence, OperationRecord};
 use special_resources::Need;
 use status_rules::Mark;
 use std::alloc::{AllocError, Global};
-use std::cmp::Ordering;
 use workstations::Workstation;
-
-// The rows' keys.
-pub fn keys<K: Copy, V>(alloc: Global, rows: &[(K, V)]) -> Result<Vec<K>, AllocError>
-    ensures { IfOk result (λ v. v.items ≡ keys_of rows.now) }
-{
-    rows.iter().map(|row| row.0).collect(alloc)
-}
-
-// Whether each element is below the next.
-pub fn ascends<T: Ord>(items: &[T]) -> bool
-    ensures { IsTrue result ↔ IsStrictlySortedBy T.cmp items.now }
-{
-    items.is_sorted_by(|a, b| a.cmp(b) == Ordering::Less)
-}
 
 // The occurrences in key order, where there is one at least, and none stands twice.
 pub fn occurrences_in_order(
-    alloc: Global,
-    mut said: Vec<(OccKey, Occurrence)>,
+    said: Vec<(OccKey, Occurrence)>,
 ) -> Result<Option<Vec<(OccKey, Occurrence)>>, AllocError>
     ensures { IfOk result (λ found. MatchOption found (¬ AreOccurrenceRows said.items) (λ v. AreOccurrencesInOrder said.items v.items)) }
 {
     if said.is_empty() || said.len() > 5_000 {
         return Ok(None);
     }
-    said.sort_by_key(|row| row.0)?;
-    let sorted = keys(alloc, &said)?;
-    if !ascends(&sorted) {
-        return Ok(None);
-    }
-    Ok(Some(said))
+    in_key_order(said, |row| row.0)
 }
 
 // The priority and deadline of the occurrence of a key, if it is one of these.
@@ -61,13 +41,13 @@ fn terms_of(occurrences: &[(OccKey, Occurrence)], key: &OccKey) -> Option<Occurr
     requires { IsStrictlySortedBy occurrence_cmp (keys_of occurrences.now) }
     ensures { result ≡ get {R = occurrence_cmp} (from_entries occurrences.now) key.now }
 {
-    let place = occurrence_place(occurrences, key)?;
+    let place = row_place(occurrences, key)?;
     Some(occurrences[place].1)
 }
 
 // The row of an operation whose occurrence has these terms, with its own needs, which are 16 at most: nothing is reported of
 // it, and its flags are clear.
-pub fn planned(
+fn planned(
     terms: &Occurrence,
     needs: &[(OpKey, Need)],
     said: &OperationItem,
@@ -91,46 +71,48 @@ pub fn planned(
     Some((said.key, operation))
 }
 
-// The row of an operation of one of these workstations and of one of these occurrences, with its own needs.
+// The row of an operation of one of these occurrences, with its own needs.
 fn row(
-    workstations: &[Workstation],
     occurrences: &[(OccKey, Occurrence)],
     needs: &[(OpKey, Need)],
     said: &OperationItem,
 ) -> Option<(OpKey, OperationRecord)>
-    requires named { IsStrictlySortedBy name_cmp (keys_of workstations.now) }
     requires in_order { IsStrictlySortedBy occurrence_cmp (keys_of occurrences.now) }
     requires needs { IsStrictlySortedBy need_cmp (map need_key needs.now) }
-    ensures { MatchOption result (¬ Fits (keys_of workstations.now) occurrences.now needs.now said.now) (λ row. Fits (keys_of workstations.now) occurrences.now needs.now said.now × (row ≡ row_of occurrences.now needs.now said.now)) }
+    ensures { MatchOption result (¬ BelongsTo occurrences.now needs.now said.now) (λ row. BelongsTo occurrences.now needs.now said.now × (row ≡ row_of occurrences.now needs.now said.now)) }
 {
     let terms = terms_of(occurrences, &said.key.occurrence)?;
-    if !is_named(workstations, &said.workstation) {
-        return None;
-    }
     planned(&terms, needs, said)
 }
 
-// The operations' rows, where each fits.
-fn rows(
+// The operations' rows, where each is of one of these occurrences and has 16 needs at most.
+pub fn rows(
     alloc: Global,
-    workstations: &[Workstation],
     occurrences: &[(OccKey, Occurrence)],
     needs: &[(OpKey, Need)],
     said: &[OperationItem],
 ) -> Result<Option<Vec<(OpKey, OperationRecord)>>, AllocError>
-    requires named { IsStrictlySortedBy name_cmp (keys_of workstations.now) }
     requires in_order { IsStrictlySortedBy occurrence_cmp (keys_of occurrences.now) }
     requires needs { IsStrictlySortedBy need_cmp (map need_key needs.now) }
-    ensures { IfOk result (λ found. MatchOption found (¬ All (Fits (keys_of workstations.now) occurrences.now needs.now) said.now) (λ v. All (Fits (keys_of workstations.now) occurrences.now needs.now) said.now × (v.items ≡ map (row_of occurrences.now needs.now) said.now))) }
+    ensures { IfOk result (λ found. MatchOption found (¬ All (BelongsTo occurrences.now needs.now) said.now) (λ v. All (BelongsTo occurrences.now needs.now) said.now × (v.items ≡ map (row_of occurrences.now needs.now) said.now))) }
 {
     let mut rows = Vec::new(alloc);
     for said in said {
-        let Some(row) = row(workstations, occurrences, needs, said) else {
+        let Some(row) = row(occurrences, needs, said) else {
             return Ok(None);
         };
         rows.push(row)?;
     }
     Ok(Some(rows))
+}
+
+// Whether each operation is of one of these workstations.
+fn are_named(workstations: &[Workstation], said: &[OperationItem]) -> bool
+    requires { IsStrictlySortedBy name_cmp (keys_of workstations.now) }
+    ensures { IsTrue result ↔ All (IsOneOf (keys_of workstations.now)) said.now }
+{
+    said.iter()
+        .all(|said| is_named(workstations, &said.workstation))
 }
 
 // Whether one of these operations is of an occurrence.
@@ -166,14 +148,16 @@ pub fn operations_in_order(
     if said.len() > 20_000 {
         return Ok(None);
     }
-    let Some(mut rows) = rows(alloc, workstations, occurrences, needs, said)? else {
-        return Ok(None);
-    };
-    rows.sort_by_key(|row| row.0)?;
-    let keys = keys(alloc, &rows)?;
-    if !ascends(&keys) {
+    if !are_named(workstations, said) {
         return Ok(None);
     }
+    let Some(rows) = rows(alloc, occurrences, needs, said)? else {
+        return Ok(None);
+    };
+    let Some(rows) = in_key_order(rows, |row| row.0)? else {
+        return Ok(None);
+    };
+    let keys = keys(alloc, &rows)?;
     if !each_has_operation(&keys, occurrences) {
         return Ok(None);
     }
@@ -224,7 +208,7 @@ pub fn is_acyclic(
 pub fn pairs_in_order(
     alloc: Global,
     keys: &[OpKey],
-    mut pairs: Vec<(OpKey, OpKey)>,
+    pairs: Vec<(OpKey, OpKey)>,
 ) -> Result<Option<Vec<(OpKey, OpKey)>>, AllocError>
     requires { IsStrictlySortedBy operation_cmp keys.now }
     ensures { IfOk result (λ found. MatchOption found (¬ ArePairs keys.now pairs.items) (λ v. ArePairsInOrder keys.now pairs.items v.items)) }
@@ -235,10 +219,9 @@ pub fn pairs_in_order(
     if !are_pairs_in(keys, &pairs) {
         return Ok(None);
     }
-    pairs.sort()?;
-    if !ascends(&pairs) {
+    let Some(pairs) = in_key_order(pairs, |pair| *pair)? else {
         return Ok(None);
-    }
+    };
     if !is_acyclic(alloc, keys, &pairs)? {
         return Ok(None);
     }

@@ -12,16 +12,15 @@ mod in_order;
 mod needing;
 mod opening;
 mod places;
+mod sorting;
 
 pub use building::Record;
 pub use contents::{NewOccurrence, PlanContents};
 pub use drafts::{Addition, PlanDraft};
 pub use graphs::{graph_for, is_acyclic};
-pub use places::{
-    known_occurrence, known_place, known_workstation, occurrence_place, place_of, resource_place,
-    workstation_place,
-};
+pub use places::{known_row, known_workstation, row_place, workstation_place};
 use plan_basics::{Attr, ErrCode, Interval, Moment, OccKey, OpKey, Refusal, ResName, WsName};
+pub use sorting::ExactKey;
 use special_resources::Need;
 use status_rules::{Mark, OccStatus, Status};
 

@@ -7,53 +7,30 @@ ghost use Rattle.plan_basics.specs.Keys.{name_cmp, operation_cmp};
 ghost use Rattle.special_resources.specs.Needs.{AreInNameOrder, usages_of};
 ghost use Rattle.plan_records.specs.Loading.{AreResources, AreResourcesInOrder, AreNeedsInOrder, IsNeedIn, need_cmp, need_key, needs_of};
 
-use super::in_order::{ascends, is_among, keys};
-use super::places::resource_place;
+use super::in_order::is_among;
+use super::places::row_place;
+use super::sorting::in_key_order;
 use plan_basics::{OpKey, ResName};
 use special_resources::{Need, Needs};
-use std::alloc::{AllocError, Global};
+use std::alloc::AllocError;
 
 // The special resources by name, where none stands twice.
 pub fn resources_in_order(
-    alloc: Global,
-    mut said: Vec<(ResName, bool)>,
+    said: Vec<(ResName, bool)>,
 ) -> Result<Option<Vec<(ResName, bool)>>, AllocError>
     ensures { IfOk result (λ found. MatchOption found (¬ AreResources said.items) (λ v. AreResourcesInOrder said.items v.items)) }
 {
     if said.len() > 999 {
         return Ok(None);
     }
-    said.sort_by_key(|row| row.0)?;
-    let names = keys(alloc, &said)?;
-    if !ascends(&names) {
-        return Ok(None);
-    }
-    Ok(Some(said))
-}
-
-// The needs' operations and resources.
-fn need_keys(alloc: Global, needs: &[(OpKey, Need)]) -> Result<Vec<(OpKey, ResName)>, AllocError>
-    ensures { IfOk result (λ v. v.items ≡ map need_key needs.now) }
-{
-    needs
-        .iter()
-        .map(|said| (said.0, said.1.name))
-        .collect(alloc)
+    in_key_order(said, |row| row.0)
 }
 
 // The needs by operation and then resource, where no operation needs a resource twice.
-pub fn needs_in_order(
-    alloc: Global,
-    mut said: Vec<(OpKey, Need)>,
-) -> Result<Option<Vec<(OpKey, Need)>>, AllocError>
+pub fn needs_in_order(said: Vec<(OpKey, Need)>) -> Result<Option<Vec<(OpKey, Need)>>, AllocError>
     ensures { IfOk result (λ found. MatchOption found (¬ AllPairs (λ a b. need_key a ≢ need_key b) said.items) (λ v. AreNeedsInOrder said.items v.items)) }
 {
-    said.sort_by_key(|said| (said.0, said.1.name))?;
-    let sorted = need_keys(alloc, &said)?;
-    if !ascends(&sorted) {
-        return Ok(None);
-    }
-    Ok(Some(said))
+    in_key_order(said, |said| (said.0, said.1.name))
 }
 
 // The needs of an operation stand together.
@@ -94,7 +71,7 @@ fn is_resource(resources: &[(ResName, bool)], name: &ResName) -> bool
     requires { IsStrictlySortedBy name_cmp (keys_of resources.now) }
     ensures { IsTrue result ↔ Contains (keys_of resources.now) name.now }
 {
-    resource_place(resources, name).is_some()
+    row_place(resources, name).is_some()
 }
 
 // Whether a need is of one of these operations, and of one of these resources.

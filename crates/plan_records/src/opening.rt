@@ -5,8 +5,8 @@ ghost use Rattle.std.specs.Map.{keys_of};
 ghost use Rattle.plan_basics.specs.Keys.{name_cmp};
 ghost use Rattle.plan_records.specs.Loading.{intervals_of, CanOpen, opened_in, AreOfThese, AreWorkstations, AreWorkstationsInOrder};
 
-use super::in_order::{ascends, keys};
 use super::places::workstation_place;
+use super::sorting::in_key_order;
 use plan_basics::{Attr, Interval, WsName};
 use std::alloc::{AllocError, Global};
 use workstations::Workstation;
@@ -82,7 +82,7 @@ fn are_of_these(workstations: &[Workstation], intervals: &[(WsName, Interval)]) 
 // and no interval is of another.
 pub fn workstations_in_order(
     alloc: Global,
-    mut said: Vec<(WsName, Attr)>,
+    said: Vec<(WsName, Attr)>,
     intervals: &[(WsName, Interval)],
 ) -> Result<Option<Vec<Workstation>>, AllocError>
     ensures { IfOk result (λ found. MatchOption found (¬ AreWorkstations said.items intervals.now) (λ v. AreWorkstationsInOrder said.items intervals.now v.items)) }
@@ -90,11 +90,9 @@ pub fn workstations_in_order(
     if said.is_empty() || said.len() > 99 {
         return Ok(None);
     }
-    said.sort_by_key(|row| row.0)?;
-    let names = keys(alloc, &said)?;
-    if !ascends(&names) {
+    let Some(said) = in_key_order(said, |row| row.0)? else {
         return Ok(None);
-    }
+    };
     let Some(workstations) = all_opened(alloc, &said, intervals)? else {
         return Ok(None);
     };

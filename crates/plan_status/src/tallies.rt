@@ -9,7 +9,7 @@ ghost use Rattle.plan_records.specs.Places.{AreStatuses};
 ghost use Rattle.plan_status.specs.OneMore.{AreAtMost, CountsOneMore};
 ghost use Rattle.plan_status.specs.Standings.{IsTally, AreTallies};
 
-use plan_records::{PlanContents, known_occurrence};
+use plan_records::{PlanContents, known_row};
 use status_rules::{Counts, OccStatus, Status, occurrence_status};
 use std::alloc::{AllocError, Global};
 
@@ -59,7 +59,7 @@ pub fn tallies_of(
     let mut tallies = vec![in alloc; NONE_COUNTED; contents.occurrences.len()]?;
     for (i, status) in statuses.iter().enumerate() {
         let key = &contents.operations[i].0;
-        let place = known_occurrence(&contents.occurrences, &key.occurrence);
+        let place = known_row(&contents.occurrences, &key.occurrence);
         count_one(&mut tallies[place], *status);
     }
     Ok(tallies)

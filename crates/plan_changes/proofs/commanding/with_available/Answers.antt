@@ -8,8 +8,8 @@ use Rattle.plan_changes.proofs.OneRow.{place_within}
 use Rattle.plan_changes.proofs.commanding.with_available.Goals as goal
 use Rattle.plan_changes.proofs.commanding.with_available.Goals.{in-Some, in_default}
 
-pub resource_place-requires : goal.resource_place-requires
-resource_place-requires c = subst (λ (rows : List (Name × Bool)). IsStrictlySortedBy name_cmp (keys_of rows)) (sym c.deref.ensures.value) ((c.in_ok-new.ensures 0).1 c.requires.in_order).resources
+pub row_place-requires : goal.row_place-requires
+row_place-requires c = subst (λ (rows : List (Name × Bool)). IsStrictlySortedBy name_cmp (keys_of rows)) (sym c.deref.ensures.value) ((c.in_ok-new.ensures 0).1 c.requires.in_order).resources
 
 pub index_mut-requires : goal.index_mut-requires
 index_mut-requires c = omega (arith, place_within c.deref.result.now c.in-Some.place c.args.name.now c.in-Some.ensures.found)
@@ -18,8 +18,8 @@ pub returns : goal.returns
 returns c =
     let old = c.args.contents.now in
     let copy = c.in_ok-new.new in
-    let new = c.match-resource_place.new in
-    let both : IsChanged old new (λ P. record P { resources = insert P.resources c.args.name.now c.args.available }) = elim c.match-resource_place.branch [
+    let new = c.match-row_place.new in
+    let both : IsChanged old new (λ P. record P { resources = insert P.resources c.args.name.now c.args.available }) = elim c.match-row_place.branch [
       | in-Some w ↦
           resource_put old copy new c.in_ok-new.ensures c.requires.in_order c.args.name.now c.args.available c.deref.result.now c.deref.ensures.value w.in-Some.place w.in-Some.ensures.found _ w.new-is refl
       | in_default w ↦ resource_found old copy new c.in_ok-new.ensures c.requires.in_order c.args.name.now c.deref.result.now c.deref.ensures.value (w.in_default.ensures.absent refl) c.requires.known

@@ -33,7 +33,7 @@ loop-key-preserved c =
     let before = take c.loop-key.key-index c.args.keys.now in
     let key = c.key-item.result in
     let more = keys_more c.args.keys.now c.loop-key.key-index key c.loop-key-test.true c.key-item.is mark rows in
-    elim c.match-place_of.branch [
+    elim c.match-row_place.branch [
       | in-Some w ↦
           ap (λ v. v.items) w.new-is
           ∙ set_at before mark key rows c.requires c.loop-key.new.items c.loop-key.invariant w.in-Some.place w.in-Some.ensures.found

@@ -1,4 +1,6 @@
-use Rattle.std.proofs.Common.{◌≡◌, subst, ℕ, Option, Some, IfSome, slice_get}
+use Rattle.std.proofs.Common.{◌≡◌, subst, rules, ℕ, Option, Some, None, IfSome, IsNone, slice_get}
+use Rattle.std.specs.FinMap.{from_entries, get}
+use Rattle.plan_basics.specs.Keys.{operation_cmp}
 use Rattle.std.proofs.lemmas.Option.{slice_get_within}
 use Rattle.plan_model.specs.Plan.{Operation}
 use Rattle.plan_checks.proofs.checks.reported_of.Goals as goal
@@ -8,7 +10,7 @@ use Rattle.plan_checks.proofs.checks.reported_of.Goals.{In_ok-place}
 row : (c : In_ok-place) → (op : Operation) × (slice_get c.args.loaded.now.contents.operations.items c.in_ok-place.place ≡ Some (c.args.key.now, op))
 row c =
     let key = c.args.key.now in
-    let found = subst (λ (x : Option ℕ). IfSome x (λ i. (op : Operation) × (slice_get c.deref.result.now i ≡ Some (key, op)))) c.in_ok-place.ensures.ok_part c.place_of.ensures.found in
+    let found = subst (λ (x : Option ℕ). IfSome x (λ i. (op : Operation) × (slice_get c.deref.result.now i ≡ Some (key, op)))) c.in_ok-place.ensures.ok_part c.row_place.ensures.found in
     subst (λ rs. (op : Operation) × (slice_get rs c.in_ok-place.place ≡ Some (key, op))) c.deref.ensures.value found
 
 pub reported_at-requires-clause-within : goal.reported_at-requires-clause-within
@@ -20,3 +22,8 @@ pub returns-clause-found : goal.returns-clause-found
 returns-clause-found c clock =
     let at = row (goal.at.returns-clause-found c).In_ok-place in
     c.reported_at.ensures c.args.key.now at.0 at.1 clock
+
+pub returns-in_err-place-clause-unknown : goal.returns-in_err-place-clause-unknown
+returns-in_err-place-clause-unknown c =
+    let absent = subst (λ rows. IsNone c.row_place.result → get {R = operation_cmp} (from_entries rows) c.args.key.now ≡ None) c.deref.ensures.value c.row_place.ensures.absent in
+    search rules

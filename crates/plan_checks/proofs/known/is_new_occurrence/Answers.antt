@@ -13,4 +13,4 @@ returns c =
     new_told parts.key parts.terms there none
     (missing_told none (contains_key there parts.key)
     (place_told occurrence_cmp_total occurrence_cmp-IsAntisymmetric c.deref.result.now c.args.contents.now.occurrences.items c.deref.ensures.value c.requires.occurrences
-    parts.key c.occurrence_place.result c.occurrence_place.ensures.found c.occurrence_place.ensures.absent (not none) (sym c.is_none.ensures)))
+    parts.key c.row_place.result c.row_place.ensures.found c.row_place.ensures.absent (not none) (sym c.is_none.ensures)))

@@ -12,8 +12,8 @@ found c x y told_x told_y =
     let rows = c.args.loaded.now.contents.operations.items in
     let p = c.args.predecessor.now in
     let s = c.args.successor.now in
-    let a = found_at c.deref.result.now rows p c.place_of.result c.in_ok-before.before c.deref.ensures.value c.in_ok-before.ensures.ok_part c.place_of.ensures.found in
-    let b = found_at c.deref-2.result.now rows s c.place_of-2.result c.in_ok-after.after c.deref-2.ensures.value c.in_ok-after.ensures.ok_part c.place_of-2.ensures.found in
+    let a = found_at c.deref.result.now rows p c.row_place.result c.in_ok-before.before c.deref.ensures.value c.in_ok-before.ensures.ok_part c.row_place.ensures.found in
+    let b = found_at c.deref-2.result.now rows s c.row_place-2.result c.in_ok-after.after c.deref-2.ensures.value c.in_ok-after.ensures.ok_part c.row_place-2.ensures.found in
     record { held = c.requires; before = a; after = b; first = told_x p a.0 a.1; second = told_y s b.0 b.1 }
 
 pub check_edge-requires-clause-before : goal.check_edge-requires-clause-before

@@ -13,9 +13,9 @@ pub keys_at-requires : goal.keys_at-requires
 keys_at-requires c =
     let h = c.args.loaded.now in
     let rows = h.contents.operations.items in
-    let place = c.known_place-place.result in
+    let place = c.known_row-place.result in
     let places = c.in_ok-places.places.items in
-    let lt : place < length rows = subst (λ (rs : List (OpKey × Operation)). place < length rs) c.deref.ensures.value c.known_place-place.ensures.within in
+    let lt : place < length rows = subst (λ (rs : List (OpKey × Operation)). place < length rs) c.deref.ensures.value c.known_row-place.ensures.within in
     let within = reached_within c.requires.held.0 h c.requires.held.1 (IsSet c.deref-3.result.now) place places lt c.in_ok-places.ensures.reached in
     subst (λ (ps : List ℕ). All (λ p. p < length c.deref-4.result.now) ps) (sym c.deref-5.ensures.value)
     (subst (λ (rs : List (OpKey × Operation)). All (λ p. p < length rs) places) (sym c.deref-4.ensures.value) within)
@@ -24,12 +24,12 @@ pub returns-clause-reached : goal.returns-clause-reached
 returns-clause-reached c clock o =
     let h = c.args.loaded.now in
     let rows = h.contents.operations.items in
-    let place = c.known_place-place.result in
+    let place = c.known_row-place.result in
     let places = c.in_ok-places.places.items in
     let key = c.args.key.now in
     let found = c.in_ok-keys_at.field-0.items in
     let row : (op : Operation) × (slice_get rows place ≡ Some (key, op)) =
-    subst (λ (rs : List (OpKey × Operation)). (op : Operation) × (slice_get rs place ≡ Some (key, op))) c.deref.ensures.value c.known_place-place.ensures.at in
+    subst (λ (rs : List (OpKey × Operation)). (op : Operation) × (slice_get rs place ≡ Some (key, op))) c.deref.ensures.value c.known_row-place.ensures.at in
     let flags : c.deref-3.result.now ≡ map is_live_row rows = c.deref-3.ensures.value ∙ c.in_ok-live.ensures ∙ ap (map is_live_row) c.deref-2.ensures.value in
     let exactly : AreExactly (ReachesBy (HasEdge h.graph) (IsSet (map is_live_row rows)) place) places =
     subst (λ (fs : List Bool). AreExactly (ReachesBy (HasEdge h.graph) (IsSet fs) place) places) flags c.in_ok-places.ensures.reached in

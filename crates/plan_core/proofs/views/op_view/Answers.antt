@@ -8,8 +8,8 @@ use Rattle.plan_records.specs.Contents.{plan_of}
 use Rattle.plan_core.proofs.OpViews.{FollowsFrom, its_occurrence, op_view_at, row_in_plan}
 use Rattle.plan_core.proofs.views.op_view.Goals as goal
 
-pub known_occurrence-occurrence-requires-clause-known : goal.known_occurrence-occurrence-requires-clause-known
-known_occurrence-occurrence-requires-clause-known c =
+pub known_row-occurrence-requires-clause-known : goal.known_row-occurrence-requires-clause-known
+known_row-occurrence-requires-clause-known c =
     let h = c.args.loaded.now in
     let held = c.requires.held in
     let key = c.index.result.now.0 in
@@ -38,9 +38,9 @@ returns c =
     let back : to_z w64 (of_z w64 c.of-latest.result) ≡ c.of-latest.result = omega (arith, ints, fits) in
     let start = c.of-latest.ensures ∙ ap Some (sym back) in
     let occurrences = h.contents.occurrences.items in
-    let k = c.known_occurrence-occurrence.result in
-    let terms = c.known_occurrence-occurrence.ensures.at.0 in
-    let at = subst (λ rows. slice_get rows k ≡ Some (key.occurrence, terms)) c.deref.ensures.value c.known_occurrence-occurrence.ensures.at.1 in
+    let k = c.known_row-occurrence.result in
+    let terms = c.known_row-occurrence.ensures.at.0 in
+    let at = subst (λ rows. slice_get rows k ≡ Some (key.occurrence, terms)) c.deref.ensures.value c.known_row-occurrence.ensures.at.1 in
     let e = c.index-3.ensures ∙ get_or_from_slice_get occurrences k (key.occurrence, terms) c.index-3.result.now at in
     op_view_at held.0 h held.1 c.args.place k key _ c.attribute_of-attribute.result c.index-2.result.now (to_z w64 (of_z w64 c.of-latest.result)) c.index-3.result.now.1 c.status_with.result
     (row ∙ ap (λ z. Some (key, z)) (sym view_is))

@@ -1,8 +1,7 @@
 use Rattle.std.proofs.Common.{sym, subst, ap, ap₂, ◌∙◌, arith, map, ◌++◌, ◌∷◌, []}
 use Rattle.std.proofs.lemmas.List.{map_more, take_all}
 use Rattle.std.proofs.lemmas.List.Elements.{AllWithin-more, at_read}
-use Rattle.std.specs.Map.{keys_of}
-use Rattle.plan_records.specs.Loading.{Fits, row_of}
+use Rattle.plan_records.specs.Loading.{BelongsTo, row_of}
 use Rattle.plan_records.proofs.in_order.rows.Goals as goal
 
 pub loop-said-preserved : goal.loop-said-preserved
@@ -11,15 +10,15 @@ loop-said-preserved c =
     let i = c.loop-said.said-index in
     let row = row_of c.args.occurrences.now c.args.needs.now in
     let made = rw c.in-Some.is at c.row.ensures in (
-      AllWithin-more (Fits (keys_of c.args.workstations.now) c.args.occurrences.now c.args.needs.now) said 0 i c.loop-said.invariant.0
-          (at_read said (Fits (keys_of c.args.workstations.now) c.args.occurrences.now c.args.needs.now) i c.said-item.result (omega arith) c.said-item.is made.0),
+      AllWithin-more (BelongsTo c.args.occurrences.now c.args.needs.now) said 0 i c.loop-said.invariant.0
+          (at_read said (BelongsTo c.args.occurrences.now c.args.needs.now) i c.said-item.result (omega arith) c.said-item.is made.0),
       c.in_ok-push.ensures.items ∙ ap₂ (λ rs r. rs ++ r ∷ []) c.loop-said.invariant.1 (made.1 ∙ ap row c.said-item.is) ∙ sym (map_more row said i c.said-item.result (omega arith)),
     )
 
 pub returns-in_default : goal.returns-in_default
 returns-in_default c = λ all.
     let none = rw c.in_default.is at c.row.ensures in
-    none (subst (Fits (keys_of c.args.workstations.now) c.args.occurrences.now c.args.needs.now) (sym c.said-item.is) (all c.loop-said.said-index c.said-item.result (omega arith)))
+    none (subst (BelongsTo c.args.occurrences.now c.args.needs.now) (sym c.said-item.is) (all c.loop-said.said-index c.said-item.result (omega arith)))
 
 pub returns : goal.returns
 returns c = (

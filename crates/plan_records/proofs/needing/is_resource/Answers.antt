@@ -4,4 +4,4 @@ use Rattle.plan_records.proofs.needing.is_resource.Goals as goal
 
 pub returns : goal.returns
 returns c =
-    rw c.is_some.ensures (key_told name_cmp_total name_cmp-IsAntisymmetric c.args.resources.now c.args.name.now c.resource_place.result c.requires c.resource_place.ensures.found c.resource_place.ensures.absent)
+    rw c.is_some.ensures (key_told name_cmp_total name_cmp-IsAntisymmetric c.args.resources.now c.args.name.now c.row_place.result c.requires c.row_place.ensures.found c.row_place.ensures.absent)

@@ -9,8 +9,8 @@ use Rattle.plan_core.proofs.ReadyViews.{one_ready, view_is}
 use Rattle.plan_core.specs.Views.{ready_from}
 use Rattle.plan_core.proofs.readying.ReadyIterator.next.Goals as goal
 
-pub known_place-row-requires-clause-known : goal.known_place-row-requires-clause-known
-known_place-row-requires-clause-known c =
+pub known_row-row-requires-clause-known : goal.known_row-row-requires-clause-known
+known_row-row-requires-clause-known c =
     let h = c.self.inside.loaded.now in
     let e = slice_index_or c.self.inside.entries.now c.self.inside.place c.index-self-place.result in
     let lt = c.if-place-self.false in
@@ -26,9 +26,9 @@ rest_is c =
     let lt = c.if-place-self.false in
     let e = slice_index_or es i c.index-self-place.result in
     let at = slice_get-get_or es i c.index-self-place.result (omega (arith, lt)) in
-    let place = c.known_place-row.result in
-    let op = c.known_place-row.ensures.at.0 in
-    let row = subst (λ (rows : List (OpKey × Operation)). slice_get rows place ≡ Some (e.key.op, op)) c.deref.ensures.value c.known_place-row.ensures.at.1 in
+    let place = c.known_row-row.result in
+    let op = c.known_row-row.ensures.at.0 in
+    let row = subst (λ (rows : List (OpKey × Operation)). slice_get rows place ≡ Some (e.key.op, op)) c.deref.ensures.value c.known_row-row.ensures.at.1 in
     sym c.self.view_is ∙ one_ready held.0 h held.1 es i e c.op_view.result (one_left es i e at) (view_is held.0 h held.1 place e.key.op op c.op_view.result row c.op_view.ensures)
 
 pub returns-clause-steps : goal.returns-clause-steps
