@@ -15,6 +15,7 @@ use Rattle.plan_laws.proofs.Pairs.{pair_cmp_total, pair_cmp-IsAntisymmetric}
 use Rattle.plan_laws.proofs.Single.{same_bool}
 use Rattle.plan_model.specs.Plan.{pair_cmp}
 use Rattle.plan_records.proofs.MadeEntries.{key_of}
+use Rattle.plan_records.proofs.Pairs.{sorted_dropped}
 use Rattle.plan_records.specs.Changes.{with_pair}
 use Rattle.plan_records.specs.Contents.{AreContents, plan_of}
 use Rattle.plan_records.specs.declared.contents.PlanContents.{PlanContents}
@@ -33,12 +34,6 @@ module _ {K : Type 0} {R : K → K → Ordering} (total : IsTotalOrder R) (exact
   taken_in_order zero xs h = tt
   taken_in_order (suc i) [] h = tt
   taken_in_order (suc i) (x ∷ xs) h = (all_taken (λ y. R x y ≡ Less) i xs h.0, taken_in_order i xs h.1)
-
-  dropped_in_order : (i : ℕ) (xs : List K) → IsStrictlySortedBy R xs → IsStrictlySortedBy R (drop i xs)
-  unfolding IsStrictlySortedBy
-  dropped_in_order zero xs h = h
-  dropped_in_order (suc i) [] h = h
-  dropped_in_order (suc i) (x ∷ xs) h = dropped_in_order i xs h.1
 
   -- what is so of each element of a part
   front_by : (P : K → Type 0) (i : ℕ) (xs : List K) → i ≤ length xs → AllWithin P xs 0 i → AllByRecursion P (take i xs)
@@ -59,7 +54,7 @@ module _ {K : Type 0} {R : K → K → Ordering} (total : IsTotalOrder R) (exact
   pub inserted_in_order : (xs : List K) (k : K) (i : ℕ) → IsStrictlySortedBy R xs → i ≤ length xs → IsBinarySearchResult (λ y. R y k) xs (Err i) → IsStrictlySortedBy R (insert xs i k)
   inserted_in_order xs k i sorted within parted =
       let point = parted (comparisons_rise (λ (y : K). y) total xs sorted k) in
-      sorted_around (λ (y : K). y) total k (take i xs) (drop i xs) (taken_in_order i xs sorted) (dropped_in_order i xs sorted)
+      sorted_around (λ (y : K). y) total k (take i xs) (drop i xs) (taken_in_order i xs sorted) (sorted_dropped R i xs sorted)
       (front_by (λ y. R y k ≡ Less) i xs within point.0)
       (above (drop i xs) (back_by (λ y. R y k ≡ Greater) i xs point.1))
     where

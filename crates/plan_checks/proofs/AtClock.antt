@@ -3,21 +3,21 @@ use Rattle.std.proofs.Common.{ℕ}
 use Rattle.plan_basics.specs.declared.Refusal.{Refusal}
 use Rattle.plan_basics.specs.declared.Refusal.TheVariants as refusal
 use Rattle.plan_basics.specs.declared.keys.OpKey.{OpKey}
-use Rattle.plan_model.specs.Plan.{Supplement}
+use Rattle.plan_model.specs.Plan.{Plan, Supplement}
+use Rattle.plan_model.specs.Valid.{IsWithinLimits}
 use Rattle.plan_records.specs.Accepting.{FailsFirstAt, MayBeAdded, MayBePaired}
+use Rattle.plan_records.specs.Changes.{with_pair, with_supplement}
 use Rattle.plan_records.specs.Contents.{plan_of}
 use Rattle.plan_records.specs.declared.contents.PlanContents.{PlanContents}
 
+-- what is within the limits at one clock is so at each
+limits_at : (P : Plan) (clock : ℕ) → IsWithinLimits P → IsWithinLimits (record P { clock = clock })
+limits_at P clock h = record { workstations = h.workstations; resources = h.resources; occurrences = h.occurrences; operations = h.operations; pairs = h.pairs }
+
 module _ (c : PlanContents) (s : Supplement) (k clock : ℕ) where
   pub added_at : (r : Refusal) → MayBeAdded (plan_of k c) s r → MayBeAdded (plan_of clock c) s r
-  added_at refusal.UnknownOperation h = h
-  added_at refusal.UnknownWorkstation h = h
-  added_at refusal.UnknownResource h = h
-  added_at refusal.WrongStatus h = h
-  added_at refusal.Duplicate h = h
-  added_at refusal.Cycle h = h
-  added_at refusal.Limit h = record { workstations = h.workstations; resources = h.resources; occurrences = h.occurrences; operations = h.operations; pairs = h.pairs }
-  added_at r h = tt
+  added_at refusal.Limit h = limits_at (with_supplement (plan_of k c) s) clock h
+  added_at r h = h
 
 module _ (c : PlanContents) (s : Supplement) (clock : ℕ) where
   pub fails_added_at : (r : Refusal) → FailsFirstAt (MayBeAdded (plan_of 0 c) s) r → FailsFirstAt (MayBeAdded (plan_of clock c) s) r
@@ -25,9 +25,5 @@ module _ (c : PlanContents) (s : Supplement) (clock : ℕ) where
 
 module _ (c : PlanContents) (p s : OpKey) (k clock : ℕ) where
   pub paired_at : (r : Refusal) → MayBePaired (plan_of k c) p s r → MayBePaired (plan_of clock c) p s r
-  paired_at refusal.UnknownOperation h = h
-  paired_at refusal.WrongStatus h = h
-  paired_at refusal.Duplicate h = h
-  paired_at refusal.Cycle h = h
-  paired_at refusal.Limit h = record { workstations = h.workstations; resources = h.resources; occurrences = h.occurrences; operations = h.operations; pairs = h.pairs }
-  paired_at r h = tt
+  paired_at refusal.Limit h = limits_at (with_pair (plan_of k c) p s) clock h
+  paired_at r h = h

@@ -8,7 +8,7 @@ use Rattle.plan_basics.specs.declared.keys.OpKey.{OpKey}
 use Rattle.plan_basics.specs.Intervals.{OpenInterval}
 use Rattle.plan_basics.specs.Keys.{Name}
 use Rattle.plan_basics.specs.Refusals.{number_of}
-use Rattle.plan_model.specs.Plan.{Operation, Plan}
+use Rattle.plan_model.specs.Plan.{Plan}
 use Rattle.plan_model.specs.Starting.{Reaches}
 use Rattle.plan_model.specs.Status.{EachOperation, HasOccurrenceStatus, HasStatus, IsReady, IsUnderWay, IsWaitingOrReady}
 use Rattle.plan_records.specs.Accepting.{MayBeCompleted, MayBeDeleted, MayBeFlagged, MayBeOpenBy, MayBeRerun, MayBeSetAvailable, AllHold, FailsFirstAt}
@@ -16,8 +16,9 @@ use Rattle.status_rules.specs.declared.OccStatus.{OccStatus}
 use Rattle.status_rules.specs.declared.OccStatus.TheVariants as occurrence
 use Rattle.status_rules.specs.declared.Status.{Status}
 use Rattle.status_rules.specs.declared.Status.TheVariants as status
-use Rattle.plan_checks.specs.Commanding.{is_under_way_status, may_be_completed, may_be_rerun, waits_or_is_ready}
-use Rattle.plan_checks.specs.Barring.{FailsPastKeys}
+use Rattle.plan_checks.specs.Commanding.{IsItsUnderWay, is_under_way_status, may_be_completed, may_be_rerun, waits_or_is_ready}
+use Rattle.plan_checks.specs.Barring.{FailsAt, FailsPastKeys, IsReported, MeetsAll}
+use Rattle.plan_checks.specs.declared.checks.Reported.{Reported}
 use Rattle.workstations.specs.Timetables.{IsLeastRefusal, MayBeTaken}
 
 module _ (P : Plan) (o : OpKey) where
@@ -90,43 +91,6 @@ module _ (P : Plan) (o : OpKey) where
     pub not_completable : may_be_completed s ≡ false → ¬ IsCompletable
     not_completable e h = true≢false (sym (completable_told h) ∙ e)
 
-  -- ---- a hold, a release, a NOP and its end
-
-  pub flagged : IsWaitingOrReady P o → AllHold (MayBeFlagged P o)
-  flagged waits refusal.WrongStatus = waits
-  flagged waits r = tt
-
-  before_flagged : (lower : Refusal) → number_of lower < 9 → MayBeFlagged P o lower
-  before_flagged refusal.WrongStatus less = absurd (omega (arith, less))
-  before_flagged r less = tt
-
-  pub not_flagged : ¬ IsWaitingOrReady P o → FailsFirstAt (MayBeFlagged P o) refusal.WrongStatus
-  not_flagged never = (never, before_flagged)
-
-  -- ---- a completion
-
-  module _ (op : Operation) where
-    pub completed : IsCompletable → op.held ≡ false → AllHold (MayBeCompleted P o op)
-    completed may free refusal.WrongStatus = may
-    completed may free refusal.Held = free
-    completed may free r = tt
-
-    before_completed : (lower : Refusal) → number_of lower < 9 → MayBeCompleted P o op lower
-    before_completed refusal.WrongStatus less = absurd (omega (arith, less))
-    before_completed refusal.Held less = absurd (omega (arith, less))
-    before_completed r less = tt
-
-    pub not_completed : ¬ IsCompletable → FailsFirstAt (MayBeCompleted P o op) refusal.WrongStatus
-    not_completed never = (never, before_completed)
-
-    before_held : IsCompletable → (lower : Refusal) → number_of lower < 11 → MayBeCompleted P o op lower
-    before_held may refusal.WrongStatus less = may
-    before_held may refusal.Held less = absurd (omega (arith, less))
-    before_held may r less = tt
-
-    pub held_at_completion : IsCompletable → op.held ≡ true → FailsFirstAt (MayBeCompleted P o op) refusal.Held
-    held_at_completion may held = (λ free. true≢false (sym held ∙ free), before_held may)
-
   -- ---- a rerun
 
   pub rerun : IsRerunnable → ((q : OpKey) → q ≢ o → Reaches P o q → ¬ IsUnderWay P q) → AllHold (MayBeRerun P o)
@@ -142,43 +106,79 @@ module _ (P : Plan) (o : OpKey) where
   pub running_at_rerun : IsRerunnable → (q : OpKey) → q ≢ o → Reaches P o q → IsUnderWay P q → FailsFirstAt (MayBeRerun P o) refusal.Running
   running_at_rerun may q apart reached under_way = (λ none. none q apart reached under_way, before_running may)
 
+-- ---- what is reported of an operation, in all plans where it is so
+
+module _ (x : Reported) where
+  -- a hold, a release, a NOP and its end
+  pub flagged : waits_or_is_ready x.status ≡ true → MeetsAll x MayBeFlagged
+  flagged waits P o is refusal.WrongStatus = waits_by P o x.status is.status waits
+  flagged waits P o is r = tt
+
+  before_flagged : (P : Plan) (o : OpKey) (lower : Refusal) → number_of lower < 9 → MayBeFlagged P o lower
+  before_flagged P o refusal.WrongStatus less = absurd (omega (arith, less))
+  before_flagged P o r less = tt
+
+  pub not_flagged : waits_or_is_ready x.status ≡ false → FailsAt x MayBeFlagged refusal.WrongStatus
+  not_flagged other = (omega arith, λ P o is. (not_waiting_or_ready P o x.status is.alone other, before_flagged P o))
+
+  -- what a completion asks of it
+  abbrev Completes : Plan → OpKey → Refusal → Type 0
+  Completes P o = MayBeCompleted P o x.operation
+
+  before_completed : (P : Plan) (o : OpKey) (lower : Refusal) → number_of lower < 9 → Completes P o lower
+  before_completed P o refusal.WrongStatus less = absurd (omega (arith, less))
+  before_completed P o refusal.Held less = absurd (omega (arith, less))
+  before_completed P o r less = tt
+
+  pub not_completed : may_be_completed x.status ≡ false → FailsAt x Completes refusal.WrongStatus
+  not_completed other = (omega arith, λ P o is. (not_completable P o x.status is.alone other, before_completed P o))
+
+  module _ (may : may_be_completed x.status ≡ true) where
+    pub completed : x.operation.held ≡ false → MeetsAll x Completes
+    completed free P o is refusal.WrongStatus = completable_by P o x.status is.status may
+    completed free P o is refusal.Held = free
+    completed free P o is r = tt
+
+    before_held : (P : Plan) (o : OpKey) → IsReported P o x → (lower : Refusal) → number_of lower < 11 → Completes P o lower
+    before_held P o is refusal.WrongStatus less = completable_by P o x.status is.status may
+    before_held P o is refusal.Held less = absurd (omega (arith, less))
+    before_held P o is r less = tt
+
+    pub held_at_completion : x.operation.held ≡ true → FailsAt x Completes refusal.Held
+    held_at_completion held = (omega arith, λ P o is. (λ free. true≢false (sym held ∙ free), before_held P o is))
+
 -- ---- the deletion of an occurrence
 
-module _ (P : Plan) (c : OccKey) where
-  module _ (known : contains_key P.occurrences c ≡ true) where
-    pub deleted_twice : EachOperation P c status.Deleted → FailsFirstAt (MayBeDeleted P c) refusal.WrongStatus
-    deleted_twice each = (λ never. never each, before)
+-- an occurrence whose status is another isn't deleted
+not_all_deleted : (P : Plan) (c : OccKey) (s : OccStatus) → HasOccurrenceStatus P c s → s ≢ occurrence.Deleted → ¬ EachOperation P c status.Deleted
+not_all_deleted P c occurrence.Deleted h other = absurd (other refl)
+not_all_deleted P c s h other = h.1 occurrence.Deleted (omega arith)
+
+module _ (P : Plan) (c : OccKey) (known : contains_key P.occurrences c ≡ true) (s : OccStatus) (has : HasOccurrenceStatus P c s) where
+  pub deleted_twice : s ≡ occurrence.Deleted → FailsPastKeys (MayBeDeleted P c) refusal.WrongStatus
+  deleted_twice is = (omega arith, (λ never. never (subst (HasOccurrenceStatus P c) is has).0, before))
+    where
+      before : (lower : Refusal) → number_of lower < 9 → MayBeDeleted P c lower
+      before refusal.UnknownOccurrence less = known
+      before refusal.WrongStatus less = absurd (omega (arith, less))
+      before refusal.Running less = absurd (omega (arith, less))
+      before r less = tt
+
+  module _ (other : s ≢ occurrence.Deleted) where
+    pub running_at_deletion : (o : OpKey) × IsItsUnderWay P c o → FailsPastKeys (MayBeDeleted P c) refusal.Running
+    running_at_deletion (o, (its, under_way)) = (omega arith, (λ none. none o its under_way, before))
       where
-        before : (lower : Refusal) → number_of lower < 9 → MayBeDeleted P c lower
+        before : (lower : Refusal) → number_of lower < 17 → MayBeDeleted P c lower
         before refusal.UnknownOccurrence less = known
-        before refusal.WrongStatus less = absurd (omega (arith, less))
+        before refusal.WrongStatus less = not_all_deleted P c s has other
         before refusal.Running less = absurd (omega (arith, less))
         before r less = tt
 
-    module _ (never : ¬ EachOperation P c status.Deleted) where
-      pub running_at_deletion : (o : OpKey) → o.occurrence ≡ c → IsUnderWay P o → FailsFirstAt (MayBeDeleted P c) refusal.Running
-      running_at_deletion o its under_way = (λ none. none o its under_way, before)
-        where
-          before : (lower : Refusal) → number_of lower < 17 → MayBeDeleted P c lower
-          before refusal.UnknownOccurrence less = known
-          before refusal.WrongStatus less = never
-          before refusal.Running less = absurd (omega (arith, less))
-          before r less = tt
-
-      pub deleted : ((o : OpKey) → o.occurrence ≡ c → ¬ IsUnderWay P o) → AllHold (MayBeDeleted P c)
-      deleted none refusal.UnknownOccurrence = known
-      deleted none refusal.WrongStatus = never
-      deleted none refusal.Running = none
-      deleted none r = tt
-
-  -- an occurrence whose status is another isn't deleted
-  pub not_all_deleted : (s : OccStatus) → HasOccurrenceStatus P c s → s ≢ occurrence.Deleted → ¬ EachOperation P c status.Deleted
-  not_all_deleted occurrence.Deleted h other = absurd (other refl)
-  not_all_deleted occurrence.Error h other = h.1 occurrence.Deleted (omega arith)
-  not_all_deleted occurrence.Undecided h other = h.1 occurrence.Deleted (omega arith)
-  not_all_deleted occurrence.Complete h other = h.1 occurrence.Deleted (omega arith)
-  not_all_deleted occurrence.Started h other = h.1 occurrence.Deleted (omega arith)
-  not_all_deleted occurrence.Waiting h other = h.1 occurrence.Deleted (omega arith)
+    pub deleted : ¬ ((o : OpKey) × IsItsUnderWay P c o) → AllHold (MayBeDeleted P c)
+    deleted none refusal.UnknownOccurrence = known
+    deleted none refusal.WrongStatus = not_all_deleted P c s has other
+    deleted none refusal.Running = λ o its under_way. none (o, (its, under_way))
+    deleted none r = tt
 
 -- ---- special resources and open intervals
 

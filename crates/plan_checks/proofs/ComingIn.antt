@@ -10,7 +10,7 @@ use Rattle.std.specs.List.{AllWithin, HoldsAt}
 use Rattle.std.specs.List.Sorted.{IsStrictlySortedBy}
 use Rattle.std.specs.Map.{keys_of}
 use Rattle.std.proofs.lemmas.List.Elements.{All-contains}
-use Rattle.plan_basics.specs.Keys.{occurrence_cmp}
+use Rattle.plan_basics.specs.Keys.{occurrence_cmp, operation_cmp_total, operation_cmp-IsAntisymmetric}
 use Rattle.plan_basics.specs.declared.keys.OccKey.{OccKey}
 use Rattle.plan_basics.specs.declared.keys.OpKey.{OpKey}
 use Rattle.plan_model.specs.Plan.{IsPairOf, Occurrences, Operation, Plan}
@@ -131,13 +131,14 @@ module _ (items pairs : List (OpKey × OpKey)) (same : items ≡ pairs) where
   pub pair_read : (i : ℕ) (pair : OpKey × OpKey) → i < length items → pair ≡ get_or items i pair → IsPairOf (from_list pairs) pair.0 pair.1
   pair_read i pair lt is = in_set pair_cmp_total pair_cmp-IsAntisymmetric pairs pair (subst (λ (xs : List (OpKey × OpKey)). Contains xs pair) same (i, lt, sym is))
 
--- what is so of each row is so of each value in the map, which has them all
-pub rows_told : {K X : Type 0} {R : K → K → Ordering} → IsTotalOrder R → IsAntisymmetric R → {items rows : List (K × X)} → items ≡ rows → IsStrictlySortedBy R (keys_of rows) → (Q : X → Type 0) (b : Bool)
-    → IsTestOfEach (λ row. Q row.1) items b → Decides b ((k : K) (x : X) → get {R = R} (from_entries rows) k ≡ Some x → Q x)
-rows_told {K} {X} {R} total exact {items} {rows} same up Q b test =
-    let told = each_told same (λ (row : K × X). Q row.1) b test in (
-      λ yes k x is. told.0 yes (k, x) (row_found total exact rows k x is),
-      λ may. told.1 (λ row has. may row.0 row.1 (get_row total exact rows row.0 row.1 (rows_apart total exact rows up) has)),
+-- what is so of each row's operation is so of each operation that comes in
+pub operations_told : (parts : NewOccurrence) → AreAdditionParts parts → {items : List (OpKey × Operation)} → items ≡ parts.operations.items → (Q : Operation → Type 0) (b : Bool)
+    → IsTestOfEach (λ row. Q row.1) items b → Decides b ((o : OpKey) (op : Operation) → get (incoming parts).operations o ≡ Some op → Q op)
+operations_told parts are same Q b test =
+    let rows = parts.operations.items in
+    let told = each_told same (λ (row : OpKey × Operation). Q row.1) b test in (
+      λ yes o op is. told.0 yes (o, op) (row_found operation_cmp_total operation_cmp-IsAntisymmetric rows o op is),
+      λ may. told.1 (λ row has. may row.0 row.1 (get_row operation_cmp_total operation_cmp-IsAntisymmetric rows row.0 row.1 (rows_apart operation_cmp_total operation_cmp-IsAntisymmetric rows are.operations) has)),
     )
 
 -- the special resources of an operation are in the plan where that of each need in the list is

@@ -1,5 +1,5 @@
 -- What the status of a reported operation says of the lines that its report goes by.
-use Rattle.std.proofs.Common.{◌≡◌, ◌⊎◌, inl, inr, refl, sym, ap, subst, ◌∙◌, arith, ℕ, ◌<◌, true, false, true≢false, Some}
+use Rattle.std.proofs.Common.{◌≡◌, ◌≢◌, ◌⊎◌, inl, inr, refl, sym, ap, subst, ◌∙◌, arith, ℕ, ◌<◌, true, false, true≢false, Some}
 use Rattle.plan_basics.specs.declared.Attr.{Attr}
 use Rattle.plan_basics.specs.declared.Attr.TheVariants as attribute
 use Rattle.plan_basics.specs.declared.Refusal.{Refusal}
@@ -7,10 +7,11 @@ use Rattle.plan_basics.specs.declared.Refusal.TheVariants as refusal
 use Rattle.plan_basics.specs.declared.keys.OpKey.{OpKey}
 use Rattle.plan_basics.specs.Refusals.{number_of}
 use Rattle.plan_model.specs.Holdings.{given_out, holds_server, takes}
-use Rattle.plan_model.specs.Plan.{HasAttribute, Operation, Plan}
+use Rattle.plan_laws.proofs.Looks.{same_some}
+use Rattle.plan_model.specs.Plan.{Operation, Plan}
 use Rattle.plan_model.specs.Starting.{MayStart}
 use Rattle.plan_model.specs.Status.{HasStatus, IsReady}
-use Rattle.plan_records.specs.Accepting.{MayBeEnded, MayBeInterrupted, MayBeUndecided, AllHold, FailsFirstAt}
+use Rattle.plan_records.specs.Accepting.{MayBeEnded, MayBeInterrupted, MayBeUndecided}
 use Rattle.plan_records.specs.Contents.{plan_of}
 use Rattle.plan_records.specs.declared.contents.PlanContents.{PlanContents}
 use Rattle.special_resources.specs.Holdings.{Held}
@@ -18,7 +19,7 @@ use Rattle.status_rules.specs.declared.Status.{Status}
 use Rattle.status_rules.specs.declared.Status.TheVariants as status
 use Rattle.workstations.specs.declared.Capacity.{Capacity}
 use Rattle.plan_choice.specs.Choosing.{AreHeldIn, HasTaken, IsStartLine, is_ready_status}
-use Rattle.plan_checks.specs.Barring.{IsReported}
+use Rattle.plan_checks.specs.Barring.{FailsAt, IsReported, MeetsAll}
 use Rattle.plan_checks.specs.declared.checks.Reported.{Reported}
 
 -- the status is one of those that may be started where starts are reported
@@ -58,48 +59,6 @@ module _ (P : Plan) (o : OpKey) where
     startable_told m (inl h) = inl (ready_told h)
     startable_told m (inr h) = inr (sym (is.alone status.Interrupted h.0))
 
-  -- ---- an end or an error
-
-  module _ (op : Operation) where
-    pub ended_after_start : (a : Attr) → takes (Some a) ≡ true → HasStatus P o status.Started ⊎ HasStatus P o status.Undecided → AllHold (MayBeEnded P o op (Some a))
-    ended_after_start attribute.Automatic t run refusal.WrongStatus = run
-    ended_after_start attribute.Automatic t run r = tt
-    ended_after_start attribute.StartAndCompletion t run refusal.WrongStatus = run
-    ended_after_start attribute.StartAndCompletion t run r = tt
-    ended_after_start a t run r = absurd (cc)
-
-    pub ended_without_start : IsReady P o → op.held ≡ false → AllHold (MayBeEnded P o op (Some attribute.CompletionOnly))
-    ended_without_start ready free refusal.WrongStatus = ready
-    ended_without_start ready free refusal.Held = free
-    ended_without_start ready free r = tt
-
-    before_held : IsReady P o → (lower : Refusal) → number_of lower < 11 → MayBeEnded P o op (Some attribute.CompletionOnly) lower
-    before_held ready refusal.WrongStatus less = ready
-    before_held ready refusal.Held less = absurd (omega (arith, less))
-    before_held ready r less = tt
-
-    pub held_at_end : IsReady P o → op.held ≡ true → FailsFirstAt (MayBeEnded P o op (Some attribute.CompletionOnly)) refusal.Held
-    held_at_end ready held = (λ free. true≢false (sym held ∙ free), before_held ready)
-
-  -- ---- an interruption or an unknown outcome
-
-  pub interrupted : (op : Operation) → HasStatus P o status.Started → HasAttribute P op.workstation attribute.StartAndCompletion → AllHold (MayBeInterrupted P o op)
-  interrupted op started on refusal.WrongStatus = started
-  interrupted op started on refusal.WrongWorkstation = on
-  interrupted op started on r = tt
-
-  before_workstation : (op : Operation) → HasStatus P o status.Started → (lower : Refusal) → number_of lower < 10 → MayBeInterrupted P o op lower
-  before_workstation op started refusal.WrongStatus less = started
-  before_workstation op started refusal.WrongWorkstation less = absurd (omega (arith, less))
-  before_workstation op started r less = tt
-
-  pub not_interrupted : (op : Operation) → HasStatus P o status.Started → ¬ HasAttribute P op.workstation attribute.StartAndCompletion → FailsFirstAt (MayBeInterrupted P o op) refusal.WrongWorkstation
-  not_interrupted op started other = (other, before_workstation op started)
-
-  pub undecided : HasStatus P o status.Started → AllHold (MayBeUndecided P o)
-  undecided started refusal.WrongStatus = started
-  undecided started r = tt
-
   -- ---- a start where starts are reported
 
   -- a line that fails has a number past that of an unknown operation
@@ -112,6 +71,65 @@ module _ (P : Plan) (o : OpKey) where
   start_number op m refusal.NoFixed never = omega arith
   start_number op m refusal.ResourceBusy never = omega arith
   start_number op m r never = absurd (never tt)
+
+-- ---- what is reported of an operation, in all plans where it is so
+
+module _ (x : Reported) where
+  -- what an end or an error asks of it on a workstation of this attribute
+  abbrev EndsOn : Attr → Plan → OpKey → Refusal → Type 0
+  EndsOn a P o = MayBeEnded P o x.operation (Some a)
+
+  module _ (run : holds_server (Some x.status) ≡ true) where
+    ended_on : (a : Attr) → takes (Some a) ≡ true → MeetsAll x (EndsOn a)
+    ended_on attribute.Automatic t P o is refusal.WrongStatus = is_running P o x is run
+    ended_on attribute.Automatic t P o is r = tt
+    ended_on attribute.StartAndCompletion t P o is refusal.WrongStatus = is_running P o x is run
+    ended_on attribute.StartAndCompletion t P o is r = tt
+    ended_on a t P o is r = absurd (cc)
+
+    pub ended_after_start : takes (Some x.attribute) ≡ true → MeetsAll x (EndsOn x.attribute)
+    ended_after_start = ended_on x.attribute
+
+  module _ (on : x.attribute ≡ attribute.CompletionOnly) (ready : is_ready_status x.status ≡ true) where
+    free_at_end : x.operation.held ≡ false → MeetsAll x (EndsOn attribute.CompletionOnly)
+    free_at_end free P o is refusal.WrongStatus = is_ready P o x is ready
+    free_at_end free P o is refusal.Held = free
+    free_at_end free P o is r = tt
+
+    pub ended_without_start : x.operation.held ≡ false → MeetsAll x (EndsOn x.attribute)
+    ended_without_start free = subst (λ a. MeetsAll x (EndsOn a)) (sym on) (free_at_end free)
+
+    before_held : (P : Plan) (o : OpKey) → IsReported P o x → (lower : Refusal) → number_of lower < 11 → EndsOn attribute.CompletionOnly P o lower
+    before_held P o is refusal.WrongStatus less = is_ready P o x is ready
+    before_held P o is refusal.Held less = absurd (omega (arith, less))
+    before_held P o is r less = tt
+
+    pub held_at_end : x.operation.held ≡ true → FailsAt x (EndsOn x.attribute) refusal.Held
+    held_at_end held = subst (λ a. FailsAt x (EndsOn a) refusal.Held) (sym on) (omega arith, λ P o is. (λ free. true≢false (sym held ∙ free), before_held P o is))
+
+  module _ (started : x.status ≡ status.Started) where
+    its_start : (P : Plan) (o : OpKey) → IsReported P o x → HasStatus P o status.Started
+    its_start P o is = subst (HasStatus P o) started is.status
+
+    pub undecided : MeetsAll x MayBeUndecided
+    undecided P o is refusal.WrongStatus = its_start P o is
+    undecided P o is r = tt
+
+    pub interrupted : x.attribute ≡ attribute.StartAndCompletion → MeetsAll x (λ P o. MayBeInterrupted P o x.operation)
+    interrupted on P o is refusal.WrongStatus = its_start P o is
+    interrupted on P o is refusal.WrongWorkstation = is.attribute ∙ ap Some on
+    interrupted on P o is r = tt
+
+    before_workstation : (P : Plan) (o : OpKey) → IsReported P o x → (lower : Refusal) → number_of lower < 10 → MayBeInterrupted P o x.operation lower
+    before_workstation P o is refusal.WrongStatus less = its_start P o is
+    before_workstation P o is refusal.WrongWorkstation less = absurd (omega (arith, less))
+    before_workstation P o is r less = tt
+
+    pub not_interrupted : x.attribute ≢ attribute.StartAndCompletion → FailsAt x (λ P o. MayBeInterrupted P o x.operation) refusal.WrongWorkstation
+    not_interrupted other = (
+      omega arith,
+      λ P o is. (λ on. other (same_some x.attribute attribute.StartAndCompletion (sym is.attribute ∙ on)), before_workstation P o is),
+    )
 
 -- what is given out at its workstation, and what is held, as its plan stands
 pub has_taken : (c : PlanContents) (clock : ℕ) (op : Operation) (taken : Capacity) (held : Held) → given_out (plan_of clock c) op.workstation ≡ taken → AreHeldIn (plan_of clock c) held

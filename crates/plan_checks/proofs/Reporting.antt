@@ -1,5 +1,5 @@
 -- What the lines of a reported operation come to for the request that reports it.
-use Rattle.std.proofs.Common.{◌≡◌, ◌↔◌, ◌⊎◌, inl, inr, sym, subst, ◌∙◌, arith, ℕ, ◌<◌, Option, Some, Result, Ok, Err, IfErr, OnOk}
+use Rattle.std.proofs.Common.{◌≡◌, ◌↔◌, ◌⊎◌, inl, inr, sym, subst, ◌∙◌, arith, ℕ, ◌<◌, Option, Some, Result, IfErr, OnOk}
 use Rattle.std.specs.FinMap.{get}
 use Rattle.plan_basics.specs.declared.Attr.{Attr}
 use Rattle.plan_basics.specs.declared.Refusal.{Refusal}
@@ -14,7 +14,7 @@ use Rattle.plan_records.specs.Contents.{plan_of}
 use Rattle.plan_records.specs.declared.What.{What}
 use Rattle.plan_records.specs.declared.What.TheVariants as what
 use Rattle.plan_records.specs.declared.contents.PlanContents.{PlanContents}
-use Rattle.plan_checks.proofs.Searching.{if_err}
+use Rattle.plan_checks.proofs.Searching.{if_err, if_ok, if_refused}
 use Rattle.plan_checks.specs.Barring.{FailsAt, FailsPastKeys, IsBarred, IsPermitted, IsReported, MeetsAll}
 use Rattle.plan_checks.specs.declared.checks.Reported.{Reported}
 
@@ -33,12 +33,15 @@ module _ (P : Plan) (o : OpKey) (rest : Operation → Refusal → Type 0) where
 -- what all plans say, these contents' plan says of the operation, at each clock
 module _ (c : PlanContents) (o : OpKey) (x : Reported) (lines : Plan → OpKey → Refusal → Type 0) (known : (clock : ℕ) → IsReported (plan_of clock c) o x) where
   pub met_at : {T E : Type 0} (r : Result T E) → OnOk r (MeetsAll x lines) → OnOk r ((clock : ℕ) → AllHold (lines (plan_of clock c) o))
-  met_at (Ok t) h = λ clock. h (plan_of clock c) o (known clock)
-  met_at (Err e) h = tt
+  met_at r met = if_ok r met (λ all clock. all (plan_of clock c) o (known clock))
 
   pub failed_at : {T : Type 0} (r : Result T Refusal) → IfErr r (FailsAt x lines) → IfErr r (λ e. (e ≡ refusal.Memory) ⊎ ((clock : ℕ) → FailsPastKeys (lines (plan_of clock c) o) e))
-  failed_at (Ok t) h = tt
-  failed_at (Err e) h = inr (λ clock. (h.0, h.1 (plan_of clock c) o (known clock)))
+  failed_at r failed = if_err r failed (λ e fails. inr (λ clock. (fails.0, fails.1 (plan_of clock c) o (known clock))))
+
+-- what follows of a refusal at each clock
+refused_at : {T : Type 0} {A B : ℕ → Refusal → Type 0} → ((clock : ℕ) (r : Refusal) → A clock r → B clock r) → (answer : Result T Refusal)
+    → IfErr answer (λ r. (r ≡ refusal.Memory) ⊎ ((clock : ℕ) → A clock r)) → IfErr answer (λ r. (r ≡ refusal.Memory) ⊎ ((clock : ℕ) → B clock r))
+refused_at each answer told = if_refused answer told (λ r a clock. each clock r (a clock))
 
 -- ---- the request
 
@@ -104,9 +107,10 @@ module _ {m : ℕ} {v : What} {o : OpKey} where
 
 -- what an answer says of the request v, by the plan of these contents at minute m
 abbrev pub Tells : {T : Type 0} → PlanContents → ℕ → What → Result T Refusal → Type 0
-Tells c m v answer =
-    OnOk answer ((clock : ℕ) → IsPermitted (plan_of clock c) m v)
-    × IfErr answer (λ r. (r ≡ refusal.Memory) ⊎ ((clock : ℕ) → IsBarred (plan_of clock c) m v r))
+Tells c m v answer = record {
+  ok : OnOk answer ((clock : ℕ) → IsPermitted (plan_of clock c) m v);
+  refused : IfErr answer (λ r. (r ≡ refusal.Memory) ⊎ ((clock : ℕ) → IsBarred (plan_of clock c) m v r));
+}
 
 -- the request v asks these lines of the operation o, of which x is known
 module _ (c : PlanContents) (m : ℕ) {v : What} {o : OpKey} {x : Reported} {lines : AsksOf} (asks : Asks m v o lines) (known : (clock : ℕ) → IsReported (plan_of clock c) o x) where
@@ -135,37 +139,35 @@ module _ (c : PlanContents) (m : ℕ) {v : What} {o : OpKey} {x : Reported} {lin
       )
 
   -- what is known of these contents' plan at each clock
-  pub told_here : {T : Type 0} (answer : Result T Refusal) → OnOk answer ((clock : ℕ) → AllHold (its (plan_of clock c) o))
-      → IfErr answer (λ r. (r ≡ refusal.Memory) ⊎ ((clock : ℕ) → FailsPastKeys (its (plan_of clock c) o) r)) → Tells c m v answer
-  told_here (Ok t) all fails = (λ clock. permitted clock (all clock), tt)
-  told_here (Err e) all (inl memory) = (tt, inl memory)
-  told_here (Err e) all (inr fails) = (tt, inr (λ clock. barred clock e (fails clock).0 (fails clock).1))
+  pub told_here : {T : Type 0} (answer : Result T Refusal) → record {
+    ok : OnOk answer ((clock : ℕ) → AllHold (its (plan_of clock c) o));
+    refused : IfErr answer (λ r. (r ≡ refusal.Memory) ⊎ ((clock : ℕ) → FailsPastKeys (its (plan_of clock c) o) r));
+  } → Tells c m v answer
+  told_here answer told = record {
+    ok = if_ok answer told.ok (λ all clock. permitted clock (all clock));
+    refused = refused_at (λ clock r fails. barred clock r fails.0 fails.1) answer told.refused;
+  }
 
   -- and of all plans
-  pub told_anywhere : {T : Type 0} (answer : Result T Refusal) → OnOk answer (MeetsAll x its) → IfErr answer (FailsAt x its) → Tells c m v answer
-  told_anywhere answer all fails = told_here answer (met_at c o x its known answer all) (failed_at c o x its known answer fails)
+  pub told_anywhere : {T : Type 0} (answer : Result T Refusal) → record { ok : OnOk answer (MeetsAll x its); refused : IfErr answer (FailsAt x its) } → Tells c m v answer
+  told_anywhere answer told = told_here answer (record { ok = met_at c o x its known answer told.ok; refused = failed_at c o x its known answer told.refused })
 
 -- ---- a request that asks these lines of the plan
 
 module _ (c : PlanContents) (m : ℕ) {v w : What} (is : v ≡ w) where
   pub if_all_hold : {T : Type 0} (answer : Result T Refusal) → OnOk answer ((clock : ℕ) → AllHold (MayBeDone (plan_of clock c) m w)) → OnOk answer ((clock : ℕ) → IsPermitted (plan_of clock c) m v)
-  if_all_hold (Ok t) all = λ clock. subst (IsPermitted (plan_of clock c) m) (sym is) (all clock)
-  if_all_hold (Err e) all = tt
+  if_all_hold answer all = if_ok answer all (λ hold clock. subst (IsPermitted (plan_of clock c) m) (sym is) (hold clock))
 
   is_barred : (clock : ℕ) (r : Refusal) → IsBarred (plan_of clock c) m w r → IsBarred (plan_of clock c) m v r
   is_barred clock r = subst (λ z. IsBarred (plan_of clock c) m z r) (sym is)
 
   pub if_barred : {T : Type 0} (answer : Result T Refusal) → IfErr answer (λ r. (r ≡ refusal.Memory) ⊎ ((clock : ℕ) → IsBarred (plan_of clock c) m w r))
       → IfErr answer (λ r. (r ≡ refusal.Memory) ⊎ ((clock : ℕ) → IsBarred (plan_of clock c) m v r))
-  if_barred (Ok t) h = tt
-  if_barred (Err e) (inl memory) = inl memory
-  if_barred (Err e) (inr h) = inr (λ clock. is_barred clock e (h clock))
+  if_barred = refused_at is_barred
 
   pub if_one_fails : {T : Type 0} (answer : Result T Refusal) → IfErr answer (λ r. (r ≡ refusal.Memory) ⊎ ((clock : ℕ) → FailsPastKeys (MayBeDone (plan_of clock c) m w) r))
       → IfErr answer (λ r. (r ≡ refusal.Memory) ⊎ ((clock : ℕ) → IsBarred (plan_of clock c) m v r))
-  if_one_fails (Ok t) h = tt
-  if_one_fails (Err e) (inl memory) = inl memory
-  if_one_fails (Err e) (inr h) = inr (λ clock. is_barred clock e (let past = (h clock).0 in omega (arith, past), (h clock).1))
+  if_one_fails = refused_at (λ clock r fails. is_barred clock r (let past = fails.0 in omega (arith, past), fails.1))
 
   pub if_fails : {T : Type 0} (answer : Result T Refusal) → IfErr answer (λ r. (clock : ℕ) → FailsPastKeys (MayBeDone (plan_of clock c) m w) r)
       → IfErr answer (λ r. (r ≡ refusal.Memory) ⊎ ((clock : ℕ) → IsBarred (plan_of clock c) m v r))

@@ -1,11 +1,13 @@
 -- Rows of which none has been found so far, and what rows say of the keys that stand in them.
-use Rattle.std.proofs.Common.{◌≡◌, inl, inr, sym, ap, ◌∙◌, arith, ℕ, ◌+◌, ◌<◌, true, List, slice_get, Some, Result, Ok, Err, IfErr, OnOk}
+use Rattle.std.proofs.Common.{◌≡◌, ◌⊎◌, inl, inr, sym, ap, ◌∙◌, arith, ℕ, ◌+◌, ◌<◌, true, List, slice_get, Some, Result, Ok, Err, IfErr, OnOk}
 use Rattle.std.proofs.lemmas.Bool.{cases_eq}
 use Rattle.std.specs.Cmp.{IsTotalOrder}
 use Rattle.std.specs.FinMap.{IsAntisymmetric, contains_key, from_entries, get}
 use Rattle.std.specs.List.Sorted.{IsStrictlySortedBy}
 use Rattle.std.specs.Map.{keys_of}
 use Rattle.std.specs.declared.cmp.Ordering.{Ordering}
+use Rattle.plan_basics.specs.declared.Refusal.{Refusal}
+use Rattle.plan_basics.specs.declared.Refusal.TheVariants as refusal
 use Rattle.plan_basics.specs.declared.keys.OpKey.{OpKey}
 use Rattle.plan_model.specs.Plan.{Operation, Plan}
 use Rattle.plan_model.specs.Status.{IsUnderWay}
@@ -41,3 +43,9 @@ if_ok (Err e) a f = tt
 pub if_err : {T E : Type 0} {A B : E → Type 0} (r : Result T E) → IfErr r A → ((e : E) → A e → B e) → IfErr r B
 if_err (Ok t) a f = tt
 if_err (Err e) a f = f e a
+
+-- a refusal for want of memory stays one
+pub if_refused : {T : Type 0} {A B : Refusal → Type 0} (r : Result T Refusal) → IfErr r (λ e. (e ≡ refusal.Memory) ⊎ A e) → ((e : Refusal) → A e → B e) → IfErr r (λ e. (e ≡ refusal.Memory) ⊎ B e)
+if_refused (Ok t) a f = tt
+if_refused (Err e) (inl memory) f = inl memory
+if_refused (Err e) (inr a) f = inr (f e a)

@@ -103,30 +103,8 @@ fn check_started_on_automatic(reported: &Reported) -> Result<(), Refusal>
     }
 }
 
-// Where starts are reported, a start may be reported of what is allowed to start: it is ready or interrupted, and its
-// workstation and the special resources that it needs are free for it.
-fn check_started_where_reported(
-    alloc: Global,
-    contents: &PlanContents,
-    key: &OpKey,
-    reported: &Reported,
-    at: Moment,
-) -> Result<(), Refusal>
-    requires contents { AreValidContents contents.now }
-    requires operation { IsReported (plan_of 0 contents.now) key.now reported.now }
-    requires attribute { reported.now.attribute ≡ Attr.StartAndCompletion }
-    ensures ok { OnOk result ((clock : ℕ) → AllHold (MayBeStartedAt reported.now at (plan_of clock contents.now) key.now)) }
-    ensures refused { IfErr result (λ r. (r ≡ Refusal.Memory) ⊎ ((clock : ℕ) → FailsPastKeys (MayBeStartedAt reported.now at (plan_of clock contents.now) key.now) r)) }
-{
-    if !is_startable(reported.status) {
-        return Err(Refusal::WrongStatus);
-    }
-    let taken = given_out_at(alloc, contents, &reported.operation)?;
-    let holdings = holdings_of(alloc, contents)?;
-    check_start(contents, key, &reported.operation, &taken, &holdings, at)
-}
-
-// What stands in the way of a start.
+// What stands in the way of a start: on an automatic workstation one may be reported of what is named; where starts are
+// reported, of what is ready or interrupted, where its workstation and the special resources that it needs are free for it.
 fn check_started(
     alloc: Global,
     contents: &PlanContents,
@@ -141,9 +119,12 @@ fn check_started(
 {
     match reported.attribute {
         Attr::Automatic => check_started_on_automatic(reported),
-        Attr::StartAndCompletion => check_started_where_reported(
-            alloc, contents, key, reported, at,
-        ),
+        Attr::StartAndCompletion if !is_startable(reported.status) => Err(Refusal::WrongStatus),
+        Attr::StartAndCompletion => {
+            let taken = given_out_at(alloc, contents, &reported.operation)?;
+            let holdings = holdings_of(alloc, contents)?;
+            check_start(contents, key, &reported.operation, &taken, &holdings, at)
+        }
         Attr::CompletionOnly | Attr::Nonreporting => Err(Refusal::WrongWorkstation),
     }
 }

@@ -14,6 +14,7 @@ use Rattle.special_resources.proofs.Splits.{none_in_order}
 use Rattle.plan_records.specs.Contents.{plan_of}
 use Rattle.plan_core.proofs.SideBySide.{left_from, length_viewed, length_zipped}
 use Rattle.plan_checks.specs.Held.{AreHeld, IsHeld, plan_held, IsHeldAtSome}
+use Rattle.plan_core.specs.State.{PlanState}
 use Rattle.plan_core.specs.Views.{AreOccViews, AreOpViews, IsHeldIfLoaded, known_of, occ_view_of, occ_views, op_view_of, op_views, views_from}
 use Rattle.plan_checks.specs.declared.loaded.LoadedPlan.{LoadedPlan}
 
@@ -48,6 +49,11 @@ pub held_if_loaded : (clock : ℕ) (borrowed : Option (Bor LoadedPlan)) (loaded 
 held_if_loaded clock None loaded e held = tt
 held_if_loaded clock (Some h) loaded e held = (clock, subst (IsHeld clock) (sym e) held)
 
+-- what callers see of a plan that is held is that plan
+pub seen_held : (clock : ℕ) (h : LoadedPlan) (loaded : Option LoadedPlan) {s : PlanState} → Some h ≡ loaded → IsHeld clock loaded → record { plan = plan_held clock loaded } ≡ s
+    → AreHeld clock h × (plan_of clock h.contents ≡ s.plan)
+seen_held clock h loaded is held seen = (subst (IsHeld clock) (sym is) held, ap (plan_held clock) is ∙ ap (λ (s : PlanState). s.plan) seen)
+
 -- as many views as rows
 module _ (h : LoadedPlan) (held : IsHeldAtSome h) where
   pub length_ops : length (op_views h) ≡ length h.contents.operations.items
@@ -68,11 +74,17 @@ fewer e = let n = ap length e in omega (arith, n)
 -- ---- views of any kind
 
 module _ {V : Type 0} (views : LoadedPlan → List V) where
-  -- from the first place on: all of them
-  pub all_from : (Are : Plan → List V → Type 0) → ((clock : ℕ) → Are (plan_held clock None) []) → ((clock : ℕ) (h : LoadedPlan) → AreHeld clock h → Are (plan_of clock h.contents) (views h))
+  views_held : (Are : Plan → List V → Type 0) → ((clock : ℕ) → Are (plan_held clock None) []) → ((clock : ℕ) (h : LoadedPlan) → AreHeld clock h → Are (plan_of clock h.contents) (views h))
       → (clock : ℕ) (borrowed : Option (Bor LoadedPlan)) (loaded : Option LoadedPlan) → option_copied borrowed ≡ loaded → IsHeld clock loaded → Are (plan_held clock loaded) (views_from views borrowed 0)
-  all_from Are none some clock None loaded e held = subst (λ l. Are (plan_held clock l) []) e (none clock)
-  all_from Are none some clock (Some h) loaded e held = subst (λ l. Are (plan_held clock l) (views h.now)) e (some clock h.now (subst (IsHeld clock) (sym e) held))
+  views_held Are none some clock None loaded e held = subst (λ l. Are (plan_held clock l) []) e (none clock)
+  views_held Are none some clock (Some h) loaded e held = subst (λ l. Are (plan_held clock l) (views h.now)) e (some clock h.now (subst (IsHeld clock) (sym e) held))
+
+  -- from the first place on: all of them, of the plan that callers see
+  pub all_from : (Are : Plan → List V → Type 0) → ((clock : ℕ) → Are (plan_held clock None) []) → ((clock : ℕ) (h : LoadedPlan) → AreHeld clock h → Are (plan_of clock h.contents) (views h))
+      → (clock : ℕ) (borrowed : Option (Bor LoadedPlan)) (loaded : Option LoadedPlan) → option_copied borrowed ≡ loaded → IsHeld clock loaded
+      → {s : PlanState} → record { plan = plan_held clock loaded } ≡ s → {listed : List V} → listed ≡ views_from views borrowed 0 → Are s.plan listed
+  all_from Are none some clock borrowed loaded e held {s} seen {listed} all =
+      subst (λ (state : PlanState). Are state.plan listed) seen (subst (Are (plan_held clock loaded)) (sym all) (views_held Are none some clock borrowed loaded e held))
 
   module _ {left : List V} {borrowed : Option (Bor LoadedPlan)} (i : ℕ) {h : Bor LoadedPlan} (is : views_from views borrowed i ≡ left) (was : borrowed ≡ Some h) where
     here : drop i (views h.now) ≡ left

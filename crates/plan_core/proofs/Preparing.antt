@@ -1,5 +1,5 @@
 -- What a request that may be accepted leads to.
-use Rattle.std.proofs.Common.{◌≡◌, sym, ap, subst, ◌∙◌, arith, ℕ, true, pos, List, Option, Some, None, is_some, Result, Ok, Err, IfOk}
+use Rattle.std.proofs.Common.{◌≡◌, sym, ap, subst, ◌∙◌, arith, ℕ, true, pos, List, Option, Some, None, is_some, Result, IfOk}
 use Rattle.plan_basics.specs.Minutes.{IsMoment}
 use Rattle.plan_basics.specs.declared.Refusal.{Refusal}
 use Rattle.plan_basics.specs.declared.Refusal.TheVariants as refusal
@@ -20,6 +20,7 @@ use Rattle.plan_records.specs.declared.contents.PlanContents.{PlanContents}
 use Rattle.plan_checks.specs.Held.{IsHeld, plan_held}
 use Rattle.plan_checks.specs.Barring.{IsClear}
 use Rattle.plan_core.specs.Requested.{AreMadeBy, NoneRefusesAt}
+use Rattle.plan_changes.proofs.Answered.{if_both_ok}
 use Rattle.plan_checks.proofs.AtClock.{added_at, paired_at}
 use Rattle.plan_core.specs.State.{PlanState, PreparedState}
 use Rattle.plan_checks.specs.declared.loaded.LoadedPlan.{LoadedPlan}
@@ -51,25 +52,9 @@ module _ (P : Plan) (m : ℕ) (w : What) (free : NoneRefusesAt P m w) where
 
 -- what a request asks of a plan doesn't go by the plan's clock
 pub clear_at : (c : PlanContents) (k clock m : ℕ) (w : What) → IsClear (plan_of k c) m w → IsClear (plan_of clock c) m w
-clear_at c k clock m (what.Load draft) h = h
-clear_at c k clock m what.Tick h = h
-clear_at c k clock m (what.Started o) h = h
-clear_at c k clock m (what.Ended o) h = h
-clear_at c k clock m (what.Error o code) h = h
-clear_at c k clock m (what.Interrupted o) h = h
-clear_at c k clock m (what.Unknown o) h = h
-clear_at c k clock m (what.Hold o) h = h
-clear_at c k clock m (what.Release o) h = h
-clear_at c k clock m (what.Nop o) h = h
-clear_at c k clock m (what.Unnop o) h = h
-clear_at c k clock m (what.Rerun o) h = h
-clear_at c k clock m (what.Complete o) h = h
-clear_at c k clock m (what.DeleteOccurrence o) h = h
-clear_at c k clock m (what.AddOccurrence None) h = h
 clear_at c k clock m (what.AddOccurrence (Some s)) h = λ r past. added_at c s k clock r (h r past)
 clear_at c k clock m (what.AddDependency p s) h = λ r past. paired_at c p s k clock r (h r past)
-clear_at c k clock m (what.SetAvailable r available) h = h
-clear_at c k clock m (what.ReplaceIntervals v items) h = h
+clear_at c k clock m w h = h
 
 -- ---- what is made
 
@@ -101,7 +86,6 @@ module _ (P : Plan) (q : Request) (allows : (r : Refusal) → MayBeAccepted P q 
     }
 
     -- so of what is settled, if it is
-    pub if_settled : {A : PreparedState → Type 0} → ((p : PreparedState) → Step P q (accepted p.named) p.plan → A p) → (answer : Result PreparedState Refusal)
-        → IfOk answer (λ p. IsChosen (plan_of at new) at p.named) → IfOk answer (λ p. p.plan ≡ named p.named (plan_of at new)) → IfOk answer A
-    if_settled f (Ok p) chosen is_named = f p (accepted_step p.plan p.named chosen is_named)
-    if_settled f (Err e) chosen is_named = chosen
+    pub if_settled : (answer : Result PreparedState Refusal) → IfOk answer (λ p. IsChosen (plan_of at new) at p.named) → IfOk answer (λ p. p.plan ≡ named p.named (plan_of at new))
+        → IfOk answer (λ p. Step P q (accepted p.named) p.plan)
+    if_settled answer = if_both_ok answer (λ p. accepted_step p.plan p.named)

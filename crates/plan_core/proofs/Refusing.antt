@@ -1,5 +1,5 @@
 -- The answers to a request, by what stands in its way.
-use Rattle.std.proofs.Common.{◌≡◌, ◌⊎◌, inl, inr, refl, sym, subst, ◌∙◌, arith, ℕ, ◌<◌, true, false, true≢false, pos, ◌≤ℤ◌, Option, Some, None, is_some, Result, Ok, Err, IfErr, OnOk}
+use Rattle.std.proofs.Common.{◌≡◌, refl, sym, subst, ◌∙◌, arith, ℕ, ◌<◌, true, false, true≢false, pos, ◌≤ℤ◌, Option, Some, None, is_some}
 use Rattle.plan_basics.specs.Minutes.{IsMoment}
 use Rattle.plan_basics.specs.Refusals.{number_of}
 use Rattle.plan_basics.specs.declared.Refusal.{Refusal}
@@ -68,21 +68,3 @@ module _ (P : Plan) (q : Request) (m : ℕ) (at : q.at ≡ pos m) (onward : pos 
 pub held_loaded : (clock : ℕ) (x : Option LoadedPlan) → (plan_held clock x).loaded ≡ is_some x
 held_loaded clock None = refl
 held_loaded clock (Some h) = refl
-
-pub if_err : {T E : Type 0} {A B : E → Type 0} → (r : Result T E) → ((x : E) → A x → B x) → IfErr r A → IfErr r B
-if_err (Ok x) f h = h
-if_err (Err e) f h = f e h
-
-pub on_ok : {T E A B : Type 0} → (r : Result T E) → (A → B) → OnOk r A → OnOk r B
-on_ok (Ok x) f h = f h
-on_ok (Err e) f h = h
-
--- a refusal for want of memory stays one
-pub if_refused : {T : Type 0} {A B : Refusal → Type 0} → (r : Result T Refusal) → ((x : Refusal) → A x → B x) → IfErr r (λ x. (x ≡ refusal.Memory) ⊎ A x) → IfErr r (λ x. (x ≡ refusal.Memory) ⊎ B x)
-if_refused (Ok x) f h = h
-if_refused (Err e) f (inl memory) = inl memory
-if_refused (Err e) f (inr h) = inr (f e h)
-
-pub or_memory : {T : Type 0} (A : Refusal → Type 0) (r : Result T Refusal) → IfErr r A → IfErr r (λ x. (x ≡ refusal.Memory) ⊎ A x)
-or_memory A (Ok x) h = h
-or_memory A (Err e) h = inr h

@@ -14,3 +14,4 @@ pub mod Satisfied
 pub mod SoFar
 pub mod SoMany
 pub mod Tallying
+pub mod Workplaces

@@ -15,39 +15,25 @@ pub check_rerun-requires-clause-operation : goal.check_rerun-requires-clause-ope
 check_rerun-requires-clause-operation c = c.in_ok-reported_of-in-Rerun.ensures.found 0
 
 pub returns-in_ok-reported_of-in-Started : goal.returns-in_ok-reported_of-in-Started
-returns-in_ok-reported_of-in-Started c =
-    let told = told_here c.args.loaded.now.contents c.args.at (asks_start c.in-Started.is) c.in_ok-reported_of-in-Started.ensures.found c.check_started.result c.check_started.ensures.ok c.check_started.ensures.refused in
-    record { ok = told.0; refused = told.1 }
+returns-in_ok-reported_of-in-Started c = told_here c.args.loaded.now.contents c.args.at (asks_start c.in-Started.is) c.in_ok-reported_of-in-Started.ensures.found c.check_started.result c.check_started.ensures
 
 pub returns-in_ok-reported_of-in-Ended : goal.returns-in_ok-reported_of-in-Ended
-returns-in_ok-reported_of-in-Ended c =
-    let told = told_anywhere c.args.loaded.now.contents c.args.at (asks_end c.in-Ended.is) c.in_ok-reported_of-in-Ended.ensures.found c.check_ended.result c.check_ended.ensures.ok c.check_ended.ensures.refused in
-    record { ok = told.0; refused = told.1 }
+returns-in_ok-reported_of-in-Ended c = told_anywhere c.args.loaded.now.contents c.args.at (asks_end c.in-Ended.is) c.in_ok-reported_of-in-Ended.ensures.found c.check_ended.result c.check_ended.ensures
 
 pub returns-in_ok-reported_of-in-Interrupted : goal.returns-in_ok-reported_of-in-Interrupted
-returns-in_ok-reported_of-in-Interrupted c =
-    let told = told_anywhere c.args.loaded.now.contents c.args.at (asks_interruption c.in-Interrupted.is) c.in_ok-reported_of-in-Interrupted.ensures.found c.check_interrupted.result c.check_interrupted.ensures.ok c.check_interrupted.ensures.refused in
-    record { ok = told.0; refused = told.1 }
+returns-in_ok-reported_of-in-Interrupted c = told_anywhere c.args.loaded.now.contents c.args.at (asks_interruption c.in-Interrupted.is) c.in_ok-reported_of-in-Interrupted.ensures.found c.check_interrupted.result c.check_interrupted.ensures
 
 pub returns-in_ok-reported_of-in-Unknown : goal.returns-in_ok-reported_of-in-Unknown
-returns-in_ok-reported_of-in-Unknown c =
-    let told = told_anywhere c.args.loaded.now.contents c.args.at (asks_unknown c.in-Unknown.is) c.in_ok-reported_of-in-Unknown.ensures.found c.check_undecided.result c.check_undecided.ensures.ok c.check_undecided.ensures.refused in
-    record { ok = told.0; refused = told.1 }
+returns-in_ok-reported_of-in-Unknown c = told_anywhere c.args.loaded.now.contents c.args.at (asks_unknown c.in-Unknown.is) c.in_ok-reported_of-in-Unknown.ensures.found c.check_undecided.result c.check_undecided.ensures
 
 pub returns-in_ok-reported_of-in-Hold : goal.returns-in_ok-reported_of-in-Hold
-returns-in_ok-reported_of-in-Hold c =
-    let told = told_anywhere c.args.loaded.now.contents c.args.at (asks_flag c.in-Hold.is) c.in_ok-reported_of-in-Hold.ensures.found c.check_flagged.result c.check_flagged.ensures.ok c.check_flagged.ensures.refused in
-    record { ok = told.0; refused = told.1 }
+returns-in_ok-reported_of-in-Hold c = told_anywhere c.args.loaded.now.contents c.args.at (asks_flag c.in-Hold.is) c.in_ok-reported_of-in-Hold.ensures.found c.check_flagged.result c.check_flagged.ensures
 
 pub returns-in_ok-reported_of-in-Rerun : goal.returns-in_ok-reported_of-in-Rerun
-returns-in_ok-reported_of-in-Rerun c =
-    let told = told_here c.args.loaded.now.contents c.args.at (asks_rerun c.in-Rerun.is) c.in_ok-reported_of-in-Rerun.ensures.found c.check_rerun.result c.check_rerun.ensures.ok c.check_rerun.ensures.refused in
-    record { ok = told.0; refused = told.1 }
+returns-in_ok-reported_of-in-Rerun c = told_here c.args.loaded.now.contents c.args.at (asks_rerun c.in-Rerun.is) c.in_ok-reported_of-in-Rerun.ensures.found c.check_rerun.result c.check_rerun.ensures
 
 pub returns-in_ok-reported_of-in-Complete : goal.returns-in_ok-reported_of-in-Complete
-returns-in_ok-reported_of-in-Complete c =
-    let told = told_anywhere c.args.loaded.now.contents c.args.at (asks_completion c.in-Complete.is) c.in_ok-reported_of-in-Complete.ensures.found c.check_completed.result c.check_completed.ensures.ok c.check_completed.ensures.refused in
-    record { ok = told.0; refused = told.1 }
+returns-in_ok-reported_of-in-Complete c = told_anywhere c.args.loaded.now.contents c.args.at (asks_completion c.in-Complete.is) c.in_ok-reported_of-in-Complete.ensures.found c.check_completed.result c.check_completed.ensures
 
 pub returns-in-DeleteOccurrence-clause-refused : goal.returns-in-DeleteOccurrence-clause-refused
 returns-in-DeleteOccurrence-clause-refused c =

@@ -1,19 +1,14 @@
-use Rattle.std.proofs.Common.{◌≡◌, ◌<◌, refl, sym, ap, subst, ◌∙◌, arith, Some, length, slice_get, is_some, true}
+use Rattle.std.proofs.Common.{◌≡◌, ◌<◌, refl, sym, ap, subst, ◌∙◌, arith, Some, length, slice_get}
 use Rattle.std.proofs.lemmas.Option.{slice_get_read}
-use Rattle.std.specs.FinMap.{from_entries, get}
-use Rattle.plan_basics.specs.Keys.{name_cmp}
 use Rattle.plan_model.specs.Holdings.{given_out}
 use Rattle.plan_model.specs.Plan.{Operation}
 use Rattle.plan_records.specs.Contents.{plan_of}
+use Rattle.plan_status.proofs.Workplaces.{workplace_known}
 use Rattle.workstations.specs.Workstations.{Workstation}
 use Rattle.plan_checks.proofs.checks.given_out_at.Goals as goal
 
 pub known_workstation-place-requires-clause-known : goal.known_workstation-place-requires-clause-known
-known_workstation-place-requires-clause-known c =
-    let on = c.requires.operation in
-    let known = c.requires.contents.valid.have_workstations on.0 c.args.operation.now on.1 in
-    let named = subst (λ (op : Operation). is_some (get {R = name_cmp} (from_entries c.args.contents.now.workstations.items) op.workstation) ≡ true) (sym c.operation.view_is) known in
-    subst (λ rows. is_some (get {R = name_cmp} (from_entries rows) c.operation.inside.workstation) ≡ true) (sym c.deref.ensures.value) named
+known_workstation-place-requires-clause-known c = workplace_known c.args.contents.now c.requires.contents c.operation.view_is c.deref.ensures.value c.requires.operation
 
 pub index-requires : goal.index-requires
 index-requires c =

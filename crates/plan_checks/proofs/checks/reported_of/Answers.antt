@@ -1,17 +1,15 @@
-use Rattle.std.proofs.Common.{◌≡◌, subst, rules, ℕ, Option, Some, None, IfSome, IsNone, slice_get}
+use Rattle.std.proofs.Common.{◌≡◌, subst, rules, Some, None, IsNone, slice_get}
 use Rattle.std.specs.FinMap.{from_entries, get}
-use Rattle.plan_basics.specs.Keys.{operation_cmp}
 use Rattle.std.proofs.lemmas.Option.{slice_get_within}
+use Rattle.plan_basics.specs.Keys.{operation_cmp}
 use Rattle.plan_model.specs.Plan.{Operation}
+use Rattle.plan_checks.proofs.HeldRows.{found_at}
 use Rattle.plan_checks.proofs.checks.reported_of.Goals as goal
 use Rattle.plan_checks.proofs.checks.reported_of.Goals.{In_ok-place}
 
 -- the row at the place that is found
 row : (c : In_ok-place) → (op : Operation) × (slice_get c.args.loaded.now.contents.operations.items c.in_ok-place.place ≡ Some (c.args.key.now, op))
-row c =
-    let key = c.args.key.now in
-    let found = subst (λ (x : Option ℕ). IfSome x (λ i. (op : Operation) × (slice_get c.deref.result.now i ≡ Some (key, op)))) c.in_ok-place.ensures.ok_part c.row_place.ensures.found in
-    subst (λ rs. (op : Operation) × (slice_get rs c.in_ok-place.place ≡ Some (key, op))) c.deref.ensures.value found
+row c = found_at c.deref.result.now c.args.loaded.now.contents.operations.items c.args.key.now c.row_place.result c.in_ok-place.place c.deref.ensures.value c.in_ok-place.ensures.ok_part c.row_place.ensures.found
 
 pub reported_at-requires-clause-within : goal.reported_at-requires-clause-within
 reported_at-requires-clause-within c =

@@ -1,27 +1,22 @@
 use Rattle.std.specs.Result.{IsErrAnd}
-use Rattle.std.proofs.Common.{Result, Ok, Err, IfErr, ◌≡◌, sym, ap, subst, ◌∙◌, ℕ, ◌<◌, ◌≤◌, arith, false, true, true≢false, Some, slice_get, is_some}
+use Rattle.std.proofs.Common.{Result, Ok, Err, IfErr, ◌≡◌, sym, ap, subst, ◌∙◌, ℕ, ◌<◌, ◌≤◌, arith, false, true≢false, Some}
 use Rattle.std.proofs.lemmas.Int.{ints}
-use Rattle.std.proofs.lemmas.Option.{get_or_from_slice_get}
-use Rattle.std.specs.FinMap.{from_entries, get}
-use Rattle.plan_basics.specs.Keys.{name_cmp, name_cmp-IsAntisymmetric, name_cmp_total}
+use Rattle.std.specs.FinMap.{get}
 use Rattle.plan_basics.specs.Refusals.{number_of}
 use Rattle.plan_basics.specs.declared.Refusal.{Refusal}
 use Rattle.plan_model.specs.Plan.{Operation, Plan}
 use Rattle.plan_model.specs.Starting.{MayStart}
-use Rattle.plan_records.proofs.RowPlaces.{get_at}
 use Rattle.plan_records.specs.Contents.{plan_of}
-use Rattle.workstations.specs.Timetables.{IsLeastRefusal, NamedWorkstation}
+use Rattle.workstations.specs.Timetables.{IsLeastRefusal}
 use Rattle.workstations.specs.Workstations.{HasRoom, Workstation}
 use Rattle.plan_choice.specs.Choosing.{HasTaken, IsStartLine}
 use Rattle.plan_choice.proofs.StartLines.{before_busy, line_met, lower_met, no_room, not_free}
+use Rattle.plan_status.proofs.Workplaces.{workplace_known, workplace_read}
 use Rattle.plan_choice.proofs.taken.check_start.Goals as goal
 use Rattle.plan_choice.proofs.taken.check_start.Goals.{After-fits}
 
 pub known_workstation-place-requires-clause-known : goal.known_workstation-place-requires-clause-known
-known_workstation-place-requires-clause-known c =
-    let known = c.requires.contents.valid.have_workstations c.args.key.now c.args.operation.now c.requires.operation in
-    let named = subst (λ (op : Operation). is_some (get {R = name_cmp} (from_entries c.args.contents.now.workstations.items) op.workstation) ≡ true) (sym c.operation.view_is) known in
-    subst (λ rows. is_some (get {R = name_cmp} (from_entries rows) c.operation.inside.workstation) ≡ true) (sym c.deref.ensures.value) named
+known_workstation-place-requires-clause-known c = workplace_known c.args.contents.now c.requires.contents c.operation.view_is c.deref.ensures.value (c.args.key.now, c.requires.operation)
 
 module _ (c : After-fits) where
   abbrev workstation : Workstation
@@ -29,15 +24,8 @@ module _ (c : After-fits) where
 
   its_workstation : get (plan_of 0 c.args.contents.now).workstations c.args.operation.now.workstation ≡ Some workstation
   its_workstation =
-      let rows = c.args.contents.now.workstations.items in
-      let place = c.known_workstation-place.result in
-      let name = c.operation.inside.workstation in
-      let at : (ws : Workstation) × (slice_get rows place ≡ Some (name, ws)) = subst (λ rs. (ws : Workstation) × (slice_get rs place ≡ Some (name, ws))) c.deref.ensures.value c.known_workstation-place.ensures.at in
-      let is : c.index-workstation.result.now ≡ (name, at.0) = c.index-workstation.ensures ∙ get_or_from_slice_get rows place (name, at.0) c.index-workstation.result.now at.1 in
-      let found = get_at name_cmp name_cmp_total name_cmp-IsAntisymmetric rows c.requires.contents.in_order.workstations place name at.0 at.1 in
-      ap (λ (op : Operation). get (plan_of 0 c.args.contents.now).workstations op.workstation) (sym c.operation.view_is)
-      ∙ found
-      ∙ ap (λ (z : NamedWorkstation). Some z.1) (sym is)
+      let at = c.known_workstation-place in
+      workplace_read c.args.contents.now c.requires.contents c.operation.view_is c.deref.ensures.value at.result at.ensures.at c.index-workstation.result.now c.index-workstation.ensures
 
   same_needs : ◌≡◌ {A = ℕ × ℕ} (c.from.result, c.from-2.result) (c.args.operation.now.r1, c.args.operation.now.r2)
   same_needs = λ i. ((c.from.ensures ∙ ap (λ (op : Operation). op.r1) c.operation.view_is) i, (c.from-2.ensures ∙ ap (λ (op : Operation). op.r2) c.operation.view_is) i)

@@ -1,13 +1,13 @@
-use Rattle.std.proofs.Common.{arith, ◌≡◌, ◌<◌, refl, sym, ap, subst, ◌∙◌, Some, length, is_some, set, slice_get, true}
-use Rattle.std.specs.FinMap.{get, from_entries}
+use Rattle.std.proofs.Common.{arith, ◌≡◌, ◌<◌, refl, sym, ap, ◌∙◌, Some, length, set, slice_get}
+use Rattle.std.specs.FinMap.{get}
 use Rattle.std.proofs.lemmas.Option.{slice_get_read}
-use Rattle.plan_basics.specs.Keys.{name_cmp}
 use Rattle.plan_model.specs.Plan.{Operation}
 use Rattle.plan_records.specs.Contents.{plan_of}
 use Rattle.workstations.specs.Workstations.{Workstation}
 use Rattle.plan_choice.specs.StartGates.{Counted}
 use Rattle.plan_choice.proofs.GateSteps.{can_start, cannot_start, read_found}
 use Rattle.plan_choice.proofs.GivenPlaces.{own_place}
+use Rattle.plan_status.proofs.Workplaces.{workplace_known}
 use Rattle.plan_choice.proofs.choice.StartGateGate.name.Goals as goal
 use Rattle.plan_choice.proofs.choice.StartGateGate.name.Goals.{After-index, After-index-2}
 
@@ -18,10 +18,7 @@ found c =
 
 pub known_workstation-place-requires-clause-known : goal.known_workstation-place-requires-clause-known
 known_workstation-place-requires-clause-known c =
-    let stations = c.self.inside.contents.now.workstations.items in
-    let known = c.self.invariant.contents.valid.have_workstations c.args.op.now c.index.result.now.1 (found ((goal.at.known_workstation-place-requires-clause-known c).After-index)) in
-    let named = subst (λ (op : Operation). is_some (get {R = name_cmp} (from_entries stations) op.workstation) ≡ true) (sym c.operation.view_is) known in
-    subst (λ rows. is_some (get {R = name_cmp} (from_entries rows) c.operation.inside.workstation) ≡ true) (sym c.deref-2.ensures.value) named
+    workplace_known c.self.inside.contents.now c.self.invariant.contents c.operation.view_is c.deref-2.ensures.value (c.args.op.now, found ((goal.at.known_workstation-place-requires-clause-known c).After-index))
 
 pub check_start-requires-clause-operation : goal.check_start-requires-clause-operation
 check_start-requires-clause-operation c = found ((goal.at.check_start-requires-clause-operation c).After-index)

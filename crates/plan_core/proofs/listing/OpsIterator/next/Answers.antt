@@ -1,7 +1,7 @@
-use Rattle.std.proofs.Common.{◌≡◌, ◌≤◌, ◌+◌, arith, length, ◌∷◌, subst}
+use Rattle.std.proofs.Common.{◌≤◌, arith, length, subst}
 use Rattle.plan_core.proofs.FromPlace.{fewer, length_ops, none_from, rest_from}
 use Rattle.plan_core.proofs.listing.OpsIterator.next.Goals as goal
-use Rattle.plan_core.specs.Views.{IsHeldIfLoaded, op_views, views_from}
+use Rattle.plan_core.specs.Views.{IsHeldIfLoaded, op_views}
 
 pub returns-then-place-len-clause-steps : goal.returns-then-place-len-clause-steps
 returns-then-place-len-clause-steps c =
@@ -11,11 +11,7 @@ returns-then-place-len-clause-steps c =
     let none = none_from op_views c.self.inside.place c.self.view_is c.in_ok-loaded.was past in
     (none, none)
 
-rest_is : (c : goal.After-op_view) → c.args.self.now ≡ c.op_view.result ∷ views_from op_views c.self.inside.loaded (c.self.inside.place + 1)
-rest_is c = rest_from op_views c.self.inside.place c.self.view_is c.in_ok-loaded.was c.op_view.result c.op_view.ensures
-
-pub returns-clause-steps : goal.returns-clause-steps
-returns-clause-steps c = rest_is c
-
-pub returns-clause-goes : goal.returns-clause-goes
-returns-clause-goes c = record { on = λ finite. (tt, tt, fewer (rest_is c)); keeps = tt; rests = λ finite. tt }
+pub returns : goal.returns
+returns c =
+    let rest = rest_from op_views c.self.inside.place c.self.view_is c.in_ok-loaded.was c.op_view.result c.op_view.ensures in
+    record { steps = rest; goes = record { on = λ finite. (tt, tt, fewer rest); keeps = tt; rests = λ finite. tt } }

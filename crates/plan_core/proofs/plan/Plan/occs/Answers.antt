@@ -1,13 +1,10 @@
-use Rattle.std.proofs.Common.{sym, ap, subst}
 use Rattle.plan_core.proofs.FromPlace.{all_from, held_if_loaded, no_occs}
 use Rattle.plan_core.proofs.OccViews.{are_occ_views}
 use Rattle.plan_core.proofs.plan.Plan.occs.Goals as goal
-use Rattle.plan_core.specs.Views.{AreOccViews, occ_views, views_from}
+use Rattle.plan_core.specs.Views.{AreOccViews, occ_views}
 
 pub new-requires : goal.new-requires
 new-requires c = held_if_loaded c.self.inside.clock c.as_ref.result c.self.inside.loaded c.as_ref.ensures.value c.self.invariant
 
 pub returns : goal.returns
-returns c =
-    let all = all_from occ_views AreOccViews no_occs are_occ_views c.self.inside.clock c.as_ref.result c.self.inside.loaded c.as_ref.ensures.value c.self.invariant in
-    subst (AreOccViews c.args.self.now.plan) (sym c.new.ensures) (subst (λ P. AreOccViews P (views_from occ_views c.as_ref.result 0)) (ap (λ s. s.plan) c.self.view_is) all)
+returns c = all_from occ_views AreOccViews no_occs are_occ_views c.self.inside.clock c.as_ref.result c.self.inside.loaded c.as_ref.ensures.value c.self.invariant c.self.view_is c.new.ensures
