@@ -1,6 +1,6 @@
 -- Where keys in order stand.
 use Rattle.std.proofs.Common.{◌≡◌, ◌≢◌, inl, inr, refl, sym, ap, subst, ◌∙◌, arith, ℕ, ◌+◌, ◌<◌, List, length, get_or, slice_get, Some, Contains, Result, Ok, Err}
-use Rattle.std.specs.Cmp.{IsTotalOrder, on_total, then_total}
+use Rattle.std.specs.Cmp.{IsTotalOrder}
 use Rattle.std.specs.FinMap.{IsAntisymmetric}
 use Rattle.std.specs.List.Sorted.{IsStrictlySortedBy, IsSortedBy, IsBinarySearchResult, IsSearchInRange}
 use Rattle.std.specs.Ordering.{is_lt, ordering_reverse}
@@ -13,18 +13,15 @@ use Rattle.std.proofs.lemmas.Map.Keys.{Less-from_sorted}
 use Rattle.std.proofs.lemmas.Option.{slice_get-get_or, slice_get_within, get_or_from_slice_get}
 use Rattle.operation_graph.specs.Graphs.{AreDifferent}
 pub use Rattle.operation_graph.proofs.SetMembers.{in_listed, listed_in}
-use Rattle.plan_basics.specs.Keys.{operation_cmp, operation_cmp_total, operation_cmp-IsAntisymmetric, then_IsAntisymmetric}
-use Rattle.plan_basics.specs.declared.keys.OpKey.{OpKey}
+use Rattle.plan_basics.specs.Keys.{operation_cmp_total, operation_cmp-IsAntisymmetric}
+use Rattle.plan_basics.proofs.PairOrders.{by_two_total, by_two-IsAntisymmetric}
 use Rattle.plan_model.specs.Plan.{pair_cmp}
 
-abbrev Pair : Type 0
-Pair = OpKey × OpKey
-
 pub pair_cmp_total : IsTotalOrder pair_cmp
-pair_cmp_total = then_total (on_total (λ (x : Pair). x.0) operation_cmp_total) (on_total (λ (x : Pair). x.1) operation_cmp_total)
+pair_cmp_total = by_two_total operation_cmp_total operation_cmp_total
 
 pub pair_cmp-IsAntisymmetric : IsAntisymmetric pair_cmp
-pair_cmp-IsAntisymmetric = then_IsAntisymmetric {R = operation_cmp} {S = operation_cmp} (λ (x : Pair). x.0) (λ (x : Pair). x.1) (λ x y p q i. (p i, q i)) operation_cmp-IsAntisymmetric operation_cmp-IsAntisymmetric
+pair_cmp-IsAntisymmetric = by_two-IsAntisymmetric operation_cmp-IsAntisymmetric operation_cmp-IsAntisymmetric
 
 module _ {K : Type 0} {R : K → K → Ordering} (total : IsTotalOrder R) where
   -- no key is below itself

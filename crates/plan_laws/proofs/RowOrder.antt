@@ -3,7 +3,8 @@ use Rattle.std.proofs.Common.{◌≡◌, refl, sym, ap, subst, ℕ, List, [], �
 use Rattle.std.specs.Ordering.{nat_cmp, ordering_then}
 use Rattle.std.specs.Cmp.{IsTotalOrder, nat_cmp_total, on_total, then_total}
 use Rattle.std.specs.FinMap.{IsAntisymmetric, nat_cmp-IsAntisymmetric}
-use Rattle.plan_basics.specs.Keys.{Name, name_cmp, name_cmp-IsAntisymmetric, name_cmp_total, occurrence_cmp, occurrence_cmp-IsAntisymmetric, occurrence_cmp_total, operation_cmp, operation_cmp-IsAntisymmetric, operation_cmp_total, then_IsAntisymmetric}
+use Rattle.plan_basics.specs.Keys.{Name, name_cmp, name_cmp-IsAntisymmetric, name_cmp_total, occurrence_cmp, occurrence_cmp-IsAntisymmetric, occurrence_cmp_total, operation_cmp, operation_cmp-IsAntisymmetric, operation_cmp_total}
+use Rattle.plan_basics.proofs.PairOrders.{by_two-IsAntisymmetric}
 use Rattle.plan_basics.specs.declared.keys.OccKey.{OccKey}
 use Rattle.plan_basics.specs.declared.keys.OpKey.{OpKey}
 use Rattle.std.specs.List.{AllByRecursion}
@@ -80,19 +81,15 @@ row_cmp_total = subst IsTotalOrder (λ i a b. sym (by_parts a b) i) (on_total pa
 
 -- ---- only equal keys tie
 
--- two that are compared one after the other
-by_two : {A B : Type 0} {R : A → A → Ordering} {S : B → B → Ordering} → IsAntisymmetric R → IsAntisymmetric S → IsAntisymmetric {K = A × B} (λ x y. ordering_then (R x.0 y.0) (S x.1 y.1))
-by_two r s = then_IsAntisymmetric (λ x. x.0) (λ x. x.1) (λ x y p q i. (p i, q i)) r s
-
 pub row_cmp-IsAntisymmetric : IsAntisymmetric row_cmp
 row_cmp-IsAntisymmetric key.Meta key.Meta e = refl
 row_cmp-IsAntisymmetric (key.Workstation a) (key.Workstation b) e = ap key.Workstation (name_cmp-IsAntisymmetric a b e)
-row_cmp-IsAntisymmetric (key.Interval a m) (key.Interval b n) e = ap (λ x. key.Interval x.0 x.1) (by_two name_cmp-IsAntisymmetric nat_cmp-IsAntisymmetric (a, m) (b, n) e)
+row_cmp-IsAntisymmetric (key.Interval a m) (key.Interval b n) e = ap (λ x. key.Interval x.0 x.1) (by_two-IsAntisymmetric name_cmp-IsAntisymmetric nat_cmp-IsAntisymmetric (a, m) (b, n) e)
 row_cmp-IsAntisymmetric (key.Resource a) (key.Resource b) e = ap key.Resource (name_cmp-IsAntisymmetric a b e)
 row_cmp-IsAntisymmetric (key.Occurrence a) (key.Occurrence b) e = ap key.Occurrence (occurrence_cmp-IsAntisymmetric a b e)
 row_cmp-IsAntisymmetric (key.Operation a) (key.Operation b) e = ap key.Operation (operation_cmp-IsAntisymmetric a b e)
-row_cmp-IsAntisymmetric (key.Dependency p q) (key.Dependency s t) e = ap (λ x. key.Dependency x.0 x.1) (by_two operation_cmp-IsAntisymmetric operation_cmp-IsAntisymmetric (p, q) (s, t) e)
-row_cmp-IsAntisymmetric (key.Need a m) (key.Need b n) e = ap (λ x. key.Need x.0 x.1) (by_two operation_cmp-IsAntisymmetric name_cmp-IsAntisymmetric (a, m) (b, n) e)
+row_cmp-IsAntisymmetric (key.Dependency p q) (key.Dependency s t) e = ap (λ x. key.Dependency x.0 x.1) (by_two-IsAntisymmetric operation_cmp-IsAntisymmetric operation_cmp-IsAntisymmetric (p, q) (s, t) e)
+row_cmp-IsAntisymmetric (key.Need a m) (key.Need b n) e = ap (λ x. key.Need x.0 x.1) (by_two-IsAntisymmetric operation_cmp-IsAntisymmetric name_cmp-IsAntisymmetric (a, m) (b, n) e)
 row_cmp-IsAntisymmetric a b e = absurd (cc)
 
 -- ---- rows in the order of their keys

@@ -2,7 +2,7 @@
 use Rattle.std.proofs.Common.{◌≡◌, refl, sym, ap, subst, ◌∙◌, true≢false, arith, ℕ, suc, ◌+◌, ◌<◌, ◌≤◌, Bool, true, false, cond, List, [], ◌∷◌, ◌++◌, map, take, drop, length, get_or, Some, None}
 use Rattle.std.specs.List.{AllByRecursion, cons_option}
 use Rattle.std.specs.List.Sorted.{IsStrictlySortedBy, IsPartitionedBy, IsPartitionPoint}
-use Rattle.std.specs.Cmp.{IsTotalOrder, Equal-is, on_total, then_total, tied_itself}
+use Rattle.std.specs.Cmp.{IsTotalOrder, Equal-is, tied_itself}
 use Rattle.std.specs.Map.{keys_of}
 use Rattle.std.specs.FinMap.{IsAntisymmetric, insert, len}
 use Rattle.std.specs.Ordering.{eq_by_cmp, is_eq, is_le, is_lt, ordering_then}
@@ -13,7 +13,8 @@ use Rattle.std.proofs.lemmas.List.{map_more, get_or-take, length-take, take-appe
 use Rattle.std.proofs.lemmas.List.Elements.{filter_map-append, recursion_from_All}
 use Rattle.std.proofs.Math.Seq.{drop-cons}
 use Rattle.plan_basics.specs.declared.keys.OpKey.{OpKey}
-use Rattle.plan_basics.specs.Keys.{Name, name_cmp, name_cmp_total, name_cmp-IsAntisymmetric, operation_cmp, operation_cmp_total, operation_cmp-IsAntisymmetric, then_IsAntisymmetric}
+use Rattle.plan_basics.specs.Keys.{Name, name_cmp, name_cmp_total, name_cmp-IsAntisymmetric, operation_cmp, operation_cmp_total, operation_cmp-IsAntisymmetric}
+use Rattle.plan_basics.proofs.PairOrders.{by_two_total, by_two-IsAntisymmetric}
 use Rattle.special_resources.specs.declared.Need.{Need}
 use Rattle.special_resources.specs.Holdings.{usage_of}
 use Rattle.special_resources.specs.Needs.{AreInNameOrder, ComeBefore, entry_of, usages_of}
@@ -29,14 +30,11 @@ use Rattle.plan_records.proofs.RowPlaces.{len-from_entries}
 abbrev Said : Type 0
 Said = OpKey × Need
 
-abbrev Known : Type 0
-Known = OpKey × Name
-
 pub need_cmp_total : IsTotalOrder need_cmp
-need_cmp_total = then_total (on_total (λ (x : Known). x.0) operation_cmp_total) (on_total (λ (x : Known). x.1) name_cmp_total)
+need_cmp_total = by_two_total operation_cmp_total name_cmp_total
 
 pub need_cmp-IsAntisymmetric : IsAntisymmetric need_cmp
-need_cmp-IsAntisymmetric = then_IsAntisymmetric {R = operation_cmp} {S = name_cmp} (λ (x : Known). x.0) (λ (x : Known). x.1) (λ x y p q i. (p i, q i)) operation_cmp-IsAntisymmetric name_cmp-IsAntisymmetric
+need_cmp-IsAntisymmetric = by_two-IsAntisymmetric operation_cmp-IsAntisymmetric name_cmp-IsAntisymmetric
 
 -- the need itself
 abbrev pub said_need : Said → Need

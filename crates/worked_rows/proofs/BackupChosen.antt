@@ -28,8 +28,8 @@ use Rattle.worked_rows.proofs.Entries.{one_ready}
 use Rattle.worked_rows.proofs.Facts.{status_of_first, status_of_next, waiting_is_not_ready}
 use Rattle.worked_rows.proofs.Given.{allowed, given_out_by, given_out_is}
 use Rattle.worked_rows.proofs.Lists.{entries-from_entries}
-use Rattle.worked_rows.proofs.Literal.{each_entry, one_after, one_before, only}
-use Rattle.worked_rows.proofs.Starts.{starts_before, starts_last}
+use Rattle.worked_rows.proofs.Literal.{each_entry, one_before, only}
+use Rattle.worked_rows.proofs.Starts.{starts_at_end, starts_before}
 use Rattle.worked_rows.proofs.TrioChoice.{chosen_by, not_left}
 
 -- ---- before the desk names one
@@ -65,13 +65,13 @@ backup_waits : HasStatus with_backup backup_key status.Waiting
 backup_waits = status_of_next with_backup backup_key (lasting 30) always_open second (lasting 60) always_open status.Waiting backup_is station_found second_is station_found (λ e. cc) second_precedes before_backup second_waits
 
 latest_backup : IsLatestStart with_backup backup_key (pos 27438030)
-latest_backup = starts_last with_backup backup_key (lasting 30) backup_is _ (λ b h. one_after two_pairs backup_key b h) refl
+latest_backup = starts_at_end with_backup two_pairs refl backup_key (lasting 30) backup_is refl
 
 latest_second : IsLatestStart with_backup second (pos 27437970)
-latest_second = starts_before with_backup second (lasting 60) second_is backup_key (lasting 30) _ _ backup_is (λ e. cc) second_precedes (λ c h. only c backup_key (one_after two_pairs second c h)) latest_backup (search rules) refl
+latest_second = starts_before with_backup two_pairs refl second (lasting 60) second_is backup_key (lasting 30) _ backup_is (λ e. cc) refl refl latest_backup (search rules)
 
 earlier_first : IsLatestStart with_backup first (pos three)
-earlier_first = starts_before with_backup first (lasting 30) first_is second (lasting 60) _ _ second_is (λ e. cc) first_precedes (λ c h. only c second (one_after two_pairs first c h)) latest_second (search rules) refl
+earlier_first = starts_before with_backup two_pairs refl first (lasting 30) first_is second (lasting 60) _ second_is (λ e. cc) refl refl latest_second (search rules)
 
 -- ---- the choice
 

@@ -11,17 +11,11 @@ use Rattle.workstations.specs.Workstations.{IsWorkstation}
 use Rattle.plan_model.specs.Plan.{Operation, Plan, IsPairOf}
 use Rattle.plan_model.specs.Valid.{AreOccurrences, IsOccurrence, IsOperation, IsUntouched, IsValid}
 use Rattle.plan_records.specs.Drafts.{IsDraft}
-use Rattle.plan_basics.specs.declared.Refusal.{Refusal}
-use Rattle.plan_basics.specs.declared.Refusal.TheVariants as refusal
 use Rattle.ready_list.specs.declared.ReadyKey.{ReadyKey}
 use Rattle.plan_model.specs.Holdings.{given_out}
-use Rattle.plan_model.specs.Plan.{no_plan}
 use Rattle.plan_model.specs.Ready.{IsChosen, IsEntry}
 use Rattle.plan_model.specs.Starting.{IsAllowedToStart, IsLatestStart}
 use Rattle.plan_model.specs.Status.{IsReady}
-use Rattle.plan_records.specs.declared.Request.{Request}
-use Rattle.plan_records.specs.declared.What.TheVariants as what
-use Rattle.plan_records.specs.Accepting.{MayBeAccepted}
 use Rattle.plan_laws.proofs.Decide.{pair_cmp_total}
 use Rattle.plan_laws.proofs.Kept.{named_none}
 use Rattle.plan_laws.proofs.Looks.{none_is_not_some}
@@ -31,9 +25,10 @@ use Rattle.worked_rows.proofs.Facts.{waiting_is_not_ready}
 use Rattle.worked_rows.proofs.Entries.{one_ready}
 use Rattle.worked_rows.proofs.Given.{allowed, given_out_by, given_out_is}
 use Rattle.worked_rows.proofs.Lists.{entries-from_entries}
-use Rattle.worked_rows.proofs.Literal.{each_entry, each_key, one_after, only}
-use Rattle.worked_rows.proofs.Small.{first_arrives, first_is, first_precedes, on_automatic, second_is, second_waits}
-use Rattle.worked_rows.proofs.Starts.{starts_before, starts_last}
+use Rattle.worked_rows.proofs.Literal.{each_entry, each_key}
+use Rattle.worked_rows.proofs.Small.{first_arrives, first_is, on_automatic, second_is, second_waits}
+use Rattle.worked_rows.proofs.Starts.{starts_at_end, starts_before}
+use Rattle.worked_rows.proofs.Steps.{load_names}
 use Rattle.worked_rows.proofs.TrioChoice.{chosen_by, not_left}
 use Rattle.worked_rows.proofs.Validity.{acyclic_by, each_pair, len_at_most, name_is, operation_is, set_at_most, station_is}
 
@@ -109,27 +104,16 @@ one_workstation = len-entries day.workstations ∙ ap length (entries-from_entri
 
 -- ---- the step
 
-abbrev loading : Request
-loading = record { at = pos evening; what = what.Load (Some day) }
-
-nothing_refuses : (r : Refusal) → MayBeAccepted no_plan loading r
-nothing_refuses refusal.Past = search rules
-nothing_refuses refusal.MomentRange = (evening, refl, omega arith)
-nothing_refuses refusal.NotLoaded = λ needs. absurd needs
-nothing_refuses refusal.Loaded = refl
-nothing_refuses refusal.BadPlan = refl
-nothing_refuses r = tt
-
 -- at 22:00
 abbrev later : Plan
 later = record day { clock = evening }
 
 -- it is to start at 03:30, an hour and a half before the deadline
 latest_second : IsLatestStart later second (pos 27438000)
-latest_second = starts_last later second (lasting 60) second_is _ (λ b h. one_after ((first, second) ∷ []) second b h) refl
+latest_second = starts_at_end later ((first, second) ∷ []) refl second (lasting 60) second_is refl
 
 pub latest_first : IsLatestStart later first (pos 27437970)
-latest_first = starts_before later first (lasting 30) first_is second (lasting 60) _ _ second_is (λ e. cc) first_precedes (λ c h. only c second (one_after ((first, second) ∷ []) first c h)) latest_second (search rules) refl
+latest_first = starts_before later ((first, second) ∷ []) refl first (lasting 30) first_is second (lasting 60) _ second_is (λ e. cc) refl refl latest_second (search rules)
 
 abbrev first_key : ReadyKey
 first_key = record { latest = pos 27437970; priority = 5; duration = 30; op = first }
@@ -156,11 +140,4 @@ first_chosen = chosen_by later evening (first_key ∷ []) (first ∷ []) (one_re
     (subst (λ P. IsAllowedToStart P first evening) (sym (named_none later)) first_allowed, tt) (not_left _ refl, tt)
 
 pub load_names_first : LoadThatNames
-load_names_first = record {
-  none_refuses = nothing_refuses;
-  is_request = day_is_draft;
-  changed = day;
-  changes = refl;
-  is_chosen = first_chosen;
-  is_after = refl;
-}
+load_names_first = load_names day evening (omega arith) (first ∷ []) first_chosen day_is_draft

@@ -1,20 +1,18 @@
 -- A tick on a plan with nothing in it.
-use Rattle.std.proofs.Common.{rules, arith, refl, sym, pos, []}
+use Rattle.std.proofs.Common.{arith, refl, pos, subst, []}
 use Rattle.std.specs.List.Sorted.{IsStrictlySortedBy}
 use Rattle.std.specs.FinMap.{get, get-empty}
-use Rattle.plan_basics.specs.declared.Refusal.{Refusal}
-use Rattle.plan_basics.specs.declared.Refusal.TheVariants as refusal
 use Rattle.plan_basics.specs.Keys.{operation_cmp}
 use Rattle.plan_model.specs.Plan.{Plan}
 use Rattle.plan_model.specs.Ready.{IsReadyList, IsChosen}
 use Rattle.plan_records.specs.declared.Request.{Request}
 use Rattle.plan_records.specs.declared.What.TheVariants as what
 use Rattle.plan_records.specs.Answer.{accepted}
-use Rattle.plan_records.specs.Accepting.{MayBeAccepted}
 use Rattle.plan_records.specs.Step.{Step}
 use Rattle.plan_laws.proofs.Every.{nothing_at}
 use Rattle.plan_laws.proofs.Kept.{named_none}
 use Rattle.worked_rows.specs.Day.{idle, evening}
+use Rattle.worked_rows.proofs.Steps.{tick_names}
 use Rattle.worked_rows.proofs.TrioChoice.{chosen_by}
 
 abbrev later : Plan
@@ -22,12 +20,6 @@ later = record idle { clock = evening }
 
 abbrev ticking : Request
 ticking = record { at = pos evening; what = what.Tick }
-
-nothing_refuses : (r : Refusal) → MayBeAccepted idle ticking r
-nothing_refuses refusal.Past = search rules
-nothing_refuses refusal.MomentRange = (evening, refl, omega arith)
-nothing_refuses refusal.NotLoaded = λ needs. refl
-nothing_refuses r = tt
 
 nothing_ready : IsReadyList later []
 unfolding IsStrictlySortedBy
@@ -43,11 +35,4 @@ nothing_chosen : IsChosen later evening []
 nothing_chosen = chosen_by later evening [] [] nothing_ready refl tt tt tt
 
 pub tick_is_accepted : Step idle ticking (accepted []) later
-tick_is_accepted = record {
-  none_refuses = nothing_refuses;
-  is_request = tt;
-  changed = idle;
-  changes = refl;
-  is_chosen = nothing_chosen;
-  is_after = sym (named_none later);
-}
+tick_is_accepted = subst (Step idle ticking (accepted [])) (named_none later) (tick_names idle evening (omega arith) [] nothing_chosen refl (omega arith))

@@ -4,6 +4,7 @@ pub mod Literal
 pub mod Facts
 pub mod Moments
 pub mod Starts
+pub mod Steps
 pub mod NightStarts
 pub mod NightStatuses
 pub mod NightReports
@@ -12,10 +13,7 @@ pub mod Lists
 pub mod Given
 pub mod TrioList
 pub mod TrioChoice
-pub mod ByLatestStart
-pub mod ByDuration
-pub mod ByKey
-pub mod ByFixedResource
+pub mod TrioChosen
 pub mod TrioRows
 pub mod OverdueStarts
 pub mod Validity
@@ -27,7 +25,6 @@ pub mod NightDraft
 pub mod NightLoad
 pub mod NightEnds
 pub mod NightReruns
-pub mod ByPriority
 pub mod NightTold
 pub mod BackupComing
 pub mod BackupChosen

@@ -24,6 +24,21 @@ each_split (x ∷ xs) Q h (b ∷ before) after o e =
     let rest : xs ≡ before ++ o ∷ after = cc in
     subst (λ z. Q (z ∷ before) o) k (each_split xs (λ bs. Q (x ∷ bs)) h.1 before after o rest)
 
+-- what follows from it holds where it holds
+pub each_so : {A : Type 0} (Q R : List A → A → Type 0) (xs : List A) → ((before : List A) (x : A) → Q before x → R before x) → EachSplit xs Q → EachSplit xs R
+each_so Q R [] f h = tt
+each_so Q R (x ∷ xs) f h = (f [] x h.0, each_so (λ before. Q (x ∷ before)) (λ before. R (x ∷ before)) xs (λ before. f (x ∷ before)) h.1)
+
+-- each of the first list is one of the second
+abbrev pub AreAmong : {A : Type 0} → List A → List A → Type 0
+AreAmong [] ys = Unit {0}
+AreAmong (x ∷ xs) ys = OneOf (λ y. x ≡ y) ys × AreAmong xs ys
+
+pub one_among : {A : Type 0} (xs ys : List A) → AreAmong xs ys → (k : A) → OneOf (λ x. k ≡ x) xs → OneOf (λ y. k ≡ y) ys
+one_among [] ys h k never = absurd never
+one_among (x ∷ xs) ys h k (inl e) = subst (λ z. OneOf (λ y. z ≡ y) ys) (sym e) h.0
+one_among (x ∷ xs) ys h k (inr more) = one_among xs ys h.1 k more
+
 -- one of the list is a member of it
 pub contained : {A : Type 0} (xs : List A) (k : A) → OneOf (λ x. k ≡ x) xs → Contains xs k
 contained [] k h = absurd h

@@ -10,7 +10,7 @@ use Rattle.plan_basics.specs.declared.keys.OpKey.{OpKey}
 use Rattle.plan_basics.specs.Keys.{operation_cmp, operation_cmp_total}
 use Rattle.plan_model.specs.Plan.{pair_cmp}
 use Rattle.plan_laws.proofs.Looks.{found_key, same_some, none_is_not_some}
-use Rattle.plan_laws.proofs.Decide.{pair_cmp_total, pair_same}
+use Rattle.plan_laws.proofs.Pairs.{pair_cmp_total, pair_cmp-IsAntisymmetric}
 
 -- some element of the list has it
 abbrev pub OneOf : {A : Type 0} → (A → Type 0) → List A → Type 0
@@ -52,18 +52,18 @@ module _ {K X : Type 0} {R : K → K → Ordering} where
 
 -- ---- neighbours
 
+-- of the pairs that pass a test, what is picked from each
+abbrev pub picked : (OpKey × OpKey → Bool) → (OpKey × OpKey → OpKey) → List (OpKey × OpKey) → List OpKey
+picked test pick [] = []
+picked test pick (pair ∷ pairs) = cond (test pair) (pick pair ∷ picked test pick pairs) (picked test pick pairs)
+
 -- the predecessors of o by a list of pairs
 abbrev pub befores : List (OpKey × OpKey) → OpKey → List OpKey
-befores [] o = []
-befores (pair ∷ pairs) o = cond (eq_by_cmp operation_cmp o pair.1) (pair.0 ∷ befores pairs o) (befores pairs o)
+befores pairs o = picked (λ pair. eq_by_cmp operation_cmp o pair.1) (λ pair. pair.0) pairs
 
 -- the successors of p
 abbrev pub afters : List (OpKey × OpKey) → OpKey → List OpKey
-afters [] p = []
-afters (pair ∷ pairs) p = cond (eq_by_cmp operation_cmp p pair.0) (pair.1 ∷ afters pairs p) (afters pairs p)
-
-ties : (o b : OpKey) → o ≡ b → eq_by_cmp operation_cmp o b ≡ true
-ties o b e = subst (λ z. eq_by_cmp operation_cmp o z ≡ true) e (ap is_eq (tied_itself operation_cmp_total o))
+afters pairs p = picked (λ pair. eq_by_cmp operation_cmp p pair.0) (λ pair. pair.1) pairs
 
 taken : {A : Type 0} (Q : A → Type 0) (b : Bool) (x : A) (xs : List A) → b ≡ true → Q x → OneOf Q (cond b (x ∷ xs) xs)
 taken Q true x xs e h = inl h
@@ -77,27 +77,27 @@ or_cases : {A : Type 0} (a b : Bool) → (a || b) ≡ true → (a ≡ true → A
 or_cases true b e f g = f refl
 or_cases false b e f g = g e
 
-before_in : (pairs : List (OpKey × OpKey)) (p o : OpKey) → list_any (eq_by_cmp pair_cmp (p, o)) pairs ≡ true → OneOf (λ q. p ≡ q) (befores pairs o)
-before_in [] p o e = absurd (true≢false (sym e))
-before_in (pair ∷ pairs) p o e =
-    or_cases (eq_by_cmp pair_cmp (p, o) pair) (list_any (eq_by_cmp pair_cmp (p, o)) pairs) e
-    (λ is. let same = pair_same p o pair.0 pair.1 is in taken (λ q. p ≡ q) (eq_by_cmp operation_cmp o pair.1) pair.0 (befores pairs o) (ties o pair.1 same.1) same.0)
-    (λ later. kept (λ q. p ≡ q) (eq_by_cmp operation_cmp o pair.1) pair.0 (befores pairs o) (before_in pairs p o later))
+-- a pair that is there and passes gives one of them
+picked_from : (test : OpKey × OpKey → Bool) (pick : OpKey × OpKey → OpKey) (pair : OpKey × OpKey) (pairs : List (OpKey × OpKey)) → test pair ≡ true → contains (from_list {R = pair_cmp} pairs) pair ≡ true → OneOf (λ q. pick pair ≡ q) (picked test pick pairs)
+picked_from test pick pair pairs passes has = among pairs (sym (contains-from_list pair_cmp_total pairs pair) ∙ has)
+  where
+    among : (others : List (OpKey × OpKey)) → list_any (eq_by_cmp pair_cmp pair) others ≡ true → OneOf (λ q. pick pair ≡ q) (picked test pick others)
+    among [] e = absurd (true≢false (sym e))
+    among (other ∷ others) e =
+        or_cases (eq_by_cmp pair_cmp pair other) (list_any (eq_by_cmp pair_cmp pair) others) e
+        (λ is. let same = pair_cmp-IsAntisymmetric pair other ((Equal-is (pair_cmp pair other)).0 is) in taken (λ q. pick pair ≡ q) (test other) (pick other) (picked test pick others) (ap test (sym same) ∙ passes) (ap pick same))
+        (λ later. kept (λ q. pick pair ≡ q) (test other) (pick other) (picked test pick others) (among others later))
 
-after_in : (pairs : List (OpKey × OpKey)) (p o : OpKey) → list_any (eq_by_cmp pair_cmp (p, o)) pairs ≡ true → OneOf (λ q. o ≡ q) (afters pairs p)
-after_in [] p o e = absurd (true≢false (sym e))
-after_in (pair ∷ pairs) p o e =
-    or_cases (eq_by_cmp pair_cmp (p, o) pair) (list_any (eq_by_cmp pair_cmp (p, o)) pairs) e
-    (λ is. let same = pair_same p o pair.0 pair.1 is in taken (λ q. o ≡ q) (eq_by_cmp operation_cmp p pair.0) pair.1 (afters pairs p) (ties p pair.0 same.0) same.1)
-    (λ later. kept (λ q. o ≡ q) (eq_by_cmp operation_cmp p pair.0) pair.1 (afters pairs p) (after_in pairs p o later))
+ties : (o : OpKey) → eq_by_cmp operation_cmp o o ≡ true
+ties o = ap is_eq (tied_itself operation_cmp_total o)
 
 -- a predecessor is among those of the list
 pub one_before : (pairs : List (OpKey × OpKey)) (p o : OpKey) → contains (from_list {R = pair_cmp} pairs) (p, o) ≡ true → OneOf (λ q. p ≡ q) (befores pairs o)
-one_before pairs p o e = before_in pairs p o (sym (contains-from_list pair_cmp_total pairs (p, o)) ∙ e)
+one_before pairs p o = picked_from (λ pair. eq_by_cmp operation_cmp o pair.1) (λ pair. pair.0) (p, o) pairs (ties o)
 
 -- so is a successor
 pub one_after : (pairs : List (OpKey × OpKey)) (p o : OpKey) → contains (from_list {R = pair_cmp} pairs) (p, o) ≡ true → OneOf (λ q. o ≡ q) (afters pairs p)
-one_after pairs p o e = after_in pairs p o (sym (contains-from_list pair_cmp_total pairs (p, o)) ∙ e)
+one_after pairs p o = picked_from (λ pair. eq_by_cmp operation_cmp p pair.0) (λ pair. pair.1) (p, o) pairs (ties p)
 
 pub only : {A : Type 0} (x y : A) → OneOf (λ q. x ≡ q) (y ∷ []) → x ≡ y
 only x y (inl e) = e

@@ -1,7 +1,6 @@
 -- PAYROLL's 10 ends, and 20 is named.
 use Rattle.std.proofs.Common.{rules, arith, ◌≡◌, ◌≢◌, inl, inr, refl, sym, ◌∙◌, ap, subst, pos, true, cond, List, [], ◌∷◌, Some, option_map}
 use Rattle.std.specs.FinMap.{entries, find, from_entries, get, get-empty, get-from_entries}
-use Rattle.std.specs.FinSet.{contains-from_list}
 use Rattle.plan_basics.specs.declared.Attr.TheVariants as attribute
 use Rattle.plan_basics.specs.declared.keys.OpKey.{OpKey}
 use Rattle.plan_basics.specs.declared.Refusal.{Refusal}
@@ -18,27 +17,26 @@ use Rattle.plan_model.specs.Holdings.{given_out, takes}
 use Rattle.plan_model.specs.Plan.{Operation, attribute_at}
 use Rattle.plan_model.specs.Ready.{IsChosen, IsEntry, named, with_mark}
 use Rattle.plan_model.specs.Revise.{revise}
-use Rattle.plan_model.specs.Starting.{IsAllowedToStart, IsLatestStart, MayStart}
+use Rattle.plan_model.specs.Starting.{IsAllowedToStart, MayStart}
 use Rattle.plan_model.specs.Status.{HasStatus, IsReady}
 use Rattle.plan_records.specs.declared.Request.{Request}
 use Rattle.plan_records.specs.declared.What.TheVariants as what
 use Rattle.plan_records.specs.Accepting.{MayBeAccepted, MayBeEnded}
 use Rattle.plan_records.specs.Changes.{is_at}
-use Rattle.plan_laws.proofs.Decide.{pair_cmp_total}
 use Rattle.plan_laws.proofs.Kept.{named_none}
 use Rattle.plan_laws.proofs.Looks.{get-named, none_is_not_some}
 use Rattle.worked_rows.specs.Day.{cpu1, evening, morning}
-use Rattle.worked_rows.specs.Night.{custfile, done, dumm, end_of_night, end_of_second, night, night_occurrences, night_operations, night_pairs, night_resources, payroll, payroll_at, prt1, second_ended, second_started, setp}
+use Rattle.worked_rows.specs.Night.{custfile, done, dumm, end_of_night, end_of_second, night, night_occurrences, night_operations, night_resources, payroll, payroll_at, prt1, second_ended, second_started, setp}
 use Rattle.worked_rows.specs.Statements.{EndOfTheSecond}
 use Rattle.worked_rows.proofs.Entries.{one_ready}
 use Rattle.worked_rows.proofs.Facts.{marked_is_not_ready, waiting_is_not_ready}
 use Rattle.worked_rows.proofs.Given.{given_out_by, given_out_is, lines_of_room, with_resources}
 use Rattle.worked_rows.proofs.Lists.{anew, entries-from_entries, revise_written}
-use Rattle.worked_rows.proofs.Literal.{each_entry, entry_of, one_after, only}
+use Rattle.worked_rows.proofs.Literal.{each_entry, entry_of}
 use Rattle.worked_rows.proofs.NightRefusals.{found_alone}
 use Rattle.worked_rows.proofs.NightReports.{changed_at, found_at, found_done, found_revised, p5, p10, p20, p30, p40, when_done}
+use Rattle.worked_rows.proofs.NightStarts.{latest_20}
 use Rattle.worked_rows.proofs.NightStatuses.{five_statuses, workstation_at}
-use Rattle.worked_rows.proofs.Starts.{starts_before, starts_last}
 use Rattle.worked_rows.proofs.TrioChoice.{chosen_by, not_left}
 
 -- ---- the operations, as they stand once 10 ended
@@ -74,22 +72,11 @@ statuses =
 
 -- ---- the ready list
 
-latest_40 : IsLatestStart second_ended (payroll_at 40) (pos 27438040)
-latest_40 = starts_last second_ended (payroll_at 40) p40 (found_then (payroll_at 40)) _ (λ b h. one_after night_pairs (payroll_at 40) b h) refl
-
-latest_30 : IsLatestStart second_ended (payroll_at 30) (pos 27438039)
-latest_30 = starts_before second_ended (payroll_at 30) p30 (found_then (payroll_at 30)) (payroll_at 40) p40 _ _ (found_then (payroll_at 40)) (λ e. cc)
-    (contains-from_list pair_cmp_total night_pairs (payroll_at 30, payroll_at 40)) (λ c h. only c (payroll_at 40) (one_after night_pairs (payroll_at 30) c h)) latest_40 (search rules) refl
-
-latest_20 : IsLatestStart second_ended (payroll_at 20) (pos 27437979)
-latest_20 = starts_before second_ended (payroll_at 20) p20 (found_then (payroll_at 20)) (payroll_at 30) p30 _ _ (found_then (payroll_at 30)) (λ e. cc)
-    (contains-from_list pair_cmp_total night_pairs (payroll_at 20, payroll_at 30)) (λ c h. only c (payroll_at 30) (one_after night_pairs (payroll_at 20) c h)) latest_30 (search rules) refl
-
 abbrev third_key : ReadyKey
 third_key = record { latest = pos 27437979; priority = 5; duration = 60; op = payroll_at 20 }
 
 third_entry : IsEntry second_ended third_key
-third_entry = (inr (inr statuses.2), latest_20, (p20, found_then (payroll_at 20), refl), (record { priority = 5; deadline = morning }, get-from_entries occurrence_cmp_total night_occurrences payroll, refl))
+third_entry = (inr (inr statuses.2), latest_20 second_ended.operations (found_then (payroll_at 20), found_then (payroll_at 30), found_then (payroll_at 40)), (p20, found_then (payroll_at 20), refl), (record { priority = 5; deadline = morning }, get-from_entries occurrence_cmp_total night_occurrences payroll, refl))
 
 only_third : (o : OpKey) (op : Operation) → get second_ended.operations o ≡ Some op → IsReady second_ended o → o ≡ payroll_at 20
 only_third = of_five (λ o op. IsReady second_ended o → o ≡ payroll_at 20)

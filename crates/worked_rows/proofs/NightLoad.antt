@@ -1,19 +1,14 @@
 -- The night's plan is loaded at 21:00, and nothing is named.
-use Rattle.std.proofs.Common.{rules, arith, ◌≡◌, inl, refl, sym, ◌∙◌, ap, pos, true, false, true≢false, [], ◌∷◌, Some}
+use Rattle.std.proofs.Common.{arith, ◌≡◌, inl, refl, sym, ◌∙◌, ap, pos, true, false, true≢false, [], ◌∷◌, Some}
 use Rattle.std.specs.FinMap.{get, get-from_entries}
 use Rattle.plan_basics.specs.declared.Attr.TheVariants as attribute
 use Rattle.plan_basics.specs.declared.keys.OpKey.{OpKey}
-use Rattle.plan_basics.specs.declared.Refusal.{Refusal}
-use Rattle.plan_basics.specs.declared.Refusal.TheVariants as refusal
 use Rattle.plan_basics.specs.Keys.{occurrence_cmp_total}
 use Rattle.ready_list.specs.declared.ReadyKey.{ReadyKey}
-use Rattle.plan_model.specs.Plan.{Operation, attribute_at, no_plan}
+use Rattle.plan_model.specs.Plan.{Operation, attribute_at}
 use Rattle.plan_model.specs.Ready.{IsChosen, IsEntry, IsOnAutomatic, named}
 use Rattle.plan_model.specs.Starting.{IsAllowedToStart}
 use Rattle.plan_model.specs.Status.{IsReady}
-use Rattle.plan_records.specs.declared.Request.{Request}
-use Rattle.plan_records.specs.declared.What.TheVariants as what
-use Rattle.plan_records.specs.Accepting.{MayBeAccepted}
 use Rattle.plan_laws.proofs.Looks.{same_some}
 use Rattle.worked_rows.specs.Day.{morning}
 use Rattle.worked_rows.specs.Night.{loading, night, night_draft, night_occurrences, payroll, payroll_at}
@@ -25,17 +20,7 @@ use Rattle.worked_rows.proofs.NightDraft.{night_is_draft, of_five}
 use Rattle.worked_rows.proofs.NightRefusals.{on_setp}
 use Rattle.worked_rows.proofs.NightReports.{found_at, p5, p10, p20, p30, p40, statuses_when_loaded}
 use Rattle.worked_rows.proofs.NightStarts.{latest_5}
-
-abbrev asking : Request
-asking = record { at = pos loading; what = what.Load (Some night_draft) }
-
-nothing_refuses : (r : Refusal) → MayBeAccepted no_plan asking r
-nothing_refuses refusal.Past = search rules
-nothing_refuses refusal.MomentRange = (loading, refl, omega arith)
-nothing_refuses refusal.NotLoaded = λ needs. absurd needs
-nothing_refuses refusal.Loaded = refl
-nothing_refuses refusal.BadPlan = refl
-nothing_refuses r = tt
+use Rattle.worked_rows.proofs.Steps.{load_names}
 
 abbrev first_key : ReadyKey
 first_key = record { latest = pos 27437939; priority = 5; duration = 10; op = payroll_at 5 }
@@ -72,11 +57,4 @@ none_chosen = record {
 }
 
 pub load_of_the_night : LoadOfTheNight
-load_of_the_night = record {
-  none_refuses = nothing_refuses;
-  is_request = night_is_draft;
-  changed = night_draft;
-  changes = refl;
-  is_chosen = none_chosen;
-  is_after = refl;
-}
+load_of_the_night = load_names night_draft loading (omega arith) [] none_chosen night_is_draft

@@ -1,11 +1,14 @@
 -- What a rerun reaches in the night's plan, and the statuses after it.
-use Rattle.std.proofs.Common.{◌≡◌, ◌↔◌, refl, subst, true, List, [], ◌∷◌}
+use Rattle.std.proofs.Common.{◌≡◌, ◌≢◌, ◌↔◌, ◌∙◌, refl, subst, true, List, [], ◌∷◌, Some}
+use Rattle.std.specs.FinMap.{get}
 use Rattle.std.specs.FinSet.{contains-from_list}
+use Rattle.std.specs.List.{list_any}
+use Rattle.std.specs.Ordering.{eq_by_cmp}
 use Rattle.plan_basics.specs.declared.keys.OpKey.{OpKey}
 use Rattle.operation_graph.specs.Paths.{IsPathBy, end_of}
 use Rattle.status_rules.specs.declared.Mark.TheVariants as mark
 use Rattle.ready_list.specs.Choice.{is_among}
-use Rattle.plan_model.specs.Plan.{IsLive, Operations, Precedes}
+use Rattle.plan_model.specs.Plan.{IsLive, Operation, Operations, Precedes, pair_cmp}
 use Rattle.plan_model.specs.Ready.{with_mark}
 use Rattle.plan_model.specs.Starting.{Reaches}
 use Rattle.plan_laws.proofs.Decide.{pair_cmp_total}
@@ -32,27 +35,21 @@ module _ (operations : Operations) (ks : List OpKey) (closed : (p o : OpKey) →
     λ path. subst (λ z. is_among ks z ≡ true) path.2 (ends_in a path.0 has path.1),
   )
 
+-- what an operation reaches, the one before it reaches
+onward : (operations : Operations) (p o : OpKey) (op : Operation) → list_any (eq_by_cmp pair_cmp (p, o)) night_pairs ≡ true → get operations o ≡ Some op → op.mark ≢ mark.Deleted → (q : OpKey) → Reaches (reported operations) o q → Reaches (reported operations) p q
+onward operations p o op edge is lives q path = (o ∷ path.0, (contains-from_list pair_cmp_total night_pairs (p, o) ∙ edge, (op, is, lives), path.1), path.2)
+
 -- ---- from 20
 
 abbrev last_three : List OpKey
 last_three = payroll_at 20 ∷ payroll_at 30 ∷ payroll_at 40 ∷ []
 
-live_30 : IsLive three_done (payroll_at 30)
-live_30 = (p30, found_three (payroll_at 30) p30 (found_at (payroll_at 30)), λ e. cc)
-
-live_40 : IsLive three_done (payroll_at 40)
-live_40 = (p40, found_three (payroll_at 40) p40 (found_at (payroll_at 40)), λ e. cc)
-
-edge_30 : Precedes night (payroll_at 20) (payroll_at 30)
-edge_30 = contains-from_list pair_cmp_total night_pairs (payroll_at 20, payroll_at 30)
-
-edge_40 : Precedes night (payroll_at 30) (payroll_at 40)
-edge_40 = contains-from_list pair_cmp_total night_pairs (payroll_at 30, payroll_at 40)
-
 reached_from_third : (q : OpKey) → (is_among last_three q ≡ true) ↔ Reaches three_done (payroll_at 20) q
 reached_from_third =
+    let to_30 = onward three_done.operations (payroll_at 20) (payroll_at 30) p30 refl (found_three (payroll_at 30) p30 (found_at (payroll_at 30))) (λ e. cc) in
+    let to_40 = onward three_done.operations (payroll_at 30) (payroll_at 40) p40 refl (found_three (payroll_at 40) p40 (found_at (payroll_at 40))) (λ e. cc) in
     reached three_done.operations last_three (of_pairs (λ p o. is_among last_three p ≡ true → is_among last_three o ≡ true) (λ h. h) (λ h. refl) (λ h. refl) (λ h. refl)) (payroll_at 20) refl
-    (([], tt, refl), ((payroll_at 30 ∷ [], (edge_30, live_30, tt), refl), ((payroll_at 30 ∷ payroll_at 40 ∷ [], (edge_30, live_30, (edge_40, live_40, tt)), refl), tt)))
+    (([], tt, refl), (to_30 _ ([], tt, refl), (to_30 _ (to_40 _ ([], tt, refl)), tt)))
 
 pub rerun_of_the_third : RerunOfTheThird
 rerun_of_the_third =
@@ -69,39 +66,14 @@ rerun_of_the_third =
 abbrev all_five : List OpKey
 all_five = payroll_at 5 ∷ payroll_at 10 ∷ payroll_at 20 ∷ payroll_at 30 ∷ payroll_at 40 ∷ []
 
-passed_10 : IsLive two_passed (payroll_at 10)
-passed_10 = (noped p10, found_two (payroll_at 10) p10 (found_at (payroll_at 10)), λ e. cc)
-
-passed_20 : IsLive two_passed (payroll_at 20)
-passed_20 = (noped p20, found_two (payroll_at 20) p20 (found_at (payroll_at 20)), λ e. cc)
-
-passed_30 : IsLive two_passed (payroll_at 30)
-passed_30 = (p30, found_two (payroll_at 30) p30 (found_at (payroll_at 30)), λ e. cc)
-
-passed_40 : IsLive two_passed (payroll_at 40)
-passed_40 = (p40, found_two (payroll_at 40) p40 (found_at (payroll_at 40)), λ e. cc)
-
-edge_10 : Precedes night (payroll_at 5) (payroll_at 10)
-edge_10 = contains-from_list pair_cmp_total night_pairs (payroll_at 5, payroll_at 10)
-
-edge_20 : Precedes night (payroll_at 10) (payroll_at 20)
-edge_20 = contains-from_list pair_cmp_total night_pairs (payroll_at 10, payroll_at 20)
-
 reached_from_first : (q : OpKey) → (is_among all_five q ≡ true) ↔ Reaches two_passed (payroll_at 5) q
 reached_from_first =
-    reached two_passed.operations all_five (of_pairs (λ p o. is_among all_five p ≡ true → is_among all_five o ≡ true) (λ h. refl) (λ h. refl) (λ h. refl) (λ h. refl)) (payroll_at 5) refl (
-      ([], tt, refl),
-      (
-        (payroll_at 10 ∷ [], (edge_10, passed_10, tt), refl),
-        (
-          (payroll_at 10 ∷ payroll_at 20 ∷ [], (edge_10, passed_10, (edge_20, passed_20, tt)), refl),
-          (
-            (payroll_at 10 ∷ payroll_at 20 ∷ payroll_at 30 ∷ [], (edge_10, passed_10, (edge_20, passed_20, (edge_30, passed_30, tt))), refl),
-            ((payroll_at 10 ∷ payroll_at 20 ∷ payroll_at 30 ∷ payroll_at 40 ∷ [], (edge_10, passed_10, (edge_20, passed_20, (edge_30, passed_30, (edge_40, passed_40, tt)))), refl), tt),
-          ),
-        ),
-      ),
-    )
+    let to_10 = onward two_passed.operations (payroll_at 5) (payroll_at 10) (noped p10) refl (found_two (payroll_at 10) p10 (found_at (payroll_at 10))) (λ e. cc) in
+    let to_20 = onward two_passed.operations (payroll_at 10) (payroll_at 20) (noped p20) refl (found_two (payroll_at 20) p20 (found_at (payroll_at 20))) (λ e. cc) in
+    let to_30 = onward two_passed.operations (payroll_at 20) (payroll_at 30) p30 refl (found_two (payroll_at 30) p30 (found_at (payroll_at 30))) (λ e. cc) in
+    let to_40 = onward two_passed.operations (payroll_at 30) (payroll_at 40) p40 refl (found_two (payroll_at 40) p40 (found_at (payroll_at 40))) (λ e. cc) in
+    reached two_passed.operations all_five (of_pairs (λ p o. is_among all_five p ≡ true → is_among all_five o ≡ true) (λ h. refl) (λ h. refl) (λ h. refl) (λ h. refl)) (payroll_at 5) refl
+    (([], tt, refl), (to_10 _ ([], tt, refl), (to_10 _ (to_20 _ ([], tt, refl)), (to_10 _ (to_20 _ (to_30 _ ([], tt, refl))), (to_10 _ (to_20 _ (to_30 _ (to_40 _ ([], tt, refl)))), tt)))))
 
 pub rerun_of_the_first : RerunOfTheFirst
 rerun_of_the_first =

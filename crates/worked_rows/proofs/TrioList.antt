@@ -24,7 +24,7 @@ use Rattle.worked_rows.specs.Night.{cpu1_station, end_of_night}
 use Rattle.worked_rows.specs.Trio.{Terms, aaa, bbb, ccc, occurrence_by, operation_by, trio, trio_occurrences, trio_operations}
 use Rattle.worked_rows.proofs.Facts.{one_latest, status_of_first}
 use Rattle.worked_rows.proofs.Given.{allowed, given_out_by, given_out_is, without_fixed, without_server}
-use Rattle.worked_rows.proofs.Lists.{anew, contained, entries-revise, one_of}
+use Rattle.worked_rows.proofs.Lists.{AreAmong, anew, contained, entries-revise, one_among, one_of}
 use Rattle.worked_rows.proofs.Literal.{OneOf, entry_of}
 use Rattle.worked_rows.proofs.Starts.{starts_last}
 
@@ -51,7 +51,7 @@ module _ (a b c : Terms) where
 
   module _ (o : OpKey) (t : Terms) (is : get (trio a b c).operations o ≡ Some (operation_by t)) (of : get (trio a b c).occurrences o.occurrence ≡ Some (occurrence_by t)) where
     latest : IsLatestStart (trio a b c) o (pos t.deadline -ℤ pos t.duration)
-    latest = starts_last (trio a b c) o (operation_by t) is _ (λ x h. no_pair o x h) refl
+    latest = starts_last (trio a b c) o (operation_by t) is (λ x h. no_pair o x h)
 
     pub arrives : HasStatus (trio a b c) o status.Arriving
     arrives = status_of_first (trio a b c) o (operation_by t) cpu1_station is station_is (λ p h. no_pair p o h)
@@ -86,10 +86,10 @@ module _ (a b c : Terms) where
   all_entries k (inr (inr (inr never))) = absurd never
 
   -- the three keys in whatever order ascends are the ready list
-  pub ready_list_is : (keys : List ReadyKey) → IsStrictlySortedBy ready_cmp keys → ((k : ReadyKey) → OneOf (λ x. k ≡ x) keys → OneOf (λ x. k ≡ x) three_keys) → ((k : ReadyKey) → OneOf (λ x. k ≡ x) three_keys → OneOf (λ x. k ≡ x) keys) → IsReadyList (trio a b c) keys
+  pub ready_list_is : (keys : List ReadyKey) → IsStrictlySortedBy ready_cmp keys → AreAmong keys three_keys → AreAmong three_keys keys → IsReadyList (trio a b c) keys
   ready_list_is keys up only every = record {
     ascends = up;
-    has_all = λ k. (λ has. all_entries k (only k (one_of keys k has)), λ entry. contained keys k (every k (entry_cases k entry)));
+    has_all = λ k. (λ has. all_entries k (one_among keys three_keys only k (one_of keys k has)), λ entry. contained keys k (one_among three_keys keys every k (entry_cases k entry)));
   }
 
   pub on_automatic : (o : OpKey) (t : Terms) → get (trio a b c).operations o ≡ Some (operation_by t) → IsOnAutomatic (trio a b c) o

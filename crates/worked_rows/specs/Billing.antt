@@ -11,7 +11,7 @@ use Rattle.status_rules.specs.declared.Mark.TheVariants as mark
 use Rattle.plan_model.specs.Plan.{Operation, Plan, Supplement}
 use Rattle.plan_model.specs.declared.Occurrence.{Occurrence}
 use Rattle.plan_records.specs.Changes.{marked, with_supplement}
-use Rattle.worked_rows.specs.Day.{evening, cpu1}
+use Rattle.worked_rows.specs.Day.{evening, lasting}
 use Rattle.worked_rows.specs.Night.{custfile, done, night, payroll_at}
 use Rattle.worked_rows.specs.Trio.{three}
 
@@ -33,7 +33,7 @@ shares_custfile = from_entries ((custfile, record { mode = Shared; keep = false 
 
 -- half an hour on the automatic workstation, by 03:00
 abbrev pub billing_operation : Operation
-billing_operation = record { workstation = cpu1; duration = 30; r1 = 0; r2 = 0; not_before = 0; deadline = three; needs = shares_custfile; mark = mark.Unmarked; held = false; nop = false }
+billing_operation = record (lasting 30) { deadline = three; needs = shares_custfile }
 
 -- its priority and deadline
 abbrev pub billing_occurrence : Occurrence

@@ -1,5 +1,5 @@
 -- The night's plan: PAYROLL, five operations in a row on four workstations that report in four ways, as it stands when it was loaded at 21:00.
-use Rattle.std.specs.Prelude.{ℕ, Bool, true, false, [], ◌∷◌, List, codes}
+use Rattle.std.specs.Prelude.{ℕ, Bool, true, [], ◌∷◌, List, codes}
 use Rattle.std.specs.FinMap.{from_entries, empty, FinMap}
 use Rattle.std.specs.FinSet.{from_list}
 use Rattle.plan_basics.specs.declared.Attr.{Attr}
@@ -17,7 +17,7 @@ use Rattle.plan_model.specs.declared.Occurrence.{Occurrence}
 use Rattle.plan_model.specs.Ready.{with_mark}
 use Rattle.ready_list.specs.Choice.{is_among}
 use Rattle.plan_records.specs.Changes.{is_at, marked, revised}
-use Rattle.worked_rows.specs.Day.{evening, morning, cpu1}
+use Rattle.worked_rows.specs.Day.{cpu1, evening, lasting, morning}
 
 -- 2024-03-01 at 21:00, when the plan is loaded
 abbrev pub loading : ℕ
@@ -77,7 +77,7 @@ dumm_station = workstation_by attribute.Nonreporting []
 
 -- an operation of PAYROLL of which nothing is reported
 abbrev pub planned : Name → ℕ → FinMap name_cmp Usage → Operation
-planned workstation duration needs = record { workstation = workstation; duration = duration; r1 = 0; r2 = 0; not_before = 0; deadline = morning; needs = needs; mark = mark.Unmarked; held = false; nop = false }
+planned workstation duration needs = record (lasting duration) { workstation = workstation; needs = needs }
 
 -- exclusive, and kept on an error
 abbrev pub needs_custfile : FinMap name_cmp Usage

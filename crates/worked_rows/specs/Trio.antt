@@ -1,14 +1,13 @@
 -- Three occurrences on one automatic workstation, each with one operation: they compete for its two servers and for R1.
-use Rattle.std.specs.Prelude.{ℕ, true, false, [], ◌∷◌, List, codes}
+use Rattle.std.specs.Prelude.{ℕ, true, [], ◌∷◌, List, codes}
 use Rattle.std.specs.FinMap.{from_entries, empty}
 use Rattle.std.specs.FinSet as set
 use Rattle.plan_basics.specs.declared.keys.OccKey.{OccKey}
 use Rattle.plan_basics.specs.declared.keys.OpKey.{OpKey}
 use Rattle.plan_basics.specs.Keys.{Name}
-use Rattle.status_rules.specs.declared.Mark.TheVariants as mark
 use Rattle.plan_model.specs.Plan.{Operation, Plan}
 use Rattle.plan_model.specs.declared.Occurrence.{Occurrence}
-use Rattle.worked_rows.specs.Day.{evening, morning, cpu1}
+use Rattle.worked_rows.specs.Day.{cpu1, evening, lasting, morning}
 use Rattle.worked_rows.specs.Night.{cpu1_station}
 
 -- what differs among the three: priority, deadline, duration, and the need of R1
@@ -48,7 +47,7 @@ occurrence_by t = record { priority = t.priority; deadline = t.deadline }
 
 -- an operation on these terms, of which nothing is reported
 abbrev pub operation_by : Terms → Operation
-operation_by t = record { workstation = cpu1; duration = t.duration; r1 = t.r1; r2 = 0; not_before = 0; deadline = t.deadline; needs = empty; mark = mark.Unmarked; held = false; nop = false }
+operation_by t = record (lasting t.duration) { r1 = t.r1; deadline = t.deadline }
 
 -- the three operations
 abbrev pub trio_operations : Terms → Terms → Terms → List (OpKey × Operation)
