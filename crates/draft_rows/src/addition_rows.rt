@@ -1,18 +1,19 @@
 // Records that denote an occurrence that comes in, and records that denote none.
-use super::lines::{addition_of, check_no_additions, records, with_needs};
+use super::lines::{addition_of, check_no_additions, records};
 use super::named::{need_of_file, operation};
 use special_resources::Mode;
 
 // An occurrence of one operation, which needs a special resource and follows an operation of another occurrence.
-const BILLING: &str = "D,PAYROLL,2024-03-01T22:00,40,BILLING,2024-03-01T22:00,10,,,
+pub const BILLING: &str = "D,PAYROLL,2024-03-01T22:00,40,BILLING,2024-03-01T22:00,10,,,
 N,BILLING,2024-03-01T22:00,10,CUSTFILE,S,F,,,
 P,BILLING,2024-03-01T22:00,10,CPU1,30,0,0,,
 O,BILLING,2024-03-01T22:00,5,2024-03-02T03:00,,,,,
 ";
 
-// What is wrong, the line that it is without, and the line that is added to it.
+// What is wrong, the line that it is without, and the lines that are added to it.
 const OTHERS: &str = "no occurrence|O,BILLING,2024-03-01T22:00,5,2024-03-02T03:00,,,,,|
-two occurrences||O,BILLING,2024-03-01T23:00,7,2024-03-02T03:00,,,,,
+two occurrences||O,PAYROLL,2024-03-01T22:00,5,2024-03-02T05:00,,,,,|P,PAYROLL,2024-03-01T22:00,40,CPU1,30,0,0,,
+an occurrence twice||O,BILLING,2024-03-01T22:00,5,2024-03-02T03:00,,,,,
 a workstation||W,CPU1,A,,,,,,,
 an operation of another occurrence||P,PAYROLL,2024-03-01T22:00,40,CPU1,30,0,0,,
 a pair without an end in it||D,PAYROLL,2024-03-01T22:00,30,PAYROLL,2024-03-01T22:00,40,,,
@@ -46,15 +47,4 @@ fn builds_billing(rt: HostRuntime) {
 #[test]
 fn records_that_denote_no_addition(rt: HostRuntime) {
     check_no_additions(&rt, rt.alloc(), BILLING, OTHERS);
-}
-
-#[test]
-fn takes_sixteen_needs(rt: HostRuntime) {
-    let alloc = rt.alloc();
-    let text = with_needs(alloc, BILLING, 15).expect(&rt, "memory");
-    let full = addition_of(&rt, records(&rt, alloc, &text, "", ""));
-    assert!(rt; full.is_some(), "16 needs");
-    let text = with_needs(alloc, BILLING, 16).expect(&rt, "memory");
-    let above = addition_of(&rt, records(&rt, alloc, &text, "", ""));
-    assert!(rt; above.is_none(), "17 needs");
 }

@@ -1,5 +1,5 @@
 // Plans that hold as much as a plan may.
-use super::lines::{draft, is_plan, push_between, push_lines, push_number, with_lines};
+use super::lines::{draft, fullest, with_lines};
 use std::alloc::{AllocError, Global};
 use std::ops::Range;
 
@@ -10,10 +10,14 @@ O,PAYROLL,2024-03-01T22:00,5,2024-03-02T05:00,,,,,
 ";
 
 // Puts behind a text each pair of PAYROLL's operations that leads up to this one.
-fn push_pairs_to(alloc: Global, text: &mut String, later: u16) -> Result<(), AllocError> {
-    let mut back = String::new(alloc);
-    push_between(&mut back, ",PAYROLL,2024-03-01T22:00,", later, ",,,\n")?;
-    push_lines(text, "D,PAYROLL,2024-03-01T22:00,", 1..later, &back)
+fn push_pairs_to(text: &mut String, later: u16) -> Result<(), AllocError> {
+    for earlier in 1..later {
+        writeln!(
+            text,
+            "D,PAYROLL,2024-03-01T22:00,{earlier},PAYROLL,2024-03-01T22:00,{later},,,"
+        )?;
+    }
+    Ok(())
 }
 
 // The most that one occurrence can hold: 255 operations, and each pair of them that ascends.
@@ -25,7 +29,7 @@ fn builds_a_full_occurrence(rt: HostRuntime) {
         &rt, "memory",
     );
     for later in 1..256 {
-        push_pairs_to(alloc, &mut text, later).expect(&rt, "memory");
+        push_pairs_to(&mut text, later).expect(&rt, "memory");
     }
     let draft = draft(&rt, alloc, &text);
     assert_eq!(rt; draft.contents().operations.len(), 255);
@@ -38,37 +42,28 @@ I,CPU1,2024-03-01T22:00,2024-03-02T06:00,2,3,0,,,
 ";
 
 // Puts behind a text an operation of an application, and pairs to it from those of its number in the five before.
-fn push_operation(
-    alloc: Global,
-    text: &mut String,
-    application: u16,
-    number: u16,
-) -> Result<(), AllocError> {
-    let mut key = String::new(alloc);
-    push_between(&mut key, "A", application, ",2024-03-01T22:00,")?;
-    push_number(&mut key, number)?;
-    text.push_str("P,")?;
-    text.push_str(&key)?;
-    text.push_str(",CPU1,1,0,0,,\n")?;
-    let mut back = String::new(alloc);
-    push_between(&mut back, ",2024-03-01T22:00,", number, ",")?;
-    back.push_str(&key)?;
-    back.push_str(",,,\n")?;
-    let first = application.saturating_sub(5).max(1_000);
-    push_lines(text, "D,A", first..application, &back)
+fn push_operation(text: &mut String, application: u16, number: u16) -> Result<(), AllocError> {
+    writeln!(
+        text,
+        "P,A{application},2024-03-01T22:00,{number},CPU1,1,0,0,,"
+    )?;
+    for earlier in application.saturating_sub(5).max(1_000)..application {
+        writeln!(
+            text,
+            "D,A{earlier},2024-03-01T22:00,{number},A{application},2024-03-01T22:00,{number},,,"
+        )?;
+    }
+    Ok(())
 }
 
 // Puts behind a text an occurrence of an application, with so many operations.
-fn push_occurrence(
-    alloc: Global,
-    text: &mut String,
-    application: u16,
-    operations: u16,
-) -> Result<(), AllocError> {
-    let terms = ",2024-03-01T22:00,5,2024-03-02T05:00,,,,,\n";
-    push_between(text, "O,A", application, terms)?;
+fn push_occurrence(text: &mut String, application: u16, operations: u16) -> Result<(), AllocError> {
+    writeln!(
+        text,
+        "O,A{application},2024-03-01T22:00,5,2024-03-02T05:00,,,,,"
+    )?;
     for number in 1..=operations {
-        push_operation(alloc, text, application, number)?;
+        push_operation(text, application, number)?;
     }
     Ok(())
 }
@@ -77,7 +72,7 @@ fn push_occurrence(
 fn crowd(alloc: Global, applications: Range<u16>, each: u16) -> Result<String, AllocError> {
     let mut text = String::from_str(alloc, WORKSTATION)?;
     for application in applications {
-        push_occurrence(alloc, &mut text, application, each)?;
+        push_occurrence(&mut text, application, each)?;
     }
     Ok(text)
 }
@@ -92,11 +87,9 @@ fn builds_a_full_plan(rt: HostRuntime) {
     assert_eq!(rt; draft.contents().pairs.len(), 99_940);
 }
 
-// The most occurrences, and one more.
 #[test]
-fn takes_no_more_occurrences(rt: HostRuntime) {
-    let full = crowd(rt.alloc(), 1_000..6_000, 1).expect(&rt, "memory");
-    assert!(rt; is_plan(&rt, rt.alloc(), &full), "5,000 occurrences");
-    let above = crowd(rt.alloc(), 1_000..6_001, 1).expect(&rt, "memory");
-    assert!(rt; !is_plan(&rt, rt.alloc(), &above), "5,001 occurrences");
+fn takes_as_many_occurrences_as_a_plan_may_hold(rt: HostRuntime) {
+    let alloc = rt.alloc();
+    let draft = fullest(&rt, alloc, 6_000, |end| crowd(alloc, 1_000..end, 1));
+    assert_eq!(rt; draft.contents().occurrences.len(), 5_000);
 }

@@ -5,14 +5,14 @@ use std::array;
 use std::ops::Range;
 use std::process::Abort;
 
+// One of the parts of a line, with this mark between them.
+pub fn part(line: &str, mark: char, place: usize) -> &str {
+    line.split(mark).nth(place).unwrap_or("")
+}
+
 // The fields of a line without quotes.
 fn record(alloc: Global, line: &str) -> Result<Record, AllocError> {
-    array::try_from_fn(|place| line
-        .split(',')
-        .nth(place)
-        .unwrap_or("")
-        .as_bytes()
-        .to_vec(alloc))
+    array::try_from_fn(|place| part(line, ',', place).as_bytes().to_vec(alloc))
 }
 
 // One more record, of a line.
@@ -27,7 +27,7 @@ fn push_record(
     Ok(())
 }
 
-// The records of a text's lines, without the line `left_out`, and with another at the end.
+// The records of a text's lines, and of others with bars between them, without the line `left_out`.
 pub fn records(
     rt: &impl Abort,
     alloc: Global,
@@ -36,13 +36,10 @@ pub fn records(
     added: &str,
 ) -> Vec<Record> {
     let mut records = Vec::new(alloc);
-    for line in text.lines() {
-        if line != left_out {
+    for line in text.lines().chain(added.split('|')) {
+        if line != left_out && !line.is_empty() {
             push_record(rt, alloc, &mut records, line).expect(rt, "memory");
         }
-    }
-    if !added.is_empty() {
-        push_record(rt, alloc, &mut records, added).expect(rt, "memory");
     }
     records
 }
@@ -62,23 +59,33 @@ pub fn is_plan(rt: &impl Abort, alloc: Global, text: &str) -> bool {
     draft_of(rt, records(rt, alloc, text, "", "")).is_some()
 }
 
+// The plan of the text of as many as there may be; the text of one more denotes none.
+pub fn fullest<F: Fn(u16) -> Result<String, AllocError>>(
+    rt: &impl Abort,
+    alloc: Global,
+    most: u16,
+    text_of: F,
+) -> PlanDraft
+    requires { F.IsAlwaysCallable text_of }
+{
+    let above = text_of(most.saturating_add(1)).expect(rt, "memory");
+    assert!(rt; !is_plan(rt, alloc, &above), "one more than {most}");
+    draft(rt, alloc, &text_of(most).expect(rt, "memory"))
+}
+
 // The occurrence that records denote, if they denote one.
 pub fn addition_of(rt: &impl Abort, records: Vec<Record>) -> Option<Addition> {
     Addition::build(records).expect(rt, "memory")
 }
 
-// One of the parts of a line, with bars between them.
-pub fn part(line: &str, place: usize) -> &str {
-    line.split('|').nth(place).unwrap_or("")
-}
-
-// The records of a text's lines in a case: what it is, the line that is left out, and the line that is added.
+// The records of a text's lines in a case: what it is, the line that is left out, and the lines that are added.
 fn records_in(rt: &impl Abort, alloc: Global, text: &str, case: &str) -> Vec<Record> {
-    assert_eq!(rt; case.split('|').count(), 3, "parts of {case}");
-    let left_out = part(case, 1);
+    assert!(rt; case.split('|').count() > 2, "parts of {case}");
+    let left_out = part(case, '|', 1);
     let is_there = text.lines().any(|line| line == left_out);
     assert!(rt; left_out.is_empty() || is_there, "{case}");
-    records(rt, alloc, text, left_out, part(case, 2))
+    let added = case.splitn(3, '|').nth(2).unwrap_or("");
+    records(rt, alloc, text, left_out, added)
 }
 
 // The lines of a text denote a plan in each of these cases, or in none of them.
@@ -97,36 +104,6 @@ pub fn check_no_additions(rt: &impl Abort, alloc: Global, text: &str, cases: &st
     }
 }
 
-fn push_digit(text: &mut String, number: u16) -> Result<(), AllocError> {
-    text.push(char::from(b'0' + (number % 10) as u8))
-}
-
-// Puts a number of up to four digits behind a text.
-pub fn push_number(text: &mut String, number: u16) -> Result<(), AllocError> {
-    if number >= 1_000 {
-        push_digit(text, number / 1_000)?;
-    }
-    if number >= 100 {
-        push_digit(text, number / 100)?;
-    }
-    if number >= 10 {
-        push_digit(text, number / 10)?;
-    }
-    push_digit(text, number)
-}
-
-// Puts a number behind a text, between two others.
-pub fn push_between(
-    text: &mut String,
-    front: &str,
-    number: u16,
-    back: &str,
-) -> Result<(), AllocError> {
-    text.push_str(front)?;
-    push_number(text, number)?;
-    text.push_str(back)
-}
-
 // Puts a line behind a text for each of these numbers, which stands between two others.
 pub fn push_lines(
     text: &mut String,
@@ -135,7 +112,7 @@ pub fn push_lines(
     back: &str,
 ) -> Result<(), AllocError> {
     for number in numbers {
-        push_between(text, front, number, back)?;
+        write!(text, "{front}{number}{back}")?;
     }
     Ok(())
 }
@@ -151,12 +128,6 @@ pub fn with_lines(
     let mut longer = String::from_str(alloc, text)?;
     push_lines(&mut longer, front, numbers, back)?;
     Ok(longer)
-}
-
-// A text about BILLING's only operation, with so many needs of it more.
-pub fn with_needs(alloc: Global, text: &str, count: u16) -> Result<String, AllocError> {
-    let front = "N,BILLING,2024-03-01T22:00,10,TAPE.";
-    with_lines(alloc, text, front, 0..count, ",S,F,,,\n")
 }
 
 // A text with the lines of a case behind it: what it is, and its lines, with bars between them.

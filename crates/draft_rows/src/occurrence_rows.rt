@@ -1,5 +1,6 @@
 // Texts that denote an occurrence that comes in, and texts that denote none.
-use super::lines::{part, text_of, with_needs};
+use super::addition_rows::BILLING as PAIRED;
+use super::lines::{addition_of, part, records, text_of, with_lines};
 use super::named::{moment, need_of_file, operation, resource, workstation};
 use plan_basics::{OpKey, Watched};
 use plan_import::read_occurrence;
@@ -118,9 +119,9 @@ D,BILLING,2024-03-01T22:00,10,BILLING,2024-03-01T22:00,10,,,|BILLING/2024-03-01T
 #[test]
 fn reads_its_pair(rt: HostRuntime) {
     for line in PAIRS.lines() {
-        let text = with_line(rt.alloc(), part(line, 0), BILLING).expect(&rt, "memory");
-        let first = operation(&rt, part(line, 1).as_bytes());
-        let second = operation(&rt, part(line, 2).as_bytes());
+        let text = with_line(rt.alloc(), part(line, '|', 0), BILLING).expect(&rt, "memory");
+        let first = operation(&rt, part(line, '|', 1).as_bytes());
+        let second = operation(&rt, part(line, '|', 2).as_bytes());
         let addition = read(&rt, rt.alloc(), text.as_bytes());
         check_billing(&rt, &addition, &[(first, second)], line);
     }
@@ -234,15 +235,29 @@ fn records_given_twice(rt: HostRuntime) {
     check_none(&rt, rt.alloc(), BILLING, TWICE);
 }
 
-#[test]
-fn sixteen_needs_and_no_more(rt: HostRuntime) {
-    let alloc = rt.alloc();
-    let text = with_needs(alloc, BILLING, 15).expect(&rt, "memory");
-    let full = read(&rt, alloc, text.as_bytes());
-    let [(_, row)] = full.parts().operations.as_slice() else {
+// How many needs the only operation of an addition has, if there is one.
+fn needs_of(rt: &impl Abort, addition: Option<Addition>) -> Option<usize> {
+    let addition = addition?;
+    let [(_, row)] = addition.parts().operations.as_slice() else {
         panic!(rt; "one operation");
     };
-    assert_eq!(rt; row.needs.as_slice().len(), 16);
-    let text = with_needs(alloc, BILLING, 16).expect(&rt, "memory");
-    assert!(rt; found(&rt, alloc, text.as_bytes()).is_none());
+    Some(row.needs.as_slice().len())
+}
+
+// BILLING with so many needs more, as records and as a text: how many its operation has, if that is an addition.
+fn check_needs(rt: &impl Abort, alloc: Global, text: &str, more: u16, needs: Option<usize>) {
+    let front = "N,BILLING,2024-03-01T22:00,10,TAPE.";
+    let text = with_lines(alloc, text, front, 0..more, ",S,F,,,\n").expect(rt, "memory");
+    let built = addition_of(rt, records(rt, alloc, &text, "", ""));
+    assert_eq!(rt; needs_of(rt, built), needs, "records, {more} more");
+    let read = found(rt, alloc, text.as_bytes());
+    assert_eq!(rt; needs_of(rt, read), needs, "a text, {more} more");
+}
+
+#[test]
+fn sixteen_needs_and_no_more(rt: HostRuntime) {
+    for text in [BILLING, PAIRED] {
+        check_needs(&rt, rt.alloc(), text, 15, Some(16));
+        check_needs(&rt, rt.alloc(), text, 16, None);
+    }
 }

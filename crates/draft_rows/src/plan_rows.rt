@@ -133,7 +133,7 @@ fn builds_a_descending_pair_alone(rt: HostRuntime) {
 
 // What is wrong, the line that the night is without, and the line that is added to it.
 const MISFITS: &str =
-    "an occurrence without operations, and a pair to none|P,PAYROLL,2024-03-01T22:00,10,CPU1,30,0,0,,|
+    "a pair to no operation||D,BILLING,2024-03-01T23:00,20,PAYROLL,2024-03-01T22:00,20,,,
 an occurrence without operations||O,BILLING,2024-03-01T22:00,7,2024-03-02T03:00,,,,,
 operations of no occurrence|O,BILLING,2024-03-01T23:00,7,2024-03-02T03:00,,,,,|
 an operation of another arrival||P,BILLING,2024-03-01T22:00,10,CPU1,15,0,0,,

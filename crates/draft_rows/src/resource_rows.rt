@@ -1,5 +1,5 @@
 // Plans with special resources, needs of them, and pairs that lead either way.
-use super::lines::{check_plans, draft, is_plan, push_lines, with_lines};
+use super::lines::{check_plans, draft, fullest, push_lines, with_lines};
 use super::named::{need_of_file, operation, resource};
 use special_resources::Mode;
 use std::alloc::{AllocError, Global};
@@ -92,19 +92,21 @@ fn builds_the_night_with_one_pair_that_leads_back(rt: HostRuntime) {
     assert_eq!(rt; draft.contents().operations.len(), 5);
 }
 
+// The night, with so many special resources more.
+fn with_tapes(alloc: Global, count: u16) -> Result<String, AllocError> {
+    with_lines(alloc, PAYROLL, "X,TAPE.", 0..count, ",Y,,,,,,,\n")
+}
+
 #[test]
 fn takes_as_many_resources_as_a_plan_may_hold(rt: HostRuntime) {
     let alloc = rt.alloc();
-    let full = with_lines(alloc, PAYROLL, "X,TAPE.", 0..998, ",Y,,,,,,,\n").expect(&rt, "memory");
-    let draft = draft(&rt, alloc, &full);
+    let draft = fullest(&rt, alloc, 998, |count| with_tapes(alloc, count));
     assert_eq!(rt; draft.contents().resources.len(), 999);
-    let above = with_lines(alloc, PAYROLL, "X,TAPE.", 0..999, ",Y,,,,,,,\n").expect(&rt, "memory");
-    assert!(rt; !is_plan(&rt, alloc, &above), "1,000 special resources");
 }
 
 // The night, with so many special resources more, and a need of each of these of the operation that has one already.
 fn with_needs(alloc: Global, count: u16) -> Result<String, AllocError> {
-    let mut text = with_lines(alloc, PAYROLL, "X,TAPE.", 0..count, ",Y,,,,,,,\n")?;
+    let mut text = with_tapes(alloc, count)?;
     let front = "N,PAYROLL,2024-03-01T22:00,20,TAPE.";
     push_lines(&mut text, front, 0..count, ",S,F,,,\n")?;
     Ok(text)
@@ -112,12 +114,10 @@ fn with_needs(alloc: Global, count: u16) -> Result<String, AllocError> {
 
 #[test]
 fn takes_as_many_needs_as_an_operation_may_have(rt: HostRuntime) {
-    let text = with_needs(rt.alloc(), 15).expect(&rt, "memory");
-    let draft = draft(&rt, rt.alloc(), &text);
+    let alloc = rt.alloc();
+    let draft = fullest(&rt, alloc, 15, |count| with_needs(alloc, count));
     let [_, _, (_, needy), _, _] = draft.contents().operations.as_slice() else {
         panic!(rt; "five operations");
     };
     assert_eq!(rt; needy.needs.as_slice().len(), 16);
-    let above = with_needs(rt.alloc(), 16).expect(&rt, "memory");
-    assert!(rt; !is_plan(&rt, rt.alloc(), &above), "17 needs");
 }

@@ -1,5 +1,5 @@
 // Plans with several workstations, of any attribute, and with needs of R1 and R2.
-use super::lines::{check_plans, draft, is_plan, push_between, with_lines};
+use super::lines::{check_plans, draft, fullest, with_lines};
 use super::named::{moment, workstation};
 use plan_basics::Attr;
 use std::alloc::{AllocError, Global};
@@ -98,10 +98,11 @@ fn tells_workstations_and_intervals_that_fit(rt: HostRuntime) {
 fn push_interval(text: &mut String, number: u16) -> Result<(), AllocError> {
     let hour = 10 + number / 49;
     let minute = 10 + number % 49;
-    push_between(text, "I,SETP,2024-03-01T", hour, ":")?;
-    push_between(text, "", minute, ",2024-03-01T")?;
-    push_between(text, "", hour, ":")?;
-    push_between(text, "", minute + 1, ",1,0,0,,,\n")
+    let end = minute + 1;
+    writeln!(
+        text,
+        "I,SETP,2024-03-01T{hour}:{minute},2024-03-01T{hour}:{end},1,0,0,,,"
+    )
 }
 
 // The hall, with so many intervals of SETP.
@@ -115,24 +116,24 @@ fn with_intervals(alloc: Global, count: u16) -> Result<String, AllocError> {
 
 #[test]
 fn takes_as_many_intervals_as_a_workstation_may_hold(rt: HostRuntime) {
-    let text = with_intervals(rt.alloc(), 400).expect(&rt, "memory");
-    let draft = draft(&rt, rt.alloc(), &text);
+    let alloc = rt.alloc();
+    let draft = fullest(&rt, alloc, 400, |count| with_intervals(alloc, count));
     let [_, _, setup, _] = draft.contents().workstations.as_slice() else {
         panic!(rt; "four workstations");
     };
     assert_eq!(rt; offered(&rt, setup, b"2024-03-01T10:10"), Some((1, 0, 0)));
     assert_eq!(rt; offered(&rt, setup, b"2024-03-01T18:17"), Some((1, 0, 0)));
     assert_eq!(rt; offered(&rt, setup, b"2024-03-01T18:18"), None);
-    let above = with_intervals(rt.alloc(), 401).expect(&rt, "memory");
-    assert!(rt; !is_plan(&rt, rt.alloc(), &above), "401 intervals");
 }
 
 #[test]
 fn takes_as_many_workstations_as_a_plan_may_hold(rt: HostRuntime) {
     let alloc = rt.alloc();
-    let full = with_lines(alloc, HALL, "W,A", 100..195, ",S,,,,,,,\n").expect(&rt, "memory");
-    let draft = draft(&rt, alloc, &full);
+    let draft = fullest(
+        &rt,
+        alloc,
+        195,
+        |end| with_lines(alloc, HALL, "W,A", 100..end, ",S,,,,,,,\n"),
+    );
     assert_eq!(rt; draft.contents().workstations.len(), 99);
-    let above = with_lines(alloc, HALL, "W,A", 100..196, ",S,,,,,,,\n").expect(&rt, "memory");
-    assert!(rt; !is_plan(&rt, alloc, &above), "100 workstations");
 }

@@ -7,7 +7,6 @@ use plan_records::{Addition, PlanDraft, Record, Reply, Request, What};
 use std::alloc::{AllocError, Global};
 use std::array;
 use std::process::Abort;
-use std::test::Fail;
 
 const DAY: &str = "W,CPU1,A,,,,,,,
 I,CPU1,1972-01-01T00:00,2071-12-31T23:59,2,0,0,,,
@@ -24,26 +23,45 @@ fn day(alloc: Global) -> Result<Option<PlanDraft>, ImportFault> {
     read_plan(alloc, &mut Watched::new(DAY.as_bytes()))
 }
 
-/// Whether the day's text is read; or it is answered want of memory.
-fn is_read(alloc: Global) -> Result<bool, &'static str> {
+/// What comes of a try.
+#[derive(Clone, Copy, Debug, PartialEq)]
+enum Outcome {
+    Done,
+    WithoutMemory,
+    DenotesNothing,
+    OtherFault,
+    OtherNames,
+    PlanChanged,
+}
+
+/// What comes of reading the day's text.
+fn reading(alloc: Global) -> Outcome {
     match day(alloc) {
-        Ok(Some(_)) => Ok(true),
-        Ok(None) => Err("the text denotes no plan"),
-        Err(ImportFault::Memory) => Ok(false),
-        Err(ImportFault::Reader) => Err("the reader failed"),
+        Ok(Some(_)) => Outcome::Done,
+        Ok(None) => Outcome::DenotesNothing,
+        Err(ImportFault::Memory) => Outcome::WithoutMemory,
+        Err(ImportFault::Reader) => Outcome::OtherFault,
     }
 }
 
-#[test]
-fn an_import_without_memory_answers_so(rt: HostRuntime) -> Result<(), Fail> {
-    let held = take_all(rt.alloc())?;
-    let refused = Vec::<u8>::with_capacity(rt.alloc(), 1).is_err();
-    let without = is_read(rt.alloc());
+/// What a call answers while all memory is taken.
+fn without_memory<T, F: FnOnce() -> T>(rt: &impl Abort, alloc: Global, call: F) -> T
+    requires { F.IsAlwaysCallable call }
+{
+    let held = take_all(alloc).expect(rt, "memory to begin with");
+    let refused = Vec::<u8>::with_capacity(alloc, 1).is_err();
+    let answer = call();
     drop(held);
     assert!(rt; refused);
-    assert_eq!(rt; without, Ok(false));
-    assert_eq!(rt; is_read(rt.alloc()), Ok(true));
-    Ok(())
+    answer
+}
+
+#[test]
+fn an_import_without_memory_answers_so(rt: HostRuntime) {
+    let alloc = rt.alloc();
+    let without = without_memory(&rt, alloc, || reading(alloc));
+    assert_eq!(rt; without, Outcome::WithoutMemory);
+    assert_eq!(rt; reading(alloc), Outcome::Done);
 }
 
 /// The fields of a line without quotes.
@@ -65,173 +83,92 @@ fn records(alloc: Global, without: usize) -> Result<Vec<Record>, AllocError> {
     Ok(all)
 }
 
-/// Whether it was built; or it is refused for want of memory.
-fn is_built<T: Drop>(answer: Result<Option<T>, Refusal>) -> Result<bool, &'static str> {
+/// What comes of building something of records.
+fn building<T: Drop>(answer: Result<Option<T>, Refusal>) -> Outcome {
     match answer {
-        Ok(Some(_)) => Ok(true),
-        Ok(None) => Err("the records don't denote it"),
-        Err(Refusal::Memory) => Ok(false),
-        Err(_) => Err("another refusal"),
+        Ok(Some(_)) => Outcome::Done,
+        Ok(None) => Outcome::DenotesNothing,
+        Err(Refusal::Memory) => Outcome::WithoutMemory,
+        Err(_) => Outcome::OtherFault,
     }
 }
 
+/// What is built of the day's records, without so many of the first, is refused while all memory is taken, and then built.
+fn check_build<T: Drop, F: Fn(Vec<Record>) -> Result<Option<T>, Refusal>>(
+    rt: &impl Abort,
+    alloc: Global,
+    skipped: usize,
+    build: F,
+)
+    requires { F.IsAlwaysCallable build }
+{
+    let lines = records(alloc, skipped).expect(rt, "memory");
+    let without = without_memory(rt, alloc, || building(build(lines)));
+    assert_eq!(rt; without, Outcome::WithoutMemory);
+    let lines = records(alloc, skipped).expect(rt, "memory");
+    assert_eq!(rt; building(build(lines)), Outcome::Done);
+}
+
 #[test]
-fn a_draft_without_memory_is_refused(rt: HostRuntime) -> Result<(), Fail> {
-    let lines = records(rt.alloc(), 0)?;
-    let held = take_all(rt.alloc())?;
-    let without = is_built(PlanDraft::build(lines));
-    drop(held);
-    assert_eq!(rt; without, Ok(false));
-    assert_eq!(rt;
-        is_built(PlanDraft::build(records(rt.alloc(), 0)?)),
-        Ok(true)
-    );
-    Ok(())
+fn a_draft_without_memory_is_refused(rt: HostRuntime) {
+    check_build(&rt, rt.alloc(), 0, PlanDraft::build);
 }
 
 /// An occurrence comes in by the day without its workstation and interval.
 #[test]
-fn an_addition_without_memory_is_refused(rt: HostRuntime) -> Result<(), Fail> {
-    let lines = records(rt.alloc(), 2)?;
-    let held = take_all(rt.alloc())?;
-    let without = is_built(Addition::build(lines));
-    drop(held);
-    assert_eq!(rt; without, Ok(false));
-    assert_eq!(rt;
-        is_built(Addition::build(records(rt.alloc(), 2)?)),
-        Ok(true)
-    );
-    Ok(())
+fn an_addition_without_memory_is_refused(rt: HostRuntime) {
+    check_build(&rt, rt.alloc(), 2, Addition::build);
 }
 
 /// The load of the day in the evening.
-fn load(alloc: Global) -> Result<Request, &'static str> {
-    let draft = day(alloc).or(Err("the day isn't read"))?;
-    Ok(Request {
+fn load(rt: &impl Abort, alloc: Global) -> Request {
+    let draft = day(alloc).expect(rt, "the day");
+    Request {
         at: EVENING,
         what: What::Load(draft),
-    })
-}
-
-fn first() -> Result<OpKey, &'static str> {
-    OpKey::from_text(b"DAILY/2024-03-01T22:00/010").ok_or("no key")
-}
-
-/// Whether nothing has come in, and the clock stands at its first minute.
-fn is_empty(plan: &Plan, first: &OpKey) -> bool {
-    !plan.is_loaded() && plan.clock().minute() == 0 && plan.view_op(first).is_none()
-}
-
-/// Whether the day is loaded in the evening.
-fn holds_day(plan: &Plan, first: &OpKey) -> bool {
-    plan.is_loaded() && plan.clock().minute() == EVENING && plan.view_op(first).is_some()
-}
-
-/// What a request is refused for while all memory is taken, if it is.
-fn refused_without_memory(
-    alloc: Global,
-    plan: &mut Plan,
-    request: &Request,
-) -> Result<Option<Refusal>, AllocError> {
-    let held = take_all(alloc)?;
-    let refusal = plan.prepare(request).err();
-    drop(held);
-    Ok(refusal)
-}
-
-/// Whether a request that is prepared with memory, and applied while all is taken, names this operation alone.
-fn names_without_memory(
-    alloc: Global,
-    plan: &mut Plan,
-    request: &Request,
-    first: &OpKey,
-) -> Result<bool, AllocError> {
-    let Ok(prepared) = plan.prepare(request) else {
-        return Ok(false);
-    };
-    let held = take_all(alloc)?;
-    let named = plan.apply(prepared);
-    drop(held);
-    Ok(named.as_slice() == [*first].as_slice())
-}
-
-/// A load is refused while all memory is taken, and changes nothing; then it is carried out.
-fn check_load(alloc: Global, plan: &mut Plan, request: &Request) -> Result<(), &'static str> {
-    let first = first()?;
-    if refused_without_memory(alloc, plan, request) != Ok(Some(Refusal::Memory)) {
-        return Err("isn't refused for want of memory");
     }
-    if !is_empty(plan, &first) {
-        return Err("a load that is refused changed the plan");
-    }
-    if names_without_memory(alloc, plan, request, &first) != Ok(true) {
-        return Err("doesn't name the first operation alone");
-    }
-    if holds_day(plan, &first) {
-        Ok(())
-    } else {
-        Err("the day isn't loaded")
-    }
+}
+
+fn first(rt: &impl Abort) -> OpKey {
+    OpKey::from_text(b"DAILY/2024-03-01T22:00/010").expect(rt, "a key")
+}
+
+/// A load was refused for want of memory: nothing has come in, and the clock stands at its first minute.
+fn check_refused(rt: &impl Abort, plan: &Plan, refusal: Option<Refusal>) {
+    assert_eq!(rt; refusal, Some(Refusal::Memory));
+    assert!(rt; !plan.is_loaded() && plan.view_op(&first(rt)).is_none());
+    assert_eq!(rt; plan.clock().minute(), 0);
+}
+
+/// A load was carried out: it named the first operation alone, and the day is loaded in the evening.
+fn check_loaded(rt: &impl Abort, plan: &Plan, named: &[OpKey]) {
+    assert!(rt; named == [first(rt)].as_slice());
+    assert!(rt; plan.is_loaded() && plan.view_op(&first(rt)).is_some());
+    assert_eq!(rt; plan.clock().minute(), EVENING);
 }
 
 #[test]
-fn a_load_without_memory_changes_nothing(rt: HostRuntime) -> Result<(), Fail> {
-    let request = load(rt.alloc())?;
+fn a_load_without_memory_changes_nothing(rt: HostRuntime) {
+    let request = load(&rt, rt.alloc());
     let mut plan = Plan::empty(rt.alloc());
-    let checked = check_load(rt.alloc(), &mut plan, &request);
-    assert_eq!(rt; checked, Ok(()));
-    Ok(())
-}
-
-/// What a run answers while all memory is taken, if it isn't carried out.
-fn run_without_memory(
-    alloc: Global,
-    plan: &mut Plan,
-    requests: &[Request],
-) -> Result<Option<Refusal>, AllocError> {
-    let held = take_all(alloc)?;
-    let refusal = plan.run(requests).err();
-    drop(held);
-    Ok(refusal)
-}
-
-/// Whether a run has one reply, which names this operation alone.
-fn names_alone(plan: &mut Plan, requests: &[Request], key: &OpKey) -> bool {
-    let Ok(replies) = plan.run(requests) else {
-        return false;
-    };
-    match replies.as_slice() {
-        [Reply::Accepted { named }] => named.as_slice() == [*key].as_slice(),
-        _ => false,
-    }
-}
-
-/// A run of one load is refused while all memory is taken, and changes nothing; then it is carried out.
-fn check_run(alloc: Global, plan: &mut Plan, requests: &[Request]) -> Result<(), &'static str> {
-    let first = first()?;
-    if run_without_memory(alloc, plan, requests) != Ok(Some(Refusal::Memory)) {
-        return Err("isn't refused for want of memory");
-    }
-    if !is_empty(plan, &first) {
-        return Err("a run that is refused changed the plan");
-    }
-    if !names_alone(plan, requests, &first) {
-        return Err("doesn't name the first operation alone");
-    }
-    if holds_day(plan, &first) {
-        Ok(())
-    } else {
-        Err("the day isn't loaded")
-    }
+    let refusal = without_memory(&rt, rt.alloc(), || plan.prepare(&request).err());
+    check_refused(&rt, &plan, refusal);
+    let prepared = plan.prepare(&request).expect(&rt, "a load");
+    let named = without_memory(&rt, rt.alloc(), || plan.apply(prepared));
+    check_loaded(&rt, &plan, &named);
 }
 
 #[test]
-fn a_run_without_memory_changes_nothing(rt: HostRuntime) -> Result<(), Fail> {
-    let requests = [load(rt.alloc())?];
+fn a_run_without_memory_changes_nothing(rt: HostRuntime) {
+    let requests = [load(&rt, rt.alloc())];
     let mut plan = Plan::empty(rt.alloc());
-    let checked = check_run(rt.alloc(), &mut plan, &requests);
-    assert_eq!(rt; checked, Ok(()));
-    Ok(())
+    let refusal = without_memory(&rt, rt.alloc(), || plan.run(&requests).err());
+    check_refused(&rt, &plan, refusal);
+    let replies = plan.run(&requests).expect(&rt, "a run");
+    let [Reply::Accepted { named }] = replies.as_slice() else {
+        panic!(rt; "one reply, which accepts");
+    };
+    check_loaded(&rt, &plan, named);
 }
 
 /// Blocks that are given back one by one while all other memory is taken, so that the room grows step by step.
@@ -249,11 +186,6 @@ fn spare_blocks(alloc: Global) -> Result<Vec<Vec<u8>>, AllocError> {
     Ok(spares)
 }
 
-/// What is tried again and again: it is carried out, or it answers want of memory.
-trait Tried {
-    fn is_carried_out(&mut self) -> Result<bool, &'static str>;
-}
-
 /// How often it was carried out, and how often it was refused.
 #[derive(Debug, Drop)]
 struct Times {
@@ -262,38 +194,31 @@ struct Times {
 }
 
 /// Tries with room for ever more bytes: later and later growths are the first one refused.
-fn growth_by_growth<T: Tried>(alloc: Global, tried: &mut T) -> Result<Times, &'static str> {
+fn growth_by_growth<F: FnMut() -> Outcome>(alloc: Global, mut tried: F) -> Result<Times, Outcome>
+    requires { F.IsAlwaysCallable tried }
+{
     let mut times = Times {
         done: 0,
         refused: 0,
     };
-    let mut spares = spare_blocks(alloc).or(Err("no memory for spares"))?;
-    let held = take_all(alloc).or(Err("no memory to begin with"))?;
+    let mut spares = spare_blocks(alloc).or(Err(Outcome::WithoutMemory))?;
+    let held = take_all(alloc).or(Err(Outcome::WithoutMemory))?;
     for _ in 0..SPARES {
         drop(spares.pop());
-        if tried.is_carried_out()? {
-            times.done = times.done.saturating_add(1);
-        } else {
-            times.refused = times.refused.saturating_add(1);
+        match tried() {
+            Outcome::Done => times.done = times.done.saturating_add(1),
+            Outcome::WithoutMemory => times.refused = times.refused.saturating_add(1),
+            other => return Err(other),
         }
     }
     drop(held);
     Ok(times)
 }
 
-#[derive(Drop)]
-struct ImportTried {
-    alloc: Global,
-}
-
-impl Tried for ImportTried {
-    fn is_carried_out(&mut self) -> Result<bool, &'static str> {
-        is_read(self.alloc)
-    }
-}
-
 /// It is refused more than five times, and carried out more than five times.
-fn check_growths<T: Tried>(rt: &impl Abort, alloc: Global, tried: &mut T) {
+fn check_growths<F: FnMut() -> Outcome>(rt: &impl Abort, alloc: Global, tried: F)
+    requires { F.IsAlwaysCallable tried }
+{
     let times = growth_by_growth(alloc, tried).expect(rt, "tries");
     assert!(rt; times.done > 5 && times.refused > 5, "{times:?}");
 }
@@ -301,49 +226,27 @@ fn check_growths<T: Tried>(rt: &impl Abort, alloc: Global, tried: &mut T) {
 #[test]
 fn imports_are_refused_growth_by_growth(rt: HostRuntime) {
     let alloc = rt.alloc();
-    check_growths(&rt, alloc, &mut ImportTried { alloc });
+    check_growths(&rt, alloc, || reading(alloc));
 }
 
-/// A load of an empty plan, which is only prepared.
-#[derive(Drop)]
-struct LoadTried {
-    plan: Plan,
-    request: Request,
-    first: OpKey,
-}
-
-impl Tried for LoadTried {
-    fn is_carried_out(&mut self) -> Result<bool, &'static str> {
-        is_loaded(&mut self.plan, &self.request, &self.first)
-    }
-}
-
-/// Whether an empty plan takes the load and names the first operation; or it answers want of memory, and stays empty.
-fn is_loaded(plan: &mut Plan, request: &Request, first: &OpKey) -> Result<bool, &'static str> {
+/// What comes of a load of an empty plan that is only prepared: it names the first operation, and the plan stays empty.
+fn loading(plan: &mut Plan, request: &Request, first: &OpKey) -> Outcome {
     let answer = plan.prepare(request);
     if plan.is_loaded() || plan.clock().minute() != 0 {
-        return Err("a request that was only prepared changed the plan");
+        return Outcome::PlanChanged;
     }
     match answer {
-        Ok(prepared) if prepared.named() == [*first].as_slice() => Ok(true),
-        Ok(_) => Err("other operations are named"),
-        Err(Refusal::Memory) => Ok(false),
-        Err(_) => Err("another refusal"),
+        Ok(prepared) if prepared.named() == [*first].as_slice() => Outcome::Done,
+        Ok(_) => Outcome::OtherNames,
+        Err(Refusal::Memory) => Outcome::WithoutMemory,
+        Err(_) => Outcome::OtherFault,
     }
-}
-
-fn tried_load(alloc: Global) -> Result<LoadTried, &'static str> {
-    let first = first()?;
-    let request = load(alloc)?;
-    Ok(LoadTried {
-        plan: Plan::empty(alloc),
-        request,
-        first,
-    })
 }
 
 #[test]
 fn loads_are_refused_growth_by_growth(rt: HostRuntime) {
-    let mut tried = tried_load(rt.alloc()).expect(&rt, "a load");
-    check_growths(&rt, rt.alloc(), &mut tried);
+    let first = first(&rt);
+    let request = load(&rt, rt.alloc());
+    let mut plan = Plan::empty(rt.alloc());
+    check_growths(&rt, rt.alloc(), || loading(&mut plan, &request, &first));
 }
