@@ -1,41 +1,33 @@
 -- Of an addition that a valid plan may take in, the plan has nothing yet.
-use Rattle.std.proofs.Common.{◌≡◌, inl, inr, refl, sym, ◌∙◌, Bool, true, false, true≢false}
+use Rattle.std.proofs.Common.{◌≡◌, inl, inr, sym, ◌∙◌, true, true≢false}
 use Rattle.std.specs.FinMap.{contains_key, get}
 use Rattle.plan_basics.specs.declared.Refusal.TheVariants as refusal
 use Rattle.plan_basics.specs.declared.keys.OpKey.{OpKey}
 use Rattle.plan_model.specs.Plan.{IsPairOf, Plan, Supplement}
 use Rattle.plan_model.specs.Valid.{IsValid}
 use Rattle.plan_records.specs.Accepting.{MayBeAdded}
-use Rattle.plan_records.specs.Drafts.{IsAddition, IsOwn}
-use Rattle.plan_records.proofs.Tables.{is_found}
+use Rattle.plan_records.specs.Drafts.{IsAddition}
+use Rattle.plan_laws.proofs.ComingIn.{not_own}
+use Rattle.plan_laws.proofs.Looks.{found_key, told_flag}
 use Rattle.plan_changes.specs.Adding.{HasNothingOf}
 
-not_true : (b : Bool) → (b ≡ true → ⊥) → b ≡ false
-not_true true h = absurd (h refl)
-not_true false h = refl
-
 module _ (P : Plan) (valid : IsValid P) (s : Supplement) (addition : IsAddition s) (new : MayBeAdded P s refusal.Duplicate) where
-  not_own : (o : OpKey) → contains_key P.operations o ≡ true → ¬ IsOwn s o
-  not_own o there own =
-      let found = is_found (get P.operations o) there in
-      true≢false (sym (valid.occurrences.each_operation o found.0 found.1).1 ∙ new o.occurrence own)
-
   not_both : (o : OpKey) → contains_key P.operations o ≡ true → contains_key s.operations o ≡ true → ⊥
   not_both o there comes =
-      let found = is_found (get s.operations o) comes in
-      not_own o there (addition.occurrences.each_operation o found.0 found.1).1
+      let found = found_key (get s.operations o) comes in
+      not_own P s valid new o there (addition.occurrences.each_operation o found.0 found.1).1
 
   no_pair_of_both : (p o : OpKey) → IsPairOf P.pairs p o → IsPairOf s.pairs p o → ⊥
   no_pair_of_both p o there comes =
       let ends = valid.pairs p o there in
       elim (addition.pairs p o comes).2 [
-        | inl own ↦ not_own p ends.0 own
-        | inr own ↦ not_own o ends.1 own
+        | inl own ↦ not_own P s valid new p ends.0 own
+        | inr own ↦ not_own P s valid new o ends.1 own
       ]
 
   pub comes_apart : HasNothingOf P s
   comes_apart = record {
-    occurrences = λ c there. not_true (contains_key s.occurrences c) (λ comes. true≢false (sym there ∙ new c comes));
-    operations = λ o there. not_true (contains_key s.operations o) (not_both o there);
-    pairs = λ pair there. not_true _ (no_pair_of_both pair.0 pair.1 there);
+    occurrences = λ c there. told_flag (contains_key s.occurrences c) (λ comes. true≢false (sym there ∙ new c comes));
+    operations = λ o there. told_flag (contains_key s.operations o) (not_both o there);
+    pairs = λ pair there. told_flag _ (no_pair_of_both pair.0 pair.1 there);
   }

@@ -1,21 +1,16 @@
 -- Rows in key order of which one is made anew.
-use Rattle.std.proofs.Common.{◌≡◌, refl, sym, ap, ap₂, subst, ◌∙◌, ℕ, zero, suc, ◌<◌, Bool, true, false, cond, List, [], ◌∷◌, Option, Some, None, option_map, Ordering, Less, Equal, Greater, length, set, slice_get}
+use Rattle.std.proofs.Common.{◌≡◌, refl, sym, ap, ap₂, subst, ◌∙◌, ℕ, zero, suc, ◌<◌, Bool, true, false, cond, List, [], ◌∷◌, Option, Some, None, option_map, Ordering, Less, length, set, slice_get}
 use Rattle.std.specs.Cmp.{IsTotalOrder, eq_by_cmp_equiv}
 use Rattle.std.specs.FinMap.{FinMap, IsAntisymmetric, find, from_entries, get, get-insert, insert, same_map}
 use Rattle.std.specs.List.{AllByRecursion}
 use Rattle.std.specs.List.Sorted.{IsStrictlySortedBy}
 use Rattle.std.specs.Map.{keys_of}
-use Rattle.std.specs.Ordering.{eq_by_cmp, is_eq}
+use Rattle.std.specs.Ordering.{eq_by_cmp}
 use Rattle.std.proofs.lemmas.Map.Keys.{sorted_head, sorted_tail}
 use Rattle.std.proofs.lemmas.Option.{slice_get_within}
 use Rattle.plan_model.specs.Revise.{get-revise, revise}
-use Rattle.plan_records.proofs.MadeEntries.{each_made, key_of}
+use Rattle.plan_records.proofs.MadeEntries.{each_made, key_of, not_equal}
 use Rattle.plan_records.proofs.RowPlaces.{from_made, keys-made, later_key}
-
-less_apart : (r : Ordering) → r ≡ Less → is_eq r ≡ false
-less_apart Less h = refl
-less_apart Equal h = cc
-less_apart Greater h = cc
 
 -- a place at which a row of the key stands
 pub place_within : {K X : Type 0} (rows : List (K × X)) (place : ℕ) (key : K) → (x : X) × (slice_get rows place ≡ Some (key, x)) → place < length rows
@@ -36,7 +31,7 @@ module _ {K X : Type 0} (R : K → K → Ordering) (o : IsTotalOrder R) (same : 
   later_rows : (f : X → X) (rows : List (K × X)) → AllByRecursion (λ q. R k q ≡ Less) (keys_of rows) → each_made (made_at f) rows ≡ rows
   later_rows f [] below = refl
   later_rows f (row ∷ rows) below =
-      ap₂ (λ (r : K × X) (rs : List (K × X)). r ∷ rs) (other_row f row ((eq_by_cmp_equiv o).symm row.0 k ∙ less_apart (R k row.0) below.0)) (later_rows f rows below.1)
+      ap₂ (λ (r : K × X) (rs : List (K × X)). r ∷ rs) (other_row f row ((eq_by_cmp_equiv o).symm row.0 k ∙ not_equal (R k row.0) below.0)) (later_rows f rows below.1)
 
   -- to set the row of the key is to make the value at the key anew
   pub set_made : (f : X → X) (rows : List (K × X)) → IsStrictlySortedBy R (keys_of rows) → (i : ℕ) (v : X) → slice_get rows i ≡ Some (k, v) → set rows i (k, f v) ≡ each_made (made_at f) rows
@@ -47,7 +42,7 @@ module _ {K X : Type 0} (R : K → K → Ordering) (o : IsTotalOrder R) (same : 
       ap₂ (λ (r : K × X) (rs : List (K × X)). r ∷ rs) (sym (ap (λ (z : K × X). (z.0, made_at f z.0 z.1)) is ∙ its_row f v)) (sym (later_rows f rows below))
   set_made f (row ∷ rows) sorted (suc i) v at =
       let less = later_key R row.0 rows i k v (sorted_head R row.0 (keys_of rows) sorted) at in
-      ap₂ (λ (r : K × X) (rs : List (K × X)). r ∷ rs) (sym (other_row f row (less_apart (R row.0 k) less))) (set_made f rows (sorted_tail R row.0 (keys_of rows) sorted) i v at)
+      ap₂ (λ (r : K × X) (rs : List (K × X)). r ∷ rs) (sym (other_row f row (not_equal (R row.0 k) less))) (set_made f rows (sorted_tail R row.0 (keys_of rows) sorted) i v at)
 
   not_found : (row : K × X) (rows : List (K × X)) (b : Bool) → eq_by_cmp R k row.0 ≡ b → cond b (Some row.1) (find R k rows) ≡ None → (eq_by_cmp R k row.0 ≡ false) × (find R k rows ≡ None)
   not_found row rows true is none = cc

@@ -1,5 +1,5 @@
 -- What a place of the graph reaches are the places of what its operation reaches.
-use Rattle.std.proofs.Common.{◌≡◌, ◌≢◌, ◌↔◌, refl, sym, ap, subst, ◌∙◌, true≢false, arith, ℕ, ◌<◌, true, false, ◌+◌, List, [], ◌∷◌, ◌++◌, All, Contains, length, map, drop, get_or, slice_get, Option, Some, None, option_map}
+use Rattle.std.proofs.Common.{◌≡◌, ◌≢◌, ◌↔◌, sym, ap, subst, ◌∙◌, arith, ℕ, ◌<◌, true, false, ◌+◌, List, [], ◌∷◌, ◌++◌, All, Contains, length, map, drop, get_or, slice_get, Option, Some, None, option_map}
 use Rattle.std.proofs.lemmas.List.{append_assoc, at_drop_more, length-map, map-append}
 use Rattle.std.proofs.lemmas.Option.{get_or_from_slice_get, slice_get-get_or, slice_get-map}
 use Rattle.std.specs.FinSet.{from_list}
@@ -20,19 +20,12 @@ use Rattle.plan_records.proofs.RowPlaces.{get_at, place_of_found}
 use Rattle.plan_records.proofs.Tables.{key_found}
 use Rattle.plan_records.specs.Contents.{plan_of}
 use Rattle.ready_list.specs.Choice.{is_among}
-use Rattle.status_rules.specs.declared.Mark.{Mark}
 use Rattle.status_rules.specs.declared.Mark.TheVariants as mark
 use Rattle.plan_checks.specs.Held.{AreHeld}
+use Rattle.plan_choice.proofs.ItemStarts.{live_mark, mark_live}
 use Rattle.plan_choice.specs.StartItems.{is_live_mark}
 use Rattle.plan_checks.specs.Reaching.{is_live_row}
 use Rattle.plan_checks.specs.declared.loaded.LoadedPlan.{LoadedPlan}
-
-live_if : (m : Mark) → is_live_mark m ≡ true → m ≢ mark.Deleted
-live_if m e deleted = true≢false (sym (subst (λ x. is_live_mark x ≡ true) deleted e))
-
-live_told : (m : Mark) → m ≢ mark.Deleted → is_live_mark m ≡ true
-live_told mark.Deleted live = absurd (live refl)
-live_told m live = refl
 
 -- a row of which this is the key
 row_of_key : (x : Option (OpKey × Operation)) (o : OpKey) → option_map (λ row. row.0) x ≡ Some o → (op : Operation) × (x ≡ Some (o, op))
@@ -89,8 +82,8 @@ module _ (at : ℕ) (h : LoadedPlan) (held : AreHeld at h) where
       let row = key_row i o e in
       let is = get_at operation_cmp operation_cmp_total operation_cmp-IsAntisymmetric rows held.in_order.operations i o row.0 row.1 in
       let flag = flag_of i o row.0 row.1 in (
-        λ set. (row.0, is, live_if row.0.mark (sym flag ∙ set)),
-        λ live. flag ∙ live_told row.0.mark (subst (λ (op : Operation). op.mark ≢ mark.Deleted) (same_some live.0 row.0 (sym live.1 ∙ is)) live.2),
+        λ set. (row.0, is, live_mark row.0.mark (sym flag ∙ set)),
+        λ live. flag ∙ mark_live row.0.mark (subst (λ (op : Operation). op.mark ≢ mark.Deleted) (same_some live.0 row.0 (sym live.1 ∙ is)) live.2),
       )
 
   joins : JoinsAmong keys pairs

@@ -24,16 +24,16 @@ use Rattle.plan_model.specs.Starting.{IsAllowedToStart}
 use Rattle.plan_model.specs.Status.{IsReady}
 use Rattle.plan_records.specs.Contents.{AreValidContents, plan_of}
 use Rattle.plan_records.specs.declared.contents.PlanContents.{PlanContents}
-use Rattle.plan_laws.proofs.Kept.{ready_unmarked}
+use Rattle.plan_laws.proofs.Kept.{named_none, ready_unmarked}
 use Rattle.plan_laws.proofs.Looks.{same_key, same_some}
 use Rattle.plan_laws.proofs.Sorted.{contains_head, contains_later}
 use Rattle.plan_choice.specs.Choosing.{AreGivenOut, AreHeldIn, AreReadyEntries}
 use Rattle.plan_choice.specs.StartGates.{Allows, Answers, Counted, IsCountedIn, PassesOver}
 use Rattle.plan_choice.specs.Taking.{CanStart, IsAtMost}
 use Rattle.plan_choice.proofs.Allowed.{can_start, may_start}
-use Rattle.plan_choice.proofs.GivenPlaces.{AreAt, more_at, same_at}
-use Rattle.plan_choice.proofs.NamedGiven.{named_at_most, named_gives, named_gives_none, none_named_gives}
-use Rattle.plan_choice.proofs.NamedHolders.{named_held, none_named_held}
+use Rattle.plan_choice.proofs.GivenPlaces.{AreAt, more_at}
+use Rattle.plan_choice.proofs.NamedGiven.{named_at_most, named_gives, named_gives_none}
+use Rattle.plan_choice.proofs.NamedHolders.{named_held}
 use Rattle.plan_choice.proofs.ReadyLists.{ready_distinct}
 
 -- the gate goes through these contents at m, and counts what the plan with these named has given out and holds
@@ -55,8 +55,8 @@ pub stands_first : (c : PlanContents) (m : ℕ) (g : Counted) → g.contents ≡
 stands_first c m g contents at given held = record {
   contents = contents;
   at = at;
-  given = same_at c.workstations.items g.given (given_out (plan_of m c)) (given_out (named [] (plan_of m c))) (none_named_gives (plan_of m c)) given;
-  holders = none_named_held (plan_of m c) g.held held;
+  given = subst (λ P. AreGivenOut P c.workstations.items g.given) (sym (named_none (plan_of m c))) given;
+  holders = subst (λ P. AreHeldIn P g.held) (sym (named_none (plan_of m c))) held;
 }
 
 -- what the gate counts is given out and held with these named

@@ -1,11 +1,11 @@
 -- Rows in key order are the entries of their map.
-use Rattle.std.proofs.Common.{◌≡◌, refl, sym, ◌∙◌, Bool, true, false, ◌&&◌, T, List, [], ◌∷◌}
+use Rattle.std.proofs.Common.{◌≡◌, sym, ◌∙◌, Bool, true, false, ◌&&◌, T, List, [], ◌∷◌}
 use Rattle.std.specs.FinMap.{entries, entries_sorted, from_entries, get-entries, get-from_entries}
 use Rattle.std.specs.FinMap.Entries.{below_all, is_sorted, same_entries}
 use Rattle.std.specs.List.{AllByRecursion}
 use Rattle.std.specs.List.Sorted.{IsStrictlySortedBy}
 use Rattle.std.specs.Map.{keys_of}
-use Rattle.std.specs.Ordering.{is_eq, is_lt}
+use Rattle.std.specs.Ordering.{is_lt}
 use Rattle.std.specs.declared.cmp.Ordering.{Ordering}
 use Rattle.std.specs.declared.cmp.Ordering.TheVariants.{Less, Equal, Greater}
 use Rattle.std.proofs.lemmas.Map.Keys.{sorted_head, sorted_tail}
@@ -13,28 +13,14 @@ use Rattle.plan_basics.specs.Keys.{operation_cmp, operation_cmp_total, operation
 use Rattle.plan_basics.specs.declared.keys.OpKey.{OpKey}
 use Rattle.plan_model.specs.Plan.{Operation}
 
-pub bits_and : (a b : Bool) → T (a && b) → T a × T b
-bits_and true b h = (tt, h)
-bits_and false b h = absurd h
-
 both_bits : (a b : Bool) → T a → T b → T (a && b)
 both_bits true b h k = k
 both_bits false b h k = absurd h
-
-pub less_of : (r : Ordering) → T (is_lt r) → r ≡ Less
-less_of Less h = refl
-less_of Equal h = absurd h
-less_of Greater h = absurd h
 
 is_less : (r : Ordering) → r ≡ Less → T (is_lt r)
 is_less Less h = tt
 is_less Equal h = cc
 is_less Greater h = cc
-
-pub not_equal : (r : Ordering) → r ≡ Less → is_eq r ≡ false
-not_equal Less h = refl
-not_equal Equal h = cc
-not_equal Greater h = cc
 
 all_below : (k : OpKey) (rows : List (OpKey × Operation)) → AllByRecursion (λ y. operation_cmp k y ≡ Less) (keys_of rows) → T (below_all operation_cmp k rows)
 all_below k [] h = tt

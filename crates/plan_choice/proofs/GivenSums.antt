@@ -1,5 +1,5 @@
 -- What workstations have given out, row by row, and by places.
-use Rattle.std.proofs.Common.{◌≡◌, ◌≢◌, refl, sym, ap, ◌∙◌, arith, ℕ, ◌+◌, ◌*◌, ◌≤◌, Bool, true, false, ◌&&◌, cond, List, [], ◌∷◌, ◌++◌, length, map, slice_get, sum_by, take, Some}
+use Rattle.std.proofs.Common.{◌≡◌, ◌≢◌, refl, sym, ap, ◌∙◌, arith, ℕ, ◌+◌, ◌*◌, ◌≤◌, Bool, true, false, ◌&&◌, cond, List, [], ◌∷◌, ◌++◌, length, map, slice_get, sum_by, take, Some, add-zero}
 use Rattle.std.proofs.lemmas.List.{take_more}
 use Rattle.std.proofs.lemmas.List.Sums.{sum_by-cons, sum_by-take-le, sum_by_push}
 use Rattle.std.proofs.lemmas.Option.{get_or_from_slice_get, slice_get_within}
@@ -95,11 +95,8 @@ module _ (P : Plan) (rows : List (OpKey × Operation)) (i : ℕ) (o : OpKey) (op
   pub row_gives_none : is_serving P w op ≡ false → given_among P (take (i + 1) rows) w ≡ given_among P (take i rows) w
   row_gives_none none =
       let same : (number : Operation → ℕ) → sum_among P w number (take (i + 1) rows) ≡ sum_among P w number (take i rows) =
-      λ number. sum_more number ∙ ap (λ b. sum_among P w number (take i rows) + cond b (number op) 0) none ∙ plus_none (sum_among P w number (take i rows)) in
+      λ number. sum_more number ∙ ap (λ b. sum_among P w number (take i rows) + cond b (number op) 0) none ∙ add-zero (sum_among P w number (take i rows)) in
       same_capacity (given_among P (take (i + 1) rows) w) (given_among P (take i rows) w) (same (λ x. 1)) (same (λ x. x.r1)) (same (λ x. x.r2))
-    where
-      plus_none : (n : ℕ) → n + 0 ≡ n
-      plus_none n = omega arith
 
 -- ---- whether an operation holds a server of a workstation
 

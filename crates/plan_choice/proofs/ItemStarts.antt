@@ -23,18 +23,13 @@ use Rattle.plan_choice.specs.Choosing.{AreLatestStarts}
 use Rattle.plan_status.proofs.RowKeys.{key_of_row, row_of_key}
 use Rattle.plan_choice.specs.StartItems.{is_live_mark, start_item}
 
-live_mark : (m : Mark) → is_live_mark m ≡ true → m ≢ mark.Deleted
+-- what is not deleted is live
+pub live_mark : (m : Mark) → is_live_mark m ≡ true → m ≢ mark.Deleted
 live_mark m live deleted = true≢false (sym live ∙ ap is_live_mark deleted)
 
-mark_live : (m : Mark) → m ≢ mark.Deleted → is_live_mark m ≡ true
-mark_live mark.Unmarked h = refl
-mark_live mark.Named h = refl
-mark_live mark.Running h = refl
-mark_live mark.Undecided h = refl
-mark_live mark.Interrupted h = refl
-mark_live (mark.Error code) h = refl
-mark_live mark.Done h = refl
+pub mark_live : (m : Mark) → m ≢ mark.Deleted → is_live_mark m ≡ true
 mark_live mark.Deleted h = absurd (h refl)
+mark_live m h = refl
 
 -- a number of the operation, 0 where there is none
 abbrev pub number_of : Option Operation → (Operation → ℕ) → ℕ

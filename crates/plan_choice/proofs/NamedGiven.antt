@@ -1,5 +1,5 @@
 -- What workstations have given out, once one operation more is named.
-use Rattle.std.proofs.Common.{◌≡◌, ◌≢◌, refl, sym, ap, subst, ◌∙◌, arith, ℕ, ◌+◌, ◌≤◌, Bool, true, false, ◌&&◌, ◌||◌, cond, T, List, [], ◌∷◌, ◌++◌, map, sum_by, Some}
+use Rattle.std.proofs.Common.{◌≡◌, ◌≢◌, refl, sym, ap, subst, ◌∙◌, arith, ℕ, ◌+◌, ◌≤◌, Bool, true, false, ◌&&◌, ◌||◌, cond, T, List, [], ◌∷◌, ◌++◌, map, sum_by, Some, add-zero, zero-add}
 use Rattle.std.proofs.lemmas.List.Sums.{sum_by-cons}
 use Rattle.std.specs.Cmp.{eq_by_cmp_equiv}
 use Rattle.std.specs.FinMap.{entries, entries_sorted, find, get, get-entries, len}
@@ -15,13 +15,12 @@ use Rattle.plan_model.specs.Holdings.{given_out, holds_server, is_serving, sum_g
 use Rattle.plan_model.specs.Plan.{Plan, Operation, HasAttribute, attribute_at}
 use Rattle.plan_model.specs.Ready.{named, with_mark}
 use Rattle.plan_model.specs.Revise.{len-revise}
-use Rattle.plan_records.proofs.MadeEntries.{each_made, entries-revise, key_of}
+use Rattle.plan_records.proofs.MadeEntries.{bits_and, each_made, entries-revise, key_of, less_of, not_equal}
 use Rattle.plan_choice.specs.Taking.{IsAtMost, takes_server, with_one_more}
-use Rattle.plan_choice.proofs.Entries.{bits_and, less_of, not_equal}
 use Rattle.plan_choice.proofs.GivenSums.{at_another, at_its_own, given_at_most, same_capacity}
 use Rattle.plan_laws.proofs.Kept.{is_among-append}
 use Rattle.plan_status.proofs.Naming.{row_before}
-use Rattle.std.proofs.Math.Bool.{or-false}
+use Rattle.std.proofs.Math.Bool.{and-false, or-false}
 use Rattle.std.proofs.lemmas.Bool.{or_right}
 
 -- ---- a sum over entries that are made anew in two ways
@@ -110,23 +109,16 @@ module _ (P : Plan) (os : List OpKey) where
 
     none_before : (w : Name) → is_serving P w op ≡ false
     none_before w = elim (eq_by_cmp name_cmp op.workstation w) as (λ b. (b && (takes (attribute_at P w) && holds_server (marked_status op.mark))) ≡ false) [
-      | true ↦ ap (λ m. takes (attribute_at P w) && holds_server (marked_status m)) unmarked ∙ and_none (takes (attribute_at P w))
+      | true ↦ ap (λ m. takes (attribute_at P w) && holds_server (marked_status m)) unmarked ∙ and-false (takes (attribute_at P w))
       | false ↦ refl
     ]
-      where
-        and_none : (b : Bool) → (b && false) ≡ false
-        and_none true = refl
-        and_none false = refl
 
     -- at its own workstation the sum goes up by its number
     sum_more : (number : Operation → ℕ) → number (with_mark mark.Named op) ≡ number op
         → sum_given_out (named (os ++ k ∷ []) P) op.workstation number ≡ sum_given_out (named os P) op.workstation number + number op
     sum_more number same =
         more_if op.workstation number same (number op)
-        (ap (λ b. cond b (number (with_mark mark.Named op)) 0) (at_its_own P (with_mark mark.Named op) ∙ takes_one) ∙ same ∙ none_plus (number op) ∙ sym (ap (λ b. cond b (number op) 0 + number op) (none_before op.workstation)))
-      where
-        none_plus : (n : ℕ) → n ≡ 0 + n
-        none_plus n = omega arith
+        (ap (λ b. cond b (number (with_mark mark.Named op)) 0) (at_its_own P (with_mark mark.Named op) ∙ takes_one) ∙ same ∙ sym (zero-add (number op)) ∙ sym (ap (λ b. cond b (number op) 0 + number op) (none_before op.workstation)))
 
     -- at another it stays
     sum_same : (w : Name) → op.workstation ≢ w → (number : Operation → ℕ) → number (with_mark mark.Named op) ≡ number op
@@ -134,10 +126,7 @@ module _ (P : Plan) (os : List OpKey) where
     sum_same w apart number same =
         more_if w number same 0
         (ap (λ b. cond b (number (with_mark mark.Named op)) 0) (at_another P (with_mark mark.Named op) w apart) ∙ sym (ap (λ b. cond b (number op) 0 + 0) (none_before w)))
-        ∙ plus_none (sum_given_out (named os P) w number)
-      where
-        plus_none : (n : ℕ) → n + 0 ≡ n
-        plus_none n = omega arith
+        ∙ add-zero (sum_given_out (named os P) w number)
 
     pub named_gives : given_out (named (os ++ k ∷ []) P) op.workstation ≡ with_one_more (given_out (named os P) op.workstation) op
     named_gives =
@@ -159,14 +148,3 @@ module _ (P : Plan) (os : List OpKey) where
         subst (λ n. n ≤ 99) (sym (same_number (λ x. x.r1) (λ x. refl) (is_among os o) before.0) ∙ ap (λ (x : Operation). x.r1) before.2) small.0,
         subst (λ n. n ≤ 99) (sym (same_number (λ x. x.r2) (λ x. refl) (is_among os o) before.0) ∙ ap (λ (x : Operation). x.r2) before.2) small.1,
       ))
-
--- the plan with none named gives out what it did
-pub none_named_gives : (P : Plan) (w : Name) → given_out (named [] P) w ≡ given_out P w
-none_named_gives P w = same_capacity (given_out (named [] P) w) (given_out P w) (same (λ x. 1)) (same (λ x. x.r1)) (same (λ x. x.r2))
-  where
-    as_it_is : (es : List (OpKey × Operation)) → map (λ e. e.1) (each_made (mark_named []) es) ≡ map (λ e. e.1) es
-    as_it_is [] = refl
-    as_it_is (e ∷ es) = ap (λ xs. e.1 ∷ xs) (as_it_is es)
-
-    same : (number : Operation → ℕ) → sum_given_out (named [] P) w number ≡ sum_given_out P w number
-    same number = sum_named P [] w number ∙ ap (sum_by (λ op. cond (is_serving P w op) (number op) 0)) (as_it_is (entries P.operations))

@@ -95,17 +95,3 @@ module _ (P : Plan) (os : List OpKey) (k : OpKey) (op : Operation) (is : get P.o
     -- once it is named, it holds what it takes
     pub named_held : AreHeldIn after new
     named_held o r mode = by_key o (eq_by_cmp operation_cmp o k) refl r mode
-
--- with none named, the holders are the plan's
-pub none_named_held : (P : Plan) (held : Held) → AreHeldIn P held → AreHeldIn (named [] P) held
-none_named_held P held are o r mode = (
-  λ e. let h = (are o r mode).0 e in (h.0, held_alike P (named [] P) refl o same r _ h.1),
-  λ h. (are o r mode).1 (h.0, held_alike (named [] P) P refl o (sym same) r _ h.1),
-)
-  where
-    as_it_is : (x : Option Operation) → option_map (λ op. op) x ≡ x
-    as_it_is None = refl
-    as_it_is (Some op) = refl
-
-    same : get (named [] P).operations o ≡ get P.operations o
-    same = get-named [] P o ∙ as_it_is (get P.operations o)

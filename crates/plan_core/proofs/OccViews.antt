@@ -6,6 +6,7 @@ use Rattle.std.specs.List.Sorted.{IsStrictlySortedBy}
 use Rattle.std.specs.Map.{keys_of}
 use Rattle.plan_basics.specs.Keys.{occurrence_cmp, occurrence_cmp_total, occurrence_cmp-IsAntisymmetric}
 use Rattle.plan_basics.specs.declared.keys.OccKey.{OccKey}
+use Rattle.plan_basics.proofs.Members.{place_of}
 use Rattle.plan_laws.proofs.Looks.{same_some}
 use Rattle.plan_laws.proofs.Waiting.{one_occurrence_status}
 use Rattle.plan_model.specs.Plan.{Plan}
@@ -19,7 +20,7 @@ use Rattle.plan_records.specs.Contents.{plan_of}
 use Rattle.plan_status.proofs.OfOccurrences.{status_counted}
 use Rattle.plan_status.specs.Standings.{IsTally}
 use Rattle.status_rules.proofs.CountsTable.{first_by_table}
-use Rattle.plan_core.proofs.SideBySide.{from_viewed, keys_viewed, place_of_member, viewed_at}
+use Rattle.plan_core.proofs.SideBySide.{from_viewed, keys_viewed, viewed_at}
 use Rattle.plan_checks.specs.Held.{AreHeld}
 use Rattle.plan_core.specs.Views.{AreOccViews, IsOccView, occ_view_of, occ_views}
 use Rattle.plan_checks.specs.declared.loaded.LoadedPlan.{LoadedPlan}
@@ -76,7 +77,7 @@ module _ (clock : ℕ) (h : LoadedPlan) (held : AreHeld clock h) where
   in_plan : (c : OccKey) → Contains (keys_of rows) c → contains_key P.occurrences c ≡ true
   in_plan c has =
       let r = from_map (λ (p : OccKey × Occurrence). p.0) rows c has in
-      let at = place_of_member rows r.0 r.1 in
+      let at = place_of rows r.0 r.1 in
       some_is (get P.occurrences c) r.0.1 (row_in_plan at.0 c r.0.1 (at.1 ∙ ap (λ z. Some (z, r.0.1)) r.2))
 
   pub are_occ_views : AreOccViews P (occ_views h)

@@ -7,6 +7,7 @@ use Rattle.std.specs.Map.{keys_of}
 use Rattle.plan_basics.specs.Keys.{occurrence_cmp, occurrence_cmp_total, occurrence_cmp-IsAntisymmetric, operation_cmp, operation_cmp_total, operation_cmp-IsAntisymmetric}
 use Rattle.plan_basics.specs.declared.Attr.{Attr}
 use Rattle.plan_basics.specs.declared.keys.OpKey.{OpKey}
+use Rattle.plan_basics.proofs.Members.{place_of}
 use Rattle.plan_laws.proofs.Looks.{same_some}
 use Rattle.plan_laws.proofs.Standing.{each_has_one_status}
 use Rattle.plan_model.specs.Plan.{HasAttribute, IsInPlan, Operation, Plan}
@@ -19,7 +20,7 @@ use Rattle.plan_records.specs.Contents.{plan_of}
 use Rattle.plan_status.proofs.ByStanding.{status_on}
 use Rattle.plan_status.specs.Standings.{IsStanding}
 use Rattle.plan_status.specs.declared.standings.Standing.{Standing}
-use Rattle.plan_core.proofs.SideBySide.{from_viewed, from_zipped, keys_viewed, length_zipped, place_of_member, viewed_at, zipped_at}
+use Rattle.plan_core.proofs.SideBySide.{from_viewed, from_zipped, keys_viewed, length_zipped, viewed_at, zipped_at}
 use Rattle.plan_checks.specs.Held.{AreHeld}
 use Rattle.plan_core.specs.Views.{AreOpViews, IsOpView, attribute_or_automatic, known_of, op_view_of, op_views, priority_of}
 use Rattle.plan_checks.specs.declared.loaded.LoadedPlan.{LoadedPlan}
@@ -107,7 +108,7 @@ module _ (clock : ℕ) (h : LoadedPlan) (held : AreHeld clock h) where
   in_plan : (o : OpKey) → Contains (keys_of rows) o → IsInPlan P o
   in_plan o has =
       let r = from_map (λ (p : OpKey × Operation). p.0) rows o has in
-      let at = place_of_member rows r.0 r.1 in
+      let at = place_of rows r.0 r.1 in
       (r.0.1, row_in_plan at.0 o r.0.1 (at.1 ∙ ap (λ z. Some (z, r.0.1)) r.2), tt)
 
   among_keys : (o : OpKey) → IsInPlan P o → Contains (keys_of rows) o

@@ -1,23 +1,10 @@
 -- Rows beside what is known of each of them, seen as one list of views.
-use Rattle.std.proofs.Common.{◌≡◌, refl, ap, subst, arith, ℕ, zero, suc, List, [], ◌∷◌, map, drop, length, slice_get, Contains, Some, inl, inr}
+use Rattle.std.proofs.Common.{◌≡◌, refl, ap, arith, ℕ, zero, suc, List, [], ◌∷◌, map, drop, length, slice_get, Contains, Some, inl, inr}
 use Rattle.std.specs.List.{zip}
 use Rattle.std.specs.Map.{keys_of}
-use Rattle.plan_records.proofs.Lists.{contains_cases, contains_head, contains_later, contains_none}
+use Rattle.plan_records.proofs.Lists.{contains_cases, contains_none}
 
 module _ {X : Type 0} where
-  -- what stands at a place is a member, and a member stands at some place
-  pub member_at : (xs : List X) (i : ℕ) (x : X) → slice_get xs i ≡ Some x → Contains xs x
-  member_at [] i x e = cc
-  member_at (y ∷ xs) zero x e = let same : y ≡ x = cc in subst (Contains (y ∷ xs)) same (contains_head y xs)
-  member_at (y ∷ xs) (suc i) x e = contains_later y xs x (member_at xs i x e)
-
-  pub place_of_member : (xs : List X) (x : X) → Contains xs x → (i : ℕ) × (slice_get xs i ≡ Some x)
-  place_of_member [] x has = absurd (contains_none x has)
-  place_of_member (y ∷ xs) x has = elim (contains_cases y xs x has) [
-    | inl e ↦ (0, ap Some e)
-    | inr later ↦ let r = place_of_member xs x later in (suc r.0, r.1)
-  ]
-
   -- what is left from a place on begins with what stands there
   pub left_from : (xs : List X) (i : ℕ) (x : X) → slice_get xs i ≡ Some x → drop i xs ≡ x ∷ drop (suc i) xs
   left_from [] i x e = cc

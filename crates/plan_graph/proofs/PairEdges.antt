@@ -8,8 +8,7 @@ use Rattle.std.proofs.lemmas.Option.{slice_get_within}
 use Rattle.operation_graph.specs.Graphs.{AreDifferent, Digraph, HasEdge, IsBuiltOf, IsEdgeOf, edges_of}
 use Rattle.operation_graph.specs.Paths.{IsAcyclicBy, LeadsBy, by_edge, by_more}
 use Rattle.operation_graph.proofs.EdgeSets.{edge_listed, listed_edge}
-use Rattle.operation_graph.proofs.Members.{contains_mapped, mapped_contains}
-use Rattle.latest_start.proofs.Placed.{place_of}
+use Rattle.plan_basics.proofs.Members.{contains_mapped, mapped_contains, place_of}
 use Rattle.plan_basics.specs.Keys.{operation_cmp, operation_cmp_total}
 use Rattle.plan_basics.specs.declared.keys.OpKey.{OpKey}
 use Rattle.plan_model.specs.Plan.{Pairs, IsPairOf, pair_cmp}

@@ -5,7 +5,7 @@ use Rattle.std.proofs.lemmas.List.Sums.{sum_by-cons}
 use Rattle.operation_graph.specs.Graphs.{Digraph, HasEdge}
 use Rattle.operation_graph.specs.Paths.{IsPathBy, ReachesBy, end_of}
 use Rattle.latest_start.specs.LeastStart.{IsLeastStart, start_by}
-use Rattle.latest_start.proofs.Placed.{place_of}
+use Rattle.plan_basics.proofs.Members.{place_of}
 use Rattle.plan_basics.specs.Keys.{operation_cmp, operation_cmp_total}
 use Rattle.plan_basics.specs.declared.keys.OpKey.{OpKey}
 use Rattle.plan_model.specs.Plan.{Pairs, IsPairOf}

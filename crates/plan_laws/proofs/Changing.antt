@@ -1,17 +1,15 @@
 -- A load, a change of availability and new intervals keep a plan sound.
-use Rattle.std.proofs.Common.{◌≡◌, ◌⊎◌, inl, inr, refl, sym, ◌∙◌, ap, subst, true≢false, arith, ℕ, zero, suc, ◌+◌, ◌<◌, ◌≤◌, Bool, true, false, cond, List, [], ◌∷◌, map, length, Contains, All, Option, Some, None, option_map, is_some}
-use Rattle.std.specs.Prelude.{AllPairs, slice_index_or}
-use Rattle.std.specs.Ordering.{eq_by_cmp, nat_cmp}
-use Rattle.std.specs.Cmp.{Equal-is, nat_cmp_total}
-use Rattle.std.specs.FinMap.{FinMap, get, insert, get-insert, len, len-insert, len-empty, contains_key, from_entries, get-empty}
-use Rattle.std.proofs.lemmas.List.Elements.{All-contains}
-use Rattle.std.proofs.lemmas.Bool.{cases_order, cond_both}
+use Rattle.std.proofs.Common.{◌≡◌, ◌⊎◌, inl, inr, refl, sym, ◌∙◌, ap, subst, true≢false, ◌+◌, ◌≤◌, Bool, true, false, cond, List, Option, Some, None, option_map, is_some}
+use Rattle.std.specs.Ordering.{eq_by_cmp}
+use Rattle.std.specs.Cmp.{Equal-is}
+use Rattle.std.specs.FinMap.{get, insert, get-insert, len, len-insert, contains_key, get-empty}
+use Rattle.std.proofs.lemmas.Bool.{cond_both}
 use Rattle.plan_basics.specs.declared.Refusal.TheVariants as refusal
 use Rattle.status_rules.specs.declared.Mark.TheVariants as mark
 use Rattle.plan_records.specs.declared.What.TheVariants as what
 use Rattle.plan_basics.specs.declared.moments.Interval.{Interval}
 use Rattle.std.proofs.Common.{Vec, Global}
-use Rattle.plan_basics.specs.Intervals.{AreApart, IsInterval, IsOpenAt, OpenInterval}
+use Rattle.plan_basics.specs.Intervals.{OpenInterval}
 use Rattle.plan_basics.specs.Keys.{Name, name_cmp, name_cmp-IsAntisymmetric, name_cmp_total}
 use Rattle.plan_basics.specs.Names.{IsName}
 use Rattle.plan_basics.specs.declared.keys.OpKey.{OpKey}
@@ -26,7 +24,7 @@ use Rattle.plan_records.specs.Laws.{ChangeKeepsSound}
 use Rattle.special_resources.specs.Holders.{Usage}
 use Rattle.status_rules.specs.LeastSet.{LeastSet, by_all_before, by_given}
 use Rattle.status_rules.specs.Table.{marked_status}
-use Rattle.workstations.proofs.Lookups.{got_among}
+use Rattle.workstations.proofs.Lookups.{opened_is}
 use Rattle.workstations.specs.Workstations.{IsWorkstation, Workstation, with_intervals}
 
 -- ---- a load
@@ -100,52 +98,6 @@ availability_keeps_sound r available P Q at sound may request c = subst IsSound 
 
 -- ---- intervals
 
-abbrev entries_of : List OpenInterval → List (ℕ × OpenInterval)
-entries_of items = map (λ x. (x.from, x)) items
-
-one_more : (b : Bool) (n m : ℕ) → n ≤ m → cond b n (n + 1) ≤ m + 1
-one_more true n m h = omega arith
-one_more false n m h = omega arith
-
-as_long : (items : List OpenInterval) → len (from_entries {R = nat_cmp} (entries_of items)) ≤ length items
-as_long [] = rw (len-empty nat_cmp OpenInterval) (omega arith)
-as_long (y ∷ items) =
-    let rest = as_long items in
-    let m : FinMap nat_cmp OpenInterval = from_entries (entries_of items) in
-    let step : cond (contains_key m y.from) (len m) (len m + 1) ≤ length items + 1 = one_more (contains_key m y.from) (len m) (length items) rest in
-    rw (len-insert nat_cmp_total m y.from y) (omega (arith, step))
-
-module _ (items : List OpenInterval) (each : All IsInterval items) (apart : AllPairs AreApart items) (few : length items ≤ 400) where
-  clash : (x y : OpenInterval) (m : ℕ) → AreApart x y → IsOpenAt x m → IsOpenAt y m → ⊥
-  clash x y m (inl h) a b = omega (arith, h, a.1, b.0)
-  clash x y m (inr h) a b = omega (arith, h, a.0, b.1)
-
-  pub intervals_are : (w : Workstation) → IsWorkstation (with_intervals items w)
-  intervals_are w = record {
-    intervals = λ from x e. let h = got_among items from x e in (h.0, All-contains IsInterval items x each h.1);
-    disjoint = λ a b m x y ex ey ox oy.
-        let hx = got_among items a x ex in
-        let hy = got_among items b y ey in
-        hx.0 ∙ ap (λ z. z.from) (one x y m ox oy hx.1 hy.1) ∙ sym hy.0;
-    few = let l = as_long items in omega (arith, l, few);
-  }
-    where
-      at : (i : ℕ) (x y : OpenInterval) → i < length items → slice_index_or items i x ≡ x → slice_index_or items i y ≡ x
-      at i x y h e = same_default items i x y h ∙ e
-        where
-          same_default : (xs : List OpenInterval) (i : ℕ) (x y : OpenInterval) → i < length xs → slice_index_or xs i y ≡ slice_index_or xs i x
-          same_default [] i x y h = absurd (omega (arith, h))
-          same_default (z ∷ xs) zero x y h = refl
-          same_default (z ∷ xs) (suc i) x y h = same_default xs i x y (omega (arith, h))
-
-      one : (x y : OpenInterval) (m : ℕ) → IsOpenAt x m → IsOpenAt y m → Contains items x → Contains items y → x ≡ y
-      one x y m ox oy (i, hi, ei) (j, hj, ej) = by_order (cases_order i j)
-        where
-          by_order : (i ≡ j) ⊎ ((i < j) ⊎ (j < i)) → x ≡ y
-          by_order (inr (inl h)) = absurd (clash x y m (subst (λ z. AreApart z y) ei (subst (λ z. AreApart (slice_index_or items i x) z) (at j y x hj ej) (apart i j x h hj))) ox oy)
-          by_order (inl e) = sym ei ∙ ap (λ n. slice_index_or items n x) e ∙ at j y x hj ej
-          by_order (inr (inr h)) = absurd (clash y x m (subst (λ z. AreApart z x) ej (subst (λ z. AreApart (slice_index_or items j y) z) (at i x y hi ei) (apart j i y h hi))) oy ox)
-
 -- one least set lies in another
 pub widened : {K : Type 0} {g p : K → Type 0} {b : K → K → Type 0} {h q : K → Type 0} {c : K → K → Type 0} → ((x : K) → g x → h x) → ((x : K) → p x → q x) → ((y x : K) → c y x → b y x) → {x : K} → LeastSet g p b x → LeastSet h q c x
 widened f k d (by_given a) = by_given (f _ a)
@@ -211,4 +163,4 @@ module _ (P : Plan) (sound : IsSound P) (w : Name) (known : contains_key P.works
 
 pub intervals_keep_sound : (w : Name) (items : Vec Interval Global) → ChangeKeepsSound (what.ReplaceIntervals w items)
 intervals_keep_sound w items P Q at sound may request c =
-    subst IsSound (sym c) (intervals_are_sound P sound w (may refusal.UnknownWorkstation) items.items (intervals_are items.items request (may refusal.BadPlan) (may refusal.Limit)))
+    subst IsSound (sym c) (intervals_are_sound P sound w (may refusal.UnknownWorkstation) items.items (opened_is items.items request (may refusal.BadPlan) (may refusal.Limit)))

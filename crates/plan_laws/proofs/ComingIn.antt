@@ -157,31 +157,35 @@ only_first : {X : Type 0} (a b : Option X) (x : X) → (is_some a ≡ true → �
 only_first (Some y) b x never e = absurd (never refl)
 only_first None b x never e = e
 
-module _ (P : Plan) (sound : IsSound P) (s : Supplement) (addition : IsAddition s) (may : (r : Refusal) → MayBeAdded P s r) (loaded : P.loaded ≡ true) where
-  -- what is in the plan is of none of the occurrences that come in
-  not_own : (o : OpKey) → contains_key P.operations o ≡ true → ¬ IsOwn s o
-  not_own o h own =
-      let known = found_key (get P.operations o) h in
-      true≢false (sym (sound.valid.occurrences.each_operation o known.0 known.1).1 ∙ may refusal.Duplicate o.occurrence own)
-
-  own : (o : OpKey) (x : Operation) → get s.operations o ≡ Some x → IsOwn s o
-  own o x e = (addition.occurrences.each_operation o x e).1
-
-  cases : (o : OpKey) (x : Operation) → get (with_supplement P s).operations o ≡ Some x → (get s.operations o ≡ Some x) ⊎ (get P.operations o ≡ Some x)
-  cases o x e = joined_cases operation_cmp_total P.operations s.operations o x e
-
-  pair_cases : (p o : OpKey) → IsPairOf (with_supplement P s).pairs p o → IsPairOf P.pairs p o ⊎ IsPairOf s.pairs p o
+module _ (P : Plan) (s : Supplement) where
+  -- a pair of both together is of the plan, or comes in
+  pub pair_cases : (p o : OpKey) → IsPairOf (with_supplement P s).pairs p o → IsPairOf P.pairs p o ⊎ IsPairOf s.pairs p o
   pair_cases p o h = or_cases (set.contains P.pairs (p, o)) (set.contains s.pairs (p, o)) (sym (set.contains-union pair_cmp_total P.pairs s.pairs (p, o)) ∙ h)
 
-  from_first : (o : OpKey) → contains_key P.operations o ≡ true → contains_key (with_supplement P s).operations o ≡ true
+  -- an operation of the plan, or one that comes in, is one of both together
+  pub from_first : (o : OpKey) → contains_key P.operations o ≡ true → contains_key (with_supplement P s).operations o ≡ true
   from_first o h = joined_first operation_cmp_total P.operations s.operations o h
 
   from_second : (o : OpKey) → contains_key s.operations o ≡ true → contains_key (with_supplement P s).operations o ≡ true
   from_second o h = joined_second operation_cmp_total P.operations s.operations o h
 
-  an_end : (o : OpKey) → IsNew s o ⊎ IsOld P s o → contains_key (with_supplement P s).operations o ≡ true
+  -- and so is what a pair that comes in may join
+  pub an_end : (o : OpKey) → IsNew s o ⊎ IsOld P s o → contains_key (with_supplement P s).operations o ≡ true
   an_end o (inl new) = from_second o new
   an_end o (inr old) = from_first o (known_in P o old.0)
+
+-- what is in the plan is of none of the occurrences that come in
+pub not_own : (P : Plan) (s : Supplement) → IsValid P → MayBeAdded P s refusal.Duplicate → (o : OpKey) → contains_key P.operations o ≡ true → ¬ IsOwn s o
+not_own P s valid new o h own =
+    let known = found_key (get P.operations o) h in
+    true≢false (sym (valid.occurrences.each_operation o known.0 known.1).1 ∙ new o.occurrence own)
+
+module _ (P : Plan) (sound : IsSound P) (s : Supplement) (addition : IsAddition s) (may : (r : Refusal) → MayBeAdded P s r) (loaded : P.loaded ≡ true) where
+  own : (o : OpKey) (x : Operation) → get s.operations o ≡ Some x → IsOwn s o
+  own o x e = (addition.occurrences.each_operation o x e).1
+
+  cases : (o : OpKey) (x : Operation) → get (with_supplement P s).operations o ≡ Some x → (get s.operations o ≡ Some x) ⊎ (get P.operations o ≡ Some x)
+  cases o x e = joined_cases operation_cmp_total P.operations s.operations o x e
 
   occurrences_of_both : AreOccurrences (with_supplement P s).occurrences (with_supplement P s).operations
   occurrences_of_both = record {
@@ -194,8 +198,8 @@ module _ (P : Plan) (sound : IsSound P) (s : Supplement) (addition : IsAddition 
       | inr old ↦ let h = sound.valid.occurrences.each_operation o x old in (h.0, joined_first occurrence_cmp_total P.occurrences s.occurrences o.occurrence h.1)
     ];
     not_empty = λ c h. elim (joined_known occurrence_cmp_total P.occurrences s.occurrences c h) [
-      | inl new ↦ let one = addition.occurrences.not_empty c new in (one.0, one.1, from_second one.0 one.2)
-      | inr old ↦ let one = sound.valid.occurrences.not_empty c old in (one.0, one.1, from_first one.0 one.2)
+      | inl new ↦ let one = addition.occurrences.not_empty c new in (one.0, one.1, from_second P s one.0 one.2)
+      | inr old ↦ let one = sound.valid.occurrences.not_empty c old in (one.0, one.1, from_first P s one.0 one.2)
     ];
   }
 
@@ -209,21 +213,21 @@ module _ (P : Plan) (sound : IsSound P) (s : Supplement) (addition : IsAddition 
       occurrences = occurrences_of_both;
       have_workstations = λ o x e. elim (cases o x e) [ inl new ↦ may refusal.UnknownWorkstation o x new | inr old ↦ sound.valid.have_workstations o x old ];
       have_resources = λ o x e r usage n. elim (cases o x e) [ inl new ↦ may refusal.UnknownResource o x new r usage n | inr old ↦ sound.valid.have_resources o x old r usage n ];
-      pairs = λ p o h. elim (pair_cases p o h) [
-        | inl old ↦ let both = sound.valid.pairs p o old in (from_first p both.0, from_first o both.1)
-        | inr new ↦ let both = may refusal.UnknownOperation p o new in (an_end p both.0, an_end o both.1)
+      pairs = λ p o h. elim (pair_cases P s p o h) [
+        | inl old ↦ let both = sound.valid.pairs p o old in (from_first P s p both.0, from_first P s o both.1)
+        | inr new ↦ let both = may refusal.UnknownOperation p o new in (an_end P s p both.0, an_end P s o both.1)
       ];
       acyclic = may refusal.Cycle;
       limits = may refusal.Limit;
     };
-    old = λ o x e. get-joined operation_cmp_total P.operations s.operations o ∙ only_first (get s.operations o) (get P.operations o) x (λ h. let one = found_key (get s.operations o) h in not_own o (ap is_some e) (own o one.0 one.1)) e;
+    old = λ o x e. get-joined operation_cmp_total P.operations s.operations o ∙ only_first (get s.operations o) (get P.operations o) x (λ h. let one = found_key (get s.operations o) h in not_own P s sound.valid (may refusal.Duplicate) o (ap is_some e) (own o one.0 one.1)) e;
     from = λ o x e. elim (cases o x e) [
       | inl new ↦ inr (addition.untouched o x new, may refusal.Duplicate o.occurrence (own o x new))
       | inr old ↦ inl old
     ];
-    onto = λ p o h. elim (pair_cases p o h) [
+    onto = λ p o h. elim (pair_cases P s p o h) [
       | inl old ↦ inl old
-      | inr new ↦ inr (λ known. (may refusal.WrongStatus p o new).0 (known, not_own o (known_in P o known)))
+      | inr new ↦ inr (λ known. (may refusal.WrongStatus p o new).0 (known, not_own P s sound.valid (may refusal.Duplicate) o (known_in P o known)))
     ];
   })
 

@@ -1,5 +1,5 @@
 -- A request has one answer, which leaves one plan.
-use Rattle.std.proofs.Common.{◌≡◌, ◌↔◌, inl, inr, refl, sym, ◌∙◌, ap, ap₂, subst, Bool, true, false, List}
+use Rattle.std.proofs.Common.{◌≡◌, ◌↔◌, inl, inr, sym, ◌∙◌, ap, ap₂, subst, Bool, true, List}
 use Rattle.std.proofs.lemmas.Bool.{cases_order}
 use Rattle.plan_basics.specs.declared.Refusal.{Refusal}
 use Rattle.plan_basics.specs.declared.keys.OpKey.{OpKey}
@@ -18,13 +18,9 @@ use Rattle.plan_laws.specs.Steps.{OneStep}
 use Rattle.plan_laws.proofs.Choice.{one_choice}
 use Rattle.plan_laws.proofs.Looks.{same_some}
 use Rattle.plan_laws.proofs.Numbers.{same_number}
+pub use Rattle.std.specs.Cmp.{both_ways as same_bool}
 
 -- two tests that tell one set are one test
-pub same_bool : (a b : Bool) → (a ≡ true → b ≡ true) → (b ≡ true → a ≡ true) → a ≡ b
-same_bool true b f g = sym (f refl)
-same_bool false true f g = g refl
-same_bool false false f g = refl
-
 one_test : {S : OpKey → Type 0} (t u : OpKey → Bool) → ((q : OpKey) → (t q ≡ true) ↔ S q) → ((q : OpKey) → (u q ≡ true) ↔ S q) → t ≡ u
 one_test t u f g = λ i q. same_bool (t q) (u q) (λ e. (g q).1 ((f q).0 e)) (λ e. (f q).1 ((g q).0 e)) i
 

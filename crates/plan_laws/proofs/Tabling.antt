@@ -7,6 +7,7 @@ use Rattle.plan_basics.specs.Intervals.{OpenInterval}
 use Rattle.plan_basics.specs.Keys.{Name, name_cmp-IsAntisymmetric, name_cmp_total, occurrence_cmp-IsAntisymmetric, occurrence_cmp_total, operation_cmp-IsAntisymmetric, operation_cmp_total}
 use Rattle.plan_basics.specs.declared.keys.OccKey.{OccKey}
 use Rattle.plan_basics.specs.declared.keys.OpKey.{OpKey}
+use Rattle.plan_basics.proofs.OptionLemmas.{same_answer}
 use Rattle.special_resources.specs.Holders.{Usage}
 use Rattle.workstations.specs.Workstations.{Workstation}
 use Rattle.plan_laws.proofs.Latest.{one_latest_start, some_latest_start}
@@ -69,11 +70,6 @@ each_has_one_row P valid o h =
 
 -- ---- from the rows back to the plan
 
-pub same_look : {X : Type 0} (a b : Option X) → ((v : X) → a ≡ Some v → b ≡ Some v) → ((v : X) → b ≡ Some v → a ≡ Some v) → a ≡ b
-same_look (Some v) b f g = sym (f v refl)
-same_look None (Some w) f g = g w refl
-same_look None None f g = refl
-
 -- where each row of P is one of Q, what P has Q has
 module _ (P Q : Plan) (valid : IsValid P) (carried : (r : PlanRow) → IsRow P r → IsRow Q r) where
   resource : (r : Name) (available : Bool) → get P.resources r ≡ Some available → get Q.resources r ≡ Some available
@@ -118,7 +114,7 @@ module _ (P Q : Plan) (p : IsValid P) (q : IsValid Q) (to : (r : PlanRow) → Is
   workstation_there w ws e =
       let vs = attribute P Q p to w ws e in
       let intervals : vs.0.intervals ≡ ws.intervals = same_map nat_cmp_total nat_cmp-IsAntisymmetric vs.0.intervals ws.intervals (λ from.
-      same_look (get vs.0.intervals from) (get ws.intervals from) (interval Q P q back w vs.0 ws vs.1 e from) (interval P Q p to w ws vs.0 e vs.1 from)) in
+      same_answer (get vs.0.intervals from) (get ws.intervals from) (interval Q P q back w vs.0 ws vs.1 e from) (interval P Q p to w ws vs.0 e vs.1 from)) in
       let same : vs.0 ≡ ws = (λ i. record { attribute = vs.2 i; intervals = intervals i }) in
       vs.1 ∙ ap Some same
 
@@ -130,7 +126,7 @@ module _ (P Q : Plan) (p : IsValid P) (q : IsValid Q) (to : (r : PlanRow) → Is
       let first : x.op ≡ op = same_some x.op op (sym x.is_in_plan ∙ ap (get P.operations) r.1 ∙ e) in
       let there : get Q.operations o ≡ Some y.op = ap (get Q.operations) (sym r.1) ∙ y.is_in_plan in
       let needs : y.op.needs ≡ op.needs = same_map name_cmp_total name_cmp-IsAntisymmetric y.op.needs op.needs (λ n.
-      same_look (get y.op.needs n) (get op.needs n) (need Q P q back o y.op op there e n) (need P Q p to o op y.op e there n)) in
+      same_answer (get y.op.needs n) (get op.needs n) (need Q P q back o y.op op there e n) (need P Q p to o op y.op e there n)) in
       let workstation = sym y.columns.0 ∙ x.columns.0 ∙ ap (λ z. z.workstation) first in
       let duration = sym y.columns.1 ∙ x.columns.1 ∙ ap (λ z. z.duration) first in
       let r1 = sym y.columns.2 ∙ x.columns.2 ∙ ap (λ z. z.r1) first in
@@ -148,13 +144,13 @@ rows_tell_plan P Q p q rows =
     let to : (r : PlanRow) → IsRow P r → IsRow Q r = λ r. (rows r).0 in
     let back : (r : PlanRow) → IsRow Q r → IsRow P r = λ r. (rows r).1 in
     let meta = to (row.Meta 1 P.loaded P.clock) (refl, refl, refl) in
-    let workstations : P.workstations ≡ Q.workstations = same_map name_cmp_total name_cmp-IsAntisymmetric P.workstations Q.workstations (λ w. same_look (get P.workstations w) (get Q.workstations w) (workstation_there P Q p q to back w) (workstation_there Q P q p back to w)) in
-    let resources : P.resources ≡ Q.resources = same_map name_cmp_total name_cmp-IsAntisymmetric P.resources Q.resources (λ r. same_look (get P.resources r) (get Q.resources r) (resource P Q p to r) (resource Q P q back r)) in
-    let occurrences : P.occurrences ≡ Q.occurrences = same_map occurrence_cmp_total occurrence_cmp-IsAntisymmetric P.occurrences Q.occurrences (λ c. same_look (get P.occurrences c) (get Q.occurrences c) (occurrence P Q p to c) (occurrence Q P q back c)) in
-    let operations : P.operations ≡ Q.operations = same_map operation_cmp_total operation_cmp-IsAntisymmetric P.operations Q.operations (λ o. same_look (get P.operations o) (get Q.operations o) (operation_there P Q p q to back o) (operation_there Q P q p back to o)) in
+    let workstations : P.workstations ≡ Q.workstations = same_map name_cmp_total name_cmp-IsAntisymmetric P.workstations Q.workstations (λ w. same_answer (get P.workstations w) (get Q.workstations w) (workstation_there P Q p q to back w) (workstation_there Q P q p back to w)) in
+    let resources : P.resources ≡ Q.resources = same_map name_cmp_total name_cmp-IsAntisymmetric P.resources Q.resources (λ r. same_answer (get P.resources r) (get Q.resources r) (resource P Q p to r) (resource Q P q back r)) in
+    let occurrences : P.occurrences ≡ Q.occurrences = same_map occurrence_cmp_total occurrence_cmp-IsAntisymmetric P.occurrences Q.occurrences (λ c. same_answer (get P.occurrences c) (get Q.occurrences c) (occurrence P Q p to c) (occurrence Q P q back c)) in
+    let operations : P.operations ≡ Q.operations = same_map operation_cmp_total operation_cmp-IsAntisymmetric P.operations Q.operations (λ o. same_answer (get P.operations o) (get Q.operations o) (operation_there P Q p q to back o) (operation_there Q P q p back to o)) in
     let pairs : P.pairs ≡ Q.pairs = set.same_set pair_cmp_total pair_cmp-IsAntisymmetric P.pairs Q.pairs (λ x. same_bool (set.contains P.pairs x) (set.contains Q.pairs x) (pair P Q p to x.0 x.1) (pair Q P q back x.0 x.1)) in
     λ i. record { loaded = meta.1 i; clock = meta.2 i; workstations = workstations i; resources = resources i; occurrences = occurrences i; operations = operations i; pairs = pairs i }
 
 pub rows_tell_receipts : RowsTellReceipts
 rows_tell_receipts T U rows =
-    same_map name_cmp_total name_cmp-IsAntisymmetric T U (λ t. same_look (get T t) (get U t) (λ r. (rows t r).0) (λ r. (rows t r).1))
+    same_map name_cmp_total name_cmp-IsAntisymmetric T U (λ t. same_answer (get T t) (get U t) (λ r. (rows t r).0) (λ r. (rows t r).1))

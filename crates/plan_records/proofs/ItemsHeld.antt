@@ -1,5 +1,5 @@
 -- What items say of occurrences, operations, pairs and needs, where they are those of a plan or of an addition.
-use Rattle.std.proofs.Common.{◌≡◌, ◌≢◌, arith, ◌≤◌, true, List, length, All, Contains, Some}
+use Rattle.std.proofs.Common.{◌≡◌, ◌≢◌, arith, ◌<◌, ◌≤◌, true, List, [], ◌∷◌, length, All, Contains, Some}
 use Rattle.std.specs.List.{AllPairs}
 use Rattle.std.specs.FinMap.{get, contains_key, len}
 use Rattle.std.specs.Map.{keys_of}
@@ -21,6 +21,7 @@ use Rattle.plan_records.specs.Drafts.{IsDraft, IsAddition}
 use Rattle.plan_records.specs.Records.{key_of, entered, StandsInSupplement, StandsIn, IsItemOf, IsItemOfPlan, AreItems, IsAsSaid}
 use Rattle.plan_records.specs.Loading.{keys_said, needs_of}
 use Rattle.plan_records.specs.Adding.{MayComeIn}
+use Rattle.plan_records.proofs.Lists.{contains_head}
 use Rattle.plan_records.proofs.Tables.{some_is}
 use Rattle.plan_records.proofs.NeedsSaid.{NeedsDiffer, as_many_said}
 use Rattle.plan_records.proofs.ItemKinds as kinds
@@ -106,3 +107,12 @@ module _ {items : List Item} {s : Supplement} (held : Holds items s) where
       let most : len op.needs ≤ 16 = (held.occurrences.each_operation o op there).0.few_needs in
       let count = as_many_said (needs_in items) apart s.operations need_is o op there (λ r e. key_in kinds.needs items (o, r) (held.all (key.Need o r) (op, there, e))) in
       omega (arith, most, count)
+
+-- ---- lists that are not empty
+
+pub first_member : {X : Type 0} (xs : List X) → 0 < length xs → (x : X) × Contains xs x
+first_member [] some = absurd (omega arith)
+first_member (x ∷ xs) some = (x, contains_head x xs)
+
+pub some_member : {X : Type 0} (xs : List X) (x : X) → Contains xs x → 0 < length xs
+some_member xs x (i, h, e) = omega arith

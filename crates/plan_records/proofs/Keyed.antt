@@ -10,8 +10,9 @@ use Rattle.std.specs.Cmp.{IsTotalOrder}
 use Rattle.std.specs.FinMap.{IsAntisymmetric, get, from_entries}
 use Rattle.std.proofs.lemmas.List.Sorted.{IsPermutation-sym, Contains-permutation}
 use Rattle.std.proofs.lemmas.Option.{slice_get_within, get_or_from_slice_get}
+use Rattle.plan_basics.proofs.Members.{tied_is}
 use Rattle.plan_records.proofs.Lists.{in_map, from_map, in_filter, from_filter, differ_from_pairs, pairs_from_differ, differ_map, differ_unmap}
-use Rattle.plan_records.proofs.Tables.{sorted_apart, rows_apart, get_row, same_some, no_some, itself, same_key, other_key}
+use Rattle.plan_records.proofs.Tables.{sorted_apart, rows_apart, get_row, same_some, no_some, itself, other_key}
 use Rattle.plan_records.proofs.Orders.{differ_permuted, strict_from_sorted}
 
 module _ {K X : Type 0} {R : K → K → Ordering} (total : IsTotalOrder R) (exact : IsAntisymmetric R) (key : X → K) (said ordered : List X) (same : IsPermutation said ordered) where
@@ -72,7 +73,7 @@ module _ {K X : Type 0} {R : K → K → Ordering} (total : IsTotalOrder R) (exa
 
   pub own_from : (k : K) (said : K × X) (x : X) → own R k said ≡ Some x → (said.0 ≡ k) × (said.1 ≡ x)
   own_from k said x e = elim (eq_by_cmp R said.0 k) as (λ t. eq_by_cmp R said.0 k ≡ t → cond t (Some said.1) None ≡ Some x → (said.0 ≡ k) × (said.1 ≡ x)) [
-    | true ↦ λ t f. (same_key total exact said.0 k t, same_some said.1 x f)
+    | true ↦ λ t f. (tied_is exact said.0 k t, same_some said.1 x f)
     | false ↦ λ t f. absurd (no_some x f)
   ] refl e
 

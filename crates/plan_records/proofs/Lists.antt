@@ -9,13 +9,10 @@ use Rattle.std.proofs.lemmas.List.Kept.{AllPairs-cons}
 use Rattle.std.proofs.lemmas.List.Sorted.{Contains-permutation, IsPermutation-map}
 use Rattle.std.specs.List.Sorted.{IsPermutation}
 use Rattle.std.specs.Map.{keys_of}
-use Rattle.operation_graph.proofs.Members.{contains_mapped, mapped_contains}
-pub use Rattle.operation_graph.proofs.Members.{contains_head, contains_later, contains_cases, contains_none}
+use Rattle.plan_basics.proofs.Members.{contains_mapped, mapped_contains}
+pub use Rattle.plan_basics.proofs.Members.{all_by_members, contains_head, contains_later, contains_cases, contains_none}
 
 module _ {X : Type 0} where
-  pub all_by_members : (P : X → Type 0) (xs : List X) → ((x : X) → Contains xs x → P x) → All P xs
-  all_by_members P xs h = λ k d lt. h _ (Contains-get_or xs k d lt)
-
   -- of any two members, an earlier and a later one, this is so
   abbrev pub Differ : (X → X → Type 0) → List X → Type 0
   Differ R [] = Unit {0}

@@ -37,7 +37,7 @@ use Rattle.plan_records.proofs.NeedsSaid.{usage_said}
 use Rattle.plan_records.proofs.Terms.{terms_there}
 use Rattle.plan_records.proofs.Keyed.{in_own}
 use Rattle.plan_records.proofs.InOrder.{same_pairs}
-use Rattle.plan_records.proofs.OwnTimes.{AreLegal, own_legal, intervals_apart, got_by, opened_is, first_said}
+use Rattle.plan_records.proofs.OwnTimes.{AreLegal, own_legal, intervals_apart, got_by, opened_with, first_said}
 use Rattle.plan_records.proofs.ItemKinds as kinds
 use Rattle.plan_records.proofs.ItemKinds.{workstations_in, intervals_in, resources_in, occurrences_in, operations_in, pairs_in, needs_in, key_out, known_apart, read_stands}
 use Rattle.plan_records.proofs.MadeParts as made_parts
@@ -110,7 +110,7 @@ module _ (items : List Item) (c : PlanContents) (legal_items : All items_of.IsIt
   interval_at row has x among = got_by (intervals_of row.0 (intervals_in items)) (own_legal (intervals_in items) row.0 legal) (opening_of row has) x among
 
   workstation_is : (row : Name × Attr) → Contains (workstations_in items) row → IsWorkstation (opened row).1
-  workstation_is row has = opened_is (intervals_of row.0 (intervals_in items)) (own_legal (intervals_in items) row.0 legal) (opening_of row has) row.1
+  workstation_is row has = opened_with (intervals_of row.0 (intervals_in items)) (own_legal (intervals_in items) row.0 legal) (opening_of row has) row.1
 
   -- ---- special resources
   resource_at : (row : Name × Bool) → Contains (resources_in items) row → get P.resources row.0 ≡ Some row.1

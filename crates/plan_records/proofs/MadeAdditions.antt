@@ -1,5 +1,5 @@
 -- The parts of what items say, where these come in, are the addition of these items.
-use Rattle.std.proofs.Common.{◌≡◌, ◌≢◌, ◌⊎◌, inl, inr, refl, sym, subst, ap, ◌∙◌, arith, ◌<◌, ◌+◌, true, false, cond, List, [], ◌∷◌, map, length, All, Contains, Some, is_some}
+use Rattle.std.proofs.Common.{◌≡◌, ◌≢◌, ◌⊎◌, inl, inr, refl, sym, subst, ap, ◌∙◌, arith, ◌+◌, true, false, cond, List, map, All, Contains, Some, is_some}
 use Rattle.std.specs.List.{AllPairs}
 use Rattle.std.specs.Ordering.{eq_by_cmp}
 use Rattle.std.specs.FinMap.{get, empty, insert, len, get-insert, get-empty, len-insert, len-empty}
@@ -18,8 +18,10 @@ use Rattle.plan_records.specs.Drafts.{IsOwn, IsEnd, IsAddition}
 use Rattle.plan_records.specs.Records.{key_of, StandsInSupplement, IsItemOf, AreItems}
 use Rattle.plan_records.specs.Loading.{keys_said, occurrence_of}
 use Rattle.plan_records.specs.Adding.{MayComeIn, ComesWith, IsEndAmong, IsNewPair, ArePartsOf}
-use Rattle.plan_records.proofs.Lists.{contains_head, in_map, all_by_members, sole_member, sole_there}
-use Rattle.plan_records.proofs.Tables.{some_is, is_found, same_some, no_some, itself, same_key}
+use Rattle.plan_basics.proofs.Members.{tied_is}
+use Rattle.plan_records.proofs.Lists.{in_map, all_by_members, sole_member, sole_there}
+use Rattle.plan_records.proofs.Tables.{some_is, is_found, same_some, no_some, itself}
+use Rattle.plan_records.proofs.ItemsHeld.{first_member}
 use Rattle.plan_records.proofs.ItemKinds as kinds
 use Rattle.plan_records.proofs.ItemKinds.{workstations_in, intervals_in, resources_in, occurrences_in, operations_in, pairs_in, needs_in, known_apart, read_stands}
 use Rattle.plan_records.proofs.MadeParts as made_parts
@@ -32,7 +34,7 @@ module _ (c : OccKey) (terms : Occurrence) where
 
   pub sole_key : (k : OccKey) (x : Occurrence) → get {R = occurrence_cmp} (insert empty c terms) k ≡ Some x → (k ≡ c) × (x ≡ terms)
   sole_key k x e = elim (eq_by_cmp occurrence_cmp k c) as (λ t. eq_by_cmp occurrence_cmp k c ≡ t → cond t (Some terms) (get {R = occurrence_cmp} empty k) ≡ Some x → (k ≡ c) × (x ≡ terms)) [
-    | true ↦ λ t f. (same_key occurrence_cmp_total occurrence_cmp-IsAntisymmetric k c t, sym (same_some terms x f))
+    | true ↦ λ t f. (tied_is occurrence_cmp-IsAntisymmetric k c t, sym (same_some terms x f))
     | false ↦ λ t f. absurd (no_some x (sym (get-empty occurrence_cmp k) ∙ f))
   ] refl (sym (get-insert occurrence_cmp_total empty c terms k) ∙ e)
 
@@ -79,10 +81,6 @@ module _ (items : List Item) (n : NewOccurrence) (legal : All items_of.IsItem it
   comes : (said : OperationItem) → Contains (operations_in items) said → ComesWith n.key (needs_in items) said
   comes said has = All-contains (ComesWith n.key (needs_in items)) (operations_in items) said made.come_in.operations.come has
 
-  first_of : {X : Type 0} (xs : List X) → 0 < length xs → (x : X) × Contains xs x
-  first_of [] some = absurd (omega (arith, some))
-  first_of (x ∷ xs) some = (x, contains_head x xs)
-
   parts : AreParts items (λ said. n.terms) S.occurrences n.operations.items n.pairs.items
   parts = record {
     legal = legal;
@@ -90,7 +88,7 @@ module _ (items : List Item) (n : NewOccurrence) (legal : All items_of.IsItem it
     occurrence_from = λ k x e. let is = sole_key n.key n.terms k x e in subst (Contains (occurrences_in items)) (λ i. (sym is.0 i, sym is.1 i)) (sole_there (occurrences_in items) (n.key, n.terms) made.come_in.one);
     terms_at = λ said has. terms_at said.key.occurrence (comes said has).occurrence;
     not_empty = all_by_members (λ row. Contains (map occurrence_of (keys_said (operations_in items))) row.0) (occurrences_in items) (λ row has.
-        let first = first_of (operations_in items) made.come_in.operations.some in
+        let first = first_member (operations_in items) made.come_in.operations.some in
         subst (Contains (map occurrence_of (keys_said (operations_in items)))) ((comes first.0 first.1).occurrence ∙ ap (λ (row : OccKey × Occurrence). row.0) (occurrence_is row has))
         (in_map occurrence_of (keys_said (operations_in items)) first.0.key (in_map (λ (said : OperationItem). said.key) (operations_in items) first.0 first.1)));
     few_needs = λ said has. (comes said has).few_needs;

@@ -30,10 +30,10 @@ use Rattle.plan_records.proofs.ItemKinds as kinds
 use Rattle.plan_records.proofs.ItemKinds.{workstations_in, intervals_in, resources_in, occurrences_in, operations_in, needs_in, pairs_in, read_in, key_in, read_apart, read_distinct, read_stands, so_many}
 use Rattle.plan_records.proofs.ItemsHeld.{Holds, held_by_plan, few_of, need_is, occurrence_in, occurrence_is, occurrences_count, operation_in, operation_is, operations_count, pair_is}
 
--- a workstation that has an attribute is there
-pub found_attribute : (o : Option Workstation) (a : Attr) → option_map (λ ws. ws.attribute) o ≡ Some a → (ws : Workstation) × (o ≡ Some ws) × (ws.attribute ≡ a)
-found_attribute None a e = absurd (no_some a e)
-found_attribute (Some ws) a e = (ws, refl, same_some ws.attribute a e)
+-- what is made of a value, where there is one, is made of one that is there
+pub mapped : {A B : Type 0} (f : A → B) (x : Option A) (b : B) → option_map f x ≡ Some b → (a : A) × (x ≡ Some a) × (f a ≡ b)
+mapped f None b e = absurd (no_some b e)
+mapped f (Some a) b e = (a, refl, same_some (f a) b e)
 
 module _ (P : Plan) (draft : IsDraft P) (some_station : 0 < len P.workstations) (some : 0 < len P.occurrences) (items : List Item) (are : AreItems (StandsIn P) (IsItemOfPlan P) items) where
   held : Holds items (entered P)
@@ -41,7 +41,7 @@ module _ (P : Plan) (draft : IsDraft P) (some_station : 0 < len P.workstations) 
 
   -- ---- workstations
   workstation_is : (y : Name × Attr) → Contains (workstations_in items) y → (ws : Workstation) × (get P.workstations y.0 ≡ Some ws) × (ws.attribute ≡ y.1)
-  workstation_is y has = found_attribute (get P.workstations y.0) y.1 (read_stands kinds.workstations (StandsIn P) items are.stand y has)
+  workstation_is y has = mapped (λ ws. ws.attribute) (get P.workstations y.0) y.1 (read_stands kinds.workstations (StandsIn P) items are.stand y has)
 
   name_in : (w : Name) → contains_key P.workstations w ≡ true → Contains (keys_of (workstations_in items)) w
   name_in w e = key_in kinds.workstations items w (are.all (key.Workstation w) e)

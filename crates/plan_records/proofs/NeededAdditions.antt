@@ -1,5 +1,5 @@
 -- Where items are those of an addition, they can come in, kind by kind.
-use Rattle.std.proofs.Common.{◌≡◌, inl, inr, sym, subst, ap, ◌∙◌, refl, arith, ◌<◌, true, List, [], ◌∷◌, length, Contains}
+use Rattle.std.proofs.Common.{◌≡◌, inl, inr, sym, subst, ap, ◌∙◌, refl, arith, true, List, [], ◌∷◌, length, Contains}
 use Rattle.std.specs.FinMap.{get, contains_key}
 use Rattle.plan_basics.specs.declared.keys.OccKey.{OccKey}
 use Rattle.plan_basics.specs.declared.keys.OpKey.{OpKey}
@@ -12,11 +12,11 @@ use Rattle.plan_records.specs.Drafts.{IsOwn, IsEnd, IsAddition}
 use Rattle.plan_records.specs.Records.{StandsInSupplement, IsItemOf, AreItems}
 use Rattle.plan_records.specs.Loading.{keys_said}
 use Rattle.plan_records.specs.Adding.{MayComeIn, ComesWith, AreNewOperations, IsNeedOf, AreNewNeeds, IsEndAmong, IsNewPair, AreNewPairs, CanComeIn}
-use Rattle.plan_records.proofs.Lists.{contains_none, from_map, all_by_members, sole_member, sole_there}
+use Rattle.plan_records.proofs.Lists.{from_map, all_by_members, sole_member, sole_there}
 use Rattle.plan_records.proofs.Tables.{some_is}
 use Rattle.plan_records.proofs.ItemKinds as kinds
 use Rattle.plan_records.proofs.ItemKinds.{occurrences_in, operations_in, needs_in, pairs_in, read_distinct}
-use Rattle.plan_records.proofs.ItemsHeld.{Holds, held_by_addition, few_of, need_is, occurrence_in, occurrence_is, occurrences_count, operation_in, operation_is, pair_is}
+use Rattle.plan_records.proofs.ItemsHeld.{Holds, held_by_addition, few_of, need_is, occurrence_in, occurrence_is, occurrences_count, operation_in, operation_is, pair_is, some_member}
 use Rattle.std.proofs.lemmas.List.Elements.{All-contains}
 
 -- a list of one
@@ -24,10 +24,6 @@ sole_of : {X : Type 0} (xs : List X) → length xs ≡ 1 → (x : X) × (xs ≡ 
 sole_of [] one = absurd (omega (arith, one))
 sole_of (x ∷ []) one = (x, refl)
 sole_of (x ∷ y ∷ ys) one = absurd (omega (arith, one))
-
-some_of : {X : Type 0} (xs : List X) (x : X) → Contains xs x → 0 < length xs
-some_of [] x has = absurd (contains_none x has)
-some_of (y ∷ ys) x has = omega arith
 
 module _ (s : Supplement) (addition : IsAddition s) (items : List Item) (are : AreItems (StandsInSupplement s) (IsItemOf s) items) where
   held : Holds items s
@@ -65,7 +61,7 @@ module _ (s : Supplement) (addition : IsAddition s) (items : List Item) (are : A
       some =
           let o = addition.occurrences.not_empty c there_is in
           let m = from_map (λ (y : OperationItem). y.key) (operations_in items) o.0 (operation_in held o.0 o.2) in
-          some_of (operations_in items) m.0 m.1;
+          some_member (operations_in items) m.0 m.1;
       come = all_by_members (ComesWith c (needs_in items)) (operations_in items) comes;
       distinct = read_distinct kinds.operations items are.distinct;
     }

@@ -14,6 +14,7 @@ use Rattle.std.proofs.lemmas.List.Elements.{filter_map-append, recursion_from_Al
 use Rattle.std.proofs.Math.Seq.{drop-cons}
 use Rattle.plan_basics.specs.declared.keys.OpKey.{OpKey}
 use Rattle.plan_basics.specs.Keys.{Name, name_cmp, name_cmp_total, name_cmp-IsAntisymmetric, operation_cmp, operation_cmp_total, operation_cmp-IsAntisymmetric}
+use Rattle.plan_basics.proofs.Members.{less_told}
 use Rattle.plan_basics.proofs.PairOrders.{by_two_total, by_two-IsAntisymmetric}
 use Rattle.special_resources.specs.declared.Need.{Need}
 use Rattle.special_resources.specs.Holdings.{usage_of}
@@ -21,7 +22,7 @@ use Rattle.special_resources.specs.Needs.{AreInNameOrder, ComeBefore, entry_of, 
 use Rattle.special_resources.proofs.Keyed.{sorted_before, sorted_left}
 use Rattle.special_resources.proofs.MoreNeeds.{need_by_usage, pushed_usages}
 use Rattle.special_resources.proofs.Splits.{before_point, from_point}
-use Rattle.ready_list.proofs.Ordered.{less_from_test, partitioned_by}
+use Rattle.ready_list.proofs.Ordered.{partitioned_by}
 use Rattle.plan_records.specs.Loading.{need_key, need_cmp, own_need, needs_of}
 use Rattle.plan_records.proofs.Lists.{at_member, in_map, length_map}
 use Rattle.plan_records.proofs.Pairs.{sorted_dropped}
@@ -69,7 +70,7 @@ module _ (o : OpKey) (a b : Said) (less : row_cmp a b ≡ Less) where
   before_down e = by_order (operation_cmp a.0 b.0) refl less
     where
       by_order : (r : Ordering) → operation_cmp a.0 b.0 ≡ r → ordering_then r (name_cmp a.1.name b.1.name) ≡ Less → is_lt (operation_cmp a.0 o) ≡ true
-      by_order Less is then = ap is_lt (operation_cmp_total.trans a.0 b.0 o is (less_from_test (operation_cmp b.0 o) e))
+      by_order Less is then = ap is_lt (operation_cmp_total.trans a.0 b.0 o is (less_told (operation_cmp b.0 o) e))
       by_order Equal is then = ap is_lt (operation_cmp_total.congr a.0 b.0 o is) ∙ e
       by_order Greater is then = cc
 

@@ -1,19 +1,19 @@
 -- The intervals of one workstation: apart, and found by their first minutes.
-use Rattle.std.proofs.Common.{◌≡◌, ◌≢◌, inl, inr, sym, subst, ap, ◌∙◌, arith, ℕ, ◌≤◌, true, List, [], ◌∷◌, map, length, get_or, Contains, Some}
+use Rattle.std.proofs.Common.{◌≡◌, ◌≢◌, inl, inr, sym, subst, ap, ◌∙◌, arith, ℕ, ◌≤◌, true, List, map, length, get_or, Contains, Some}
 use Rattle.std.specs.List.{AllPairs}
 use Rattle.std.specs.Map.{keys_of}
 use Rattle.std.specs.Cmp.{nat_cmp_total}
-use Rattle.std.specs.Ordering.{nat_cmp}
-use Rattle.std.specs.FinMap.{FinMap, empty, from_entries, get, contains_key, len, nat_cmp-IsAntisymmetric}
+use Rattle.std.specs.FinMap.{empty, get, contains_key, nat_cmp-IsAntisymmetric}
 use Rattle.std.proofs.lemmas.Bool.{cases_lt}
 use Rattle.std.proofs.lemmas.List.Elements.{All-contains, Contains-get_or}
 use Rattle.plan_basics.specs.declared.Attr.{Attr}
 use Rattle.plan_basics.specs.Keys.{Name, name_cmp_total, name_cmp-IsAntisymmetric}
-use Rattle.plan_basics.specs.Intervals.{OpenInterval, IsInterval, IsOpenAt, AreApart}
+use Rattle.plan_basics.specs.Intervals.{OpenInterval, IsInterval, AreApart}
 use Rattle.workstations.specs.Workstations.{Workstation, IsWorkstation, with_intervals}
+use Rattle.workstations.proofs.Lookups.{entries_of, timetable_of, got_among, opened_is}
 use Rattle.plan_records.specs.Loading.{own_interval, intervals_of, IsOpening, CanOpen, AreWorkstations}
-use Rattle.plan_records.proofs.Lists.{Differ, differ_from_pairs, pairs_from_differ, differ_weaken, differ_map, differ_kept, Kept, in_map, from_map, length_map, contains_cases, contains_none}
-use Rattle.plan_records.proofs.Tables.{is_found, get_row, row_found, len_rows}
+use Rattle.plan_records.proofs.Lists.{all_by_members, Differ, differ_from_pairs, pairs_from_differ, differ_weaken, differ_map, differ_kept, Kept, in_map, from_map}
+use Rattle.plan_records.proofs.Tables.{is_found, get_row}
 use Rattle.plan_records.proofs.ItemKinds.{interval_key}
 use Rattle.plan_records.proofs.Keyed.{own_is, from_own}
 
@@ -52,37 +52,6 @@ intervals_apart stations intervals legal are = differ_from_pairs (λ y z. interv
     kept i j d before in_list y.1 z.1 (own_is name_cmp_total name_cmp-IsAntisymmetric w y (sym r.2)) (own_is name_cmp_total name_cmp-IsAntisymmetric w z (sym (ap (λ q. q.0) same) ∙ sym r.2)) (ap (λ q. q.1) same))
 
 -- ---- the map of intervals that can be taken
-abbrev entries_of : List OpenInterval → List (ℕ × OpenInterval)
-entries_of xs = map (λ x. (x.from, x)) xs
-
-abbrev timetable_of : List OpenInterval → FinMap nat_cmp OpenInterval
-timetable_of xs = from_entries (entries_of xs)
-
-found_among : (xs : List OpenInterval) (m : ℕ) (x : OpenInterval) → get (timetable_of xs) m ≡ Some x → (m ≡ x.from) × Contains xs x
-found_among xs m x e =
-    let has = row_found nat_cmp_total nat_cmp-IsAntisymmetric (entries_of xs) m x e in
-    let r = from_map (λ (z : OpenInterval). (z.from, z)) xs (m, x) has in
-    let same : r.0 ≡ x = ap (λ (p : ℕ × OpenInterval). p.1) r.2 in
-    (sym (ap (λ (p : ℕ × OpenInterval). p.0) r.2) ∙ ap (λ z. z.from) same, subst (Contains xs) same r.1)
-
--- two that share a minute are one
-one_open : (xs : List OpenInterval) (m : ℕ) (x y : OpenInterval) → Differ AreApart xs → Contains xs x → Contains xs y → IsOpenAt x m → IsOpenAt y m → x ≡ y
-one_open [] m x y apart in_x in_y ox oy = absurd (contains_none x in_x)
-one_open (a ∷ xs) m x y apart in_x in_y ox oy = elim (contains_cases a xs x in_x) [
-  | inl e ↦ elim (contains_cases a xs y in_y) [
-    | inl f ↦ sym e ∙ f
-    | inr later ↦ absurd (shared x y (subst (λ z. AreApart z y) e (All-contains (AreApart a) xs y apart.0 later)) ox oy)
-  ]
-  | inr later ↦ elim (contains_cases a xs y in_y) [
-    | inl f ↦ absurd (shared y x (subst (λ z. AreApart z x) f (All-contains (AreApart a) xs x apart.0 later)) oy ox)
-    | inr last ↦ one_open xs m x y apart.1 later last ox oy
-  ]
-]
-  where
-    shared : (p q : OpenInterval) → AreApart p q → IsOpenAt p m → IsOpenAt q m → ⊥
-    shared p q (inl h) op oq = let a = op.1 in let b = oq.0 in omega (arith, h, a, b)
-    shared p q (inr h) op oq = let a = oq.1 in let b = op.0 in omega (arith, h, a, b)
-
 module _ (xs : List OpenInterval) (legal : AreIntervals xs) (opening : IsOpening xs) where
   entries_apart : Differ (λ (a b : ℕ × OpenInterval). a.0 ≢ b.0) (entries_of xs)
   entries_apart = differ_map (λ (x : OpenInterval). (x.from, x)) (λ a b. a.0 ≢ b.0) xs (starts_differ xs legal opening.apart)
@@ -91,18 +60,8 @@ module _ (xs : List OpenInterval) (legal : AreIntervals xs) (opening : IsOpening
   got_by x has = get_row nat_cmp_total nat_cmp-IsAntisymmetric (entries_of xs) x.from x entries_apart (in_map (λ (z : OpenInterval). (z.from, z)) xs x has)
 
   -- what is open in them is a workstation
-  pub opened_is : (attr : Attr) → IsWorkstation (with_intervals xs (record { attribute = attr; intervals = empty }))
-  opened_is attr = record {
-    intervals = λ from x e. let r = found_among xs from x e in (r.0, legal x r.1);
-    disjoint = λ a b m x y e f ox oy.
-        let r = found_among xs a x e in
-        let s = found_among xs b y f in
-        r.0 ∙ ap (λ z. z.from) (one_open xs m x y (differ_from_pairs AreApart xs opening.apart) r.1 s.1 ox oy) ∙ sym s.0;
-    few =
-        let count : len (timetable_of xs) ≡ length xs = len_rows nat_cmp_total nat_cmp-IsAntisymmetric (entries_of xs) entries_apart ∙ length_map (λ (z : OpenInterval). (z.from, z)) xs in
-        let most = opening.few in
-        omega (arith, count, most);
-  }
+  pub opened_with : (attr : Attr) → IsWorkstation (with_intervals xs (record { attribute = attr; intervals = empty }))
+  opened_with attr = opened_is xs (all_by_members IsInterval xs legal) opening.apart opening.few (record { attribute = attr; intervals = empty })
 
 -- a first minute that is found is said of the workstation
 pub first_said :
@@ -110,7 +69,7 @@ pub first_said :
     Contains (map interval_key intervals) (name, m)
 first_said intervals name m e =
     let found = is_found (get (timetable_of (intervals_of name intervals)) m) e in
-    let r = found_among (intervals_of name intervals) m found.0 found.1 in
+    let r = got_among (intervals_of name intervals) m found.0 found.1 in
     subst (λ k. Contains (map interval_key intervals) (name, k)) (sym r.0) (in_map interval_key intervals (name, found.0) (from_own name_cmp_total name_cmp-IsAntisymmetric intervals name found.0 r.1))
 
 -- ---- intervals of a workstation can be taken

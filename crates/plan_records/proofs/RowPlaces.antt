@@ -15,6 +15,7 @@ use Rattle.std.proofs.lemmas.List.Sorted.{searchable_from_sorted}
 use Rattle.std.proofs.lemmas.Map.Keys.{Less-from_sorted, sorted_head, sorted_tail}
 use Rattle.std.proofs.lemmas.Option.{slice_get_cases, slice_get_within, get_or_from_slice_get}
 use Rattle.std.proofs.lemmas.Bool.{cases_lt}
+use Rattle.plan_basics.proofs.Members.{less_not_tied}
 use Rattle.plan_model.specs.Revise.{get-revise, revise}
 use Rattle.plan_records.proofs.MadeEntries.{each_made, find-made, key_of}
 
@@ -27,16 +28,11 @@ module _ {K X : Type 0} (R : K → K → Ordering) (key : X → K) (xs : List X)
   pub next_less : IsStrictlySortedBy R (map key xs) → (k : ℕ) (d : X) → k + 1 < length xs → R (key (get_or xs k d)) (key (get_or xs (k + 1) d)) ≡ Less
   next_less up k d high = sym (neighbours k d high) ∙ Less-from_sorted R (map key xs) k (k + 1) (key d) up (omega arith) (omega (arith, high, length-map xs key))
 
-not_equal : (r : Ordering) → r ≡ Less → is_eq r ≡ false
-not_equal Less h = refl
-not_equal Equal h = cc
-not_equal Greater h = cc
-
 module _ {K X : Type 0} (R : K → K → Ordering) where
   -- a key below all others isn't found
   none_after : (k : K) (rows : List (K × X)) → AllByRecursion (λ y. R k y ≡ Less) (keys_of rows) → find R k rows ≡ None
   none_after k [] h = refl
-  none_after k (row ∷ rows) h = ap (λ b. cond b (Some row.1) (find R k rows)) (not_equal (R k row.0) h.0) ∙ none_after k rows h.1
+  none_after k (row ∷ rows) h = ap (λ b. cond b (Some row.1) (find R k rows)) (less_not_tied (R k row.0) h.0) ∙ none_after k rows h.1
 
   pub later_key : (k : K) (rows : List (K × X)) (i : ℕ) (q : K) (v : X) → AllByRecursion (λ y. R k y ≡ Less) (keys_of rows) → slice_get rows i ≡ Some (q, v) → R k q ≡ Less
   later_key k [] i q v h e = cc
@@ -50,14 +46,14 @@ module _ {K X : Type 0} (R : K → K → Ordering) where
       let same : ◌≡◌ {A = K × X} (a, v) (b, w) = cc in
       let r : R a a ≡ Less = subst (λ z. R a z ≡ Less) (sym (ap (λ p. p.0) same)) less in
       let s : eq_by_cmp R a a ≡ true = (eq_by_cmp_equiv o).refl a in
-      absurd (true≢false (sym s ∙ not_equal (R a a) r))
+      absurd (true≢false (sym s ∙ less_not_tied (R a a) r))
   places_ascend o (row ∷ rows) sorted zero (suc j) a b v w e f less = omega arith
   places_ascend o (row ∷ rows) sorted (suc i) zero a b v w e f less =
       let same : row ≡ (b, w) = cc in
       let back : R b a ≡ Less = subst (λ z. R z.0 a ≡ Less) same (later_key row.0 rows i a v (sorted_head R row.0 (keys_of rows) sorted) e) in
       let r : R a a ≡ Less = o.trans a b a less back in
       let s : eq_by_cmp R a a ≡ true = (eq_by_cmp_equiv o).refl a in
-      absurd (true≢false (sym s ∙ not_equal (R a a) r))
+      absurd (true≢false (sym s ∙ less_not_tied (R a a) r))
   places_ascend o (row ∷ rows) sorted (suc i) (suc j) a b v w e f less =
       let h = places_ascend o rows (sorted_tail R row.0 (keys_of rows) sorted) i j a b v w e f less in omega (arith, h)
 
@@ -70,7 +66,7 @@ module _ {K X : Type 0} (R : K → K → Ordering) where
       ap (λ z. find R z (row ∷ rows)) key ∙ ap (λ b. cond b (Some row.1) (find R row.0 rows)) ((eq_by_cmp_equiv o).refl row.0) ∙ ap (λ z. Some z.1) same
   find_at o (row ∷ rows) sorted (suc i) k v e =
       let less = later_key row.0 rows i k v (sorted_head R row.0 (keys_of rows) sorted) e in
-      let apart : eq_by_cmp R k row.0 ≡ false = (eq_by_cmp_equiv o).symm k row.0 ∙ not_equal (R row.0 k) less in
+      let apart : eq_by_cmp R k row.0 ≡ false = (eq_by_cmp_equiv o).symm k row.0 ∙ less_not_tied (R row.0 k) less in
       ap (λ b. cond b (Some row.1) (find R k rows)) apart ∙ find_at o rows (sorted_tail R row.0 (keys_of rows) sorted) i k v e
 
 module _ {K X : Type 0} (R : K → K → Ordering) (o : IsTotalOrder R) (same : IsAntisymmetric R) where

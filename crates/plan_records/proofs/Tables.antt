@@ -5,11 +5,13 @@ use Rattle.std.specs.Map.{keys_of}
 use Rattle.std.specs.declared.cmp.Ordering.{Ordering}
 use Rattle.std.specs.declared.cmp.Ordering.TheVariants.{Less, Equal}
 use Rattle.std.specs.Ordering.{eq_by_cmp, is_eq}
-use Rattle.std.specs.Cmp.{IsTotalOrder, tied_itself, Equal-is}
+use Rattle.std.specs.Cmp.{IsTotalOrder, tied_itself}
 use Rattle.std.specs.FinMap.{FinMap, IsAntisymmetric, find, get, contains_key, len, remove, from_entries, empty, get-empty, len-empty, empty_of_len, get-remove, len-remove, get-from_entries, same_map}
 use Rattle.std.specs.FinSet as set
+use Rattle.plan_basics.proofs.Members.{tied_is}
 use Rattle.plan_graph.proofs.KeyPlaces.{in_listed, listed_in}
 use Rattle.plan_records.proofs.Lists.{contains_head, contains_later, contains_cases, contains_none, all_by_members, at_member, Differ, in_map, from_map, differ_map, differ_unmap}
+use Rattle.std.proofs.lemmas.Bool.{false_from_ne_true}
 use Rattle.std.proofs.lemmas.List.Elements.{All-contains}
 use Rattle.std.proofs.lemmas.Map.Entries.{length-keys_of}
 
@@ -38,11 +40,8 @@ module _ {K : Type 0} {R : K → K → Ordering} (total : IsTotalOrder R) (exact
   pub itself : (k : K) → eq_by_cmp R k k ≡ true
   itself k = ap is_eq (tied_itself total k)
 
-  pub same_key : (a b : K) → eq_by_cmp R a b ≡ true → a ≡ b
-  same_key a b e = exact a b ((Equal-is (R a b)).0 e)
-
   pub other_key : (a b : K) → a ≢ b → eq_by_cmp R a b ≡ false
-  other_key a b apart = elim (eq_by_cmp R a b) as (λ t. eq_by_cmp R a b ≡ t → t ≡ false) [ true ↦ λ e. absurd (apart (same_key a b e)) | false ↦ λ e. refl ] refl
+  other_key a b apart = elim (eq_by_cmp R a b) as (λ t. eq_by_cmp R a b ≡ t → t ≡ false) [ true ↦ λ e. absurd (apart (tied_is exact a b e)) | false ↦ λ e. refl ] refl
 
   -- keys in strict order differ
   pub sorted_apart : (ks : List K) → IsStrictlySortedBy R ks → Differ (λ a b. a ≢ b) ks
@@ -52,13 +51,9 @@ module _ {K : Type 0} {R : K → K → Ordering} (total : IsTotalOrder R) (exact
       (all_by_members (λ b. k ≢ b) ks (λ b has same. let less : R k b ≡ Less = at_member (λ x. R k x ≡ Less) ks b up.0 has in let tied : R k b ≡ Equal = ap (R k) (sym same) ∙ tied_itself total k in cc), sorted_apart ks up.1)
 
   module _ {M : Type 0} (has : M → K → Bool) (size : M → ℕ) (without : M → K → M) (has-without : (m : M) (k q : K) → has (without m k) q ≡ cond (eq_by_cmp R q k) false (has m q)) (size-without : (m : M) (k : K) → has m k ≡ true → size (without m k) + 1 ≡ size m) (size-none : (m : M) → ((q : K) → has m q ≡ false) → size m ≡ 0) where
-    told : (b : Bool) → (b ≡ true → ⊥) → b ≡ false
-    told true h = absurd (h refl)
-    told false h = refl
-
     -- what holds just the members of a list holds as many
     pub same_count : (ks : List K) (m : M) → Differ (λ a b. a ≢ b) ks → ((k : K) → Contains ks k → has m k ≡ true) → ((k : K) → has m k ≡ true → Contains ks k) → length ks ≡ size m
-    same_count [] m apart within all = sym (size-none m (λ q. told (has m q) (λ e. contains_none q (all q e))))
+    same_count [] m apart within all = sym (size-none m (λ q. false_from_ne_true (has m q) (λ e. contains_none q (all q e))))
     same_count (k ∷ ks) m apart within all =
         let here : has m k ≡ true = within k (contains_head k ks) in
         let rest : length ks ≡ size (without m k) = same_count ks (without m k) apart.1 (λ q in_rest. has-without m k q ∙ ap (λ t. cond t false (has m q)) (other_key q k (λ e. All-contains (λ b. k ≢ b) ks q apart.0 in_rest (sym e))) ∙ within q (contains_later k ks q in_rest)) (λ q e. left q (elim_rest q e)) in
@@ -115,7 +110,7 @@ module _ {K : Type 0} {R : K → K → Ordering} (total : IsTotalOrder R) (exact
     found_from : (rows : List (K × X)) (k : K) (v : X) → find R k rows ≡ Some v → Contains rows (k, v)
     found_from [] k v e = absurd (no_some v e)
     found_from (r ∷ rows) k v e = elim (eq_by_cmp R k r.0) as (λ t. eq_by_cmp R k r.0 ≡ t → cond t (Some r.1) (find R k rows) ≡ Some v → Contains (r ∷ rows) (k, v)) [
-      | true ↦ λ t f. subst (λ p. Contains (r ∷ rows) p) (λ i. (sym (same_key k r.0 t) i, same_some r.1 v f i)) (contains_head r rows)
+      | true ↦ λ t f. subst (λ p. Contains (r ∷ rows) p) (λ i. (sym (tied_is exact k r.0 t) i, same_some r.1 v f i)) (contains_head r rows)
       | false ↦ λ t f. contains_later r rows (k, v) (found_from rows k v f)
     ] refl e
 

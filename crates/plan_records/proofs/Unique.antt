@@ -16,7 +16,7 @@ use Rattle.plan_items.specs.declared.Item.{Item}
 use Rattle.plan_records.specs.declared.RowKey.TheVariants as key
 use Rattle.plan_records.specs.Records.{entered, StandsInSupplement, StandsIn, IsItemOf, IsItemOfPlan, AreItems, OnePlan, OneAddition}
 use Rattle.plan_records.proofs.Tables.{some_is, same_some, same_entries}
-use Rattle.plan_records.proofs.Needed.{found_attribute}
+use Rattle.plan_records.proofs.Needed.{mapped}
 use Rattle.plan_records.proofs.Pairs.{pair_cmp_total, pair_cmp-IsAntisymmetric}
 use Rattle.plan_records.proofs.Denoting.{same_items}
 use Rattle.plan_records.proofs.ItemKinds as kinds
@@ -108,8 +108,8 @@ module _ (items : List Item) (P Q : Plan) (a : AreItems (StandsIn P) (IsItemOfPl
 same_workstation : (items : List Item) (P Q : Plan) → AreItems (StandsIn P) (IsItemOfPlan P) items → AreItems (StandsIn Q) (IsItemOfPlan Q) items → (w : Name) (ws : Workstation) → get P.workstations w ≡ Some ws → get Q.workstations w ≡ Some ws
 same_workstation items P Q a b w ws e =
     let y = read_in kinds.workstations items w (a.all (key.Workstation w) (some_is (get P.workstations w) ws e)) in
-    let p = found_attribute (get P.workstations y.0.0) y.0.1 (read_stands kinds.workstations (StandsIn P) items a.stand y.0 y.1) in
-    let q = found_attribute (get Q.workstations y.0.0) y.0.1 (read_stands kinds.workstations (StandsIn Q) items b.stand y.0 y.1) in
+    let p = mapped (λ ws. ws.attribute) (get P.workstations y.0.0) y.0.1 (read_stands kinds.workstations (StandsIn P) items a.stand y.0 y.1) in
+    let q = mapped (λ ws. ws.attribute) (get Q.workstations y.0.0) y.0.1 (read_stands kinds.workstations (StandsIn Q) items b.stand y.0 y.1) in
     let other : Workstation = q.0 in
     let found : get Q.workstations w ≡ Some other = ap (get Q.workstations) (sym y.2) ∙ q.1 in
     let one : p.0 ≡ ws = same_some p.0 ws (sym p.1 ∙ ap (get P.workstations) y.2 ∙ e) in

@@ -7,6 +7,7 @@ use Rattle.plan_basics.specs.Keys.{operation_cmp_total}
 use Rattle.plan_basics.specs.declared.keys.OpKey.{OpKey}
 use Rattle.plan_laws.proofs.Sorted.{at_member, contains_cases, contains_head, contains_later, contains_none, not_itself}
 use Rattle.plan_laws.proofs.Waiting.{one_count}
+use Rattle.plan_records.proofs.ItemsHeld.{first_member, some_member}
 use Rattle.plan_records.specs.Rows.{IsCount}
 
 -- each of these is one of those
@@ -56,13 +57,6 @@ module _ {K : Type 0} {R : K → K → Ordering} (o : IsTotalOrder R) where
     ]
     | inr later ↦ absurd (let n = no_longer (x ∷ xs) ys up above.1 (past_head x y xs ys up.0 above.0 h later) in omega (arith, l, n))
   ]
-
-first_member : {X : Type 0} (xs : List X) → 0 < length xs → (x : X) × Contains xs x
-first_member [] h = absurd (omega arith)
-first_member (x ∷ xs) h = (x, contains_head x xs)
-
-some_member : {X : Type 0} (xs : List X) (x : X) → Contains xs x → 0 < length xs
-some_member xs x (i, h, e) = omega arith
 
 module _ (S : OpKey → Type 0) where
   -- they are more than none if there is one

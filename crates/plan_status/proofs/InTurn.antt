@@ -171,11 +171,8 @@ module _ (c : PlanContents) (h : AreValidContents c) (g : Digraph) (graph : IsGr
       ∙ ap set.len (pair_pushed (pairs_so_far rows edges i) (pair_of rows e.0))
       ∙ set.len-insert pair_cmp_total (from_list (pairs_so_far rows edges i)) (pair_of rows e.0)
       ∙ ap (λ b. cond b (set.len (from_list {R = pair_cmp} (pairs_so_far rows edges i))) (set.len (from_list {R = pair_cmp} (pairs_so_far rows edges i)) + 1)) new
-      ∙ one_more ih
+      ∙ omega (arith, ih)
     where
-      one_more : {a b : ℕ} → a ≡ b → a + 1 ≡ suc b
-      one_more e = omega (arith, e)
-
       more : (i : ℕ) → i + 1 ≡ suc i
       more i = omega arith
 

@@ -1,24 +1,26 @@
 -- Intervals found by their first minutes.
-use Rattle.std.proofs.Common.{◌≡◌, ◌↔◌, inl, inr, refl, sym, ◌∙◌, ap, subst, true≢false, arith, ℕ, ◌+◌, ◌≤◌, Bool, true, false, cond, List, [], ◌∷◌, map, length, Contains, Option, Some, None}
+use Rattle.std.proofs.Common.{◌≡◌, ◌↔◌, inl, inr, refl, sym, ◌∙◌, ap, subst, true≢false, arith, ℕ, ◌+◌, ◌≤◌, Bool, true, false, cond, List, [], ◌∷◌, map, length, Contains, Some, None}
 use Rattle.std.specs.Ordering.{eq_by_cmp, nat_cmp, is_eq}
-use Rattle.std.specs.Cmp.{Equal-is, nat_cmp_total}
+use Rattle.std.specs.Cmp.{nat_cmp_total}
 use Rattle.std.proofs.lemmas.Cmp.{tied_itself}
 use Rattle.std.specs.FinMap.{FinMap, get, from_entries, get-from_entries, nat_cmp-IsAntisymmetric, same_map, contains_key, len, len-empty, len-insert}
 use Rattle.std.specs.FinMap.Entries.{find}
 use Rattle.std.specs.List.Sorted.{IsPermutation}
+use Rattle.std.specs.Prelude.{All, AllPairs}
 use Rattle.std.proofs.lemmas.List.Sorted.{Contains-permutation, IsPermutation-sym}
 use Rattle.std.proofs.lemmas.Option.{same_Some, none-some}
-use Rattle.plan_basics.specs.Intervals.{OpenInterval, IsInterval, IsOpenAt}
+use Rattle.plan_basics.specs.Intervals.{OpenInterval, IsInterval, IsOpenAt, AreApart}
 use Rattle.workstations.specs.declared.Capacity.{Capacity}
 use Rattle.std.proofs.lemmas.List.Elements.{All-contains}
 use Rattle.workstations.specs.Workstations.{Workstation, IsWorkstation, with_intervals, HasCapacity, capacity_of}
 use Rattle.plan_basics.specs.declared.Attr.{Attr}
 use Rattle.plan_basics.specs.Keys.{Name}
-use Rattle.plan_basics.proofs.Members.{contains_head, contains_later, contains_cases, contains_none, row_found}
+use Rattle.plan_basics.proofs.Members.{contains_head, contains_later, contains_cases, contains_none, row_found, tied_is}
+use Rattle.plan_basics.proofs.OptionLemmas.{same_answer}
 use Rattle.workstations.specs.Timetables.{IsTimetable, NamedWorkstation, workstation_by, reopened}
 use Rattle.workstations.proofs.Spans.{one_open, one_start}
 
-abbrev entries_of : List OpenInterval → List (ℕ × OpenInterval)
+abbrev pub entries_of : List OpenInterval → List (ℕ × OpenInterval)
 entries_of items = map (λ x. (x.from, x)) items
 
 -- what is found at a minute is of the list, and begins then
@@ -31,13 +33,13 @@ found_by [] x has one = absurd (contains_none x has)
 found_by (y ∷ items) x has one = at_head (eq_by_cmp nat_cmp x.from y.from) refl (λ later. found_by items x later (λ z h e. one z (contains_later y items z h) e))
   where
     at_head : (b : Bool) → eq_by_cmp nat_cmp x.from y.from ≡ b → (Contains items x → find nat_cmp x.from (entries_of items) ≡ Some x) → cond b (Some y) (find nat_cmp x.from (entries_of items)) ≡ Some x
-    at_head true t rest = ap Some (one y (contains_head y items) (sym (nat_cmp-IsAntisymmetric x.from y.from ((Equal-is (nat_cmp x.from y.from)).0 t))))
+    at_head true t rest = ap Some (one y (contains_head y items) (sym (tied_is nat_cmp-IsAntisymmetric x.from y.from t)))
     at_head false t rest = elim (contains_cases y items x has) [
       | inl e ↦ absurd (true≢false (sym (ap is_eq (ap (λ z. nat_cmp x.from z.from) e ∙ tied_itself nat_cmp_total x.from)) ∙ t))
       | inr later ↦ rest later
     ]
 
-abbrev timetable_of : List OpenInterval → FinMap nat_cmp OpenInterval
+abbrev pub timetable_of : List OpenInterval → FinMap nat_cmp OpenInterval
 timetable_of items = from_entries (entries_of items)
 
 pub got_among : (items : List OpenInterval) (k : ℕ) (x : OpenInterval) → get (timetable_of items) k ≡ Some x → (k ≡ x.from) × Contains items x
@@ -45,11 +47,6 @@ got_among items k x e = found_among items k x (sym (get-from_entries nat_cmp_tot
 
 pub got_by : (items : List OpenInterval) → IsTimetable items → (x : OpenInterval) → Contains items x → get (timetable_of items) x.from ≡ Some x
 got_by items t x has = get-from_entries nat_cmp_total (entries_of items) x.from ∙ found_by items x has (λ z h e. one_start items t x z has h e)
-
-same_option : {A : Type 0} (o p : Option A) → ((x : A) → o ≡ Some x → p ≡ Some x) → ((x : A) → p ≡ Some x → o ≡ Some x) → o ≡ p
-same_option None None f g = refl
-same_option None (Some y) f g = g y refl
-same_option (Some x) p f g = sym (f x refl)
 
 -- intervals in order of time and the same ones in another order are open alike
 pub same_timetable : (xs ys : List OpenInterval) → IsPermutation xs ys → IsTimetable ys → timetable_of ys ≡ timetable_of xs
@@ -62,7 +59,7 @@ same_timetable xs ys moved t = same_map nat_cmp_total nat_cmp-IsAntisymmetric (t
     back = IsPermutation-sym xs ys moved
 
     alike : (q : ℕ) → get (timetable_of ys) q ≡ get (timetable_of xs) q
-    alike q = same_option (get (timetable_of ys) q) (get (timetable_of xs) q)
+    alike q = same_answer (get (timetable_of ys) q) (get (timetable_of xs) q)
         (λ x e. let h = got_among ys q x e in let has = Contains-permutation ys xs x back h.1 in ap (get (timetable_of xs)) h.0 ∙ (get-from_entries nat_cmp_total (entries_of xs) x.from ∙ found_by xs x has (λ z hz e. one x z has hz e)))
         (λ x e. let h = got_among xs q x e in ap (get (timetable_of ys)) h.0 ∙ got_by ys t x (Contains-permutation xs ys x moved h.1))
 
@@ -84,15 +81,15 @@ as_long (y ∷ items) =
     let step : cond (contains_key m y.from) (len m) (len m + 1) ≤ length items + 1 = one_more (contains_key m y.from) (len m) (length items) (as_long items) in
     rw (len-insert nat_cmp_total m y.from y) (omega (arith, step))
 
--- what is open in intervals in order of time is a workstation
-pub workstation_is : (items : List OpenInterval) → IsTimetable items → (w : Workstation) → IsWorkstation (with_intervals items w)
-workstation_is items t w = record {
-  intervals = λ from x e. let h = got_among items from x e in (h.0, All-contains IsInterval items x t.each h.1);
+-- what is open in intervals that are apart is a workstation
+pub opened_is : (items : List OpenInterval) → All IsInterval items → AllPairs AreApart items → length items ≤ 400 → (w : Workstation) → IsWorkstation (with_intervals items w)
+opened_is items each apart few w = record {
+  intervals = λ from x e. let h = got_among items from x e in (h.0, All-contains IsInterval items x each h.1);
   disjoint = λ a b m x y ex ey ox oy.
       let hx = got_among items a x ex in
       let hy = got_among items b y ey in
-      hx.0 ∙ ap (λ z. z.from) (one_open items t m y x hy.1 hx.1 oy ox) ∙ sym hy.0;
-  few = let l = as_long items in omega (arith, l, t.few);
+      hx.0 ∙ ap (λ z. z.from) (one_open items apart m y x hy.1 hx.1 oy ox) ∙ sym hy.0;
+  few = let l = as_long items in omega (arith, l, few);
 }
 
 -- intervals in another order and in order of time make one workstation
