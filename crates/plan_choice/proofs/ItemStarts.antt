@@ -1,5 +1,5 @@
 -- Latest starts by the items of rows are those of their operations.
-use Rattle.std.proofs.Common.{◌≡◌, ◌≢◌, refl, sym, ap, subst, ◌∙◌, true≢false, ℕ, ℤ, true, List, map, slice_get, Option, Some, None, option_map}
+use Rattle.std.proofs.Common.{◌≡◌, ◌≢◌, refl, sym, ap, subst, ◌∙◌, true≢false, ℕ, ℤ, true, List, map, slice_get, Some, option_map}
 use Rattle.std.specs.Map.{keys_of}
 use Rattle.std.specs.FinMap.{get}
 use Rattle.std.proofs.lemmas.List.{length-map}
@@ -11,6 +11,7 @@ use Rattle.plan_basics.specs.Keys.{operation_cmp, operation_cmp_total, operation
 use Rattle.plan_basics.specs.declared.keys.OpKey.{OpKey}
 use Rattle.status_rules.specs.declared.Mark.{Mark}
 use Rattle.status_rules.specs.declared.Mark.TheVariants as mark
+use Rattle.plan_model.specs.Starting.{number_of}
 use Rattle.plan_model.specs.Plan.{IsLive, Operation, Plan}
 use Rattle.plan_graph.specs.PlanGraphs.{CountsAlike, HoldsAlike, JoinsAmong}
 use Rattle.plan_graph.proofs.PlacePaths.{least_starts_alike}
@@ -30,11 +31,6 @@ live_mark m live deleted = true≢false (sym live ∙ ap is_live_mark deleted)
 pub mark_live : (m : Mark) → m ≢ mark.Deleted → is_live_mark m ≡ true
 mark_live mark.Deleted h = absurd (h refl)
 mark_live m h = refl
-
--- a number of the operation, 0 where there is none
-abbrev pub number_of : Option Operation → (Operation → ℕ) → ℕ
-number_of (Some op) f = f op
-number_of None f = 0
 
 abbrev pub duration_in : Plan → OpKey → ℕ
 duration_in P o = number_of (get P.operations o) (λ op. op.duration)

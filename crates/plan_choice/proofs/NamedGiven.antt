@@ -15,6 +15,7 @@ use Rattle.plan_model.specs.Holdings.{given_out, holds_server, is_serving, sum_g
 use Rattle.plan_model.specs.Plan.{Plan, Operation, HasAttribute, attribute_at}
 use Rattle.plan_model.specs.Ready.{named, with_mark}
 use Rattle.plan_model.specs.Revise.{len-revise}
+use Rattle.plan_laws.proofs.Looks.{as_named}
 use Rattle.plan_records.proofs.MadeEntries.{bits_and, each_made, entries-revise, key_of, less_of, not_equal}
 use Rattle.plan_choice.specs.Taking.{IsAtMost, takes_server, with_one_more}
 use Rattle.plan_choice.proofs.GivenSums.{at_another, at_its_own, given_at_most, same_capacity}
@@ -63,9 +64,6 @@ module _ (f : Operation → ℕ) (g h : OpKey → Operation → Operation) (k : 
 
 -- ---- named, or not
 
-abbrev mark_named : List OpKey → OpKey → Operation → Operation
-mark_named os o op = cond (is_among os o) (with_mark mark.Named op) op
-
 pub same_number : (number : Operation → ℕ) → ((op : Operation) → number (with_mark mark.Named op) ≡ number op) → (b : Bool) (op : Operation) → number (cond b (with_mark mark.Named op) op) ≡ number op
 same_number number same true op = same op
 same_number number same false op = refl
@@ -74,17 +72,17 @@ module _ (os : List OpKey) (k : OpKey) where
   pub among_more : (o : OpKey) → is_among (os ++ k ∷ []) o ≡ (is_among os o || eq_by_cmp operation_cmp o k)
   among_more o = is_among-append os (k ∷ []) o ∙ ap (λ b. is_among os o || b) (or-false (eq_by_cmp operation_cmp o k))
 
-  others_same : (o : OpKey) (op : Operation) → eq_by_cmp operation_cmp k o ≡ false → mark_named (os ++ k ∷ []) o op ≡ mark_named os o op
+  others_same : (o : OpKey) (op : Operation) → eq_by_cmp operation_cmp k o ≡ false → as_named (os ++ k ∷ []) o op ≡ as_named os o op
   others_same o op e =
       ap (λ b. cond b (with_mark mark.Named op) op) (among_more o ∙ ap (λ b. is_among os o || b) ((eq_by_cmp_equiv operation_cmp_total).symm o k ∙ e) ∙ or-false (is_among os o))
 
-  it_is_named : (op : Operation) → mark_named (os ++ k ∷ []) k op ≡ with_mark mark.Named op
+  it_is_named : (op : Operation) → as_named (os ++ k ∷ []) k op ≡ with_mark mark.Named op
   it_is_named op = ap (λ b. cond b (with_mark mark.Named op) op) (among_more k ∙ or_right (is_among os k) (eq_by_cmp operation_cmp k k) ((eq_by_cmp_equiv operation_cmp_total).refl k))
 
 sum_named : (P : Plan) (os : List OpKey) (w : Name) (number : Operation → ℕ)
-    → sum_given_out (named os P) w number ≡ sum_made (λ op. cond (is_serving P w op) (number op) 0) (mark_named os) (entries P.operations)
+    → sum_given_out (named os P) w number ≡ sum_made (λ op. cond (is_serving P w op) (number op) 0) (as_named os) (entries P.operations)
 sum_named P os w number =
-    ap (λ es. sum_by (λ op. cond (is_serving P w op) (number op) 0) (map (λ e. e.1) es)) (entries-revise operation_cmp operation_cmp_total operation_cmp-IsAntisymmetric (mark_named os) P.operations)
+    ap (λ es. sum_by (λ op. cond (is_serving P w op) (number op) 0) (map (λ e. e.1) es)) (entries-revise operation_cmp operation_cmp_total operation_cmp-IsAntisymmetric (as_named os) P.operations)
 
 module _ (P : Plan) (os : List OpKey) where
   module _ (k : OpKey) (op : Operation) (is : get P.operations k ≡ Some op) (out : is_among os k ≡ false) (unmarked : op.mark ≡ mark.Unmarked)
@@ -93,7 +91,7 @@ module _ (P : Plan) (os : List OpKey) where
     takes_one : takes_server P (with_mark mark.Named op) ≡ true
     takes_one = ap (λ a. takes a && true) automatic
 
-    stays : mark_named os k op ≡ op
+    stays : as_named os k op ≡ op
     stays = ap (λ b. cond b (with_mark mark.Named op) op) out
 
     module _ (w : Name) (number : Operation → ℕ) (same : number (with_mark mark.Named op) ≡ number op) where
@@ -102,7 +100,7 @@ module _ (P : Plan) (os : List OpKey) where
 
       more_if : (d : ℕ) → taken_of (with_mark mark.Named op) ≡ taken_of op + d → sum_given_out (named (os ++ k ∷ []) P) w number ≡ sum_given_out (named os P) w number + d
       more_if d e =
-          sum_named P (os ++ k ∷ []) w number ∙ made_more taken_of (mark_named os) (mark_named (os ++ k ∷ [])) k op d (others_same os k)
+          sum_named P (os ++ k ∷ []) w number ∙ made_more taken_of (as_named os) (as_named (os ++ k ∷ [])) k op d (others_same os k)
           (ap taken_of (it_is_named os k op) ∙ e ∙ ap (λ x. taken_of x + d) (sym stays))
           (entries P.operations) (entries_sorted P.operations) (sym (get-entries P.operations k) ∙ is)
           ∙ ap (λ n. n + d) (sym (sum_named P os w number))
@@ -141,7 +139,7 @@ module _ (P : Plan) (os : List OpKey) where
   -- each of at most 99, named or not
   pub named_at_most : len P.operations ≤ 20000 → ((o : OpKey) (op : Operation) → get P.operations o ≡ Some op → (op.r1 ≤ 99) × (op.r2 ≤ 99)) → (w : Name) → IsAtMost 1980000 (given_out (named os P) w)
   named_at_most few each w =
-      given_at_most (named os P) (subst (λ n. n ≤ 20000) (sym (len-revise (mark_named os) P.operations)) few) w
+      given_at_most (named os P) (subst (λ n. n ≤ 20000) (sym (len-revise (as_named os) P.operations)) few) w
       (λ o op is.
       let before = row_before P os o op is in
       let small = each o before.0 before.1 in (

@@ -8,11 +8,11 @@ use Rattle.status_rules.specs.declared.Mark.TheVariants as mark
 use Rattle.ready_list.specs.Choice.{is_among}
 use Rattle.plan_model.specs.Plan.{IsLive, Operation, Plan, Precedes}
 use Rattle.plan_model.specs.Ready.{named, with_mark}
-use Rattle.plan_model.specs.Starting.{IsLatestStart}
+use Rattle.plan_model.specs.Starting.{IsLatestStart, number_of}
 use Rattle.plan_model.specs.Status.{IsReady}
 use Rattle.plan_laws.proofs.Looks.{get-named}
 use Rattle.plan_status.proofs.Naming.{live_after, live_before, named_if}
-use Rattle.plan_choice.proofs.ItemStarts.{deadline_in, duration_in, number_of}
+use Rattle.plan_choice.proofs.ItemStarts.{deadline_in, duration_in}
 
 -- ---- any least start, where the same paths are there
 

@@ -44,8 +44,9 @@ module _ {K : Type 0} {R : K → K → Ordering} (total : IsTotalOrder R) where
           different_in_order ks sorted a b k lt (slice_get_within ks b k at_b)
           (get_or_from_slice_get ks a k k at_a ∙ sym (get_or_from_slice_get ks b k k at_b))
 
-  none_less_back : (ks : List K) → IsStrictlySortedBy R ks → IsSortedBy (λ a b. is_lt (R a b)) ks
-  none_less_back ks up = λ k d low high. ap is_lt (total.antisymm (get_or ks (k + 1) d) (get_or ks k d) ∙ ap ordering_reverse (Less-from_sorted R ks k (k + 1) d up (omega arith) high))
+  -- keys in strict order stand in order
+  pub sorted_from_strict : (ks : List K) → IsStrictlySortedBy R ks → IsSortedBy (λ a b. is_lt (R a b)) ks
+  sorted_from_strict ks up = λ k d low high. ap is_lt (total.antisymm (get_or ks (k + 1) d) (get_or ks k d) ∙ ap ordering_reverse (Less-from_sorted R ks k (k + 1) d up (omega arith) high))
 
   module _ (exact : IsAntisymmetric R) where
     -- a search among keys in order finds one that is there
@@ -53,7 +54,7 @@ module _ {K : Type 0} {R : K → K → Ordering} (total : IsTotalOrder R) where
         → (i : ℕ) × (r ≡ Ok i) × (slice_get ks i ≡ Some k)
     search_places ks k (Ok i) within h sorted has = (i, refl, slice_get-get_or ks i k within ∙ ap Some (exact (get_or ks i k) k (h k)))
     search_places ks k (Err i) within h sorted (j, lt, is) =
-        let parts = h (searchable_from_sorted total (λ y. y) ks k (none_less_back ks sorted)) in
+        let parts = h (searchable_from_sorted total (λ y. y) ks k (sorted_from_strict ks sorted)) in
         let tied : R (get_or ks j k) k ≡ Equal = subst (λ z. R z k ≡ Equal) (sym is) (tied_itself total k) in
         absurd (elim (cases_lt j i) [
           | inl before ↦ let less : R (get_or ks j k) k ≡ Less = parts.0 j k (omega arith) before in cc

@@ -39,7 +39,7 @@ abbrev pub Reaches : Plan → OpKey → OpKey → Type 0
 Reaches P = ReachesBy (Precedes P) (IsLive P)
 
 -- a number of the operation, 0 where there is none
-abbrev number_of : Option Operation → (Operation → ℕ) → ℕ
+abbrev pub number_of : Option Operation → (Operation → ℕ) → ℕ
 number_of (Some op) f = f op
 number_of None f = 0
 

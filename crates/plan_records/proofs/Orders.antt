@@ -11,7 +11,8 @@ use Rattle.std.specs.FinMap.{IsAntisymmetric}
 use Rattle.std.proofs.lemmas.List.{length-map}
 use Rattle.std.proofs.lemmas.List.Elements.{All-contains, recursion_from_All, All-from_recursion}
 use Rattle.std.proofs.lemmas.List.Sorted.{ranks_by, sorted_far, searchable_from_sorted, IsPermutation-map}
-use Rattle.std.proofs.lemmas.Map.Keys.{IsDistinct-IsPermutation, Less-from_sorted, sorted_from_all_adjacent}
+use Rattle.std.proofs.lemmas.Map.Keys.{IsDistinct-IsPermutation, sorted_from_all_adjacent}
+use Rattle.plan_graph.proofs.KeyPlaces.{sorted_from_strict}
 use Rattle.plan_records.proofs.Lists.{all_by_members, in_map, from_map, Differ, differ_map, differ_unmap}
 use Rattle.std.proofs.lemmas.Option.{get_or_from_slice_get}
 use Rattle.plan_records.proofs.RowPlaces.{neighbours, next_less, row_at}
@@ -44,9 +45,6 @@ module _ {K : Type 0} {R : K → K → Ordering} (total : IsTotalOrder R) where
     ascends_told xs true h = (λ _. ascends_then xs h, λ _. refl)
     ascends_told xs false h = (λ e. absurd (true≢false (sym e)), λ up. absurd (ascends_when xs h up))
 
-  sorted_from_strict : (xs : List K) → IsStrictlySortedBy R xs → IsSortedBy (λ a b. is_lt (R a b)) xs
-  sorted_from_strict xs up = λ k d low high. ap is_lt (total.antisymm (get_or xs (k + 1) d) (get_or xs k d) ∙ ap ordering_reverse (Less-from_sorted R xs k (k + 1) d up (omega arith) high))
-
   module _ (exact : IsAntisymmetric R) where
     -- a search by a key tells whether it is the key of an element, where the list is sorted by it
     pub search_told_by : {X : Type 0} (key : X → K) (xs : List X) (k : K) (r : Result ℕ ℕ) → IsSearchInRange r (length xs) → IsBinarySearchResult (λ x. R (key x) k) xs r → IsSortedBy (λ a b. is_lt (R (key a) (key b))) xs → IsTrue (is_ok r) ↔ Contains (map key xs) k
@@ -67,7 +65,7 @@ module _ {K : Type 0} {R : K → K → Ordering} (total : IsTotalOrder R) where
 
     -- a search in a list that ascends tells whether it has the key
     pub search_told : (xs : List K) (x : K) (r : Result ℕ ℕ) → IsSearchInRange r (length xs) → IsBinarySearchResult (λ y. R y x) xs r → IsStrictlySortedBy R xs → IsTrue (is_ok r) ↔ Contains xs x
-    search_told xs x r within h up = subst (λ ys. IsTrue (is_ok r) ↔ Contains ys x) (map_same xs) (search_told_by (λ y. y) xs x r within h (sorted_from_strict xs up))
+    search_told xs x r within h up = subst (λ ys. IsTrue (is_ok r) ↔ Contains ys x) (map_same xs) (search_told_by (λ y. y) xs x r within h (sorted_from_strict total xs up))
 
     less_from : (a b : K) → is_lt (R b a) ≡ false → a ≢ b → R a b ≡ Less
     less_from a b not_less apart = elim (R a b) as (λ o. R a b ≡ o → R a b ≡ Less) [

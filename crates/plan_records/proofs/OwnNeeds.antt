@@ -3,7 +3,6 @@ use Rattle.std.proofs.Common.{◌≡◌, refl, sym, ap, subst, ◌∙◌, true�
 use Rattle.std.specs.List.{AllByRecursion, cons_option}
 use Rattle.std.specs.List.Sorted.{IsStrictlySortedBy, IsPartitionedBy, IsPartitionPoint}
 use Rattle.std.specs.Cmp.{IsTotalOrder, Equal-is, tied_itself}
-use Rattle.std.specs.Map.{keys_of}
 use Rattle.std.specs.FinMap.{IsAntisymmetric, insert, len}
 use Rattle.std.specs.Ordering.{eq_by_cmp, is_eq, is_le, is_lt, ordering_then}
 use Rattle.std.specs.declared.cmp.Ordering.{Ordering}
@@ -18,7 +17,8 @@ use Rattle.plan_basics.proofs.Members.{less_told}
 use Rattle.plan_basics.proofs.PairOrders.{by_two_total, by_two-IsAntisymmetric}
 use Rattle.special_resources.specs.declared.Need.{Need}
 use Rattle.special_resources.specs.Holdings.{usage_of}
-use Rattle.special_resources.specs.Needs.{AreInNameOrder, ComeBefore, entry_of, usages_of}
+use Rattle.special_resources.specs.NeedCells.{len-usages_of}
+use Rattle.special_resources.specs.Needs.{AreInNameOrder, ComeBefore, usages_of}
 use Rattle.special_resources.proofs.Keyed.{sorted_before, sorted_left}
 use Rattle.special_resources.proofs.MoreNeeds.{need_by_usage, pushed_usages}
 use Rattle.special_resources.proofs.Splits.{before_point, from_point}
@@ -26,7 +26,6 @@ use Rattle.ready_list.proofs.Ordered.{partitioned_by}
 use Rattle.plan_records.specs.Loading.{need_key, need_cmp, own_need, needs_of}
 use Rattle.plan_records.proofs.Lists.{at_member, in_map, length_map}
 use Rattle.plan_records.proofs.Pairs.{sorted_dropped}
-use Rattle.plan_records.proofs.RowPlaces.{len-from_entries}
 
 abbrev Said : Type 0
 Said = OpKey × Need
@@ -184,18 +183,6 @@ module _ (o : OpKey) where
       by_test false e rest = rest
 
 -- ---- needs taken in one after another
-entries_keys : (ns : List Need) → keys_of (map entry_of ns) ≡ map name_of ns
-entries_keys [] = refl
-entries_keys (n ∷ ns) = ap (λ ks. n.name ∷ ks) (entries_keys ns)
-
-entries_length : (ns : List Need) → length (map entry_of ns) ≡ length ns
-entries_length [] = refl
-entries_length (n ∷ ns) = ap suc (entries_length ns)
-
--- needs by name are as many usages
-pub len_usages : (ns : List Need) → AreInNameOrder ns → len (usages_of ns) ≡ length ns
-len_usages ns up = len-from_entries name_cmp name_cmp_total name_cmp-IsAntisymmetric (map entry_of ns) (subst (IsStrictlySortedBy name_cmp) (sym (entries_keys ns)) up) ∙ entries_length ns
-
 -- those in front come before the next
 come_earlier : (ns ms : List Need) (n : Need) → AreInNameOrder (ns ++ n ∷ ms) → ComeBefore (usages_of ns) n.name
 come_earlier ns ms n up = λ r usage e.
@@ -210,7 +197,7 @@ needs_append (x ∷ xs) ys = ap (λ ns. x.1 ∷ ns) (needs_append xs ys)
 pub so_many : (xs : List Said) → AreInNameOrder (map said_need xs) → (i : ℕ) → i ≤ length xs → len (usages_of (map said_need (take i xs))) ≡ i
 so_many xs up i le =
     let whole = subst AreInNameOrder (sym (ap (map said_need) (take-append-drop i xs)) ∙ needs_append (take i xs) (drop i xs)) up in
-    let count = len_usages (map said_need (take i xs)) (sorted_left name_cmp name_of (map said_need (take i xs)) (map said_need (drop i xs)) whole) in
+    let count = len-usages_of (map said_need (take i xs)) (sorted_left name_cmp name_of (map said_need (take i xs)) (map said_need (drop i xs)) whole) in
     omega (arith, count, length_map said_need (take i xs), length-take i xs, le)
 
 module _ (xs : List Said) (up : AreInNameOrder (map said_need xs)) (i : ℕ) (said : Said) (lt : i < length xs) (is : said ≡ get_or xs i said) where

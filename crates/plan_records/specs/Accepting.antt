@@ -1,5 +1,5 @@
 -- When a request may be accepted: under each refusal, what has to be so lest it be given. What no line names is never in the way.
-use Rattle.std.specs.Prelude.{◌≡◌, ◌≢◌, ◌⊎◌, ℕ, ◌<◌, ◌≤◌, ℤ, pos, negsuc, ◌≤ℤ◌, Bool, true, false, List, length, Option, Some, None, is_some, AllPairs}
+use Rattle.std.specs.Prelude.{◌≡◌, ◌≢◌, ◌⊎◌, ℕ, ◌≤◌, ℤ, pos, negsuc, ◌≤ℤ◌, Bool, true, false, List, length, Option, Some, None, is_some, AllPairs}
 use Rattle.std.specs.FinMap.{get, contains_key}
 use Rattle.plan_basics.specs.declared.Attr.{Attr}
 use Rattle.plan_basics.specs.declared.Attr.TheVariants as attribute
@@ -7,10 +7,10 @@ use Rattle.plan_basics.specs.declared.keys.OccKey.{OccKey}
 use Rattle.plan_basics.specs.declared.keys.OpKey.{OpKey}
 use Rattle.plan_basics.specs.declared.Refusal.{Refusal}
 use Rattle.plan_basics.specs.declared.Refusal.TheVariants as refusal
-use Rattle.plan_basics.specs.Refusals.{number_of}
 use Rattle.plan_basics.specs.Minutes.{IsMoment}
 use Rattle.plan_basics.specs.Intervals.{OpenInterval, AreApart}
 use Rattle.plan_basics.specs.Keys.{Name}
+use Rattle.workstations.specs.Timetables.{IsLeastRefusal}
 use Rattle.status_rules.specs.declared.Mark.TheVariants as mark
 use Rattle.status_rules.specs.declared.Status.TheVariants as status
 use Rattle.plan_model.specs.Plan.{Plan, Operation, Supplement, IsInPlan, IsPairOf, Precedes, HasAttribute, attribute_at}
@@ -176,4 +176,4 @@ AllHold lines = (r : Refusal) → lines r
 
 -- of the lines that refuse, r's has the least number
 abbrev pub FailsFirstAt : (Refusal → Type 0) → Refusal → Type 0
-FailsFirstAt lines r = ¬ lines r × ((lower : Refusal) → number_of lower < number_of r → lines lower)
+FailsFirstAt lines r = IsLeastRefusal lines r

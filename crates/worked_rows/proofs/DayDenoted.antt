@@ -24,7 +24,7 @@ use Rattle.plan_records.specs.Records.{Denotes, IsItemOfPlan, StandsIn, key_of}
 use Rattle.plan_laws.proofs.Looks.{found_key}
 use Rattle.worked_rows.specs.Day.{always_open, cpu1, daily, day, evening, first, lasting, morning, occurrence, second}
 use Rattle.worked_rows.specs.DayText.{arrival_text, day_records, deadline_text, first_minute, last_minute}
-use Rattle.worked_rows.proofs.DayLoad.{cpu1_name, daily_key, day_is_draft, of_both, one_occurrence, one_workstation, only_pair, open_interval}
+use Rattle.worked_rows.proofs.DayLoad.{cpu1_name, daily_key, day_is_draft, of_both, one_occurrence, one_workstation, only_pair, open_interval, station_found}
 use Rattle.worked_rows.proofs.Literal.{each_entry, each_key}
 use Rattle.worked_rows.proofs.Moments.{first_of_march, second_of_march}
 use Rattle.worked_rows.proofs.Small.{first_is, first_precedes, second_is}
@@ -118,18 +118,15 @@ all_said = (says_workstation, (says_interval, (says_occurrence, (says_first, (sa
 
 -- ---- each item stands in the plan
 
-workstation_is : get day.workstations cpu1 ≡ Some always_open
-workstation_is = get-from_entries name_cmp_total ((cpu1, always_open) ∷ []) cpu1
-
 occurrence_is : get day.occurrences daily ≡ Some occurrence
 occurrence_is = get-from_entries occurrence_cmp_total ((daily, occurrence) ∷ []) daily
 
 all_stand : All (StandsIn day) day_items
-all_stand zero d h = ap (λ x. attribute_of x) workstation_is
+all_stand zero d h = ap (λ x. attribute_of x) station_found
   where
     attribute_of : Option Workstation → Option Attr
     attribute_of x = option_map (λ ws. ws.attribute) x
-all_stand (suc zero) d h = (always_open, workstation_is, get-from_entries nat_cmp_total ((0, interval_by 0 52595999 2 0 0) ∷ []) 0)
+all_stand (suc zero) d h = (always_open, station_found, get-from_entries nat_cmp_total ((0, interval_by 0 52595999 2 0 0) ∷ []) 0)
 all_stand (suc (suc zero)) d h = occurrence_is
 all_stand (suc (suc (suc zero))) d h = (lasting 30, occurrence, first_is, occurrence_is, record { workstation = refl; duration = refl; fixed = (refl, refl); not_before = refl; deadline = refl })
 all_stand (suc (suc (suc (suc zero)))) d h = (lasting 60, occurrence, second_is, occurrence_is, record { workstation = refl; duration = refl; fixed = (refl, refl); not_before = refl; deadline = refl })

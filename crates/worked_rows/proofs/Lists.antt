@@ -3,10 +3,13 @@ use Rattle.std.proofs.Common.{arith, ◌≡◌, inl, inr, refl, sym, ◌∙◌, 
 use Rattle.std.proofs.lemmas.List.Folds.{list_any-append}
 use Rattle.std.specs.declared.cmp.Ordering.{Ordering}
 use Rattle.std.specs.Ordering.{eq_by_cmp}
-use Rattle.std.specs.Cmp.{IsTotalOrder, Equal-is}
+use Rattle.std.specs.Cmp.{IsTotalOrder}
 use Rattle.std.specs.FinMap.{IsAntisymmetric, entries, entries-from_sorted, find, from_entries, from_sorted, get-from_entries, get-from_sorted, is_sorted, same_map}
 use Rattle.std.specs.FinSet as set
 use Rattle.plan_model.specs.Revise.{get-joined, get-revise, joined, or_else, revise}
+use Rattle.plan_records.proofs.MadeEntries.{find-made}
+pub use Rattle.plan_records.proofs.MadeEntries.{each_made as anew}
+use Rattle.plan_records.proofs.RowPlaces.{from_made}
 use Rattle.plan_laws.proofs.Sorted.{contains_head, contains_later}
 use Rattle.worked_rows.proofs.Literal.{OneOf}
 
@@ -50,20 +53,7 @@ one_of [] k (i, h, e) = absurd (omega arith)
 one_of (x ∷ xs) k (zero, h, e) = inl (sym e)
 one_of (x ∷ xs) k (suc i, h, e) = inr (one_of xs k (i, omega arith, e))
 
--- each entry with its value made anew
-abbrev pub anew : {K X : Type 0} → (K → X → X) → List (K × X) → List (K × X)
-anew f [] = []
-anew f (e ∷ es) = (e.0, f e.0 e.1) ∷ anew f es
-
 module _ {K X : Type 0} {R : K → K → Ordering} where
-  found_by : IsAntisymmetric R → (f : K → X → X) (q k : K) (v : X) (b : Bool) (x y : Option X) → eq_by_cmp R q k ≡ b → x ≡ option_map (f q) y → cond b (Some (f k v)) x ≡ option_map (f q) (cond b (Some v) y)
-  found_by same f q k v true x y is e = ap (λ z. Some (f z v)) (sym (same q k ((Equal-is (R q k)).0 is)))
-  found_by same f q k v false x y is e = e
-
-  found_anew : IsAntisymmetric R → (f : K → X → X) (es : List (K × X)) (q : K) → find R q (anew f es) ≡ option_map (f q) (find R q es)
-  found_anew same f [] q = refl
-  found_anew same f (e ∷ es) q = found_by same f q e.0 e.1 (eq_by_cmp R q e.0) (find R q (anew f es)) (find R q es) refl (found_anew same f es q)
-
   module _ (o : IsTotalOrder R) (same : IsAntisymmetric R) where
     -- a map written out in the keys' order has these entries
     pub entries-from_entries : (es : List (K × X)) → T (is_sorted R es) → entries (from_entries {R = R} es) ≡ es
@@ -75,14 +65,12 @@ module _ {K X : Type 0} {R : K → K → Ordering} where
     pub entries-revise : (f : K → X → X) (es : List (K × X)) → T (is_sorted R es) → T (is_sorted R (anew f es)) → entries (revise f (from_entries {R = R} es)) ≡ anew f es
     entries-revise f es h k =
         ap entries (same_map o same (revise f (from_entries es)) (from_sorted (anew f es))
-        (λ q. get-revise same f (from_entries es) q ∙ ap (option_map (f q)) (get-from_entries o es q) ∙ sym (found_anew same f es q) ∙ sym (get-from_sorted R (anew f es) q k)))
+        (λ q. get-revise same f (from_entries es) q ∙ ap (option_map (f q)) (get-from_entries o es q) ∙ sym (find-made R o same f q es) ∙ sym (get-from_sorted R (anew f es) q k)))
         ∙ entries-from_sorted R (anew f es) k
 
     -- a map written out, made anew
     pub revise_written : (f : K → X → X) (es : List (K × X)) → revise f (from_entries {R = R} es) ≡ from_entries (anew f es)
-    revise_written f es =
-        same_map o same (revise f (from_entries es)) (from_entries (anew f es))
-        (λ q. get-revise same f (from_entries es) q ∙ ap (option_map (f q)) (get-from_entries o es q) ∙ sym (found_anew same f es q) ∙ sym (get-from_entries o (anew f es) q))
+    revise_written f es = sym (from_made R o same f es)
 
     -- a map written out, with one more entry
     pub joined_written : (es : List (K × X)) (k : K) (v : X) → joined (from_entries {R = R} es) (from_entries ((k, v) ∷ [])) ≡ from_entries ((k, v) ∷ es)

@@ -17,6 +17,7 @@ use Rattle.plan_laws.proofs.Decide.{pair_cmp_total}
 use Rattle.plan_laws.proofs.Looks.{none_is_not_some}
 use Rattle.worked_rows.specs.Day.{cpu1, evening}
 use Rattle.worked_rows.specs.Night.{cpu1_station, custfile, dumm, dumm_station, end_of_night, needs_custfile, night, night_draft, night_occurrences, night_operations, night_pairs, night_resources, night_workstations, payroll, payroll_at, prt1, prt1_station, setp, setp_station, two_at_night}
+use Rattle.worked_rows.proofs.DayLoad.{cpu1_name}
 use Rattle.worked_rows.proofs.Literal.{each_entry, each_key}
 use Rattle.worked_rows.proofs.NightReports.{found_at, p5, p10, p20, p30, p40}
 use Rattle.worked_rows.proofs.NightStatuses.{workstation_at}
@@ -31,9 +32,6 @@ of_pairs Q a b c d = each_pair night_pairs Q (a, (b, (c, (d, tt))))
 
 of_stations : (Q : Name → Workstation → Type 0) → Q cpu1 cpu1_station → Q setp setp_station → Q prt1 prt1_station → Q dumm dumm_station → (w : Name) (ws : Workstation) → get night.workstations w ≡ Some ws → Q w ws
 of_stations Q a b c d = each_entry name_cmp_total name_cmp-IsAntisymmetric night_workstations Q (a, (b, (c, (d, tt))))
-
-cpu1_name : IsName 4 cpu1
-cpu1_name = name_is 4 cpu1 (omega arith) (omega arith) refl
 
 setp_name : IsName 4 setp
 setp_name = name_is 4 setp (omega arith) (omega arith) refl

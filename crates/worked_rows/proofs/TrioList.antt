@@ -14,11 +14,11 @@ use Rattle.ready_list.specs.declared.ReadyKey.{ReadyKey}
 use Rattle.ready_list.specs.Choice.{is_among}
 use Rattle.ready_list.specs.Order.{ready_cmp}
 use Rattle.plan_model.specs.Holdings.{given_out}
-use Rattle.plan_model.specs.Plan.{Operation, Precedes, pair_cmp}
+use Rattle.plan_model.specs.Plan.{Precedes, pair_cmp}
 use Rattle.plan_model.specs.Ready.{IsEntry, IsOnAutomatic, IsReadyList, named, with_mark}
 use Rattle.plan_model.specs.Starting.{IsAllowedToStart, IsLatestStart}
 use Rattle.plan_model.specs.Status.{HasStatus}
-use Rattle.plan_laws.proofs.Looks.{get-named, same_some}
+use Rattle.plan_laws.proofs.Looks.{as_named, get-named, same_some}
 use Rattle.worked_rows.specs.Day.{evening, cpu1}
 use Rattle.worked_rows.specs.Night.{cpu1_station, end_of_night}
 use Rattle.worked_rows.specs.Trio.{Terms, aaa, bbb, ccc, occurrence_by, operation_by, trio, trio_occurrences, trio_operations}
@@ -31,10 +31,6 @@ use Rattle.worked_rows.proofs.Starts.{starts_last}
 -- an operation's place in the ready list
 abbrev pub key_of : OpKey → Terms → ReadyKey
 key_of o t = record { latest = pos t.deadline -ℤ pos t.duration; priority = t.priority; duration = t.duration; op = o }
-
--- an operation with those of a list named
-abbrev pub named_by : List OpKey → OpKey → Operation → Operation
-named_by before o op = cond (is_among before o) (with_mark mark.Named op) op
 
 module _ (a b c : Terms) where
   pub found_at : (o : OpKey) → get (trio a b c).operations o ≡ find operation_cmp o (trio_operations a b c)
@@ -99,17 +95,17 @@ module _ (a b c : Terms) where
 
   -- what the workstation has given out then
   abbrev pub taken_by : List OpKey → Capacity
-  taken_by before = given_out_by cpu1 (Some attribute.Automatic) (anew (named_by before) (trio_operations a b c))
+  taken_by before = given_out_by cpu1 (Some attribute.Automatic) (anew (as_named before) (trio_operations a b c))
 
   given_out_then : (before : List OpKey) → given_out (named before (trio a b c)) cpu1 ≡ taken_by before
   given_out_then before =
-      given_out_is (named before (trio a b c)) cpu1 (Some attribute.Automatic) (anew (named_by before) (trio_operations a b c))
+      given_out_is (named before (trio a b c)) cpu1 (Some attribute.Automatic) (anew (as_named before) (trio_operations a b c))
       (ap (option_map (λ w. w.attribute)) station_is)
-      (entries-revise operation_cmp_total operation_cmp-IsAntisymmetric (named_by before) (trio_operations a b c) tt tt)
+      (entries-revise operation_cmp_total operation_cmp-IsAntisymmetric (as_named before) (trio_operations a b c) tt tt)
 
   module _ (before : List OpKey) (o : OpKey) (t : Terms) (left : is_among before o ≡ false) (is : get (trio a b c).operations o ≡ Some (operation_by t)) where
     is_then : get (named before (trio a b c)).operations o ≡ Some (operation_by t)
-    is_then = get-named before (trio a b c) o ∙ ap (option_map (named_by before o)) is ∙ ap (λ z. Some (cond z (with_mark mark.Named (operation_by t)) (operation_by t))) left
+    is_then = get-named before (trio a b c) o ∙ ap (option_map (as_named before o)) is ∙ ap (λ z. Some (cond z (with_mark mark.Named (operation_by t)) (operation_by t))) left
 
     pub arrives_then : HasStatus (named before (trio a b c)) o status.Arriving
     arrives_then = status_of_first (named before (trio a b c)) o (operation_by t) cpu1_station is_then station_is (λ p h. no_pair p o h)

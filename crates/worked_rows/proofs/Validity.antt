@@ -1,5 +1,5 @@
 -- What a plan that is written out needs to be valid: names, workstations of one interval, operations without needs, and pairs that ascend.
-use Rattle.std.proofs.Common.{arith, ◌≡◌, inl, inr, refl, sym, ◌∙◌, ap, subst, true≢false, ℕ, ◌+◌, ◌<◌, ◌≤◌, Bool, true, false, cond, ◌||◌, All, List, [], ◌∷◌, length, nat_lt, Some}
+use Rattle.std.proofs.Common.{arith, ◌≡◌, inl, inr, refl, sym, ◌∙◌, ap, subst, true≢false, ℕ, ◌<◌, ◌≤◌, Bool, true, false, ◌||◌, All, List, [], ◌∷◌, length, nat_lt, Some}
 use Rattle.std.proofs.lemmas.Bool.Decides.{Decides-ltb}
 use Rattle.std.proofs.lemmas.List.Sums.{AllPass-from_list_all}
 use Rattle.std.specs.declared.cmp.Ordering.{Ordering}
@@ -15,6 +15,7 @@ use Rattle.plan_basics.specs.Keys.{IsOperationKey, name_cmp}
 use Rattle.plan_basics.specs.Minutes.{IsMoment}
 use Rattle.plan_basics.specs.Names.{IsName, is_name_byte}
 use Rattle.special_resources.specs.Holders.{Usage}
+use Rattle.workstations.proofs.Lookups.{one_more}
 use Rattle.workstations.specs.Workstations.{IsWorkstation}
 use Rattle.operation_graph.specs.Paths.{IsAcyclicBy, IsRankBy, LeadsBy, by_edge, by_more}
 use Rattle.status_rules.specs.declared.Mark.TheVariants as mark
@@ -54,10 +55,6 @@ pub each_pair : (pairs : List (OpKey × OpKey)) (Q : OpKey → OpKey → Type 0)
 each_pair pairs Q h p o is = at_entry Q pairs p o h (pair_cases pairs p o is)
 
 -- ---- sizes
-
-one_more : (b : Bool) (n m : ℕ) → n ≤ m → cond b n (n + 1) ≤ m + 1
-one_more true n m h = omega arith
-one_more false n m h = omega arith
 
 module _ {K X : Type 0} {R : K → K → Ordering} (o : IsTotalOrder R) where
   pub len_at_most : (es : List (K × X)) (n : ℕ) → length es ≤ n → len (from_entries {R = R} es) ≤ n
