@@ -6,7 +6,7 @@ use Rattle.std.specs.Ordering.{nat_cmp, ordering_then}
 use Rattle.std.specs.declared.cmp.Ordering.TheVariants.{Less}
 use Rattle.std.proofs.lemmas.Cmp.{tied_itself}
 use Rattle.std.proofs.lemmas.List.Elements.{All-from_recursion}
-use Rattle.operation_graph.proofs.Members.{contains_mapped}
+use Rattle.plan_basics.proofs.Members.{contains_mapped}
 use Rattle.plan_basics.specs.Keys.{occurrence_cmp_total, operation_cmp}
 use Rattle.plan_basics.specs.declared.keys.OccKey.{OccKey}
 use Rattle.plan_basics.specs.declared.keys.OpKey.{OpKey}

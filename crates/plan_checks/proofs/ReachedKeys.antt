@@ -6,7 +6,7 @@ use Rattle.std.specs.FinSet.{from_list}
 use Rattle.std.specs.Map.{keys_of}
 use Rattle.operation_graph.specs.Graphs.{AreExactly, HasEdge, IsSet}
 use Rattle.operation_graph.specs.Paths.{IsPathBy, ReachesBy, end_of}
-use Rattle.operation_graph.proofs.Members.{contains_mapped, mapped_contains}
+use Rattle.plan_basics.proofs.Members.{contains_mapped, mapped_contains}
 use Rattle.plan_basics.specs.Keys.{operation_cmp, operation_cmp_total, operation_cmp-IsAntisymmetric}
 use Rattle.plan_basics.specs.declared.keys.OpKey.{OpKey}
 use Rattle.plan_graph.proofs.PlacePaths.{reach_alike}

@@ -6,7 +6,7 @@ use Rattle.std.specs.FinSet.{from_list, same_set}
 use Rattle.std.proofs.lemmas.List.{map-append, take_all, take_more}
 use Rattle.std.proofs.lemmas.Option.{slice_get-get_or, slice_get_within, get_or_from_slice_get}
 use Rattle.operation_graph.specs.Graphs.{AreDifferent, AreInTurn, Digraph, HasEdge}
-use Rattle.operation_graph.proofs.Members.{contains_cases, contains_none}
+use Rattle.plan_basics.proofs.Members.{contains_cases, contains_none}
 use Rattle.plan_basics.specs.Keys.{operation_cmp, operation_cmp_total, operation_cmp-IsAntisymmetric}
 use Rattle.plan_basics.specs.declared.keys.OpKey.{OpKey}
 use Rattle.plan_graph.proofs.KeyPlaces.{listed_in, in_listed, pair_cmp_total, pair_cmp-IsAntisymmetric}
