@@ -90,6 +90,66 @@ fn errors_and_their_texts(rt: HostRuntime) {
     assert_eq!(rt; Mark::from_text(b"ended", b""), None);
 }
 
+// Each status, and whether (1) or not (0) it is ready, waiting or ready, under way, satisfied, open to a start where starts
+// are reported, to a completion, to a rerun, and one that holds a server.
+const CLASSES: [(u8, [u8; 8]); 10] = [
+    (b'W', [0, 1, 0, 0, 0, 0, 0, 0]),
+    (b'A', [1, 1, 0, 0, 1, 1, 0, 0]),
+    (b'*', [1, 1, 0, 0, 1, 1, 0, 0]),
+    (b'R', [1, 1, 0, 0, 1, 1, 0, 0]),
+    (b'S', [0, 0, 1, 0, 0, 1, 0, 1]),
+    (b'I', [0, 0, 1, 0, 1, 1, 1, 0]),
+    (b'U', [0, 0, 1, 0, 0, 1, 1, 1]),
+    (b'E', [0, 0, 0, 0, 0, 1, 1, 0]),
+    (b'C', [0, 0, 0, 1, 0, 0, 1, 0]),
+    (b'D', [0, 0, 0, 1, 0, 0, 0, 0]),
+];
+
+// Whether a status is of each class, in that order.
+fn classes_of(status: Status) -> [u8; 8] {
+    [
+        u8::from(status.is_ready()),
+        u8::from(status.is_waiting_or_ready()),
+        u8::from(status.is_under_way()),
+        u8::from(status.is_satisfied()),
+        u8::from(status.is_startable()),
+        u8::from(status.is_completable()),
+        u8::from(status.is_rerunnable()),
+        u8::from(status.holds_server()),
+    ]
+}
+
+#[test]
+fn classes_of_statuses(rt: HostRuntime) {
+    for (letter, classes) in CLASSES {
+        let status = Status::from_letter(letter).expect(&rt, "a status");
+        assert_eq!(rt; classes_of(status), classes);
+    }
+}
+
+// Marks without a code, and whether operations that bear them are live, hold a server, and hold special resources.
+const HELD: [(Mark, [bool; 3]); 7] = [
+    (Mark::Unmarked, [true, false, false]),
+    (Mark::Named, [true, true, true]),
+    (Mark::Running, [true, true, true]),
+    (Mark::Interrupted, [true, false, true]),
+    (Mark::Done, [true, false, false]),
+    (Mark::Undecided, [true, true, true]),
+    (Mark::Deleted, [false, false, false]),
+];
+
+#[test]
+fn classes_of_marks(rt: HostRuntime) {
+    for (mark, [live, server, resource]) in HELD {
+        assert_eq!(rt; mark.is_live(), live);
+        assert_eq!(rt; mark.holds_server(), server);
+        assert_eq!(rt; mark.holds_resource(false), resource);
+    }
+    let mark = Mark::Error(ErrCode::from_text(b"S0C7").expect(&rt, "a code"));
+    assert!(rt; mark.is_live() && !mark.holds_server());
+    assert!(rt; mark.holds_resource(true) && !mark.holds_resource(false));
+}
+
 // Of five operations: how many are deleted, in error, undecided, complete and started, and the occurrence's status.
 const OCCURRENCES: [([u32; 5], u8); 8] = [
     ([0, 0, 0, 0, 0], b'W'),

@@ -1,5 +1,5 @@
 -- Latest starts by the items of rows are those of their operations.
-use Rattle.std.proofs.Common.{◌≡◌, ◌≢◌, refl, sym, ap, subst, ◌∙◌, true≢false, ℕ, ℤ, true, List, map, slice_get, Some, option_map}
+use Rattle.std.proofs.Common.{◌≡◌, ◌≢◌, sym, ap, subst, ◌∙◌, ℕ, ℤ, List, map, slice_get, Some, option_map}
 use Rattle.std.specs.Map.{keys_of}
 use Rattle.std.specs.FinMap.{get}
 use Rattle.std.proofs.lemmas.List.{length-map}
@@ -9,7 +9,7 @@ use Rattle.latest_start.specs.declared.Item.{Item}
 use Rattle.latest_start.specs.NodeStarts.{AreLatestStartsOf, IsLiveBy, deadline_by, duration_by, item_of, no_item}
 use Rattle.plan_basics.specs.Keys.{operation_cmp, operation_cmp_total, operation_cmp-IsAntisymmetric}
 use Rattle.plan_basics.specs.declared.keys.OpKey.{OpKey}
-use Rattle.status_rules.specs.declared.Mark.{Mark}
+use Rattle.status_rules.proofs.Live.{live_mark, mark_live}
 use Rattle.status_rules.specs.declared.Mark.TheVariants as mark
 use Rattle.plan_model.specs.Starting.{number_of}
 use Rattle.plan_model.specs.Plan.{IsLive, Operation, Plan}
@@ -22,15 +22,7 @@ use Rattle.plan_records.proofs.Tables.{key_found}
 use Rattle.plan_laws.proofs.Looks.{same_some}
 use Rattle.plan_choice.specs.Choosing.{AreLatestStarts}
 use Rattle.plan_status.proofs.RowKeys.{key_of_row, row_of_key}
-use Rattle.plan_choice.specs.StartItems.{is_live_mark, start_item}
-
--- what is not deleted is live
-pub live_mark : (m : Mark) → is_live_mark m ≡ true → m ≢ mark.Deleted
-live_mark m live deleted = true≢false (sym live ∙ ap is_live_mark deleted)
-
-pub mark_live : (m : Mark) → m ≢ mark.Deleted → is_live_mark m ≡ true
-mark_live mark.Deleted h = absurd (h refl)
-mark_live m h = refl
+use Rattle.plan_choice.specs.StartItems.{start_item}
 
 abbrev pub duration_in : Plan → OpKey → ℕ
 duration_in P o = number_of (get P.operations o) (λ op. op.duration)

@@ -7,34 +7,21 @@ use Rattle.plan_basics.specs.Keys.{Name, operation_cmp, operation_cmp_total, ope
 use Rattle.plan_basics.specs.declared.keys.OpKey.{OpKey}
 use Rattle.ready_list.specs.declared.entry.ReadyEntry.{ReadyEntry}
 use Rattle.status_rules.specs.declared.Status.{Status}
-use Rattle.status_rules.specs.declared.Status.TheVariants as status
+use Rattle.status_rules.specs.Classes.{is_ready}
 use Rattle.plan_model.specs.Plan.{HasAttribute, Plan, Operation}
 use Rattle.plan_model.specs.Starting.{IsLatestStart}
 use Rattle.plan_model.specs.Status.{HasStatus, IsReady}
-use Rattle.plan_model.specs.Valid.{IsAcyclic}
 use Rattle.plan_model.specs.declared.Occurrence.{Occurrence}
 use Rattle.plan_records.specs.Contents.{AreValidContents, plan_of}
 use Rattle.plan_records.specs.Places.{AreStatuses}
 use Rattle.plan_records.specs.declared.contents.PlanContents.{PlanContents}
 use Rattle.plan_records.proofs.RowPlaces.{place_of_found}
+use Rattle.plan_laws.proofs.Classes.{ready_by, ready_told}
 use Rattle.plan_laws.proofs.Looks.{found_key}
 use Rattle.plan_laws.proofs.Standing.{one_status}
-use Rattle.plan_choice.specs.Choosing.{AreLatestStarts, is_ready_status}
+use Rattle.plan_choice.specs.Choosing.{AreLatestStarts}
 use Rattle.plan_choice.specs.Readying.{AreAllReady, IsReadyEntry}
 use Rattle.plan_choice.proofs.ReadyLists.{AreReadyBelow, ready_more, ready_pass, ready_rows}
-
--- ---- ready by its status
-
-ready_by : (P : Plan) (o : OpKey) (s : Status) → is_ready_status s ≡ true → HasStatus P o s → IsReady P o
-ready_by P o status.Arriving e h = inl h
-ready_by P o status.ReadyAfterNonreporting e h = inr (inl h)
-ready_by P o status.Ready e h = inr (inr h)
-ready_by P o s e h = absurd (true≢false (sym e))
-
-is_ready_by : (P : Plan) → IsAcyclic P.pairs → (o : OpKey) (s : Status) → HasStatus P o s → IsReady P o → is_ready_status s ≡ true
-is_ready_by P acyclic o s h (inl r) = ap is_ready_status (one_status P acyclic o s status.Arriving h r)
-is_ready_by P acyclic o s h (inr (inl r)) = ap is_ready_status (one_status P acyclic o s status.ReadyAfterNonreporting h r)
-is_ready_by P acyclic o s h (inr (inr r)) = ap is_ready_status (one_status P acyclic o s status.Ready h r)
 
 -- what is ready is in the plan
 pub ready_in_plan : (P : Plan) (o : OpKey) → IsReady P o → (op : Operation) × (get P.operations o ≡ Some op)
@@ -71,14 +58,14 @@ module _ (c : PlanContents) (h : AreValidContents c) where
     has_status = are_statuses.each n o op s at is
 
     -- what has another status isn't ready
-    pub next_passed : is_ready_status s ≡ false → AreReadyBelow P c.operations.items (n + 1) entries
-    next_passed out = ready_pass P c.operations.items h.in_order.operations n entries so_far o op at (λ ready. true≢false (sym (is_ready_by P h.valid.acyclic o s has_status ready) ∙ out))
+    pub next_passed : is_ready s ≡ false → AreReadyBelow P c.operations.items (n + 1) entries
+    next_passed out = ready_pass P c.operations.items h.in_order.operations n entries so_far o op at (λ ready. true≢false (sym (ready_told P o s (λ t k. one_status P h.valid.acyclic o t s k has_status) ready) ∙ out))
 
     -- what has one of the three is
-    pub next_ready : (latest : List ℤ) → AreLatestStarts P c.operations.items latest → (v : ℤ) → slice_get latest n ≡ Some v → is_ready_status s ≡ true
+    pub next_ready : (latest : List ℤ) → AreLatestStarts P c.operations.items latest → (v : ℤ) → slice_get latest n ≡ Some v → is_ready s ≡ true
         → (x : ReadyEntry) → x.key.op ≡ o → (IsReady P o → IsLatestStart P o v → IsReadyEntry P x) → AreReadyBelow P c.operations.items (n + 1) (entries ++ x ∷ [])
     next_ready latest are_latest v start among x is_op entry =
-        ready_more P c.operations.items h.in_order.operations n entries so_far o op at x is_op (entry (ready_by P o s among has_status) (are_latest.each n o op v at start))
+        ready_more P c.operations.items h.in_order.operations n entries so_far o op at x is_op (entry (ready_by P o s has_status among) (are_latest.each n o op v at start))
 
   -- past the last row
   pub ready_all : (n : ℕ) (entries : List ReadyEntry) → length c.operations.items ≤ n → AreReadyBelow P c.operations.items n entries → AreAllReady P entries

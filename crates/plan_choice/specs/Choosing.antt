@@ -1,5 +1,5 @@
 -- What is worked out on the way to what starts.
-use Rattle.std.specs.Prelude.{◌≡◌, ◌↔◌, Bool, true, false, List, ℤ, Contains, Some}
+use Rattle.std.specs.Prelude.{◌≡◌, ◌↔◌, Bool, List, ℤ, Contains, Some}
 use Rattle.std.specs.FinMap.{get}
 use Rattle.plan_basics.specs.Keys.{Name}
 use Rattle.special_resources.specs.declared.Mode.{Mode}
@@ -7,8 +7,6 @@ use Rattle.special_resources.specs.Holdings.{Held}
 use Rattle.plan_basics.specs.declared.Refusal.{Refusal}
 use Rattle.plan_basics.specs.declared.Refusal.TheVariants as refusal
 use Rattle.plan_basics.specs.declared.keys.OpKey.{OpKey}
-use Rattle.status_rules.specs.declared.Status.{Status}
-use Rattle.status_rules.specs.declared.Status.TheVariants as status
 use Rattle.ready_list.specs.Entries.{keys_of}
 use Rattle.ready_list.specs.declared.entry.ReadyEntry.{ReadyEntry}
 use Rattle.plan_model.specs.Holdings.{given_out, Holds}
@@ -24,13 +22,6 @@ use Rattle.workstations.specs.declared.Capacity.{Capacity}
 -- the latest start of each row's operation
 abbrev pub AreLatestStarts : Plan → List (OpKey × Operation) → List ℤ → Type 0
 AreLatestStarts P rows latest = AreByPlace rows latest (IsLatestStart P)
-
--- whether operations of this status are in the ready list
-abbrev pub is_ready_status : Status → Bool
-is_ready_status status.Arriving = true
-is_ready_status status.ReadyAfterNonreporting = true
-is_ready_status status.Ready = true
-is_ready_status _ = false
 
 -- the entry has its operation's workstation, and how that reports
 abbrev pub HasItsWorkstation : Plan → ReadyEntry → Type 0

@@ -1,9 +1,7 @@
 // Who holds special resources.
 ghost use Rattle.std.specs.Prelude.{◌≡◌, ℕ, IfOk, IfErr, OnOk};
 ghost use Rattle.plan_basics.specs.declared.Refusal.{Refusal};
-ghost use Rattle.plan_model.specs.Holdings.{holds_resource};
 ghost use Rattle.plan_records.specs.Contents.{plan_of, AreValidContents};
-ghost use Rattle.status_rules.specs.Table.{marked_status};
 ghost use Rattle.status_rules.specs.declared.Mark.{Mark};
 ghost use Rattle.plan_choice.specs.Choosing.{AreHeldIn};
 ghost use Rattle.plan_choice.specs.Taking.{HaveTaken};
@@ -15,17 +13,6 @@ use plan_records::PlanContents;
 use special_resources::Holdings;
 use status_rules::Mark;
 use std::alloc::Global;
-
-// Whether an operation of this mark holds a special resource that an error keeps, or frees.
-fn holds_by(mark: &Mark, keep: bool) -> bool
-    ensures { result ≡ holds_resource keep (marked_status mark.now) }
-{
-    match mark {
-        Mark::Named | Mark::Running | Mark::Undecided | Mark::Interrupted => true,
-        Mark::Error(_) => keep,
-        _ => false,
-    }
-}
 
 // Takes what an operation with this mark holds of what it needs, unless it holds it already.
 fn take_marked(
@@ -40,7 +27,7 @@ fn take_marked(
     let needs = operation.needs.as_slice();
     holdings.reserve(needs.len())?;
     for need in needs {
-        if holds_by(mark, need.keep) && holdings.mode_of(&need.name, *key).is_none() {
+        if mark.holds_resource(need.keep) && holdings.mode_of(&need.name, *key).is_none() {
             holdings.take(need, *key);
         }
     }

@@ -10,7 +10,6 @@ use operation_graph::Graph;
 use plan_basics::{OpKey, Refusal};
 use plan_model::OperationRecord;
 use plan_records::PlanContents;
-use status_rules::Mark;
 use std::alloc::{AllocError, Global};
 
 // What the latest start of an operation goes by.
@@ -20,7 +19,7 @@ fn item_of(operation: &OperationRecord) -> Item
     Item {
         duration: operation.duration,
         deadline: operation.deadline,
-        live: !matches!(operation.mark, Mark::Deleted),
+        live: operation.mark.is_live(),
     }
 }
 

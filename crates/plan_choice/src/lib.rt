@@ -10,5 +10,5 @@ mod taken;
 pub use choice::chosen;
 pub use holders::holdings_of;
 pub use latest::latest_of;
-pub use ready::{is_ready, ready_of};
+pub use ready::ready_of;
 pub use taken::{check_start, given_out_of};

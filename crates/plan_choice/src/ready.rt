@@ -10,7 +10,7 @@ ghost use Rattle.plan_records.specs.Contents.{plan_of, AreValidContents};
 ghost use Rattle.plan_records.specs.Places.{AreStatuses};
 ghost use Rattle.plan_model.specs.Starting.{IsLatestStart};
 ghost use Rattle.plan_model.specs.Status.{IsReady};
-ghost use Rattle.plan_choice.specs.Choosing.{AreLatestStarts, AreReadyEntries, is_ready_status};
+ghost use Rattle.plan_choice.specs.Choosing.{AreLatestStarts, AreReadyEntries};
 ghost use Rattle.plan_choice.specs.Readying.{AreAllReady, IsReadyEntry};
 
 use latest_start::Latest;
@@ -21,16 +21,6 @@ use plan_status::attribute_of;
 use ready_list::{ReadyEntry, ReadyKey, ReadyList};
 use status_rules::Status;
 use std::alloc::{AllocError, Global};
-
-/// Whether operations of this status are in the ready list.
-pub fn is_ready(status: Status) -> bool
-    ensures { result ≡ is_ready_status status }
-{
-    matches!(
-        status,
-        Status::Arriving | Status::ReadyAfterNonreporting | Status::Ready
-    )
-}
 
 // The priority of the occurrence of a key that is among them.
 fn priority_of(rows: &[(OccKey, Occurrence)], occurrence: &OccKey) -> u8
@@ -75,7 +65,7 @@ fn ready_entries(
 {
     let mut entries = Vec::new(alloc);
     for i in 0..contents.operations.len() {
-        if is_ready(statuses[i]) {
+        if statuses[i].is_ready() {
             entries.push(ready_entry(contents, &contents.operations[i], latest.of(i)))?;
         }
     }

@@ -6,8 +6,7 @@ ghost use Rattle.plan_basics.specs.declared.keys.OpKey.{OpKey};
 ghost use Rattle.plan_model.specs.Plan.{Plan, attribute_at};
 ghost use Rattle.plan_model.specs.Starting.{MayStart};
 ghost use Rattle.plan_records.specs.Contents.{plan_of, AreValidContents};
-ghost use Rattle.plan_model.specs.Holdings.{holds_server, takes};
-ghost use Rattle.status_rules.specs.Table.{marked_status};
+ghost use Rattle.plan_model.specs.Holdings.{takes};
 ghost use Rattle.plan_choice.specs.Choosing.{AreGivenOut, HasTaken, IsStartLine};
 ghost use Rattle.plan_choice.specs.Taking.{CanMeetNeed, CanMeetNeeds, CanStart, IsAtMost, MeetsLinesBelow, takes_server, with_one_more};
 
@@ -16,7 +15,6 @@ use plan_model::OperationRecord;
 use plan_records::{PlanContents, known_workstation, row_place};
 use plan_status::attribute_of;
 use special_resources::{Holdings, Need};
-use status_rules::Mark;
 use std::alloc::{AllocError, Global};
 use workstations::Capacity;
 
@@ -26,13 +24,6 @@ const NOTHING: Capacity = Capacity {
     r1: 0,
     r2: 0,
 };
-
-// Whether an operation of this mark takes a server, R1 and R2.
-fn holds(mark: Mark) -> bool
-    ensures { result ≡ holds_server (marked_status mark) }
-{
-    matches!(mark, Mark::Named | Mark::Running | Mark::Undecided)
-}
 
 /// Whether starts are known on the workstation of an operation of the plan: there it takes servers and special resources.
 pub fn starts_are_known(contents: &PlanContents, operation: &OperationRecord) -> bool
@@ -52,7 +43,7 @@ fn holds_a_server(contents: &PlanContents, operation: &OperationRecord) -> bool
     requires operation { (o : OpKey) × (get (plan_of 0 contents.now).operations o ≡ Some operation.now) }
     ensures { result ≡ takes_server (plan_of 0 contents.now) operation.now }
 {
-    starts_are_known(contents, operation) && holds(operation.mark)
+    starts_are_known(contents, operation) && operation.mark.holds_server()
 }
 
 // What is given out, with this much more.

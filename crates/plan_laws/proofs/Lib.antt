@@ -27,6 +27,7 @@ pub mod Finite
 pub mod Ordered
 pub mod Entries
 pub mod Standing
+pub mod Classes
 pub mod Latest
 pub mod Sorting
 pub mod Readying

@@ -1,11 +1,13 @@
 -- What is read off a valid plan is there, and is one: statuses, latest starts, the ready list and the choice.
-use Rattle.std.specs.Prelude.{◌≡◌, ◌⊎◌, ℕ, ℤ, List}
+use Rattle.std.specs.Prelude.{◌≡◌, ◌⊎◌, ◌↔◌, ℕ, ℤ, List, true}
 use Rattle.plan_basics.specs.declared.keys.OccKey.{OccKey}
 use Rattle.plan_basics.specs.declared.keys.OpKey.{OpKey}
 use Rattle.status_rules.specs.declared.OccStatus.{OccStatus}
 use Rattle.status_rules.specs.declared.Status.{Status}
+use Rattle.status_rules.specs.declared.Status.TheVariants as status
+use Rattle.status_rules.specs.Classes.{is_ready, is_satisfied, is_under_way, is_waiting_or_ready}
 use Rattle.plan_model.specs.Plan.{Plan, IsInPlan}
-use Rattle.plan_model.specs.Status.{HasOccurrenceStatus, HasStatus, IsSatisfied}
+use Rattle.plan_model.specs.Status.{HasOccurrenceStatus, HasStatus, IsReady, IsSatisfied, IsUnderWay, IsWaitingOrReady}
 use Rattle.plan_model.specs.Ready.{IsReadyList, IsChosen}
 use Rattle.ready_list.specs.declared.ReadyKey.{ReadyKey}
 use Rattle.plan_model.specs.Starting.{IsLatestStart}
@@ -14,6 +16,21 @@ use Rattle.plan_model.specs.Valid.{IsValid}
 -- an operation of a valid plan is satisfied or it isn't
 abbrev pub SatisfiedIsTold : Type 0
 SatisfiedIsTold = (P : Plan) → IsValid P → (o : OpKey) → IsSatisfied P o ⊎ ¬ IsSatisfied P o
+
+-- an operation is satisfied exactly where its status is complete or deleted
+abbrev pub SatisfiedByStatus : Type 0
+SatisfiedByStatus = (P : Plan) (o : OpKey) → IsSatisfied P o ↔ (HasStatus P o status.Complete ⊎ HasStatus P o status.Deleted)
+
+-- the classes of this status tell what is so of o
+pub record AreItsClasses (P : Plan) (o : OpKey) (s : Status) : Type 0 where
+  pub ready : IsReady P o ↔ (is_ready s ≡ true)
+  pub waiting_or_ready : IsWaitingOrReady P o ↔ (is_waiting_or_ready s ≡ true)
+  pub under_way : IsUnderWay P o ↔ (is_under_way s ≡ true)
+  pub satisfied : IsSatisfied P o ↔ (is_satisfied s ≡ true)
+
+-- of each operation of a valid plan the classes of its status tell whether it is ready, waiting or ready, under way, and satisfied
+abbrev pub ClassesOfStatus : Type 0
+ClassesOfStatus = (P : Plan) → IsValid P → (o : OpKey) (s : Status) → HasStatus P o s → AreItsClasses P o s
 
 -- each operation of a valid plan has a status, and no other
 abbrev pub EachHasOneStatus : Type 0

@@ -21,7 +21,7 @@ ghost use Rattle.plan_records.specs.Rows.{IsWaitingFor};
 ghost use Rattle.std.specs.FinMap.{get};
 ghost use Rattle.plan_model.specs.Status.{IsSatisfied, HasStatus, AllPredecessorsSatisfied, ArePreds, IsInEachClosedSet};
 ghost use Rattle.plan_laws.specs.Steps.{OneStep, OneNumberedStep, OneRun, SomeStep, SomeNumberedStep, SomeRun, PlanAnswers};
-ghost use Rattle.plan_laws.specs.Derived.{SatisfiedIsTold, EachHasOneStatus, EachHasOneLatestStart, SomeReadyList, SomeChoice, EachHasOneOccurrenceStatus};
+ghost use Rattle.plan_laws.specs.Derived.{SatisfiedIsTold, SatisfiedByStatus, ClassesOfStatus, EachHasOneStatus, EachHasOneLatestStart, SomeReadyList, SomeChoice, EachHasOneOccurrenceStatus};
 ghost use Rattle.plan_laws.specs.Tables.{EachHasOneRow, OneListOfChanges, RowsTellPlan, RowsTellReceipts, SomeChanges, SomeRows};
 ghost use Rattle.plan_laws.specs.Work.{OneAllowance, SomeAllowance};
 ghost use Rattle.plan_laws.specs.Ranks.{ValidHasRank, PathsAreTold, CyclesAreTold};
@@ -122,6 +122,17 @@ pub fn valid_has_rank()
 pub fn paths_are_told()
     ensures paths { PathsAreTold }
     ensures cycles { CyclesAreTold }
+{}
+
+/// An operation is satisfied exactly where its status is complete or deleted.
+pub fn satisfied_by_status()
+    ensures { SatisfiedByStatus }
+{}
+
+/// Of each operation of a valid plan the classes of its status tell whether it is ready, waiting or ready, under way, and
+/// satisfied.
+pub fn classes_of_status()
+    ensures { ClassesOfStatus }
 {}
 
 /// Each operation of a valid plan has exactly one status.

@@ -8,24 +8,9 @@ use Rattle.plan_basics.specs.declared.keys.OpKey.{OpKey}
 use Rattle.plan_basics.specs.Keys.{Name, name_cmp}
 use Rattle.workstations.specs.declared.Capacity.{Capacity}
 use Rattle.special_resources.specs.Holders.{Usage}
-use Rattle.status_rules.specs.declared.Status.{Status}
-use Rattle.status_rules.specs.declared.Status.TheVariants as status
 use Rattle.status_rules.specs.Table.{marked_status}
+pub use Rattle.status_rules.specs.Classes.{holds_resource, holds_server}
 use Rattle.plan_model.specs.Plan.{Plan, Operation, Has, attribute_at}
-
--- whether an operation of this status holds a server, R1 and R2; none stands for no mark
-abbrev pub holds_server : Option Status → Bool
-holds_server (Some status.Started) = true
-holds_server (Some status.Undecided) = true
-holds_server _ = false
-
--- whether an operation of this status holds a special resource that it needs; one in error does where its need says keep
-abbrev pub holds_resource : Bool → Option Status → Bool
-holds_resource keep (Some status.Started) = true
-holds_resource keep (Some status.Undecided) = true
-holds_resource keep (Some status.Interrupted) = true
-holds_resource keep (Some status.Error) = keep
-holds_resource keep _ = false
 
 -- whether operations take anything on a workstation of this attribute: on those of C and N they take nothing
 abbrev pub takes : Option Attr → Bool

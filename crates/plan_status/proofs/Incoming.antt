@@ -11,8 +11,7 @@ use Rattle.plan_status.specs.Standings.{IsStanding}
 use Rattle.plan_status.specs.declared.standings.Standing.{Standing}
 use Rattle.plan_status.proofs.Alike.{IsOnNonreporting, count_alike, standing_alike}
 use Rattle.plan_status.proofs.CountOneMore.{count_more}
-use Rattle.std.proofs.lemmas.Bool.{and_from, and_parts, or_cases}
-use Rattle.plan_status.proofs.Satisfied.{either_is}
+use Rattle.std.proofs.lemmas.Bool.{and_from, and_parts, or_cases, or_left, or_right}
 
 module _ (P : Plan) (pairs : List (OpKey × OpKey)) (pair : OpKey × OpKey) (next : ComesAfter pairs pair) where
   abbrev was : Plan
@@ -132,7 +131,7 @@ module _ (P : Plan) (pairs : List (OpKey × OpKey)) (pair : OpKey × OpKey) (nex
         );
         nonreporting = (
           λ e. follows_now (elim (or_cases s.preds.nonreporting nonreporting (sym is_nonreporting ∙ e)) [ inl h ↦ inl (is.preds.nonreporting.0 h) | inr h ↦ inr (f.0 h) ]),
-          λ h. is_nonreporting ∙ either_is s.preds.nonreporting nonreporting (elim (follows_then h) [ inl x ↦ inl (is.preds.nonreporting.1 x) | inr x ↦ inr (f.1 x) ]),
+          λ h. is_nonreporting ∙ elim (follows_then h) [ inl x ↦ or_left s.preds.nonreporting nonreporting (is.preds.nonreporting.1 x) | inr x ↦ or_right s.preds.nonreporting nonreporting (f.1 x) ],
         );
       };
       waiting = subst (IsWaitingFor now pair.1) (sym is_waiting) (waits_now satisfied d);

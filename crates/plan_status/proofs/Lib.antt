@@ -10,7 +10,6 @@ pub mod Naming
 pub mod OfOccurrences
 pub mod RowKeys
 pub mod RowStandings
-pub mod Satisfied
 pub mod SoFar
 pub mod SoMany
 pub mod Tallying

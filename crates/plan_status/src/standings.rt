@@ -1,20 +1,20 @@
 // What is known of operations' predecessors.
-ghost use Rattle.std.specs.Prelude.{◌≡◌, ◌+◌, ◌<◌, ◌≤◌, ◌&&◌, ◌||◌, ℕ, true, cond, not, List, Some, IfOk, IfErr, Decides};
+ghost use Rattle.std.specs.Prelude.{◌≡◌, ◌+◌, ◌<◌, ◌≤◌, ◌&&◌, ◌||◌, ℕ, true, cond, List, Some, IfOk, IfErr, Decides};
 ghost use Rattle.std.specs.FinMap.{get};
 ghost use Rattle.plan_basics.specs.declared.Refusal.{Refusal};
 ghost use Rattle.plan_basics.specs.declared.keys.OpKey.{OpKey};
 ghost use Rattle.plan_model.specs.Plan.{Plan, HasAttribute};
 ghost use Rattle.plan_model.specs.Status.{IsSatisfied};
 ghost use Rattle.plan_records.specs.Contents.{plan_of, AreValidContents, IsGraphFor};
-ghost use Rattle.status_rules.specs.Table.{reports};
 ghost use Rattle.plan_status.specs.Incoming.{IsNextStanding, IsOperationOn};
 ghost use Rattle.plan_status.specs.Standings.{IsStanding, AreStandings};
 
+use super::statuses::status_with;
 use operation_graph::Graph;
 use plan_basics::{Attr, Refusal};
 use plan_model::OperationRecord;
 use plan_records::{PlanContents, known_workstation};
-use status_rules::{Mark, Preds};
+use status_rules::Preds;
 use std::alloc::Global;
 
 /// What is known of an operation's live predecessors.
@@ -45,22 +45,11 @@ pub fn attribute_of(contents: &PlanContents, operation: &OperationRecord) -> Att
     contents.workstations[place].attribute()
 }
 
-// Whether an operation without a mark completes by itself, once all its live predecessors are satisfied.
-fn passes_by_itself(operation: &OperationRecord, attr: Attr) -> bool
-    ensures { result ≡ (not operation.now.held && (operation.now.nop || not (reports attr))) }
-{
-    !operation.held && (operation.nop || matches!(attr, Attr::Nonreporting))
-}
-
-// Whether an operation is satisfied, by its standing.
+// Whether an operation is satisfied, by its standing: its status is complete or deleted.
 fn is_satisfied(operation: &OperationRecord, attr: Attr, standing: &Standing) -> bool
     ensures { (P : Plan) (o : OpKey) → IsOperationOn P o operation.now attr → IsStanding P o standing.now → Decides result (IsSatisfied P o) }
 {
-    match operation.mark {
-        Mark::Done | Mark::Deleted => true,
-        Mark::Unmarked => passes_by_itself(operation, attr) && standing.preds.satisfied,
-        _ => false,
-    }
+    status_with(operation, attr, standing).is_satisfied()
 }
 
 // The standing with one more live predecessor.
@@ -97,7 +86,7 @@ fn standing_after(
     ensures standing { (P : Plan) (pairs : List (OpKey × OpKey)) (pair : OpKey × OpKey) → IsOperationOn P pair.0 predecessor.now attr → IsNextStanding P pairs pair its.now standing.now result }
     ensures waiting { result.waiting ≤ standing.now.waiting + 1 }
 {
-    if matches!(predecessor.mark, Mark::Deleted) {
+    if !predecessor.mark.is_live() {
         return *standing;
     }
     let satisfied = is_satisfied(predecessor, attr, its);

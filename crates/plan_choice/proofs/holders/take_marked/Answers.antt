@@ -7,7 +7,7 @@ use Rattle.plan_records.proofs.Tables.{is_none}
 use Rattle.plan_choice.specs.Taking.{HaveTaken}
 use Rattle.plan_choice.proofs.NeedsTaken.{AreTakenSoFar, all_taken, held_already, not_held, taken_too}
 use Rattle.plan_choice.proofs.holders.take_marked.Goals as goal
-use Rattle.plan_choice.proofs.holders.take_marked.Goals.{then-holds_by+then-is_none, else-holds_by, else-holds_by-via-then-holds_by+else-is_none, else-holds_by-via-else-holds_by}
+use Rattle.plan_choice.proofs.holders.take_marked.Goals.{then-holds_resource+then-is_none, else-holds_resource, else-holds_resource-via-then-holds_resource+else-is_none, else-holds_resource-via-else-holds_resource}
 
 pub loop-need-preserved : goal.loop-need-preserved
 loop-need-preserved c =
@@ -21,23 +21,23 @@ loop-need-preserved c =
     let at : slice_get needs i ≡ Some need = slice_get-get_or needs i need c.loop-need-test.true ∙ ap Some (sym c.need-item.is) in
     let so_far = c.loop-need.invariant.taken in
     let room = c.loop-need.invariant.room in
-    elim c.if-holds_by.branch [
-      | then-holds_by+then-is_none w ↦
-          let holds = sym c.holds_by.ensures ∙ w.if-holds_by.true in
+    elim c.if-holds_resource.branch [
+      | then-holds_resource+then-is_none w ↦
+          let holds = sym c.holds_resource.ensures ∙ w.if-holds_resource.true in
           let free : get now (need.name, o) ≡ None = sym w.mode_of.ensures ∙ is_none w.mode_of.result w.if-is_none.ensures in
           rw w.holdings-is
           record {
             room = omega (arith, room, w.take.ensures.room);
             taken = subst (AreTakenSoFar before o needs mark (i + 1)) (sym w.take.ensures.held) (taken_too before o needs mark i need at now so_far holds free);
           }
-      | else-holds_by w ↦
+      | else-holds_resource w ↦
           rw w.holdings-is
-          (elim w.else-holds_by.branch [
-            | else-holds_by-via-then-holds_by+else-is_none w' ↦
+          (elim w.else-holds_resource.branch [
+            | else-holds_resource-via-then-holds_resource+else-is_none w' ↦
                 let some : is_some (get now (need.name, o)) ≡ true = ap is_some (sym w'.mode_of.ensures) ∙ w'.if-is_none.ensures in
                 record { room = omega (arith, room); taken = held_already before o needs mark i need at now so_far c.as_slice-needs.ensures.in_order some }
-            | else-holds_by-via-else-holds_by w' ↦
-                record { room = omega (arith, room); taken = not_held before o needs mark i need at now so_far (sym c.holds_by.ensures ∙ w'.if-holds_by.false) }
+            | else-holds_resource-via-else-holds_resource w' ↦
+                record { room = omega (arith, room); taken = not_held before o needs mark i need at now so_far (sym c.holds_resource.ensures ∙ w'.if-holds_resource.false) }
           ])
     ]
 
