@@ -1,5 +1,6 @@
 -- A record says one item at most.
 use Rattle.std.proofs.Common.{◌≡◌, get_or, ap, sym, arith, ◌∙◌}
+use Rattle.plan_basics.specs.declared.limits.TheConstants.{HIGHEST_PRIORITY, LONGEST_DURATION, LOWEST_PRIORITY, MOST_FIXED, SHORTEST_DURATION}
 use Rattle.plan_items.specs.declared.Item.{Item}
 use Rattle.plan_items.specs.declared.Item.TheVariants as item
 use Rattle.plan_items.specs.Items.{Fields, Says}
@@ -31,7 +32,7 @@ one_item fields (item.Occurrence a x d) (item.Occurrence b y e) h k =
     let p = occurrence_said fields a x d h in
     let q = occurrence_said fields b y e k in
     let key = one_occurrence (text_at fields 1) (text_at fields 2) a b p.0 q.0 in
-    let priority = one_number 1 9 (text_at fields 3) x y (omega arith) p.1 q.1 in
+    let priority = one_number LOWEST_PRIORITY HIGHEST_PRIORITY (text_at fields 3) x y (omega arith) p.1 q.1 in
     let deadline = one_moment (text_at fields 4) d e p.2 q.2 in
     λ i. item.Occurrence (key i) (priority i) (deadline i)
 one_item fields (item.Operation a) (item.Operation b) h k =
@@ -39,9 +40,9 @@ one_item fields (item.Operation a) (item.Operation b) h k =
     let q = operation_said fields b k in
     let same_key = one_operation (text_at fields 1) (text_at fields 2) (text_at fields 3) a.key b.key p.0 q.0 in
     let same_workstation = sym p.1 ∙ q.1 in
-    let same_duration = one_number 1 5999 (text_at fields 5) a.duration b.duration (omega arith) p.2 q.2 in
-    let same_r1 = one_number 0 99 (text_at fields 6) a.r1 b.r1 (omega arith) p.3 q.3 in
-    let same_r2 = one_number 0 99 (text_at fields 7) a.r2 b.r2 (omega arith) p.4 q.4 in
+    let same_duration = one_number SHORTEST_DURATION LONGEST_DURATION (text_at fields 5) a.duration b.duration (omega arith) p.2 q.2 in
+    let same_r1 = one_number 0 MOST_FIXED (text_at fields 6) a.r1 b.r1 (omega arith) p.3 q.3 in
+    let same_r2 = one_number 0 MOST_FIXED (text_at fields 7) a.r2 b.r2 (omega arith) p.4 q.4 in
     let same_not_before = one_not_before (text_at fields 8) a.not_before b.not_before p.5 q.5 in
     let same_deadline = one_deadline (text_at fields 9) a.deadline b.deadline p.6 q.6 in
     λ i. item.Operation (record { key = same_key i; workstation = same_workstation i; duration = same_duration i; r1 = same_r1 i; r2 = same_r2 i; not_before = same_not_before i; deadline = same_deadline i })

@@ -5,6 +5,7 @@ use Rattle.std.proofs.Math.Seq.{drop-cons}
 use Rattle.std.proofs.lemmas.List.{length-map}
 use Rattle.std.proofs.Common.{Option, Some, None, MatchOption, inl, inr}
 use Rattle.std.proofs.lemmas.List.{drop_all}
+use Rattle.plan_basics.specs.declared.limits.TheConstants.{HIGHEST_PRIORITY, LONGEST_DURATION, LOWEST_PRIORITY, MOST_FIXED, SHORTEST_DURATION}
 use Rattle.plan_basics.specs.declared.keys.OccKey.{OccKey}
 use Rattle.plan_basics.specs.declared.keys.OpKey.{OpKey}
 use Rattle.plan_basics.specs.Names.{IsName}
@@ -95,7 +96,7 @@ module _ (fields : Fields) (ten : length fields ≡ 10) where
     ),
   )
 
-  pub made_occurrence : text_at fields 0 ≡ codes "O" → (key : OccKey) (p d : ℕ) → IsOccurrenceAt (text_at fields 1) (text_at fields 2) key → IsNumberText 1 9 (text_at fields 3) p → IsMomentText (text_at fields 4) d → drop 5 fields ≡ replicate 5 [] → Says fields (item.Occurrence key p d)
+  pub made_occurrence : text_at fields 0 ≡ codes "O" → (key : OccKey) (p d : ℕ) → IsOccurrenceAt (text_at fields 1) (text_at fields 2) key → IsNumberText LOWEST_PRIORITY HIGHEST_PRIORITY (text_at fields 3) p → IsMomentText (text_at fields 4) d → drop 5 fields ≡ replicate 5 [] → Says fields (item.Occurrence key p d)
   made_occurrence k key p d h n m rest = (
     ((h.0, h.2.0), n.0, m.0),
     (
@@ -108,7 +109,7 @@ module _ (fields : Fields) (ten : length fields ≡ 10) where
   )
 
   pub made_operation : text_at fields 0 ≡ codes "P" → (o : OperationItem) → IsOperationAt (text_at fields 1) (text_at fields 2) (text_at fields 3) o.key → IsName 4 o.workstation → text_at fields 4 ≡ o.workstation
-      → IsNumberText 1 5999 (text_at fields 5) o.duration → IsNumberText 0 99 (text_at fields 6) o.r1 → IsNumberText 0 99 (text_at fields 7) o.r2 → IsNotBefore (text_at fields 8) o.not_before → IsMomentOrEmpty (text_at fields 9) o.deadline → Says fields (item.Operation o)
+      → IsNumberText SHORTEST_DURATION LONGEST_DURATION (text_at fields 5) o.duration → IsNumberText 0 MOST_FIXED (text_at fields 6) o.r1 → IsNumberText 0 MOST_FIXED (text_at fields 7) o.r2 → IsNotBefore (text_at fields 8) o.not_before → IsMomentOrEmpty (text_at fields 9) o.deadline → Says fields (item.Operation o)
   made_operation k o h legal e duration r1 r2 not_before deadline = (
     record { key = ((h.0.0, h.0.2.0), omega (arith, h.1.0.0), omega (arith, h.1.0.1)); workstation = legal; duration = duration.0; r1 = r1.0; r2 = r2.0; not_before = not_before_in_range (text_at fields 8) o.not_before not_before; deadline = deadline_in_range (text_at fields 9) o.deadline deadline },
     (
@@ -155,7 +156,7 @@ module _ (fields : Fields) where
       let e = h.1.4 in
       (ap (λ f. text_at f 1) e, (h.0.1, moment_at 2 h.1.0 x.from (ap (λ f. text_at f 2) e) h.1.2, moment_at 3 h.1.1 x.end (ap (λ f. text_at f 3) e) h.1.3, ap (λ f. text_at f 4) e, ap (λ f. text_at f 5) e, ap (λ f. text_at f 6) e))
 
-  pub occurrence_said : (key : OccKey) (p d : ℕ) → Says fields (item.Occurrence key p d) → IsOccurrenceAt (text_at fields 1) (text_at fields 2) key × IsNumberText 1 9 (text_at fields 3) p × IsMomentText (text_at fields 4) d
+  pub occurrence_said : (key : OccKey) (p d : ℕ) → Says fields (item.Occurrence key p d) → IsOccurrenceAt (text_at fields 1) (text_at fields 2) key × IsNumberText LOWEST_PRIORITY HIGHEST_PRIORITY (text_at fields 3) p × IsMomentText (text_at fields 4) d
   occurrence_said key p d h =
       let e = h.1.4 in
       ((h.0.0.0, ap (λ f. text_at f 1) e, moment_at 2 h.1.0 key.arrival (ap (λ f. text_at f 2) e) h.1.2), (h.0.1, ap (λ f. text_at f 3) e), moment_at 4 h.1.1 d (ap (λ f. text_at f 4) e) h.1.3)
@@ -164,7 +165,7 @@ module _ (fields : Fields) where
   operation_key_said i j k o arrival h app at_arrival m number = ((h.0.0, app, moment_at j arrival o.occurrence.arrival at_arrival m), ((omega (arith, h.1), omega (arith, h.2)), number))
 
   pub operation_said : (o : OperationItem) → Says fields (item.Operation o) → IsOperationAt (text_at fields 1) (text_at fields 2) (text_at fields 3) o.key × (text_at fields 4 ≡ o.workstation)
-      × IsNumberText 1 5999 (text_at fields 5) o.duration × IsNumberText 0 99 (text_at fields 6) o.r1 × IsNumberText 0 99 (text_at fields 7) o.r2 × IsNotBefore (text_at fields 8) o.not_before × IsMomentOrEmpty (text_at fields 9) o.deadline
+      × IsNumberText SHORTEST_DURATION LONGEST_DURATION (text_at fields 5) o.duration × IsNumberText 0 MOST_FIXED (text_at fields 6) o.r1 × IsNumberText 0 MOST_FIXED (text_at fields 7) o.r2 × IsNotBefore (text_at fields 8) o.not_before × IsMomentOrEmpty (text_at fields 9) o.deadline
   operation_said o h =
       let e = h.1.6 in (
         operation_key_said 1 2 3 o.key h.1.0 h.0.key (ap (λ f. text_at f 1) e) (ap (λ f. text_at f 2) e) h.1.3 (ap (λ f. text_at f 3) e),

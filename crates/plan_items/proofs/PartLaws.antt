@@ -2,6 +2,7 @@
 use Rattle.std.proofs.Common.{◌≡◌, ℕ, ◌<◌, ◌^◌, List, [], length, Bool, true, false, Option, Some, None, IsSome, IfSome, inl, inr, refl, sym, ap, subst, arith, ◌∙◌, ◌==◌, ◌↔◌}
 use Rattle.std.proofs.lemmas.List.{length-append}
 use Rattle.std.proofs.lemmas.Fmt.{decimal_injective}
+use Rattle.plan_basics.specs.declared.limits.TheConstants.{GREATEST_NUMBER, LEAST_NUMBER, MOST_FIXED, MOST_SERVERS}
 use Rattle.plan_basics.specs.Minutes.{IsMomentText}
 use Rattle.plan_basics.specs.Intervals.{OpenInterval, IsInterval, interval_by}
 use Rattle.std.proofs.Common.{get_or}
@@ -43,7 +44,7 @@ not_before_read t filled (Some m) h = inr h
 pub moment_filled : (m : ℕ) → ¬ IsMomentText [] m
 moment_filled m h = absurd (omega (arith, simp length-append at (ap (length {A = ℕ}) h.1.9)))
 
-module _ (from end servers r1 r2 : List ℕ) (a b s p q : ℕ) (at_from : IsMomentText from a) (at_end : IsMomentText end b) (at_servers : IsNumberText 0 99 servers s) (at_r1 : IsNumberText 0 99 r1 p) (at_r2 : IsNumberText 0 99 r2 q) where
+module _ (from end servers r1 r2 : List ℕ) (a b s p q : ℕ) (at_from : IsMomentText from a) (at_end : IsMomentText end b) (at_servers : IsNumberText 0 MOST_SERVERS servers s) (at_r1 : IsNumberText 0 MOST_FIXED r1 p) (at_r2 : IsNumberText 0 MOST_FIXED r2 q) where
   same_interval : (x : OpenInterval) → IsIntervalAt from end servers r1 r2 x → x ≡ interval_by a b s p q
   same_interval x h =
       let bound = h.0 in
@@ -69,7 +70,7 @@ one_occurrence app arrival a b h k = let name = sym h.1 ∙ k.1 in let minute = 
 pub one_operation : (app arrival number : List ℕ) (a b : OpKey) → IsOperationAt app arrival number a → IsOperationAt app arrival number b → a ≡ b
 one_operation app arrival number a b h k =
     let key = one_occurrence app arrival a.occurrence b.occurrence h.0 k.0 in
-    let n = one_number 1 255 number a.number b.number (omega arith) h.1 k.1 in
+    let n = one_number LEAST_NUMBER GREATEST_NUMBER number a.number b.number (omega arith) h.1 k.1 in
     λ i. record { occurrence = key i; number = n i }
 
 pub one_attribute : (a b : Attr) → attribute_letter a ≡ attribute_letter b → a ≡ b

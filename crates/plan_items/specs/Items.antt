@@ -1,6 +1,7 @@
 -- What one record of a plan's text says: the ten fields of each kind of record, and the item that they spell.
 use Rattle.std.specs.Prelude.{◌≡◌, ℕ, List, [], ◌∷◌, replicate, map, MatchOption, Vec, vec_items, codes, decimal}
 use Rattle.std.specs.declared.alloc.Global.{Global}
+use Rattle.plan_basics.specs.declared.limits.TheConstants.{MOST_FIXED, SHORTEST_DURATION, LONGEST_DURATION, LOWEST_PRIORITY, HIGHEST_PRIORITY}
 use Rattle.plan_basics.specs.Attributes.{attribute_letter}
 use Rattle.plan_basics.specs.Names.{IsName, IsResourceName}
 use Rattle.plan_basics.specs.Keys.{IsOccurrenceKey, IsOperationKey}
@@ -23,9 +24,9 @@ fields_of fields = map vec_items fields
 pub record IsOperationItem (o : OperationItem) : Type 0 where
   pub key : IsOperationKey o.key
   pub workstation : IsName 4 o.workstation
-  pub duration : IsWithin 1 5999 o.duration
-  pub r1 : IsWithin 0 99 o.r1
-  pub r2 : IsWithin 0 99 o.r2
+  pub duration : IsWithin SHORTEST_DURATION LONGEST_DURATION o.duration
+  pub r1 : IsWithin 0 MOST_FIXED o.r1
+  pub r2 : IsWithin 0 MOST_FIXED o.r2
   pub not_before : IsMoment o.not_before
   pub deadline : MatchOption o.deadline (Unit {0}) IsMoment
 
@@ -34,7 +35,7 @@ abbrev pub IsItem : Item → Type 0
 IsItem (item.Workstation name attribute) = IsName 4 name
 IsItem (item.Interval workstation interval) = IsName 4 workstation × IsInterval interval
 IsItem (item.Resource name available) = IsResourceName name
-IsItem (item.Occurrence key priority deadline) = IsOccurrenceKey key × IsWithin 1 9 priority × IsMoment deadline
+IsItem (item.Occurrence key priority deadline) = IsOccurrenceKey key × IsWithin LOWEST_PRIORITY HIGHEST_PRIORITY priority × IsMoment deadline
 IsItem (item.Operation operation) = IsOperationItem operation
 IsItem (item.Dependency predecessor successor) = IsOperationKey predecessor × IsOperationKey successor
 IsItem (item.Need operation need) = IsOperationKey operation × IsResourceName need.name

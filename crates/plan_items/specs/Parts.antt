@@ -2,6 +2,7 @@
 use Rattle.std.specs.Prelude.{◌≡◌, ◌⊎◌, ℕ, ◌≤◌, Bool, true, false, List, [], Option, Some, None, MatchOption, codes, decimal}
 use Rattle.plan_basics.specs.declared.keys.OccKey.{OccKey}
 use Rattle.plan_basics.specs.declared.keys.OpKey.{OpKey}
+use Rattle.plan_basics.specs.declared.limits.TheConstants.{LEAST_NUMBER, GREATEST_NUMBER}
 use Rattle.plan_basics.specs.Names.{IsName, IsResourceName}
 use Rattle.plan_basics.specs.Minutes.{IsMomentText}
 use Rattle.plan_basics.specs.Intervals.{OpenInterval, IsInterval}
@@ -51,7 +52,7 @@ IsOccurrenceAt app arrival key = IsName 16 key.app × (app ≡ key.app) × IsMom
 
 -- an operation's key: application, input arrival and number
 abbrev pub IsOperationAt : List ℕ → List ℕ → List ℕ → OpKey → Type 0
-IsOperationAt app arrival number key = IsOccurrenceAt app arrival key.occurrence × IsNumberText 1 255 number key.number
+IsOperationAt app arrival number key = IsOccurrenceAt app arrival key.occurrence × IsNumberText LEAST_NUMBER GREATEST_NUMBER number key.number
 
 -- an open interval: first minute, end, servers and fixed resources
 abbrev pub IsIntervalAt : List ℕ → List ℕ → List ℕ → List ℕ → List ℕ → OpenInterval → Type 0

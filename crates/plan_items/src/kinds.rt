@@ -11,6 +11,9 @@ use super::parts::{
     read_operation_key,
 };
 use super::{Item, OperationItem};
+use plan_basics::limits::{
+    HIGHEST_PRIORITY, LONGEST_DURATION, LOWEST_PRIORITY, MOST_FIXED, SHORTEST_DURATION,
+};
 use plan_basics::{ResName, WsName};
 
 // A workstation: its name and its attribute.
@@ -70,7 +73,7 @@ pub fn read_occurrence(fields: &[Vec<u8>; 10]) -> Option<Item>
         return None;
     }
     let key = read_occurrence_key(field(fields, 1), field(fields, 2))?;
-    let priority = small_number_within(field(fields, 3), 1, 9)?;
+    let priority = small_number_within(field(fields, 3), LOWEST_PRIORITY, HIGHEST_PRIORITY)?;
     let deadline = read_moment(field(fields, 4))?;
     Some(Item::Occurrence {
         key,
@@ -86,9 +89,9 @@ pub fn read_operation(fields: &[Vec<u8>; 10]) -> Option<Item>
 {
     let key = read_operation_key(field(fields, 1), field(fields, 2), field(fields, 3))?;
     let workstation = WsName::from_text(field(fields, 4))?;
-    let duration = number_within(field(fields, 5), 1, 5999)?;
-    let r1 = small_number_within(field(fields, 6), 0, 99)?;
-    let r2 = small_number_within(field(fields, 7), 0, 99)?;
+    let duration = number_within(field(fields, 5), SHORTEST_DURATION, LONGEST_DURATION)?;
+    let r1 = small_number_within(field(fields, 6), 0, MOST_FIXED)?;
+    let r2 = small_number_within(field(fields, 7), 0, MOST_FIXED)?;
     let not_before = read_not_before(field(fields, 8))?;
     let deadline = read_deadline(field(fields, 9))?;
     Some(Item::Operation(OperationItem {

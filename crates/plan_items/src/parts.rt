@@ -5,6 +5,7 @@ ghost use Rattle.plan_items.specs.Parts.{IsReading, IsMomentOrEmpty, IsNotBefore
 
 use super::letters::{read_keep, read_mode};
 use super::numbers::small_number_within;
+use plan_basics::limits::{GREATEST_NUMBER, LEAST_NUMBER, MOST_FIXED, MOST_SERVERS};
 use plan_basics::{AppId, Interval, Moment, OccKey, OpKey, ResName};
 use special_resources::Need;
 
@@ -49,7 +50,7 @@ pub fn read_operation_key(app: &[u8], arrival: &[u8], number: &[u8]) -> Option<O
     ensures { IsReading (λ key. IsOperationAt app.now arrival.now number.now key) result }
 {
     let occurrence = read_occurrence_key(app, arrival)?;
-    let number = small_number_within(number, 1, 255)?;
+    let number = small_number_within(number, LEAST_NUMBER, GREATEST_NUMBER)?;
     Some(OpKey { occurrence, number })
 }
 
@@ -65,9 +66,9 @@ pub fn read_interval(
 {
     let from = read_moment(from)?;
     let end = read_moment(end)?;
-    let servers = small_number_within(servers, 0, 99)?;
-    let r1 = small_number_within(r1, 0, 99)?;
-    let r2 = small_number_within(r2, 0, 99)?;
+    let servers = small_number_within(servers, 0, MOST_SERVERS)?;
+    let r1 = small_number_within(r1, 0, MOST_FIXED)?;
+    let r2 = small_number_within(r2, 0, MOST_FIXED)?;
     Interval::new(from, end, servers, r1, r2)
 }
 

@@ -1,11 +1,12 @@
 -- Which plans are valid, and which of these are sound.
-use Rattle.std.specs.Prelude.{◌≡◌, ◌≢◌, ◌⊎◌, ◌<◌, ◌≤◌, true, false, Some}
+use Rattle.std.specs.Prelude.{◌≡◌, ◌≢◌, ◌⊎◌, ◌≤◌, true, false, Some}
 use Rattle.std.specs.FinMap.{get, len, contains_key}
 use Rattle.std.specs.FinSet as set
 use Rattle.plan_basics.specs.declared.Attr.{Attr}
 use Rattle.plan_basics.specs.declared.Attr.TheVariants as attribute
 use Rattle.plan_basics.specs.declared.keys.OccKey.{OccKey}
 use Rattle.plan_basics.specs.declared.keys.OpKey.{OpKey}
+use Rattle.plan_basics.specs.declared.limits.TheConstants.{MOST_WORKSTATIONS, MOST_RESOURCES, MOST_OCCURRENCES, MOST_OPERATIONS, MOST_PAIRS, MOST_NEEDS, MOST_FIXED, SHORTEST_DURATION, LONGEST_DURATION, LOWEST_PRIORITY, HIGHEST_PRIORITY}
 use Rattle.plan_basics.specs.Names.{IsName, IsResourceName}
 use Rattle.plan_basics.specs.Minutes.{IsMoment}
 use Rattle.plan_basics.specs.Keys.{Name, IsOccurrenceKey, IsOperationKey}
@@ -23,19 +24,19 @@ use Rattle.plan_model.specs.Holdings.{Holds}
 -- its key and its numbers are in range
 pub record IsOccurrence (c : OccKey) (x : Occurrence) : Type 0 where
   pub key : IsOccurrenceKey c
-  pub priority : (0 < x.priority) × (x.priority < 10)
+  pub priority : (LOWEST_PRIORITY ≤ x.priority) × (x.priority ≤ HIGHEST_PRIORITY)
   pub deadline : IsMoment x.deadline
 
 -- its key, its numbers, and the names and the code in it are in range
 pub record IsOperation (o : OpKey) (op : Operation) : Type 0 where
   pub key : IsOperationKey o
   pub workstation : IsName 4 op.workstation
-  pub duration : (0 < op.duration) × (op.duration < 6000)
-  pub fixed : (op.r1 < 100) × (op.r2 < 100)
+  pub duration : (SHORTEST_DURATION ≤ op.duration) × (op.duration ≤ LONGEST_DURATION)
+  pub fixed : (op.r1 ≤ MOST_FIXED) × (op.r2 ≤ MOST_FIXED)
   pub not_before : IsMoment op.not_before
   pub deadline : IsMoment op.deadline
   pub needs : (r : Name) (usage : Usage) → get op.needs r ≡ Some usage → IsResourceName r
-  pub few_needs : len op.needs ≤ 16
+  pub few_needs : len op.needs ≤ MOST_NEEDS
   pub code : (code : Name) → op.mark ≡ mark.Error code → IsName 4 code
 
 -- occurrences with their operations, of a plan or of what comes in: each occurrence has one, and each operation has its occurrence
@@ -59,11 +60,11 @@ IsAcyclic pairs = IsAcyclicBy (IsPairOf pairs)
 
 -- the most that a plan may hold
 pub record IsWithinLimits (P : Plan) : Type 0 where
-  pub workstations : len P.workstations ≤ 99
-  pub resources : len P.resources ≤ 999
-  pub occurrences : len P.occurrences ≤ 5000
-  pub operations : len P.operations ≤ 20000
-  pub pairs : set.len P.pairs ≤ 100000
+  pub workstations : len P.workstations ≤ MOST_WORKSTATIONS
+  pub resources : len P.resources ≤ MOST_RESOURCES
+  pub occurrences : len P.occurrences ≤ MOST_OCCURRENCES
+  pub operations : len P.operations ≤ MOST_OPERATIONS
+  pub pairs : set.len P.pairs ≤ MOST_PAIRS
 
 -- all that a plan names is there and in range, no path of pairs returns, and the limits hold
 pub record IsValid (P : Plan) : Type 0 where
