@@ -1,5 +1,5 @@
 -- What the status of an operation says of the commands that it is open to.
-use Rattle.std.proofs.Common.{◌≡◌, ◌≢◌, ◌⊎◌, inl, inr, refl, sym, subst, ◌∙◌, arith, ◌<◌, Bool, true, false, true≢false, List}
+use Rattle.std.proofs.Common.{◌≡◌, ◌≢◌, ◌⊎◌, inl, inr, refl, sym, subst, ◌∙◌, arith, ◌<◌, true, false, true≢false, List}
 use Rattle.std.specs.FinMap.{contains_key}
 use Rattle.plan_basics.specs.declared.Refusal.{Refusal}
 use Rattle.plan_basics.specs.declared.Refusal.TheVariants as refusal
@@ -16,7 +16,9 @@ use Rattle.status_rules.specs.declared.OccStatus.{OccStatus}
 use Rattle.status_rules.specs.declared.OccStatus.TheVariants as occurrence
 use Rattle.status_rules.specs.declared.Status.{Status}
 use Rattle.status_rules.specs.declared.Status.TheVariants as status
-use Rattle.plan_checks.specs.Commanding.{IsItsUnderWay, is_under_way_status, may_be_completed, may_be_rerun, waits_or_is_ready}
+use Rattle.status_rules.specs.Classes.{is_completable, is_rerunnable, is_waiting_or_ready}
+use Rattle.plan_laws.proofs.Classes.{passes, waits_by, waits_told}
+use Rattle.plan_checks.specs.Commanding.{IsItsUnderWay}
 use Rattle.plan_checks.specs.Barring.{FailsAt, FailsPastKeys, IsReported, MeetsAll}
 use Rattle.plan_checks.specs.declared.checks.Reported.{Reported}
 use Rattle.workstations.specs.Timetables.{IsLeastRefusal, MayBeTaken}
@@ -30,20 +32,7 @@ module _ (P : Plan) (o : OpKey) where
   abbrev pub IsRerunnable : Type 0
   IsRerunnable = HasStatus P o status.Interrupted ⊎ HasStatus P o status.Complete ⊎ HasStatus P o status.Error ⊎ HasStatus P o status.Undecided
 
-  pub waits_by : (s : Status) → HasStatus P o s → waits_or_is_ready s ≡ true → IsWaitingOrReady P o
-  waits_by status.Waiting h e = inl h
-  waits_by status.Arriving h e = inr (inl h)
-  waits_by status.ReadyAfterNonreporting h e = inr (inr (inl h))
-  waits_by status.Ready h e = inr (inr (inr h))
-  waits_by s h e = absurd (cc)
-
-  pub under_way_by : (s : Status) → HasStatus P o s → is_under_way_status s ≡ true → IsUnderWay P o
-  under_way_by status.Started h e = inl h
-  under_way_by status.Interrupted h e = inr (inl h)
-  under_way_by status.Undecided h e = inr (inr h)
-  under_way_by s h e = absurd (cc)
-
-  pub completable_by : (s : Status) → HasStatus P o s → may_be_completed s ≡ true → IsCompletable
+  pub completable_by : (s : Status) → HasStatus P o s → is_completable s ≡ true → IsCompletable
   completable_by status.Arriving h e = inl (inl h)
   completable_by status.ReadyAfterNonreporting h e = inl (inr (inl h))
   completable_by status.Ready h e = inl (inr (inr h))
@@ -53,7 +42,7 @@ module _ (P : Plan) (o : OpKey) where
   completable_by status.Error h e = inr (inr h)
   completable_by s h e = absurd (cc)
 
-  pub rerunnable_by : (s : Status) → HasStatus P o s → may_be_rerun s ≡ true → IsRerunnable
+  pub rerunnable_by : (s : Status) → HasStatus P o s → is_rerunnable s ≡ true → IsRerunnable
   rerunnable_by status.Interrupted h e = inl h
   rerunnable_by status.Complete h e = inr (inl h)
   rerunnable_by status.Error h e = inr (inr (inl h))
@@ -62,33 +51,19 @@ module _ (P : Plan) (o : OpKey) where
 
   -- the operation has this status alone
   module _ (s : Status) (alone : (t : Status) → HasStatus P o t → t ≡ s) where
-    passes : (test : Status → Bool) (t : Status) → test t ≡ true → HasStatus P o t → test s ≡ true
-    passes test t e h = subst (λ z. test z ≡ true) (alone t h) e
+    completable_told : IsCompletable → is_completable s ≡ true
+    completable_told (inl (inl h)) = passes P o s alone is_completable status.Arriving refl h
+    completable_told (inl (inr (inl h))) = passes P o s alone is_completable status.ReadyAfterNonreporting refl h
+    completable_told (inl (inr (inr h))) = passes P o s alone is_completable status.Ready refl h
+    completable_told (inr (inl (inl h))) = passes P o s alone is_completable status.Started refl h
+    completable_told (inr (inl (inr (inl h)))) = passes P o s alone is_completable status.Interrupted refl h
+    completable_told (inr (inl (inr (inr h)))) = passes P o s alone is_completable status.Undecided refl h
+    completable_told (inr (inr h)) = passes P o s alone is_completable status.Error refl h
 
-    waits_told : IsWaitingOrReady P o → waits_or_is_ready s ≡ true
-    waits_told (inl h) = passes waits_or_is_ready status.Waiting refl h
-    waits_told (inr (inl h)) = passes waits_or_is_ready status.Arriving refl h
-    waits_told (inr (inr (inl h))) = passes waits_or_is_ready status.ReadyAfterNonreporting refl h
-    waits_told (inr (inr (inr h))) = passes waits_or_is_ready status.Ready refl h
+    pub not_waiting_or_ready : is_waiting_or_ready s ≡ false → ¬ IsWaitingOrReady P o
+    not_waiting_or_ready e h = true≢false (sym (waits_told P o s alone h) ∙ e)
 
-    pub under_way_told : IsUnderWay P o → is_under_way_status s ≡ true
-    under_way_told (inl h) = passes is_under_way_status status.Started refl h
-    under_way_told (inr (inl h)) = passes is_under_way_status status.Interrupted refl h
-    under_way_told (inr (inr h)) = passes is_under_way_status status.Undecided refl h
-
-    completable_told : IsCompletable → may_be_completed s ≡ true
-    completable_told (inl (inl h)) = passes may_be_completed status.Arriving refl h
-    completable_told (inl (inr (inl h))) = passes may_be_completed status.ReadyAfterNonreporting refl h
-    completable_told (inl (inr (inr h))) = passes may_be_completed status.Ready refl h
-    completable_told (inr (inl (inl h))) = passes may_be_completed status.Started refl h
-    completable_told (inr (inl (inr (inl h)))) = passes may_be_completed status.Interrupted refl h
-    completable_told (inr (inl (inr (inr h)))) = passes may_be_completed status.Undecided refl h
-    completable_told (inr (inr h)) = passes may_be_completed status.Error refl h
-
-    pub not_waiting_or_ready : waits_or_is_ready s ≡ false → ¬ IsWaitingOrReady P o
-    not_waiting_or_ready e h = true≢false (sym (waits_told h) ∙ e)
-
-    pub not_completable : may_be_completed s ≡ false → ¬ IsCompletable
+    pub not_completable : is_completable s ≡ false → ¬ IsCompletable
     not_completable e h = true≢false (sym (completable_told h) ∙ e)
 
   -- ---- a rerun
@@ -110,7 +85,7 @@ module _ (P : Plan) (o : OpKey) where
 
 module _ (x : Reported) where
   -- a hold, a release, a NOP and its end
-  pub flagged : waits_or_is_ready x.status ≡ true → MeetsAll x MayBeFlagged
+  pub flagged : is_waiting_or_ready x.status ≡ true → MeetsAll x MayBeFlagged
   flagged waits P o is refusal.WrongStatus = waits_by P o x.status is.status waits
   flagged waits P o is r = tt
 
@@ -118,7 +93,7 @@ module _ (x : Reported) where
   before_flagged P o refusal.WrongStatus less = absurd (omega (arith, less))
   before_flagged P o r less = tt
 
-  pub not_flagged : waits_or_is_ready x.status ≡ false → FailsAt x MayBeFlagged refusal.WrongStatus
+  pub not_flagged : is_waiting_or_ready x.status ≡ false → FailsAt x MayBeFlagged refusal.WrongStatus
   not_flagged other = (omega arith, λ P o is. (not_waiting_or_ready P o x.status is.alone other, before_flagged P o))
 
   -- what a completion asks of it
@@ -130,10 +105,10 @@ module _ (x : Reported) where
   before_completed P o refusal.Held less = absurd (omega (arith, less))
   before_completed P o r less = tt
 
-  pub not_completed : may_be_completed x.status ≡ false → FailsAt x Completes refusal.WrongStatus
+  pub not_completed : is_completable x.status ≡ false → FailsAt x Completes refusal.WrongStatus
   not_completed other = (omega arith, λ P o is. (not_completable P o x.status is.alone other, before_completed P o))
 
-  module _ (may : may_be_completed x.status ≡ true) where
+  module _ (may : is_completable x.status ≡ true) where
     pub completed : x.operation.held ≡ false → MeetsAll x Completes
     completed free P o is refusal.WrongStatus = completable_by P o x.status is.status may
     completed free P o is refusal.Held = free

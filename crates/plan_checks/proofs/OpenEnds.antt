@@ -4,17 +4,18 @@ use Rattle.std.proofs.lemmas.Bool.{true_from_ne_false}
 use Rattle.plan_basics.specs.declared.keys.OpKey.{OpKey}
 use Rattle.plan_model.specs.Plan.{Plan, Supplement}
 use Rattle.plan_model.specs.Status.{HasStatus}
+use Rattle.status_rules.specs.Classes.{is_waiting_or_ready}
 use Rattle.status_rules.specs.declared.Status.{Status}
 use Rattle.status_rules.specs.declared.Status.TheVariants as status
-use Rattle.plan_checks.proofs.ByCommand.{not_waiting_or_ready, waits_by}
+use Rattle.plan_laws.proofs.Classes.{waits_by}
+use Rattle.plan_checks.proofs.ByCommand.{not_waiting_or_ready}
 use Rattle.plan_checks.specs.Adding.{IsOldWith, MayPrecede, MaySucceed}
-use Rattle.plan_checks.specs.Commanding.{waits_or_is_ready}
 
 module _ (P : Plan) (s : Supplement) (o : OpKey) (x : Status) (is : IsOldWith P s o x) where
-  pub succeeds_told : Decides (waits_or_is_ready x) (MaySucceed P s o)
+  pub succeeds_told : Decides (is_waiting_or_ready x) (MaySucceed P s o)
   succeeds_told = (
     λ yes old. waits_by P o x is.1 yes,
-    λ may. true_from_ne_false (waits_or_is_ready x) (λ no. not_waiting_or_ready P o x is.2 no (may is.0)),
+    λ may. true_from_ne_false (is_waiting_or_ready x) (λ no. not_waiting_or_ready P o x is.2 no (may is.0)),
   )
 
   pub live_precedes : x ≢ status.Deleted → MayPrecede P s o

@@ -7,6 +7,7 @@ use Rattle.plan_basics.specs.declared.Refusal.TheVariants as refusal
 use Rattle.plan_basics.specs.declared.keys.OpKey.{OpKey}
 use Rattle.plan_basics.specs.Refusals.{number_of}
 use Rattle.plan_model.specs.Holdings.{given_out, holds_server, takes}
+use Rattle.plan_laws.proofs.Classes.{passes, ready_by}
 use Rattle.plan_laws.proofs.Looks.{same_some}
 use Rattle.plan_model.specs.Plan.{Operation, Plan}
 use Rattle.plan_model.specs.Starting.{MayStart}
@@ -15,16 +16,13 @@ use Rattle.plan_records.specs.Accepting.{MayBeEnded, MayBeInterrupted, MayBeUnde
 use Rattle.plan_records.specs.Contents.{plan_of}
 use Rattle.plan_records.specs.declared.contents.PlanContents.{PlanContents}
 use Rattle.special_resources.specs.Holdings.{Held}
+use Rattle.status_rules.specs.Classes.{is_ready, is_startable}
 use Rattle.status_rules.specs.declared.Status.{Status}
 use Rattle.status_rules.specs.declared.Status.TheVariants as status
 use Rattle.workstations.specs.declared.Capacity.{Capacity}
-use Rattle.plan_choice.specs.Choosing.{AreHeldIn, HasTaken, IsStartLine, is_ready_status}
+use Rattle.plan_choice.specs.Choosing.{AreHeldIn, HasTaken, IsStartLine}
 use Rattle.plan_checks.specs.Barring.{FailsAt, IsReported, MeetsAll}
 use Rattle.plan_checks.specs.declared.checks.Reported.{Reported}
-
--- the status is one of those that may be started where starts are reported
-abbrev pub IsStartable : Status → Type 0
-IsStartable s = (is_ready_status s ≡ true) ⊎ (s ≡ status.Interrupted)
 
 module _ (P : Plan) (o : OpKey) where
   running_by : (s : Status) → HasStatus P o s → holds_server (Some s) ≡ true → HasStatus P o status.Started ⊎ HasStatus P o status.Undecided
@@ -32,32 +30,23 @@ module _ (P : Plan) (o : OpKey) where
   running_by status.Undecided h e = inr h
   running_by s h e = absurd (cc)
 
-  ready_by : (s : Status) → HasStatus P o s → is_ready_status s ≡ true → IsReady P o
-  ready_by status.Arriving h e = inl h
-  ready_by status.ReadyAfterNonreporting h e = inr (inl h)
-  ready_by status.Ready h e = inr (inr h)
-  ready_by s h e = absurd (cc)
+  startable_by : (s : Status) → HasStatus P o s → is_startable s ≡ true → IsReady P o ⊎ HasStatus P o status.Interrupted
+  startable_by status.Interrupted h e = inr h
+  startable_by s h e = inl (ready_by P o s h e)
 
   module _ (x : Reported) (is : IsReported P o x) where
     pub is_running : holds_server (Some x.status) ≡ true → HasStatus P o status.Started ⊎ HasStatus P o status.Undecided
     is_running = running_by x.status is.status
 
-    pub is_ready : is_ready_status x.status ≡ true → IsReady P o
-    is_ready = ready_by x.status is.status
-
-    ready_told : IsReady P o → is_ready_status x.status ≡ true
-    ready_told (inl h) = subst (λ s. is_ready_status s ≡ true) (is.alone status.Arriving h) refl
-    ready_told (inr (inl h)) = subst (λ s. is_ready_status s ≡ true) (is.alone status.ReadyAfterNonreporting h) refl
-    ready_told (inr (inr h)) = subst (λ s. is_ready_status s ≡ true) (is.alone status.Ready h) refl
-
     -- what may be started where starts are reported
-    pub startable : (m : ℕ) → x.attribute ≡ attribute.StartAndCompletion → IsStartable x.status → MayStart P o x.operation m refusal.WrongStatus
-    startable m on (inl e) = inl (is_ready e)
-    startable m on (inr e) = inr (subst (HasStatus P o) e is.status, is.attribute ∙ ap Some on)
+    pub startable : (m : ℕ) → x.attribute ≡ attribute.StartAndCompletion → is_startable x.status ≡ true → MayStart P o x.operation m refusal.WrongStatus
+    startable m on e = elim (startable_by x.status is.status e) [ inl ready ↦ inl ready | inr h ↦ inr (h, is.attribute ∙ ap Some on) ]
 
-    pub startable_told : (m : ℕ) → MayStart P o x.operation m refusal.WrongStatus → IsStartable x.status
-    startable_told m (inl h) = inl (ready_told h)
-    startable_told m (inr h) = inr (sym (is.alone status.Interrupted h.0))
+    pub startable_told : (m : ℕ) → MayStart P o x.operation m refusal.WrongStatus → is_startable x.status ≡ true
+    startable_told m (inl (inl h)) = passes P o x.status is.alone is_startable status.Arriving refl h
+    startable_told m (inl (inr (inl h))) = passes P o x.status is.alone is_startable status.ReadyAfterNonreporting refl h
+    startable_told m (inl (inr (inr h))) = passes P o x.status is.alone is_startable status.Ready refl h
+    startable_told m (inr h) = passes P o x.status is.alone is_startable status.Interrupted refl h.0
 
   -- ---- a start where starts are reported
 
@@ -90,9 +79,9 @@ module _ (x : Reported) where
     pub ended_after_start : takes (Some x.attribute) ≡ true → MeetsAll x (EndsOn x.attribute)
     ended_after_start = ended_on x.attribute
 
-  module _ (on : x.attribute ≡ attribute.CompletionOnly) (ready : is_ready_status x.status ≡ true) where
+  module _ (on : x.attribute ≡ attribute.CompletionOnly) (ready : is_ready x.status ≡ true) where
     free_at_end : x.operation.held ≡ false → MeetsAll x (EndsOn attribute.CompletionOnly)
-    free_at_end free P o is refusal.WrongStatus = is_ready P o x is ready
+    free_at_end free P o is refusal.WrongStatus = ready_by P o x.status is.status ready
     free_at_end free P o is refusal.Held = free
     free_at_end free P o is r = tt
 
@@ -100,7 +89,7 @@ module _ (x : Reported) where
     ended_without_start free = subst (λ a. MeetsAll x (EndsOn a)) (sym on) (free_at_end free)
 
     before_held : (P : Plan) (o : OpKey) → IsReported P o x → (lower : Refusal) → number_of lower < 11 → EndsOn attribute.CompletionOnly P o lower
-    before_held P o is refusal.WrongStatus less = is_ready P o x is ready
+    before_held P o is refusal.WrongStatus less = ready_by P o x.status is.status ready
     before_held P o is refusal.Held less = absurd (omega (arith, less))
     before_held P o is r less = tt
 

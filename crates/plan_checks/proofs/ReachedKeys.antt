@@ -22,8 +22,8 @@ use Rattle.plan_records.specs.Contents.{plan_of}
 use Rattle.ready_list.specs.Choice.{is_among}
 use Rattle.status_rules.specs.declared.Mark.TheVariants as mark
 use Rattle.plan_checks.specs.Held.{AreHeld}
-use Rattle.plan_choice.proofs.ItemStarts.{live_mark, mark_live}
-use Rattle.plan_choice.specs.StartItems.{is_live_mark}
+use Rattle.status_rules.proofs.Live.{live_mark, mark_live}
+use Rattle.status_rules.specs.Classes.{is_live}
 use Rattle.plan_checks.specs.Reaching.{is_live_row}
 use Rattle.plan_checks.specs.declared.loaded.LoadedPlan.{LoadedPlan}
 
@@ -74,8 +74,8 @@ module _ (at : ℕ) (h : LoadedPlan) (held : AreHeld at h) where
   pub row_key : (i : ℕ) (o : OpKey) (op : Operation) → slice_get rows i ≡ Some (o, op) → slice_get keys i ≡ Some o
   row_key i o op e = slice_get-map (λ row. row.0) rows i ∙ ap (option_map (λ row. row.0)) e
 
-  flag_of : (i : ℕ) (o : OpKey) (op : Operation) → slice_get rows i ≡ Some (o, op) → get_or (map is_live_row rows) i false ≡ is_live_mark op.mark
-  flag_of i o op e = get_or_from_slice_get (map is_live_row rows) i (is_live_mark op.mark) false (slice_get-map is_live_row rows i ∙ ap (option_map is_live_row) e)
+  flag_of : (i : ℕ) (o : OpKey) (op : Operation) → slice_get rows i ≡ Some (o, op) → get_or (map is_live_row rows) i false ≡ is_live op.mark
+  flag_of i o op e = get_or_from_slice_get (map is_live_row rows) i (is_live op.mark) false (slice_get-map is_live_row rows i ∙ ap (option_map is_live_row) e)
 
   live_alike : (clock : ℕ) → HoldsAlike keys (IsSet (map is_live_row rows)) (IsLive (plan clock))
   live_alike clock i o e =

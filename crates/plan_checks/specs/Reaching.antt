@@ -2,8 +2,8 @@
 use Rattle.std.specs.Prelude.{Bool}
 use Rattle.plan_basics.specs.declared.keys.OpKey.{OpKey}
 use Rattle.plan_model.specs.Plan.{Operation}
-use Rattle.plan_choice.specs.StartItems.{is_live_mark}
+use Rattle.status_rules.specs.Classes.{is_live}
 
 -- whether the operation of a row isn't deleted
 abbrev pub is_live_row : OpKey × Operation → Bool
-is_live_row row = is_live_mark row.1.mark
+is_live_row row = is_live row.1.mark

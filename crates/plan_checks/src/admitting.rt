@@ -10,7 +10,6 @@ ghost use Rattle.plan_checks.specs.Adding.{IsGrowthRefusal, IsOldWith, IsOpenPai
 ghost use Rattle.plan_checks.specs.Held.{IsHeldAtSome};
 
 use super::checks::reported_at;
-use super::commands::is_waiting_or_ready;
 use super::known::{
     are_ends_known, are_resources_known, are_workstations_known, is_new_occurrence,
 };
@@ -39,7 +38,7 @@ fn may_succeed(loaded: &LoadedPlan, parts: &NewOccurrence, key: &OpKey) -> bool
     ensures { Decides result (MaySucceed (plan_of 0 loaded.now.contents) (incoming parts.now) key.now) }
 {
     match old_status(loaded, parts, key) {
-        Some(status) => is_waiting_or_ready(status),
+        Some(status) => status.is_waiting_or_ready(),
         None => true,
     }
 }

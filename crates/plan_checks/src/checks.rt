@@ -1,12 +1,11 @@
 // What stands in the way of a request.
-ghost use Rattle.std.specs.Prelude.{◌≡◌, ◌⊎◌, ◌<◌, ℕ, true, Some, None, length, slice_get, IfOk, IfErr, OnOk, Decides};
+ghost use Rattle.std.specs.Prelude.{◌≡◌, ◌⊎◌, ◌<◌, ℕ, true, Some, None, length, slice_get, IfOk, IfErr, OnOk};
 ghost use Rattle.std.specs.FinMap.{get};
 ghost use Rattle.plan_basics.specs.declared.keys.OpKey.{OpKey};
-ghost use Rattle.plan_choice.specs.Choosing.{is_ready_status};
 ghost use Rattle.plan_records.specs.Accepting.{AllHold, MayBeEnded, MayBeInterrupted, MayBeUndecided, NeedsPlan};
 ghost use Rattle.plan_checks.specs.Barring.{FailsAt, FailsPastKeys, IsBarred, IsPermitted, IsReported, MayBeStartedAt, MeetsAll};
 ghost use Rattle.plan_checks.specs.Held.{IsHeldAtSome};
-ghost use Rattle.plan_model.specs.Holdings.{given_out, holds_server, takes};
+ghost use Rattle.plan_model.specs.Holdings.{given_out, takes};
 ghost use Rattle.plan_model.specs.Plan.{Operation, Plan};
 ghost use Rattle.plan_records.specs.Contents.{plan_of, AreValidContents};
 ghost use Rattle.plan_records.specs.declared.What.{What};
@@ -18,7 +17,7 @@ use super::commands::{
 use super::loaded::LoadedPlan;
 use super::pairing::check_paired;
 use plan_basics::{Attr, Moment, OpKey, Refusal};
-use plan_choice::{check_start, given_out_of, holdings_of, is_ready};
+use plan_choice::{check_start, given_out_of, holdings_of};
 use plan_model::OperationRecord;
 use plan_records::{PlanContents, PlanDraft, What, known_workstation, row_place};
 use plan_status::{attribute_of, status_with};
@@ -59,20 +58,6 @@ fn reported_of(loaded: &LoadedPlan, key: &OpKey) -> Result<Reported, Refusal>
 {
     let place = row_place(&loaded.contents.operations, key).ok_or(Refusal::UnknownOperation)?;
     Ok(reported_at(loaded, place))
-}
-
-// Whether operations of this status may be started where starts are reported: they are ready or interrupted.
-fn is_startable(status: Status) -> bool
-    ensures { Decides result ((is_ready_status status ≡ true) ⊎ (status ≡ Status.Interrupted)) }
-{
-    is_ready(status) || status == Status::Interrupted
-}
-
-// Whether operations of this status are started or undecided.
-fn is_running(status: Status) -> bool
-    ensures { result ≡ holds_server (Some status) }
-{
-    matches!(status, Status::Started | Status::Undecided)
 }
 
 // What a workstation has given out.
@@ -119,7 +104,7 @@ fn check_started(
 {
     match reported.attribute {
         Attr::Automatic => check_started_on_automatic(reported),
-        Attr::StartAndCompletion if !is_startable(reported.status) => Err(Refusal::WrongStatus),
+        Attr::StartAndCompletion if !reported.status.is_startable() => Err(Refusal::WrongStatus),
         Attr::StartAndCompletion => {
             let taken = given_out_at(alloc, contents, &reported.operation)?;
             let holdings = holdings_of(alloc, contents)?;
@@ -135,7 +120,7 @@ fn check_ended_after_start(reported: &Reported) -> Result<(), Refusal>
     ensures ok { OnOk result (MeetsAll reported.now (λ P o. MayBeEnded P o reported.now.operation (Some reported.now.attribute))) }
     ensures refused { IfErr result (FailsAt reported.now (λ P o. MayBeEnded P o reported.now.operation (Some reported.now.attribute))) }
 {
-    if is_running(reported.status) {
+    if reported.status.holds_server() {
         Ok(())
     } else {
         Err(Refusal::WrongStatus)
@@ -148,7 +133,7 @@ fn check_ended_without_start(reported: &Reported) -> Result<(), Refusal>
     ensures ok { OnOk result (MeetsAll reported.now (λ P o. MayBeEnded P o reported.now.operation (Some reported.now.attribute))) }
     ensures refused { IfErr result (FailsAt reported.now (λ P o. MayBeEnded P o reported.now.operation (Some reported.now.attribute))) }
 {
-    if !is_ready(reported.status) {
+    if !reported.status.is_ready() {
         Err(Refusal::WrongStatus)
     } else if reported.operation.held {
         Err(Refusal::Held)

@@ -5,7 +5,6 @@ ghost use Rattle.plan_basics.specs.declared.Refusal.{Refusal};
 ghost use Rattle.plan_model.specs.Status.{HasOccurrenceStatus};
 ghost use Rattle.plan_records.specs.Accepting.{MayBeCompleted, MayBeDeleted, MayBeFlagged, MayBeOpenBy, MayBeRerun, MayBeSetAvailable, AllHold};
 ghost use Rattle.plan_records.specs.Contents.{plan_of, AreValidContents};
-ghost use Rattle.plan_checks.specs.Commanding.{may_be_completed, may_be_rerun, waits_or_is_ready};
 ghost use Rattle.plan_checks.specs.Barring.{FailsAt, FailsPastKeys, IsReported, MeetsAll};
 ghost use Rattle.plan_checks.specs.Held.{IsHeldAtSome};
 
@@ -16,51 +15,15 @@ use super::under_way::{is_another_under_way, is_occurrence_under_way};
 use plan_basics::{Interval, OccKey, OpKey, Refusal, ResName, WsName};
 use plan_records::{PlanContents, row_place, workstation_place};
 use plan_status::occurrence_status_with;
-use status_rules::{OccStatus, Status};
+use status_rules::OccStatus;
 use std::alloc::Global;
-
-/// Whether operations of this status wait or are ready.
-pub fn is_waiting_or_ready(status: Status) -> bool
-    ensures { result ≡ waits_or_is_ready status }
-{
-    matches!(
-        status,
-        Status::Waiting | Status::Arriving | Status::ReadyAfterNonreporting | Status::Ready
-    )
-}
-
-// Whether operations of this status may be completed: they are ready, under way or in error.
-fn is_completable(status: Status) -> bool
-    ensures { result ≡ may_be_completed status }
-{
-    matches!(
-        status,
-        Status::Arriving
-            | Status::ReadyAfterNonreporting
-            | Status::Ready
-            | Status::Started
-            | Status::Interrupted
-            | Status::Undecided
-            | Status::Error
-    )
-}
-
-// Whether operations of this status may be run again: they are interrupted, complete, in error or undecided.
-fn is_rerunnable(status: Status) -> bool
-    ensures { result ≡ may_be_rerun status }
-{
-    matches!(
-        status,
-        Status::Interrupted | Status::Complete | Status::Error | Status::Undecided
-    )
-}
 
 /// A hold, a release, a NOP and its end may be commanded of what waits or is ready.
 pub fn check_flagged(reported: &Reported) -> Result<(), Refusal>
     ensures ok { OnOk result (MeetsAll reported.now MayBeFlagged) }
     ensures refused { IfErr result (FailsAt reported.now MayBeFlagged) }
 {
-    if is_waiting_or_ready(reported.status) {
+    if reported.status.is_waiting_or_ready() {
         Ok(())
     } else {
         Err(Refusal::WrongStatus)
@@ -72,7 +35,7 @@ pub fn check_completed(reported: &Reported) -> Result<(), Refusal>
     ensures ok { OnOk result (MeetsAll reported.now (λ P o. MayBeCompleted P o reported.now.operation)) }
     ensures refused { IfErr result (FailsAt reported.now (λ P o. MayBeCompleted P o reported.now.operation)) }
 {
-    if !is_completable(reported.status) {
+    if !reported.status.is_completable() {
         Err(Refusal::WrongStatus)
     } else if reported.operation.held {
         Err(Refusal::Held)
@@ -94,7 +57,7 @@ pub fn check_rerun(
     ensures ok { OnOk result ((clock : ℕ) → AllHold (MayBeRerun (plan_of clock loaded.now.contents) key.now)) }
     ensures refused { IfErr result (λ r. (r ≡ Refusal.Memory) ⊎ ((clock : ℕ) → FailsPastKeys (MayBeRerun (plan_of clock loaded.now.contents) key.now) r)) }
 {
-    if !is_rerunnable(reported.status) {
+    if !reported.status.is_rerunnable() {
         return Err(Refusal::WrongStatus);
     }
     let reached = reached_keys(alloc, loaded, key)?;

@@ -8,7 +8,6 @@ ghost use Rattle.plan_model.specs.Plan.{IsInPlan};
 ghost use Rattle.plan_model.specs.Starting.{Reaches};
 ghost use Rattle.plan_records.specs.Contents.{plan_of};
 ghost use Rattle.ready_list.specs.Choice.{is_among};
-ghost use Rattle.plan_choice.specs.StartItems.{is_live_mark};
 ghost use Rattle.plan_checks.specs.Reaching.{is_live_row};
 ghost use Rattle.plan_checks.specs.Held.{IsHeldAtSome};
 
@@ -16,15 +15,7 @@ use super::loaded::LoadedPlan;
 use plan_basics::{OpKey, Refusal};
 use plan_model::OperationRecord;
 use plan_records::known_row;
-use status_rules::Mark;
 use std::alloc::{AllocError, Global};
-
-// Whether operations of this mark aren't deleted.
-fn is_live(mark: Mark) -> bool
-    ensures { result ≡ is_live_mark mark }
-{
-    !matches!(mark, Mark::Deleted)
-}
 
 // Which operations aren't deleted, row by row.
 fn live_of(alloc: Global, rows: &[(OpKey, OperationRecord)]) -> Result<Vec<bool>, AllocError>
@@ -32,7 +23,7 @@ fn live_of(alloc: Global, rows: &[(OpKey, OperationRecord)]) -> Result<Vec<bool>
 {
     let mut live = Vec::with_capacity(alloc, rows.len())?;
     for row in rows {
-        live.push(is_live(row.1.mark))?;
+        live.push(row.1.mark.is_live())?;
     }
     Ok(live)
 }

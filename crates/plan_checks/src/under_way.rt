@@ -3,24 +3,13 @@ ghost use Rattle.std.specs.Prelude.{◌≡◌, ◌<◌, All, Contains, Decides, 
 ghost use Rattle.plan_basics.specs.declared.keys.OpKey.{OpKey as OpKeyValue};
 ghost use Rattle.plan_model.specs.Plan.{IsInPlan, Operation};
 ghost use Rattle.plan_records.specs.Contents.{plan_of};
-ghost use Rattle.plan_checks.specs.Commanding.{IsItsUnderWay, IsOtherUnderWay, is_under_way_status};
+ghost use Rattle.plan_checks.specs.Commanding.{IsItsUnderWay, IsOtherUnderWay};
 ghost use Rattle.plan_checks.specs.Held.{IsHeldAtSome};
 
 use super::checks::reported_at;
 use super::loaded::LoadedPlan;
 use plan_basics::{OccKey, OpKey};
 use plan_records::known_row;
-use status_rules::Status;
-
-// Whether operations of this status are under way: started, interrupted or undecided.
-fn is_under_way(status: Status) -> bool
-    ensures { result ≡ is_under_way_status status }
-{
-    matches!(
-        status,
-        Status::Started | Status::Interrupted | Status::Undecided
-    )
-}
 
 // Whether this is another operation, and under way.
 fn is_other_under_way(loaded: &LoadedPlan, key: &OpKey, other: &OpKey) -> bool
@@ -29,7 +18,7 @@ fn is_other_under_way(loaded: &LoadedPlan, key: &OpKey, other: &OpKey) -> bool
     ensures { Decides result (IsOtherUnderWay (plan_of 0 loaded.now.contents) key.now other.now) }
 {
     let place = known_row(&loaded.contents.operations, other);
-    other != key && is_under_way(reported_at(loaded, place).status)
+    other != key && reported_at(loaded, place).status.is_under_way()
 }
 
 /// Whether one of these operations of the plan, another than this one, is under way.
@@ -53,7 +42,7 @@ fn is_its_under_way(loaded: &LoadedPlan, occurrence: &OccKey, place: usize) -> b
     ensures { (o : OpKeyValue) → (op : Operation) → slice_get loaded.now.contents.operations.items place ≡ Some (o, op) → Decides result (IsItsUnderWay (plan_of 0 loaded.now.contents) occurrence.now o) }
 {
     let key = loaded.contents.operations[place].0;
-    key.occurrence == *occurrence && is_under_way(reported_at(loaded, place).status)
+    key.occurrence == *occurrence && reported_at(loaded, place).status.is_under_way()
 }
 
 /// Whether an operation of the occurrence is under way.

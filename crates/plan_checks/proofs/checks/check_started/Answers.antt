@@ -33,7 +33,7 @@ returns-in-StartAndCompletion-clause-refused c =
     let is = reported_at c.args.contents.now o x c.requires.operation clock in (
       omega arith,
       subst (λ a. FailsFirstAt (MayBeStarted P m o x.operation (Some a)) refusal.WrongStatus) (sym c.in-StartAndCompletion.is)
-          (λ may. true≢false (sym (c.is_startable.ensures.1 (startable_told P o x is m may)) ∙ no), before_line P o x.operation m),
+          (λ may. true≢false (sym (startable_told P o x is m may) ∙ sym c.is_startable.ensures ∙ no), before_line P o x.operation m),
     ))
 
 module _ (c : goal.After-drop-holdings-inside) where
@@ -41,7 +41,7 @@ module _ (c : goal.After-drop-holdings-inside) where
   may clock =
       let yes : c.is_startable.result ≡ true = search rules in
       let is = reported_at c.args.contents.now c.args.key.now c.args.reported.now c.requires.operation clock in
-      startable (plan_of clock c.args.contents.now) c.args.key.now c.args.reported.now is c.args.at c.in-StartAndCompletion.is (c.is_startable.ensures.0 yes)
+      startable (plan_of clock c.args.contents.now) c.args.key.now c.args.reported.now is c.args.at c.in-StartAndCompletion.is (sym c.is_startable.ensures ∙ yes)
 
   has : (clock : ℕ) → HasTaken (plan_of clock c.args.contents.now) c.args.contents.now c.args.reported.now.operation c.in_ok-taken-in-StartAndCompletion-2.taken c.in_ok-holdings-in-StartAndCompletion-2.holdings.held
   has clock =

@@ -7,7 +7,7 @@ use Rattle.plan_records.specs.Contents.{plan_of}
 use Rattle.plan_checks.proofs.ByCommand.{rerun, rerunnable_by, running_at_rerun}
 use Rattle.plan_checks.proofs.ReachedKeys.{all_in_plan}
 use Rattle.plan_checks.proofs.commands.check_rerun.Goals as goal
-use Rattle.plan_checks.specs.Commanding.{may_be_rerun}
+use Rattle.status_rules.specs.Classes.{is_rerunnable}
 
 pub is_another_under_way-requires-clause-known : goal.is_another_under_way-requires-clause-known
 is_another_under_way-requires-clause-known c =
@@ -21,7 +21,7 @@ returns-then-is_another_under_way-clause-refused c =
     let x = c.args.reported.now in
     let is = c.requires.operation in
     let reached = c.in_ok-reached.reached.items in
-    let may : may_be_rerun x.status ≡ true = search rules in
+    let may : is_rerunnable x.status ≡ true = search rules in
     let yes : c.is_another_under_way.result ≡ true = search rules in
     let other = c.is_another_under_way.ensures.0 yes in
     let has : Contains reached other.0 = subst (λ (os : List OpKey). Contains os other.0) c.deref.ensures.value other.1 in
@@ -38,7 +38,7 @@ returns-clause-ok c clock =
     let x = c.args.reported.now in
     let is = c.requires.operation in
     let reached = c.in_ok-reached.reached.items in
-    let may : may_be_rerun x.status ≡ true = search rules in
+    let may : is_rerunnable x.status ≡ true = search rules in
     let no : c.is_another_under_way.result ≡ false = search rules in
     rerun P c.args.key.now (rerunnable_by P c.args.key.now x.status is.status may) (λ q apart reaches under_way.
     let has = member_if operation_cmp-IsAntisymmetric reached q ((c.in_ok-reached.ensures.reached clock q).1 reaches) in

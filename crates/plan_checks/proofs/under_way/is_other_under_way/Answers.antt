@@ -2,7 +2,7 @@ use Rattle.std.proofs.Common.{◌≡◌, sym, subst, ◌∙◌, List, slice_get,
 use Rattle.plan_basics.specs.declared.keys.OpKey.{OpKey}
 use Rattle.plan_model.specs.Plan.{Operation}
 use Rattle.plan_records.specs.Contents.{plan_of}
-use Rattle.plan_checks.proofs.ByCommand.{under_way_by, under_way_told}
+use Rattle.plan_laws.proofs.Classes.{under_way_by, under_way_told}
 use Rattle.plan_checks.proofs.under_way.is_other_under_way.Goals as goal
 
 pub returns-then-ne : goal.returns-then-ne
