@@ -29,7 +29,7 @@ use Rattle.plan_laws.proofs.Looks.{same_key, same_some}
 use Rattle.plan_laws.proofs.Sorted.{contains_head, contains_later}
 use Rattle.plan_choice.specs.Choosing.{AreGivenOut, AreHeldIn, AreReadyEntries}
 use Rattle.plan_choice.specs.StartGates.{Allows, Answers, Counted, IsCountedIn, PassesOver}
-use Rattle.plan_choice.specs.Taking.{CanStart, IsAtMost}
+use Rattle.plan_choice.specs.Taking.{CanStart, IsAtMost, most_given_out}
 use Rattle.plan_choice.proofs.Allowed.{can_start, may_start}
 use Rattle.plan_choice.proofs.GivenPlaces.{AreAt, more_at}
 use Rattle.plan_choice.proofs.NamedGiven.{named_at_most, named_gives, named_gives_none}
@@ -87,7 +87,7 @@ module _ (c : PlanContents) (h : AreValidContents c) (m : ℕ) (es : List ReadyE
   allowed os o = IsAllowedToStart (named os P) o m
 
   -- what any workstation has given out, whatever is named
-  at_most : (os : List OpKey) (name : Name) → IsAtMost 1980000 (given_out (named os P) name)
+  at_most : (os : List OpKey) (name : Name) → IsAtMost most_given_out (given_out (named os P) name)
   at_most os = named_at_most P os h.valid.limits.operations (λ o op is. let fixed = (h.valid.occurrences.each_operation o op is).0.fixed in (omega (arith, fixed.0), omega (arith, fixed.1)))
 
   distinct : AreDistinctKeys (ready_operations es)
@@ -145,7 +145,7 @@ module _ (c : PlanContents) (h : AreValidContents c) (m : ℕ) (es : List ReadyE
           let place = a.given.place.0 in
           let at = ap (λ d. slice_get d.workstations.items place) (sym asked.counted.contents) ∙ a.given.place.2 in
           let was = a.given.before.0 in
-          let small = subst (IsAtMost 1980000) (sym (asked.counted.given.each place a.row.workstation a.given.place.1 was at a.given.before.1)) (at_most os a.row.workstation) in (
+          let small = subst (IsAtMost most_given_out) (sym (asked.counted.given.each place a.row.workstation a.given.place.1 was at a.given.before.1)) (at_most os a.row.workstation) in (
             may_start P m os each_ready e.key.op a.row is out ready can,
             record {
               contents = a.same.0 ∙ asked.counted.contents;

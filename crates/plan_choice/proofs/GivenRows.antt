@@ -9,7 +9,7 @@ use Rattle.plan_records.specs.declared.contents.PlanContents.{PlanContents}
 use Rattle.workstations.specs.Workstations.{Workstation}
 use Rattle.workstations.specs.declared.Capacity.{Capacity}
 use Rattle.plan_choice.specs.Choosing.{AreGivenOut}
-use Rattle.plan_choice.specs.Taking.{IsAtMost, takes_server, with_one_more}
+use Rattle.plan_choice.specs.Taking.{IsAtMost, most_given_out, takes_server, with_one_more}
 use Rattle.plan_choice.proofs.GivenPlaces.{AreAt, more_at, same_at}
 use Rattle.plan_choice.proofs.GivenSums.{at_another, at_its_own, at_none, first_at_most, given_all, given_among, given_at_most, row_gives, row_gives_none}
 
@@ -24,9 +24,9 @@ module _ (c : PlanContents) (h : AreValidContents c) where
   abbrev rows : List (OpKey × Operation)
   rows = c.operations.items
 
-  pub before_at_most : (i : ℕ) (w : Name) → IsAtMost 1980000 (given_before c i w)
+  pub before_at_most : (i : ℕ) (w : Name) → IsAtMost most_given_out (given_before c i w)
   before_at_most i w =
-      first_at_most P rows i w 1980000 (subst (IsAtMost 1980000) (given_all P rows h.in_order.operations refl w)
+      first_at_most P rows i w most_given_out (subst (IsAtMost most_given_out) (given_all P rows h.in_order.operations refl w)
       (given_at_most P h.valid.limits.operations w (λ o op is. let fixed = (h.valid.occurrences.each_operation o op is).0.fixed in (omega (arith, fixed.0), omega (arith, fixed.1)))))
 
   module _ (i : ℕ) (o : OpKey) (op : Operation) (row : slice_get c.operations.items i ≡ Some (o, op)) (given : List Capacity) (so_far : AreAt c.workstations.items given (given_before c i)) where

@@ -9,6 +9,7 @@ use Rattle.std.specs.List.Sorted.{IsStrictlySortedBy}
 use Rattle.std.specs.Map.{keys_of}
 use Rattle.std.specs.Ordering.{eq_by_cmp}
 use Rattle.std.specs.FinMap.{entries, from_entries, get, len, len-entries}
+use Rattle.plan_basics.specs.declared.limits.TheConstants.{MOST_FIXED, MOST_OPERATIONS}
 use Rattle.plan_basics.specs.Keys.{Name, name_cmp, name_cmp_total, name_cmp-IsAntisymmetric, operation_cmp, operation_cmp_total, operation_cmp-IsAntisymmetric}
 use Rattle.plan_basics.specs.declared.keys.OpKey.{OpKey}
 use Rattle.status_rules.specs.Table.{marked_status}
@@ -16,7 +17,7 @@ use Rattle.plan_model.specs.Holdings.{given_out, holds_server, is_serving, sum_g
 use Rattle.plan_model.specs.Plan.{Plan, Operation, attribute_at}
 use Rattle.plan_records.proofs.MadeEntries.{each_entry, key_of}
 use Rattle.workstations.specs.declared.Capacity.{Capacity}
-use Rattle.plan_choice.specs.Taking.{IsAtMost, takes_server, with_one_more}
+use Rattle.plan_choice.specs.Taking.{IsAtMost, most_given_out, takes_server, with_one_more}
 use Rattle.plan_choice.proofs.Entries.{entries_are_rows}
 
 -- ---- sums over rows
@@ -45,25 +46,25 @@ given_all P rows sorted same w =
     let is : entries P.operations ≡ rows = ap entries same ∙ entries_are_rows rows sorted in
     same_capacity (given_out P w) (given_among P rows w) (sum_all P w (λ op. 1) rows is) (sum_all P w (λ op. op.r1) rows is) (sum_all P w (λ op. op.r2) rows is)
 
--- ---- how much at most: 20,000 operations of 99 each
+-- ---- how much at most
 
-each_at_most : {X : Type 0} (f : X → ℕ) (xs : List X) → AllByRecursion (λ x. f x ≤ 99) xs → sum_by f xs ≤ 99 * length xs
+each_at_most : {X : Type 0} (f : X → ℕ) (xs : List X) → AllByRecursion (λ x. f x ≤ MOST_FIXED) xs → sum_by f xs ≤ MOST_FIXED * length xs
 each_at_most f [] h = omega arith
 each_at_most f (x ∷ xs) h = omega (arith, sum_by-cons f x xs, h.0, each_at_most f xs h.1)
 
-at_most_or_none : (b : Bool) (n : ℕ) → n ≤ 99 → cond b n 0 ≤ 99
+at_most_or_none : (b : Bool) (n : ℕ) → n ≤ MOST_FIXED → cond b n 0 ≤ MOST_FIXED
 at_most_or_none true n h = h
 at_most_or_none false n h = omega arith
 
-module _ (P : Plan) (few : len P.operations ≤ 20000) (w : Name) where
-  sum_at_most : (number : Operation → ℕ) → ((o : OpKey) (op : Operation) → get P.operations o ≡ Some op → number op ≤ 99) → sum_given_out P w number ≤ 1980000
+module _ (P : Plan) (few : len P.operations ≤ MOST_OPERATIONS) (w : Name) where
+  sum_at_most : (number : Operation → ℕ) → ((o : OpKey) (op : Operation) → get P.operations o ≡ Some op → number op ≤ MOST_FIXED) → sum_given_out P w number ≤ most_given_out
   sum_at_most number each =
       let most = each_at_most (λ (e : OpKey × Operation). cond (is_serving P w e.1) (number e.1) 0) (entries P.operations)
-      (each_entry operation_cmp operation_cmp_total operation_cmp-IsAntisymmetric (λ o op. cond (is_serving P w op) (number op) 0 ≤ 99) P.operations (λ o op is. at_most_or_none (is_serving P w op) (number op) (each o op is))) in
+      (each_entry operation_cmp operation_cmp_total operation_cmp-IsAntisymmetric (λ o op. cond (is_serving P w op) (number op) 0 ≤ MOST_FIXED) P.operations (λ o op is. at_most_or_none (is_serving P w op) (number op) (each o op is))) in
       omega (arith, most, few, len-entries P.operations, sum_all P w number (entries P.operations) refl)
 
-  -- of operations of at most 99 each
-  pub given_at_most : ((o : OpKey) (op : Operation) → get P.operations o ≡ Some op → (op.r1 ≤ 99) × (op.r2 ≤ 99)) → IsAtMost 1980000 (given_out P w)
+  -- where each needs no more than it may
+  pub given_at_most : ((o : OpKey) (op : Operation) → get P.operations o ≡ Some op → (op.r1 ≤ MOST_FIXED) × (op.r2 ≤ MOST_FIXED)) → IsAtMost most_given_out (given_out P w)
   given_at_most each = record {
     servers = sum_at_most (λ op. 1) (λ o op is. omega arith);
     r1 = sum_at_most (λ op. op.r1) (λ o op is. (each o op is).0);

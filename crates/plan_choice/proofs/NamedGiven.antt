@@ -5,6 +5,7 @@ use Rattle.std.specs.Cmp.{eq_by_cmp_equiv}
 use Rattle.std.specs.FinMap.{entries, entries_sorted, find, get, get-entries, len}
 use Rattle.std.specs.FinMap.Entries.{below_all, is_sorted}
 use Rattle.std.specs.Ordering.{eq_by_cmp, is_lt}
+use Rattle.plan_basics.specs.declared.limits.TheConstants.{MOST_FIXED, MOST_OPERATIONS}
 use Rattle.plan_basics.specs.Keys.{Name, name_cmp, operation_cmp, operation_cmp_total, operation_cmp-IsAntisymmetric}
 use Rattle.plan_basics.specs.declared.Attr.TheVariants.{Automatic}
 use Rattle.plan_basics.specs.declared.keys.OpKey.{OpKey}
@@ -17,7 +18,7 @@ use Rattle.plan_model.specs.Ready.{named, with_mark}
 use Rattle.plan_model.specs.Revise.{len-revise}
 use Rattle.plan_laws.proofs.Looks.{as_named}
 use Rattle.plan_records.proofs.MadeEntries.{bits_and, each_made, entries-revise, key_of, less_of, not_equal}
-use Rattle.plan_choice.specs.Taking.{IsAtMost, takes_server, with_one_more}
+use Rattle.plan_choice.specs.Taking.{IsAtMost, most_given_out, takes_server, with_one_more}
 use Rattle.plan_choice.proofs.GivenSums.{at_another, at_its_own, given_at_most, same_capacity}
 use Rattle.plan_laws.proofs.Kept.{is_among-append}
 use Rattle.plan_status.proofs.Naming.{row_before}
@@ -137,12 +138,12 @@ module _ (P : Plan) (os : List OpKey) where
         (sum_same w apart (λ x. 1) refl) (sum_same w apart (λ x. x.r1) refl) (sum_same w apart (λ x. x.r2) refl)
 
   -- each of at most 99, named or not
-  pub named_at_most : len P.operations ≤ 20000 → ((o : OpKey) (op : Operation) → get P.operations o ≡ Some op → (op.r1 ≤ 99) × (op.r2 ≤ 99)) → (w : Name) → IsAtMost 1980000 (given_out (named os P) w)
+  pub named_at_most : len P.operations ≤ MOST_OPERATIONS → ((o : OpKey) (op : Operation) → get P.operations o ≡ Some op → (op.r1 ≤ MOST_FIXED) × (op.r2 ≤ MOST_FIXED)) → (w : Name) → IsAtMost most_given_out (given_out (named os P) w)
   named_at_most few each w =
-      given_at_most (named os P) (subst (λ n. n ≤ 20000) (sym (len-revise (as_named os) P.operations)) few) w
+      given_at_most (named os P) (subst (λ n. n ≤ MOST_OPERATIONS) (sym (len-revise (as_named os) P.operations)) few) w
       (λ o op is.
       let before = row_before P os o op is in
       let small = each o before.0 before.1 in (
-        subst (λ n. n ≤ 99) (sym (same_number (λ x. x.r1) (λ x. refl) (is_among os o) before.0) ∙ ap (λ (x : Operation). x.r1) before.2) small.0,
-        subst (λ n. n ≤ 99) (sym (same_number (λ x. x.r2) (λ x. refl) (is_among os o) before.0) ∙ ap (λ (x : Operation). x.r2) before.2) small.1,
+        subst (λ n. n ≤ MOST_FIXED) (sym (same_number (λ x. x.r1) (λ x. refl) (is_among os o) before.0) ∙ ap (λ (x : Operation). x.r1) before.2) small.0,
+        subst (λ n. n ≤ MOST_FIXED) (sym (same_number (λ x. x.r2) (λ x. refl) (is_among os o) before.0) ∙ ap (λ (x : Operation). x.r2) before.2) small.1,
       ))

@@ -16,7 +16,7 @@ use Rattle.workstations.specs.Workstations.{Workstation}
 use Rattle.workstations.specs.contracts.Capacity as capacity
 use Rattle.workstations.specs.declared.Capacity.{Capacity}
 use Rattle.plan_choice.specs.Choosing.{AreGivenOut, AreHeldIn}
-use Rattle.plan_choice.specs.Taking.{CanStart, HaveTaken, IsAtMost, with_one_more}
+use Rattle.plan_choice.specs.Taking.{CanStart, HaveTaken, IsAtMost, most_given_out, with_one_more}
 
 -- the plan that is gone through and the moment, and what is given out at each workstation's place and what is held so far
 pub record Counted : Type 0 where
@@ -37,11 +37,11 @@ pub record IsCountedIn (g : Counted) (P : Plan) : Type 0 where
   pub given : AreGivenOut P g.contents.workstations.items g.given
   pub holders : AreHeldIn P g.held
 
--- its workstation has given out a server more, and its R1 and R2; 20,000 operations of at most 99 each give out 1,980,000 at most
+-- its workstation has given out a server more, and its R1 and R2, where no more is given out than a plan can
 pub record GivesOneMore (g : Counted) (op : Operation) (given : List Capacity) : Type 0 where
   pub place : (i : ℕ) × (ws : Workstation) × (slice_get g.contents.workstations.items i ≡ Some (op.workstation, ws))
   pub before : (taken : Capacity) × (slice_get g.given place.0 ≡ Some taken)
-  pub after : IsAtMost 1980000 before.0 → given ≡ set g.given place.0 (with_one_more before.0 op)
+  pub after : IsAtMost most_given_out before.0 → given ≡ set g.given place.0 (with_one_more before.0 op)
 
 -- o is in the plan and can start, and counts as started then
 pub record Allows (g : Counted) (o : OpKey) (h : Counted) : Type 0 where

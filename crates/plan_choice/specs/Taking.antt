@@ -1,9 +1,10 @@
 -- What one more operation takes of its workstation, and whether it can.
-use Rattle.std.specs.Prelude.{◌≡◌, ◌↔◌, ◌≢◌, ℕ, ◌+◌, ◌<◌, ◌≤◌, ◌&&◌, Bool, true, Some, None}
+use Rattle.std.specs.Prelude.{◌≡◌, ◌↔◌, ◌≢◌, ℕ, ◌+◌, ◌*◌, ◌<◌, ◌≤◌, ◌&&◌, Bool, true, Some, None}
 use Rattle.std.specs.FinMap.{get}
 use Rattle.plan_basics.specs.Keys.{Name}
 use Rattle.plan_basics.specs.Refusals.{number_of}
 use Rattle.plan_basics.specs.declared.Refusal.{Refusal}
+use Rattle.plan_basics.specs.declared.limits.TheConstants.{MOST_FIXED, MOST_OPERATIONS}
 use Rattle.plan_basics.specs.declared.keys.OpKey.{OpKey}
 use Rattle.special_resources.specs.Holders.{SharesWithHolders, Usage}
 use Rattle.special_resources.specs.Holdings.{Held, HoldsIn, usage_of}
@@ -25,6 +26,10 @@ takes_server P op = takes (attribute_at P op.workstation) && holds_server (marke
 -- a server more, and the operation's R1 and R2
 abbrev pub with_one_more : Capacity → Operation → Capacity
 with_one_more taken op = record { servers = taken.servers + 1; r1 = taken.r1 + op.r1; r2 = taken.r2 + op.r2 }
+
+-- how much all operations of a plan give out of one thing at most: as many as there may be, each of as much as it may need
+abbrev pub most_given_out : ℕ
+most_given_out = MOST_OPERATIONS * MOST_FIXED
 
 -- each of the three is at most this
 pub record IsAtMost (limit : ℕ) (taken : Capacity) : Type 0 where

@@ -8,7 +8,7 @@ ghost use Rattle.plan_model.specs.Starting.{MayStart};
 ghost use Rattle.plan_records.specs.Contents.{plan_of, AreValidContents};
 ghost use Rattle.plan_model.specs.Holdings.{takes};
 ghost use Rattle.plan_choice.specs.Choosing.{AreGivenOut, HasTaken, IsStartLine};
-ghost use Rattle.plan_choice.specs.Taking.{CanMeetNeed, CanMeetNeeds, CanStart, IsAtMost, MeetsLinesBelow, takes_server, with_one_more};
+ghost use Rattle.plan_choice.specs.Taking.{CanMeetNeed, CanMeetNeeds, CanStart, IsAtMost, MeetsLinesBelow, most_given_out, takes_server, with_one_more};
 
 use plan_basics::{Attr, Moment, OpKey, Refusal, ResName};
 use plan_model::OperationRecord;
@@ -48,15 +48,15 @@ fn holds_a_server(contents: &PlanContents, operation: &OperationRecord) -> bool
 
 // What is given out, with this much more.
 fn with_more(taken: u32, more: u8) -> u32
-    ensures { taken ≤ 1980000 → result ≡ taken + more }
+    ensures { taken ≤ most_given_out → result ≡ taken + more }
 {
     taken.saturating_add(u32::from(more))
 }
 
-/// What is given out, with a server more, and the operation's R1 and R2. A plan has at most 20,000 operations, and each takes
-/// at most 99.
+/// What is given out, with a server more, and the operation's R1 and R2. All operations of a plan give out at most
+/// `MOST_OPERATIONS` times `MOST_FIXED`.
 pub fn with_operation(taken: &Capacity, operation: &OperationRecord) -> Capacity
-    ensures { IsAtMost 1980000 taken.now → result ≡ with_one_more taken.now operation.now }
+    ensures { IsAtMost most_given_out taken.now → result ≡ with_one_more taken.now operation.now }
 {
     Capacity {
         servers: with_more(taken.servers, 1),

@@ -4,6 +4,7 @@ use Rattle.std.specs.Ordering.{eq_by_cmp}
 use Rattle.std.specs.Cmp.{Equal-is}
 use Rattle.std.specs.FinMap.{get, insert, get-insert, len, len-insert, contains_key, get-empty}
 use Rattle.std.proofs.lemmas.Bool.{cond_both}
+use Rattle.plan_basics.specs.declared.limits.TheConstants.{MOST_RESOURCES, MOST_WORKSTATIONS}
 use Rattle.plan_basics.specs.declared.Refusal.TheVariants as refusal
 use Rattle.status_rules.specs.declared.Mark.TheVariants as mark
 use Rattle.plan_records.specs.declared.What.TheVariants as what
@@ -80,7 +81,7 @@ module _ (P : Plan) (sound : IsSound P) (r : Name) (available : Bool) (known : c
       have_resources = λ o op e n usage h. still_there n (v.have_resources o op e n usage h);
       pairs = v.pairs;
       acyclic = v.acyclic;
-      limits = record { workstations = v.limits.workstations; resources = subst (λ n. n ≤ 999) (sym as_many) v.limits.resources; occurrences = v.limits.occurrences; operations = v.limits.operations; pairs = v.limits.pairs };
+      limits = record { workstations = v.limits.workstations; resources = subst (λ n. n ≤ MOST_RESOURCES) (sym as_many) v.limits.resources; occurrences = v.limits.occurrences; operations = v.limits.operations; pairs = v.limits.pairs };
     };
     in_order = sound.in_order;
     compatible = sound.compatible;
@@ -148,7 +149,7 @@ module _ (P : Plan) (sound : IsSound P) (w : Name) (known : contains_key P.works
       have_resources = v.have_resources;
       pairs = v.pairs;
       acyclic = v.acyclic;
-      limits = record { workstations = subst (λ n. n ≤ 99) (sym (len-revise _ P.workstations)) v.limits.workstations; resources = v.limits.resources; occurrences = v.limits.occurrences; operations = v.limits.operations; pairs = v.limits.pairs };
+      limits = record { workstations = subst (λ n. n ≤ MOST_WORKSTATIONS) (sym (len-revise _ P.workstations)) v.limits.workstations; resources = v.limits.resources; occurrences = v.limits.occurrences; operations = v.limits.operations; pairs = v.limits.pairs };
     };
     in_order = λ o h p live. still (sound.in_order o h p live);
     compatible = λ a b r x y apart ha hb. sound.compatible a b r x y apart (held_before a r x ha) (held_before b r y hb);

@@ -4,6 +4,7 @@ use Rattle.std.specs.Prelude.{◌≤ℤ◌}
 use Rattle.std.specs.FinMap.{contains_key, get}
 use Rattle.std.specs.FinSet as set
 use Rattle.std.proofs.lemmas.Int.{by_lt_z, ints}
+use Rattle.plan_basics.specs.declared.limits.TheConstants.{MOST_INTERVALS}
 use Rattle.plan_basics.specs.declared.Attr.{Attr}
 use Rattle.plan_basics.specs.declared.Attr.TheVariants as attribute
 use Rattle.plan_basics.specs.declared.keys.OccKey.{OccKey}
@@ -132,7 +133,7 @@ module _ (P : Plan) (acyclic : IsAcyclic P.pairs) where
 
   open_by_told : (w : Name) (items : List OpenInterval) (r : Refusal) → Told (MayBeOpenBy P w items r)
   open_by_told w items refusal.UnknownWorkstation = told_has_key (contains_key P.workstations w)
-  open_by_told w items refusal.Limit = told_le (length items) 400
+  open_by_told w items refusal.Limit = told_le (length items) MOST_INTERVALS
   open_by_told w items refusal.BadPlan = told_pairs_of AreApart told_apart items
   open_by_told w items r = inl tt
 

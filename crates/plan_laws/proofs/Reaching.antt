@@ -4,6 +4,7 @@ use Rattle.std.specs.declared.cmp.Ordering.{Ordering}
 use Rattle.std.specs.Cmp.{IsTotalOrder}
 use Rattle.std.specs.FinMap.{FinMap, IsAntisymmetric, contains_key, get, len}
 use Rattle.std.specs.FinSet as set
+use Rattle.plan_basics.specs.declared.limits.TheConstants.{MOST_OCCURRENCES, MOST_OPERATIONS, MOST_PAIRS, MOST_RESOURCES, MOST_WORKSTATIONS}
 use Rattle.operation_graph.specs.Paths.{end_of}
 use Rattle.plan_basics.specs.declared.keys.OccKey.{OccKey}
 use Rattle.plan_basics.specs.Keys.{occurrence_cmp-IsAntisymmetric, occurrence_cmp_total}
@@ -38,7 +39,7 @@ told_keys {K} {X} o same m Q each = told_alike {A = (k : K) (x : X) → get m k 
     (told_entries m o same (λ k x. Q k) (λ k x. each k))
 
 pub limits_told : (P : Plan) → Told (IsWithinLimits P)
-limits_told P = told_alike {A = ((len P.workstations ≤ 99) × (len P.resources ≤ 999) × (len P.occurrences ≤ 5000)) × ((len P.operations ≤ 20000) × (set.len P.pairs ≤ 100000))}
+limits_told P = told_alike {A = ((len P.workstations ≤ MOST_WORKSTATIONS) × (len P.resources ≤ MOST_RESOURCES) × (len P.occurrences ≤ MOST_OCCURRENCES)) × ((len P.operations ≤ MOST_OPERATIONS) × (set.len P.pairs ≤ MOST_PAIRS))}
     (λ h. record { workstations = h.0.0; resources = h.0.1; occurrences = h.0.2; operations = h.1.0; pairs = h.1.1 })
     (λ h. ((h.workstations, h.resources, h.occurrences), (h.operations, h.pairs)))
     (told_and (told_three (told_le _ _) (told_le _ _) (told_le _ _)) (λ _. told_and (told_le _ _) (λ _. told_le _ _)))

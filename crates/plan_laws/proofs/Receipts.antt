@@ -4,6 +4,7 @@ use Rattle.std.specs.Prelude.{slice_index_or}
 use Rattle.std.specs.Ordering.{eq_by_cmp, is_eq}
 use Rattle.std.specs.Cmp.{tied_itself, Equal-is}
 use Rattle.std.specs.FinMap.{get, insert, get-insert, get-empty, len, len-insert, len-empty, contains_key}
+use Rattle.plan_basics.specs.declared.limits.TheConstants.{MOST_TRACKERS}
 use Rattle.plan_basics.specs.declared.Refusal.TheVariants as refusal
 use Rattle.plan_records.specs.Answer.{accepted, refused}
 use Rattle.plan_basics.specs.Keys.{IsOperationKey, name_cmp, name_cmp-IsAntisymmetric, name_cmp_total, operation_cmp, operation_cmp_total}
@@ -39,7 +40,7 @@ chosen_keys P m chosen sound c k d h =
     let on = c.choice.on_automatic o (stands_among chosen k d h) in
     (sound.valid.occurrences.each_operation o on.0 on.1).0.key
 
-after_one : (b : Bool) (n : ℕ) → n ≤ 64 → (b ≡ true) ⊎ (n < 64) → cond b n (n + 1) ≤ 64
+after_one : (b : Bool) (n : ℕ) → n ≤ MOST_TRACKERS → (b ≡ true) ⊎ (n < MOST_TRACKERS) → cond b n (n + 1) ≤ MOST_TRACKERS
 after_one true n h k = h
 after_one false n h (inl e) = absurd (true≢false (sym e))
 after_one false n h (inr k) = omega (arith, k)
@@ -72,7 +73,7 @@ module _ (s t : State) (n : Numbered) (chosen : List OpKey) (sound : IsSound s.p
       | inl same ↦ subst (λ z. IsReceipt z receipt) (sym (name_cmp-IsAntisymmetric tracker n.tracker ((Equal-is (name_cmp tracker n.tracker)).0 same.0))) (subst (IsReceipt n.tracker) same.1 is_new)
       | inr old ↦ were.each tracker receipt old
     ];
-    few = subst (λ z. z ≤ 64) (sym (len-insert name_cmp_total s.receipts n.tracker _)) (after_one (contains_key s.receipts n.tracker) (len s.receipts) were.few room.0);
+    few = subst (λ z. z ≤ MOST_TRACKERS) (sym (len-insert name_cmp_total s.receipts n.tracker _)) (after_one (contains_key s.receipts n.tracker) (len s.receipts) were.few room.0);
     before_load = λ h. absurd (true≢false (sym loaded ∙ ap (λ X. X.loaded) (sym step.is_after) ∙ h));
   })
 

@@ -2,6 +2,7 @@
 use Rattle.std.proofs.Common.{◌≡◌, ◌⊎◌, inl, inr, refl, sym, subst, arith, ℕ, ◌+◌, ◌<◌, true, [], ◌∷◌, Option, Some, None}
 use Rattle.std.proofs.lemmas.Bool.{cases_lt, cases_order}
 use Rattle.std.specs.FinMap.{contains_key, get}
+use Rattle.plan_basics.specs.declared.limits.TheConstants.{MOST_TRACKERS}
 use Rattle.plan_basics.specs.Keys.{name_cmp-IsAntisymmetric, name_cmp_total}
 use Rattle.plan_basics.specs.declared.Attr.{Attr}
 use Rattle.plan_basics.specs.declared.Attr.TheVariants as attribute
@@ -67,7 +68,7 @@ told_limit refusal.Limit = inl refl
 told_limit r = inr (λ e. cc)
 
 receipt_room_told : (T : Receipts) (n : Numbered) → Told (HasReceiptRoom T n)
-receipt_room_told T n = told_three (told_or (told_true (contains_key T n.tracker) true) (told_le _ 64)) (told_le _ _) (told_le _ _)
+receipt_room_told T n = told_three (told_or (told_true (contains_key T n.tracker) true) (told_le _ MOST_TRACKERS)) (told_le _ _) (told_le _ _)
 
 numbered_told : (P : Plan) (T : Receipts) (n : Numbered) → IsSound P → (r : Refusal) → Told (NumberedMayBeAccepted P T n r)
 numbered_told P T n sound r = told_and (accepted_told P sound.valid.acyclic n.request r) (λ _. told_if_then (told_limit r) (λ _. receipt_room_told T n))

@@ -9,6 +9,7 @@ use Rattle.std.specs.FinSet as set
 use Rattle.std.specs.Ordering.{eq_by_cmp}
 use Rattle.std.proofs.lemmas.List.Elements.{All-contains, All-head, All-tail, All-weaker}
 use Rattle.std.proofs.lemmas.List.Sorted.{IsPermutation-sym, Contains-permutation, list_any-IsPermutation}
+use Rattle.plan_basics.specs.declared.limits.TheConstants.{MOST_NEEDS, MOST_OPERATIONS, MOST_PAIRS}
 use Rattle.plan_basics.specs.declared.keys.OccKey.{OccKey}
 use Rattle.plan_basics.specs.declared.keys.OpKey.{OpKey}
 use Rattle.plan_basics.specs.Keys.{Name, occurrence_cmp, occurrence_cmp_total, occurrence_cmp-IsAntisymmetric, operation_cmp, operation_cmp_total, operation_cmp-IsAntisymmetric}
@@ -58,7 +59,7 @@ row_made occurrences needs said terms due own e is own_is =
 pub row_told :
     (occurrences : Terms) (needs : Wants) (said : OperationItem) (terms : Occurrence) (found : Option (OpKey × Operation)) →
     get {R = occurrence_cmp} (from_entries occurrences) said.key.occurrence ≡ Some terms →
-    MatchOption found (16 < length (needs_of said.key needs)) (λ row. (length (needs_of said.key needs) ≤ 16) × (row ≡ new_row terms needs said)) →
+    MatchOption found (MOST_NEEDS < length (needs_of said.key needs)) (λ row. (length (needs_of said.key needs) ≤ MOST_NEEDS) × (row ≡ new_row terms needs said)) →
     MatchOption found (¬ BelongsTo occurrences needs said) (λ row. BelongsTo occurrences needs said × (row ≡ row_of occurrences needs said))
 row_told occurrences needs said terms None e many = λ belongs. let few = belongs.few_needs in absurd (omega (arith, many, few))
 row_told occurrences needs said terms (Some row) e own = (
@@ -120,7 +121,7 @@ has_over ks ls occurrences all has = All-weaker (λ row. Contains (map occurrenc
     (λ row is. let r = from_map occurrence_of ks row.0 is in subst (Contains (map occurrence_of ls)) r.2 (in_map occurrence_of ls r.0 (all r.0 r.1))) occurrences has
 
 pub rows_are :
-    (names : List Name) (occurrences : Terms) (needs : Wants) (said : List OperationItem) (rows : List (OpKey × Operation)) → length said ≤ 20000 →
+    (names : List Name) (occurrences : Terms) (needs : Wants) (said : List OperationItem) (rows : List (OpKey × Operation)) → length said ≤ MOST_OPERATIONS →
     All (Fits names occurrences needs) said → AreInKeyOrder operation_cmp (λ row. row.0) (map (row_of occurrences needs) said) rows →
     EachHasOperation (keys_of rows) occurrences → AreRowsOf names occurrences needs said rows
 rows_are names occurrences needs said rows few fit ordered has =
@@ -175,7 +176,7 @@ module _ (keys : List OpKey) (pairs ordered : List Pair) (same : IsPermutation p
       set.contains-from_list pair_cmp_total pairs q ∙ list_any-IsPermutation (eq_by_cmp pair_cmp q) pairs ordered same ∙ sym (set.contains-from_list pair_cmp_total ordered q))
 
   pub pairs_are :
-      length pairs ≤ 100000 → All (IsPairIn keys) pairs → AllPairs (λ a b. a ≢ b) pairs → IsStrictlySortedBy pair_cmp ordered → IsAcyclic (set.from_list ordered) →
+      length pairs ≤ MOST_PAIRS → All (IsPairIn keys) pairs → AllPairs (λ a b. a ≢ b) pairs → IsStrictlySortedBy pair_cmp ordered → IsAcyclic (set.from_list ordered) →
       ArePairsInOrder keys pairs ordered
   pairs_are few within distinct up acyclic = record {
     are = record {

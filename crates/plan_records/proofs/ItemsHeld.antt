@@ -4,6 +4,7 @@ use Rattle.std.specs.List.{AllPairs}
 use Rattle.std.specs.FinMap.{get, contains_key, len}
 use Rattle.std.specs.Map.{keys_of}
 use Rattle.std.proofs.lemmas.List.Elements.{All-weaker}
+use Rattle.plan_basics.specs.declared.limits.TheConstants.{MOST_NEEDS}
 use Rattle.plan_basics.specs.declared.keys.OccKey.{OccKey}
 use Rattle.plan_basics.specs.declared.keys.OpKey.{OpKey}
 use Rattle.plan_basics.specs.Keys.{occurrence_cmp_total, occurrence_cmp-IsAntisymmetric, operation_cmp_total, operation_cmp-IsAntisymmetric}
@@ -100,11 +101,11 @@ module _ {items : List Item} {s : Supplement} (held : Holds items s) where
   pub need_is : (y : OpKey × Need) → Contains (needs_in items) y → (op : Operation) × (get s.operations y.0 ≡ Some op) × (get op.needs y.1.name ≡ Some (usage_of y.1))
   need_is y has = read_stands kinds.needs (Stands s) items held.stand y has tt
 
-  -- an operation has 16 needs at most
-  pub few_of : (o : OpKey) (op : Operation) → get s.operations o ≡ Some op → length (needs_of o (needs_in items)) ≤ 16
+  -- an operation has no more needs than it may have
+  pub few_of : (o : OpKey) (op : Operation) → get s.operations o ≡ Some op → length (needs_of o (needs_in items)) ≤ MOST_NEEDS
   few_of o op there =
       let apart : NeedsDiffer (needs_in items) = read_apart kinds.needs items held.distinct in
-      let most : len op.needs ≤ 16 = (held.occurrences.each_operation o op there).0.few_needs in
+      let most : len op.needs ≤ MOST_NEEDS = (held.occurrences.each_operation o op there).0.few_needs in
       let count = as_many_said (needs_in items) apart s.operations need_is o op there (λ r e. key_in kinds.needs items (o, r) (held.all (key.Need o r) (op, there, e))) in
       omega (arith, most, count)
 

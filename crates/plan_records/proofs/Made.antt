@@ -6,6 +6,7 @@ use Rattle.std.specs.FinSet as set
 use Rattle.std.specs.Map.{keys_of}
 use Rattle.std.proofs.lemmas.List.Elements.{All-contains, All-weaker}
 use Rattle.std.proofs.lemmas.List.Sorted.{length_permutation}
+use Rattle.plan_basics.specs.declared.limits.TheConstants.{MOST_OCCURRENCES, MOST_OPERATIONS, MOST_PAIRS, MOST_RESOURCES, MOST_WORKSTATIONS}
 use Rattle.plan_basics.specs.declared.Attr.{Attr}
 use Rattle.plan_basics.specs.declared.keys.OpKey.{OpKey}
 use Rattle.plan_basics.specs.Keys.{Name, name_cmp_total, name_cmp-IsAntisymmetric, occurrence_cmp_total, occurrence_cmp-IsAntisymmetric, operation_cmp_total, operation_cmp-IsAntisymmetric}
@@ -178,20 +179,20 @@ module _ (items : List Item) (c : PlanContents) (legal_items : All items_of.IsIt
 
   limits : IsWithinLimits P
   limits = record {
-    workstations = let few : length (workstations_in items) ≤ 99 = made.items_are.workstations.few in omega (arith, workstations_count);
+    workstations = let few : length (workstations_in items) ≤ MOST_WORKSTATIONS = made.items_are.workstations.few in omega (arith, workstations_count);
     resources =
         let count = found_count name_cmp_total name_cmp-IsAntisymmetric (resources_in items) c.resources.items made.resources made.in_order.resources in
-        let few : length (resources_in items) ≤ 999 = made.items_are.resources.few in
+        let few : length (resources_in items) ≤ MOST_RESOURCES = made.items_are.resources.few in
         omega (arith, count);
-    occurrences = let few : length (occurrences_in items) ≤ 5000 = made.items_are.occurrences.few in omega (arith, occurrences_count);
+    occurrences = let few : length (occurrences_in items) ≤ MOST_OCCURRENCES = made.items_are.occurrences.few in omega (arith, occurrences_count);
     operations =
         let count = made_count operation_cmp_total operation_cmp-IsAntisymmetric (row_of c.occurrences.items (needs_in items)) (operations_in items) c.operations.items made.operations made.in_order.operations in
-        let few : length (operations_in items) ≤ 20000 = made.items_are.operations.few in
+        let few : length (operations_in items) ≤ MOST_OPERATIONS = made.items_are.operations.few in
         omega (arith, count);
     pairs =
         let all : set.len P.pairs ≡ length c.pairs.items = len_set pair_cmp_total pair_cmp-IsAntisymmetric c.pairs.items (sorted_apart pair_cmp_total pair_cmp-IsAntisymmetric c.pairs.items made.in_order.pairs) in
         let same : length c.pairs.items ≡ length (pairs_in items) = length_permutation (pairs_in items) c.pairs.items made.pairs in
-        let few : length (pairs_in items) ≤ 100000 = made.items_are.pairs.few in
+        let few : length (pairs_in items) ≤ MOST_PAIRS = made.items_are.pairs.few in
         omega arith;
   }
 

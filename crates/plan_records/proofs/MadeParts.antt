@@ -8,6 +8,7 @@ use Rattle.std.specs.FinSet as set
 use Rattle.std.specs.Map.{keys_of}
 use Rattle.std.proofs.lemmas.List.Elements.{All-contains}
 use Rattle.std.proofs.lemmas.List.Sorted.{Contains-permutation, IsPermutation-sym, length_permutation}
+use Rattle.plan_basics.specs.declared.limits.TheConstants.{MOST_NEEDS}
 use Rattle.plan_basics.specs.declared.keys.OccKey.{OccKey}
 use Rattle.plan_basics.specs.declared.keys.OpKey.{OpKey}
 use Rattle.plan_basics.specs.Keys.{Name, operation_cmp, operation_cmp_total, operation_cmp-IsAntisymmetric}
@@ -71,7 +72,7 @@ pub record AreParts (items : List Item) (terms : OperationItem → Occurrence) (
   pub occurrence_from : (k : OccKey) (x : Occurrence) → get occurrences k ≡ Some x → Contains (occurrences_in items) (k, x)
   pub terms_at : (said : OperationItem) → Contains (operations_in items) said → get occurrences said.key.occurrence ≡ Some (terms said)
   pub not_empty : EachHasOperation (keys_said (operations_in items)) (occurrences_in items)
-  pub few_needs : (said : OperationItem) → Contains (operations_in items) said → length (needs_of said.key (needs_in items)) ≤ 16
+  pub few_needs : (said : OperationItem) → Contains (operations_in items) said → length (needs_of said.key (needs_in items)) ≤ MOST_NEEDS
   pub needs : AreNewNeeds (keys_said (operations_in items)) (needs_in items)
   pub operations : IsPermutation (map (row_with terms (needs_in items)) (operations_in items)) rows
   pub in_order : IsStrictlySortedBy operation_cmp (keys_of rows)

@@ -4,6 +4,7 @@ use Rattle.std.specs.Cmp.{nat_cmp_total, both_ways}
 use Rattle.std.specs.FinMap.{get, contains_key, len, nat_cmp-IsAntisymmetric}
 use Rattle.std.specs.FinSet as set
 use Rattle.std.specs.Map.{keys_of}
+use Rattle.plan_basics.specs.declared.limits.TheConstants.{MOST_OCCURRENCES, MOST_OPERATIONS, MOST_PAIRS, MOST_RESOURCES, MOST_WORKSTATIONS}
 use Rattle.plan_basics.specs.declared.Attr.{Attr}
 use Rattle.plan_basics.specs.declared.keys.OccKey.{OccKey}
 use Rattle.plan_basics.specs.declared.keys.OpKey.{OpKey}
@@ -93,7 +94,7 @@ module _ (P : Plan) (draft : IsDraft P) (some_station : 0 < len P.workstations) 
   are_workstations : AreWorkstations (workstations_in items) (intervals_in items)
   are_workstations = record {
     some = omega (arith, some_station, workstations_count);
-    few = let most : len P.workstations ≤ 99 = draft.valid.limits.workstations in omega (arith, workstations_count);
+    few = let most : len P.workstations ≤ MOST_WORKSTATIONS = draft.valid.limits.workstations in omega (arith, workstations_count);
     distinct = read_distinct kinds.workstations items are.distinct;
     opening = all_by_members (CanOpen (intervals_in items)) (workstations_in items) (λ y has. let ws = workstation_is y has in is_opening y.0 ws.0 ws.1);
     no_others = all_by_members (λ y. Contains (keys_of (workstations_in items)) y.0) (intervals_in items) (λ y has. let s = interval_is y has in name_in y.0 (some_is (get P.workstations y.0) s.0 s.1));
@@ -110,7 +111,7 @@ module _ (P : Plan) (draft : IsDraft P) (some_station : 0 < len P.workstations) 
 
   are_resources : AreResources (resources_in items)
   are_resources = record {
-    few = let most : len P.resources ≤ 999 = draft.valid.limits.resources in omega (arith, resources_count);
+    few = let most : len P.resources ≤ MOST_RESOURCES = draft.valid.limits.resources in omega (arith, resources_count);
     distinct = read_distinct kinds.resources items are.distinct;
   }
 
@@ -118,7 +119,7 @@ module _ (P : Plan) (draft : IsDraft P) (some_station : 0 < len P.workstations) 
   are_occurrences : AreOccurrenceRows (occurrences_in items)
   are_occurrences = record {
     some = omega (arith, some, occurrences_count held);
-    few = let most : len P.occurrences ≤ 5000 = draft.valid.limits.occurrences in omega (arith, occurrences_count held);
+    few = let most : len P.occurrences ≤ MOST_OCCURRENCES = draft.valid.limits.occurrences in omega (arith, occurrences_count held);
     distinct = read_distinct kinds.occurrences items are.distinct;
   }
 
@@ -149,7 +150,7 @@ module _ (P : Plan) (draft : IsDraft P) (some_station : 0 < len P.workstations) 
 
   are_operations : AreOperations (keys_of (workstations_in items)) (occurrences_in items) (needs_in items) (operations_in items)
   are_operations = record {
-    few = let most : len P.operations ≤ 20000 = draft.valid.limits.operations in omega (arith, operations_count held);
+    few = let most : len P.operations ≤ MOST_OPERATIONS = draft.valid.limits.operations in omega (arith, operations_count held);
     fit = all_by_members (Fits (keys_of (workstations_in items)) (occurrences_in items) (needs_in items)) (operations_in items) fits;
     distinct = read_distinct kinds.operations items are.distinct;
     not_empty = all_by_members (λ y. Contains (map occurrence_of (keys_said (operations_in items))) y.0) (occurrences_in items) has_operation;
@@ -165,7 +166,7 @@ module _ (P : Plan) (draft : IsDraft P) (some_station : 0 < len P.workstations) 
 
   are_pairs : ArePairs (keys_said (operations_in items)) (pairs_in items)
   are_pairs = record {
-    few = let most : set.len P.pairs ≤ 100000 = draft.valid.limits.pairs in omega (arith, set_count pair_cmp_total pair_cmp-IsAntisymmetric (pairs_in items) P.pairs (read_apart kinds.pairs items are.distinct) (pair_is held) pair_in);
+    few = let most : set.len P.pairs ≤ MOST_PAIRS = draft.valid.limits.pairs in omega (arith, set_count pair_cmp_total pair_cmp-IsAntisymmetric (pairs_in items) P.pairs (read_apart kinds.pairs items are.distinct) (pair_is held) pair_in);
     within = all_by_members (IsPairIn (keys_said (operations_in items))) (pairs_in items) (λ y has.
         let ends = draft.valid.pairs y.0 y.1 (pair_is held y has) in
         record { first = operation_in held y.0 ends.0; second = operation_in held y.1 ends.1 });

@@ -6,6 +6,7 @@ use Rattle.std.specs.Cmp.{IsTotalOrder}
 use Rattle.std.specs.declared.cmp.Ordering.{Ordering}
 use Rattle.std.specs.FinMap.{IsAntisymmetric, get, contains_key, len}
 use Rattle.std.proofs.lemmas.List.Sorted.{Contains-permutation, IsPermutation-sym}
+use Rattle.plan_basics.specs.declared.limits.TheConstants.{MOST_NEEDS}
 use Rattle.plan_basics.specs.declared.keys.OpKey.{OpKey}
 use Rattle.plan_basics.specs.Keys.{Name, name_cmp_total, name_cmp-IsAntisymmetric, operation_cmp_total, operation_cmp-IsAntisymmetric}
 use Rattle.plan_basics.specs.Minutes.{IsMoment}
@@ -119,7 +120,7 @@ module _ (needs ordered : List (OpKey × Need)) (same : IsPermutation needs orde
 
 -- ---- an operation as its record says, where this is in range
 pub in_range :
-    (needs : List (OpKey × Need)) → NeedsDiffer needs → (terms : Occurrence) (said : OperationItem) → IsOperationItem said → length (needs_of said.key needs) ≤ 16 → IsMoment terms.deadline →
+    (needs : List (OpKey × Need)) → NeedsDiffer needs → (terms : Occurrence) (said : OperationItem) → IsOperationItem said → length (needs_of said.key needs) ≤ MOST_NEEDS → IsMoment terms.deadline →
     ((r : Name) (usage : Usage) → get (usages_of (needs_of said.key needs)) r ≡ Some usage → IsResourceName r) → IsOperation said.key (operation_of terms needs said)
 in_range needs apart terms said is few moment named =
     let count = usages_count needs apart said.key in

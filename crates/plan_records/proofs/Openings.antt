@@ -5,6 +5,7 @@ use Rattle.std.specs.List.Sorted.{IsPermutation, IsStrictlySortedBy}
 use Rattle.std.specs.Map.{keys_of}
 use Rattle.std.proofs.lemmas.List.Elements.{All-contains}
 use Rattle.std.proofs.lemmas.List.Sorted.{IsPermutation-map, IsPermutation-sym, Contains-permutation}
+use Rattle.plan_basics.specs.declared.limits.TheConstants.{MOST_WORKSTATIONS}
 use Rattle.plan_basics.specs.declared.Attr.{Attr}
 use Rattle.plan_basics.specs.Keys.{Name, name_cmp, name_cmp_total, name_cmp-IsAntisymmetric}
 use Rattle.plan_basics.specs.Intervals.{OpenInterval}
@@ -75,7 +76,7 @@ module _ (intervals : List (Name × OpenInterval)) where
       none (all_by_members (λ y. Contains (keys_of opened) y.0) intervals (λ y has. key_to_row (λ (row : Name × Attr). row.0) (station_in intervals) said opened moved y.0 (All-contains (λ z. Contains (keys_of said) z.0) intervals y are.no_others has)))
 
   pub stations_are :
-      (said rows : List (Name × Attr)) (opened : List NamedWorkstation) → 0 < length said → length said ≤ 99 → AreInKeyOrder name_cmp (λ row. row.0) said rows →
+      (said rows : List (Name × Attr)) (opened : List NamedWorkstation) → 0 < length said → length said ≤ MOST_WORKSTATIONS → AreInKeyOrder name_cmp (λ row. row.0) said rows →
       All (CanOpen intervals) rows → opened ≡ map (opened_in intervals) rows → AreOfThese (keys_of opened) intervals → AreWorkstationsInOrder said intervals opened
   stations_are said rows opened some few ordered opening is these =
       let same : IsPermutation said rows = ordered.same in

@@ -6,6 +6,7 @@ use Rattle.std.specs.Cmp.{nat_cmp_total}
 use Rattle.std.specs.FinMap.{empty, get, contains_key, nat_cmp-IsAntisymmetric}
 use Rattle.std.proofs.lemmas.Bool.{cases_lt}
 use Rattle.std.proofs.lemmas.List.Elements.{All-contains, Contains-get_or}
+use Rattle.plan_basics.specs.declared.limits.TheConstants.{MOST_INTERVALS}
 use Rattle.plan_basics.specs.declared.Attr.{Attr}
 use Rattle.plan_basics.specs.Keys.{Name, name_cmp_total, name_cmp-IsAntisymmetric}
 use Rattle.plan_basics.specs.Intervals.{OpenInterval, IsInterval, AreApart}
@@ -87,7 +88,7 @@ separate ws is a b in_a in_b differ = elim (cases_lt b.from a.end) [
 
 pub opening_by :
     (ws : Workstation) → IsWorkstation ws → (xs : List OpenInterval) → Differ (λ x y. x.from ≢ y.from) xs →
-    ((x : OpenInterval) → Contains xs x → get ws.intervals x.from ≡ Some x) → length xs ≤ 400 → IsOpening xs
+    ((x : OpenInterval) → Contains xs x → get ws.intervals x.from ≡ Some x) → length xs ≤ MOST_INTERVALS → IsOpening xs
 opening_by ws is xs starts there few = record {
   few = few;
   apart = pairs_from_differ AreApart xs (differ_weaken (λ x y. x.from ≢ y.from) AreApart xs (λ a b in_a in_b differ. separate ws is a b (there a in_a) (there b in_b) differ) starts);

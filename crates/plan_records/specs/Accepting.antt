@@ -7,6 +7,7 @@ use Rattle.plan_basics.specs.declared.keys.OccKey.{OccKey}
 use Rattle.plan_basics.specs.declared.keys.OpKey.{OpKey}
 use Rattle.plan_basics.specs.declared.Refusal.{Refusal}
 use Rattle.plan_basics.specs.declared.Refusal.TheVariants as refusal
+use Rattle.plan_basics.specs.declared.limits.TheConstants.{MOST_INTERVALS}
 use Rattle.plan_basics.specs.Minutes.{IsMoment}
 use Rattle.plan_basics.specs.Intervals.{OpenInterval, AreApart}
 use Rattle.plan_basics.specs.Keys.{Name}
@@ -108,10 +109,10 @@ abbrev pub MayBeSetAvailable : Plan → Name → Refusal → Type 0
 MayBeSetAvailable P r refusal.UnknownResource = contains_key P.resources r ≡ true
 MayBeSetAvailable P r _ = Unit {0}
 
--- the workstation is in the plan, and these are at most 400 intervals of which no two overlap
+-- the workstation is in the plan, and these are no more intervals than it may have, of which no two overlap
 abbrev pub MayBeOpenBy : Plan → Name → List OpenInterval → Refusal → Type 0
 MayBeOpenBy P w items refusal.UnknownWorkstation = contains_key P.workstations w ≡ true
-MayBeOpenBy P w items refusal.Limit = length items ≤ 400
+MayBeOpenBy P w items refusal.Limit = length items ≤ MOST_INTERVALS
 MayBeOpenBy P w items refusal.BadPlan = AllPairs AreApart items
 MayBeOpenBy P w items _ = Unit {0}
 

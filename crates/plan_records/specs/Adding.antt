@@ -5,6 +5,7 @@ use Rattle.std.specs.List.Sorted.{IsPermutation, IsStrictlySortedBy}
 use Rattle.std.specs.Map.{keys_of}
 use Rattle.plan_basics.specs.declared.keys.OccKey.{OccKey}
 use Rattle.plan_basics.specs.declared.keys.OpKey.{OpKey}
+use Rattle.plan_basics.specs.declared.limits.TheConstants.{MOST_NEEDS}
 use Rattle.plan_basics.specs.Keys.{operation_cmp}
 use Rattle.special_resources.specs.declared.Need.{Need}
 use Rattle.plan_model.specs.Plan.{Operation, pair_cmp}
@@ -22,10 +23,10 @@ MayComeIn (item.Interval workstation interval) = ⊥
 MayComeIn (item.Resource name available) = ⊥
 MayComeIn _ = Unit {0}
 
--- an operation of that occurrence, which has 16 of these needs at most
+-- an operation of that occurrence, which has no more of these needs than it may have
 pub record ComesWith (c : OccKey) (needs : List (OpKey × Need)) (said : OperationItem) : Type 0 where
   pub occurrence : said.key.occurrence ≡ c
-  pub few_needs : length (needs_of said.key needs) ≤ 16
+  pub few_needs : length (needs_of said.key needs) ≤ MOST_NEEDS
 
 -- at least one operation, each comes with the occurrence, and no two have one key
 pub record AreNewOperations (c : OccKey) (needs : List (OpKey × Need)) (said : List OperationItem) : Type 0 where

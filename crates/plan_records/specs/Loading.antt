@@ -11,6 +11,7 @@ use Rattle.std.specs.Ordering.{eq_by_cmp, ordering_then}
 use Rattle.plan_basics.specs.declared.Attr.{Attr}
 use Rattle.plan_basics.specs.declared.keys.OccKey.{OccKey}
 use Rattle.plan_basics.specs.declared.keys.OpKey.{OpKey}
+use Rattle.plan_basics.specs.declared.limits.TheConstants.{MOST_INTERVALS, MOST_NEEDS, MOST_OCCURRENCES, MOST_OPERATIONS, MOST_PAIRS, MOST_RESOURCES, MOST_WORKSTATIONS}
 use Rattle.plan_basics.specs.Keys.{Name, name_cmp, occurrence_cmp, operation_cmp}
 use Rattle.plan_basics.specs.Intervals.{OpenInterval, AreApart}
 use Rattle.workstations.specs.Timetables.{NamedWorkstation, workstation_by}
@@ -100,16 +101,16 @@ occurrence_of o = o.occurrence
 abbrev pub IsOneOf : List Name → OperationItem → Type 0
 IsOneOf names said = Contains names said.workstation
 
--- an operation of one of these occurrences, which has 16 of these needs at most
+-- an operation of one of these occurrences, which has no more of these needs than it may have
 pub record BelongsTo (occurrences : List (OccKey × Occurrence)) (needs : List (OpKey × Need)) (said : OperationItem) : Type 0 where
   pub occurrence : Contains (keys_of occurrences) said.key.occurrence
-  pub few_needs : length (needs_of said.key needs) ≤ 16
+  pub few_needs : length (needs_of said.key needs) ≤ MOST_NEEDS
 
--- an operation of one of these workstations and of one of these occurrences, which has 16 of these needs at most
+-- an operation of one of these workstations and of one of these occurrences, which has no more of these needs than it may have
 pub record Fits (names : List Name) (occurrences : List (OccKey × Occurrence)) (needs : List (OpKey × Need)) (said : OperationItem) : Type 0 where
   pub workstation : Contains names said.workstation
   pub occurrence : Contains (keys_of occurrences) said.key.occurrence
-  pub few_needs : length (needs_of said.key needs) ≤ 16
+  pub few_needs : length (needs_of said.key needs) ≤ MOST_NEEDS
 
 -- the interval, if it is of the workstation of that name
 abbrev pub own_interval : Name → Name × OpenInterval → Option OpenInterval
@@ -119,9 +120,9 @@ own_interval name said = cond (eq_by_cmp name_cmp said.0 name) (Some said.1) Non
 abbrev pub intervals_of : Name → List (Name × OpenInterval) → List OpenInterval
 intervals_of name intervals = filter_map (own_interval name) intervals
 
--- 400 intervals at most, and no two overlap
+-- no more intervals than a workstation may have, and no two overlap
 pub record IsOpening (intervals : List OpenInterval) : Type 0 where
-  pub few : length intervals ≤ 400
+  pub few : length intervals ≤ MOST_INTERVALS
   pub apart : AllPairs AreApart intervals
 
 -- a workstation can be open in those of these intervals that are its own
@@ -136,10 +137,10 @@ opened_in intervals said = workstation_by said.0 said.1 (intervals_of said.0 int
 abbrev pub AreOfThese : List Name → List (Name × OpenInterval) → Type 0
 AreOfThese names intervals = All (λ said. Contains names said.0) intervals
 
--- at least one workstation, 99 at most, no two have one name, and each can be open in its intervals; there are no others
+-- at least one workstation, no more than a plan may hold, no two have one name, and each can be open in its intervals; there are no others
 pub record AreWorkstations (said : List (Name × Attr)) (intervals : List (Name × OpenInterval)) : Type 0 where
   pub some : 0 < length said
-  pub few : length said ≤ 99
+  pub few : length said ≤ MOST_WORKSTATIONS
   pub distinct : AllPairs (λ a b. a.0 ≢ b.0) said
   pub opening : All (CanOpen intervals) said
   pub no_others : AreOfThese (keys_of said) intervals
@@ -150,15 +151,15 @@ pub record AreWorkstationsInOrder (said : List (Name × Attr)) (intervals : List
   pub same : IsPermutation (map (opened_in intervals) said) ordered
   pub in_order : IsStrictlySortedBy name_cmp (keys_of ordered)
 
--- 999 special resources at most, and no two have one name
+-- no more special resources than a plan may hold, and no two have one name
 pub record AreResources (said : List (Name × Bool)) : Type 0 where
-  pub few : length said ≤ 999
+  pub few : length said ≤ MOST_RESOURCES
   pub distinct : AllPairs (λ a b. a.0 ≢ b.0) said
 
--- at least one occurrence, 5,000 at most, and no two have one key
+-- at least one occurrence, no more than a plan may hold, and no two have one key
 pub record AreOccurrenceRows (said : List (OccKey × Occurrence)) : Type 0 where
   pub some : 0 < length said
-  pub few : length said ≤ 5000
+  pub few : length said ≤ MOST_OCCURRENCES
   pub distinct : AllPairs (λ a b. a.0 ≢ b.0) said
 
 -- the keys of the operations that are said
@@ -169,9 +170,9 @@ keys_said said = map (λ (s : OperationItem). s.key) said
 abbrev pub EachHasOperation : List OpKey → List (OccKey × Occurrence) → Type 0
 EachHasOperation keys occurrences = All (λ row. Contains (map occurrence_of keys) row.0) occurrences
 
--- 20,000 operations at most: each fits, no two have one key, and each occurrence has one
+-- no more operations than a plan may hold: each fits, no two have one key, and each occurrence has one
 pub record AreOperations (names : List Name) (occurrences : List (OccKey × Occurrence)) (needs : List (OpKey × Need)) (said : List OperationItem) : Type 0 where
-  pub few : length said ≤ 20000
+  pub few : length said ≤ MOST_OPERATIONS
   pub fit : All (Fits names occurrences needs) said
   pub distinct : AllPairs (λ a b. a.key ≢ b.key) said
   pub not_empty : EachHasOperation (keys_said said) occurrences
@@ -199,9 +200,9 @@ pub record IsPairIn (keys : List OpKey) (p : OpKey × OpKey) : Type 0 where
   pub first : Contains keys p.0
   pub second : Contains keys p.1
 
--- 100,000 pairs at most: each is one of these operations, none stands twice, and no path returns to its start
+-- no more pairs than a plan may hold: each is one of these operations, none stands twice, and no path returns to its start
 pub record ArePairs (keys : List OpKey) (pairs : List (OpKey × OpKey)) : Type 0 where
-  pub few : length pairs ≤ 100000
+  pub few : length pairs ≤ MOST_PAIRS
   pub within : All (IsPairIn keys) pairs
   pub distinct : AllPairs (λ a b. a ≢ b) pairs
   pub acyclic : IsAcyclic (from_list {R = pair_cmp} pairs)

@@ -4,6 +4,7 @@ use Rattle.std.specs.FinMap.{FinMap, get, insert, len, contains_key}
 use Rattle.plan_basics.specs.declared.keys.OpKey.{OpKey}
 use Rattle.plan_basics.specs.declared.Refusal.{Refusal}
 use Rattle.plan_basics.specs.declared.Refusal.TheVariants as refusal
+use Rattle.plan_basics.specs.declared.limits.TheConstants.{MOST_TRACKERS, GREATEST_REQUEST_NUMBER, LONGEST_REQUEST_TEXT}
 use Rattle.plan_basics.specs.Keys.{Name, name_cmp}
 use Rattle.plan_basics.specs.Names.{IsName}
 use Rattle.plan_basics.specs.Refusals.{number_of}
@@ -69,7 +70,7 @@ last_number None = 0
 
 -- there is room for its receipt
 abbrev pub HasReceiptRoom : Receipts → Numbered → Type 0
-HasReceiptRoom T n = ((contains_key T n.tracker ≡ true) ⊎ (len T < 64)) × (length n.text ≤ 65536) × (n.number ≤ 999999999)
+HasReceiptRoom T n = ((contains_key T n.tracker ≡ true) ⊎ (len T < MOST_TRACKERS)) × (length n.text ≤ LONGEST_REQUEST_TEXT) × (n.number ≤ GREATEST_REQUEST_NUMBER)
 
 -- a new request of a tracker may be accepted: its own rules, and room for its receipt
 abbrev pub NumberedMayBeAccepted : Plan → Receipts → Numbered → Refusal → Type 0

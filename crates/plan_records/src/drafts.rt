@@ -32,11 +32,12 @@ impl Model for PlanDraft {
 }
 
 impl PlanDraft {
-    /// The draft that the records of a text denote; `None` where they denote none. There are one to 99 workstations, of any
-    /// attribute, each with up to 400 intervals, or with none; intervals of one workstation may touch, but not overlap.
-    /// There are up to 999 special resources. There is at least one occurrence, each with its operations, and an operation
-    /// may need R1, R2 and up to 16 special resources; pairs may lead from one occurrence to another, but no path of pairs
-    /// returns to its start. The records may come in any order. The error is always `Memory`.
+    /// The draft that the records of a text denote; `None` where they denote none. There is at least one workstation, of
+    /// any attribute, each with intervals or without; intervals of one workstation may touch, but not overlap. There may be
+    /// special resources. There is at least one occurrence, each with its operations, and an operation may need R1, R2 and
+    /// special resources; pairs may lead from one occurrence to another, but no path of pairs returns to its start. How
+    /// many there may be of each is in `plan_basics::limits`. The records may come in any order. The error is always
+    /// `Memory`.
     pub fn build(records: Vec<Record>) -> Result<Option<PlanDraft>, Refusal>
         ensures denoted { IfOk result (λ found. MatchOption found ((P : Plan) → ¬ Denotes (records_of records.items) P) (λ draft. Denotes (records_of records.items) draft)) }
         ensures memory { IfErr result (λ r. r ≡ Refusal.Memory) }
@@ -83,9 +84,9 @@ impl Model for Addition {
 
 impl Addition {
     /// The addition that the records of a text denote; `None` where they denote none. There is one occurrence with at least
-    /// one operation, each of which may need R1, R2 and up to 16 special resources. Each pair has an end in the occurrence,
-    /// and its ends there are operations of the text; whatever else is named is looked up in the plan when the occurrence
-    /// comes in. The records may come in any order. The error is always `Memory`.
+    /// one operation, each of which may need R1, R2 and up to `MOST_NEEDS` special resources. Each pair has an end in the
+    /// occurrence, and its ends there are operations of the text; whatever else is named is looked up in the plan when the
+    /// occurrence comes in. The records may come in any order. The error is always `Memory`.
     pub fn build(records: Vec<Record>) -> Result<Option<Addition>, Refusal>
         ensures denoted { IfOk result (λ found. MatchOption found ((s : Supplement) → ¬ DenotesAddition (records_of records.items) s) (λ a. DenotesAddition (records_of records.items) a)) }
         ensures memory { IfErr result (λ r. r ≡ Refusal.Memory) }

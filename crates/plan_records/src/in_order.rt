@@ -4,6 +4,7 @@ ghost use Rattle.std.specs.FinMap.{get, from_entries};
 ghost use Rattle.std.specs.FinSet.{from_list};
 ghost use Rattle.std.specs.List.Sorted.{IsStrictlySortedBy};
 ghost use Rattle.std.specs.Map.{keys_of};
+ghost use Rattle.plan_basics.specs.declared.limits.TheConstants.{MOST_NEEDS};
 ghost use Rattle.plan_basics.specs.Keys.{name_cmp, occurrence_cmp, operation_cmp};
 ghost use Rattle.plan_model.specs.Plan.{pair_cmp};
 ghost use Rattle.plan_model.specs.Valid.{IsAcyclic};
@@ -15,6 +16,7 @@ use super::needing::own_needs;
 use super::opening::is_named;
 use super::places::row_place;
 use super::sorting::{in_key_order, keys};
+use plan_basics::limits::{MOST_OCCURRENCES, MOST_OPERATIONS, MOST_PAIRS};
 use plan_basics::{OccKey, OpKey};
 use plan_graph::graph_of;
 use plan_items::OperationItem;
@@ -30,7 +32,7 @@ pub fn occurrences_in_order(
 ) -> Result<Option<Vec<(OccKey, Occurrence)>>, AllocError>
     ensures { IfOk result (λ found. MatchOption found (¬ AreOccurrenceRows said.items) (λ v. AreOccurrencesInOrder said.items v.items)) }
 {
-    if said.is_empty() || said.len() > 5_000 {
+    if said.is_empty() || said.len() > MOST_OCCURRENCES {
         return Ok(None);
     }
     in_key_order(said, |row| row.0)
@@ -45,15 +47,15 @@ fn terms_of(occurrences: &[(OccKey, Occurrence)], key: &OccKey) -> Option<Occurr
     Some(occurrences[place].1)
 }
 
-// The row of an operation whose occurrence has these terms, with its own needs, which are 16 at most: nothing is reported of
-// it, and its flags are clear.
+// The row of an operation whose occurrence has these terms, with its own needs, which are no more than it may have:
+// nothing is reported of it, and its flags are clear.
 fn planned(
     terms: &Occurrence,
     needs: &[(OpKey, Need)],
     said: &OperationItem,
 ) -> Option<(OpKey, OperationRecord)>
     requires { IsStrictlySortedBy need_cmp (map need_key needs.now) }
-    ensures { MatchOption result (16 < length (needs_of said.now.key needs.now)) (λ row. (length (needs_of said.now.key needs.now) ≤ 16) × (row ≡ new_row terms.now needs.now said.now)) }
+    ensures { MatchOption result (MOST_NEEDS < length (needs_of said.now.key needs.now)) (λ row. (length (needs_of said.now.key needs.now) ≤ MOST_NEEDS) × (row ≡ new_row terms.now needs.now said.now)) }
 {
     let needs = own_needs(needs, &said.key)?;
     let operation = OperationRecord {
@@ -85,7 +87,7 @@ fn row(
     planned(&terms, needs, said)
 }
 
-// The operations' rows, where each is of one of these occurrences and has 16 needs at most.
+// The operations' rows, where each is of one of these occurrences and has no more needs than it may have.
 pub fn rows(
     alloc: Global,
     occurrences: &[(OccKey, Occurrence)],
@@ -145,7 +147,7 @@ pub fn operations_in_order(
     requires needs { IsStrictlySortedBy need_cmp (map need_key needs.now) }
     ensures { IfOk result (λ found. MatchOption found (¬ AreOperations (keys_of workstations.now) occurrences.now needs.now said.now) (λ v. AreRowsOf (keys_of workstations.now) occurrences.now needs.now said.now v.items)) }
 {
-    if said.len() > 20_000 {
+    if said.len() > MOST_OPERATIONS {
         return Ok(None);
     }
     if !are_named(workstations, said) {
@@ -213,7 +215,7 @@ pub fn pairs_in_order(
     requires { IsStrictlySortedBy operation_cmp keys.now }
     ensures { IfOk result (λ found. MatchOption found (¬ ArePairs keys.now pairs.items) (λ v. ArePairsInOrder keys.now pairs.items v.items)) }
 {
-    if pairs.len() > 100_000 {
+    if pairs.len() > MOST_PAIRS {
         return Ok(None);
     }
     if !are_pairs_in(keys, &pairs) {

@@ -3,6 +3,7 @@ ghost use Rattle.std.specs.Prelude.{◌≡◌, ◌↔◌, ◌≢◌, ◌<◌, �
 ghost use Rattle.std.specs.List.{AllPairs};
 ghost use Rattle.std.specs.List.Sorted.{IsStrictlySortedBy};
 ghost use Rattle.std.specs.Map.{keys_of};
+ghost use Rattle.plan_basics.specs.declared.limits.TheConstants.{MOST_NEEDS};
 ghost use Rattle.plan_basics.specs.Keys.{name_cmp, operation_cmp};
 ghost use Rattle.special_resources.specs.Needs.{AreInNameOrder, usages_of};
 ghost use Rattle.plan_records.specs.Loading.{AreResources, AreResourcesInOrder, AreNeedsInOrder, IsNeedIn, need_cmp, need_key, needs_of};
@@ -10,6 +11,7 @@ ghost use Rattle.plan_records.specs.Loading.{AreResources, AreResourcesInOrder, 
 use super::in_order::is_among;
 use super::places::row_place;
 use super::sorting::in_key_order;
+use plan_basics::limits::MOST_RESOURCES;
 use plan_basics::{OpKey, ResName};
 use special_resources::{Need, Needs};
 use std::alloc::AllocError;
@@ -20,7 +22,7 @@ pub fn resources_in_order(
 ) -> Result<Option<Vec<(ResName, bool)>>, AllocError>
     ensures { IfOk result (λ found. MatchOption found (¬ AreResources said.items) (λ v. AreResourcesInOrder said.items v.items)) }
 {
-    if said.len() > 999 {
+    if said.len() > MOST_RESOURCES {
         return Ok(None);
     }
     in_key_order(said, |row| row.0)
@@ -44,10 +46,10 @@ fn needs_by<'a>(needs: &'a [(OpKey, Need)], key: &OpKey) -> &'a [(OpKey, Need)]
     &rest[..number]
 }
 
-// These needs, which are by name, where they are 16 at most.
+// These needs, which are by name, where they are no more than it may have.
 fn gathered(said: &[(OpKey, Need)]) -> Option<Needs>
     requires { AreInNameOrder (map (λ said. said.1) said.now) }
-    ensures { MatchOption result (16 < length said.now) (λ v. (length said.now ≤ 16) × (v ≡ usages_of (map (λ said. said.1) said.now))) }
+    ensures { MatchOption result (MOST_NEEDS < length said.now) (λ v. (length said.now ≤ MOST_NEEDS) × (v ≡ usages_of (map (λ said. said.1) said.now))) }
 {
     let mut needs = Needs::none();
     for said in said {
@@ -58,10 +60,10 @@ fn gathered(said: &[(OpKey, Need)]) -> Option<Needs>
     Some(needs)
 }
 
-// The needs of an operation, where they are 16 at most.
+// The needs of an operation, where they are no more than it may have.
 pub fn own_needs(needs: &[(OpKey, Need)], key: &OpKey) -> Option<Needs>
     requires { IsStrictlySortedBy need_cmp (map need_key needs.now) }
-    ensures { MatchOption result (16 < length (needs_of key.now needs.now)) (λ v. (length (needs_of key.now needs.now) ≤ 16) × (v ≡ usages_of (needs_of key.now needs.now))) }
+    ensures { MatchOption result (MOST_NEEDS < length (needs_of key.now needs.now)) (λ v. (length (needs_of key.now needs.now) ≤ MOST_NEEDS) × (v ≡ usages_of (needs_of key.now needs.now))) }
 {
     gathered(needs_by(needs, key))
 }

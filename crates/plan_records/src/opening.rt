@@ -7,6 +7,7 @@ ghost use Rattle.plan_records.specs.Loading.{intervals_of, CanOpen, opened_in, A
 
 use super::places::workstation_place;
 use super::sorting::in_key_order;
+use plan_basics::limits::MOST_WORKSTATIONS;
 use plan_basics::{Attr, Interval, WsName};
 use std::alloc::{AllocError, Global};
 use workstations::Workstation;
@@ -87,7 +88,7 @@ pub fn workstations_in_order(
 ) -> Result<Option<Vec<Workstation>>, AllocError>
     ensures { IfOk result (λ found. MatchOption found (¬ AreWorkstations said.items intervals.now) (λ v. AreWorkstationsInOrder said.items intervals.now v.items)) }
 {
-    if said.is_empty() || said.len() > 99 {
+    if said.is_empty() || said.len() > MOST_WORKSTATIONS {
         return Ok(None);
     }
     let Some(said) = in_key_order(said, |row| row.0)? else {

@@ -5,6 +5,7 @@ use Rattle.std.specs.FinSet as set
 use Rattle.std.specs.FinSet.{from_list, same_set}
 use Rattle.std.proofs.lemmas.List.{map-append, take_all, take_more}
 use Rattle.std.proofs.lemmas.Option.{slice_get-get_or, slice_get_within, get_or_from_slice_get}
+use Rattle.plan_basics.specs.declared.limits.TheConstants.{MOST_PAIRS}
 use Rattle.operation_graph.specs.Graphs.{AreDifferent, AreInTurn, Digraph, HasEdge}
 use Rattle.plan_basics.proofs.Members.{contains_cases, contains_none}
 use Rattle.plan_basics.specs.Keys.{operation_cmp, operation_cmp_total, operation_cmp-IsAntisymmetric}
@@ -203,7 +204,7 @@ module _ (c : PlanContents) (h : AreValidContents c) (g : Digraph) (graph : IsGr
       alike x = same_bool _ _ (there x) (back x)
 
   -- so that there are no more than a plan may have
-  pub few_edges : length edges ≤ 100000
+  pub few_edges : length edges ≤ MOST_PAIRS
   few_edges =
       let most = h.valid.limits.pairs in
       let count = sym (len-so_far (length edges) (omega arith)) ∙ ap set.len pairs_all in

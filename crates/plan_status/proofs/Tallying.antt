@@ -4,6 +4,7 @@ use Rattle.std.proofs.lemmas.List.{length-replicate, length-set}
 use Rattle.std.proofs.lemmas.Option.{some_pair_parts}
 use Rattle.std.specs.List.Sorted.{IsStrictlySortedBy}
 use Rattle.std.specs.Map.{keys_of}
+use Rattle.plan_basics.specs.declared.limits.TheConstants.{MOST_OPERATIONS}
 use Rattle.plan_basics.specs.Keys.{occurrence_cmp, occurrence_cmp_total, operation_cmp}
 use Rattle.plan_basics.specs.declared.keys.OccKey.{OccKey}
 use Rattle.plan_basics.specs.declared.keys.OpKey.{OpKey}
@@ -36,7 +37,7 @@ pub record IsTallySoFar (P : Plan) (rows : List (OpKey × Operation)) (i : ℕ) 
   pub complete : IsSoMany rows i (BelongsWithStatus P c status.Complete) n.complete
   pub started : IsSoMany rows i (IsStarted P c) n.started
 
-pub at_most_rows : (P : Plan) (rows : List (OpKey × Operation)) (i : ℕ) (c : OccKey) (n : Counts) → IsTallySoFar P rows i c n → i ≤ 20000 → AreAtMost 20000 n
+pub at_most_rows : (P : Plan) (rows : List (OpKey × Operation)) (i : ℕ) (c : OccKey) (n : Counts) → IsTallySoFar P rows i c n → i ≤ MOST_OPERATIONS → AreAtMost MOST_OPERATIONS n
 at_most_rows P rows i c n t le = record {
   all = omega (arith, t.all.at_most, le);
   deleted = omega (arith, t.deleted.at_most, le);

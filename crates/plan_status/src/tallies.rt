@@ -1,6 +1,7 @@
 // Numbers of an occurrence's operations by status.
 ghost use Rattle.std.specs.Prelude.{ℕ, IfOk};
 ghost use Rattle.plan_basics.specs.declared.keys.OccKey.{OccKey};
+ghost use Rattle.plan_basics.specs.declared.limits.TheConstants.{MOST_OPERATIONS};
 ghost use Rattle.plan_model.specs.Plan.{Plan};
 ghost use Rattle.plan_model.specs.Status.{HasOccurrenceStatus};
 ghost use Rattle.plan_model.specs.Valid.{IsValid};
@@ -32,7 +33,7 @@ const NONE_COUNTED: Counts = Counts {
 
 // One more operation of the occurrence is counted.
 fn count_one(counts: &mut Counts, status: Status)
-    requires { AreAtMost 20000 counts.old }
+    requires { AreAtMost MOST_OPERATIONS counts.old }
     ensures { CountsOneMore status counts.old counts.new }
 {
     counts.all += 1;

@@ -1,6 +1,7 @@
 -- BACKUP may come into the small plan, and what the plan holds with it.
 use Rattle.std.proofs.Common.{rules, arith, pos, ◌≡◌, inl, inr, refl, sym, ◌∙◌, ap, subst, true≢false, ◌⊎◌, ℕ, ◌+◌, ◌<◌, Bool, true, false, [], ◌∷◌, Some, is_some, length}
 use Rattle.std.specs.FinMap.{contains_key, get, get-empty, get-from_entries, len-empty, len-entries}
+use Rattle.plan_basics.specs.declared.limits.TheConstants.{MOST_OCCURRENCES, MOST_OPERATIONS, MOST_PAIRS, MOST_WORKSTATIONS}
 use Rattle.plan_basics.specs.declared.keys.OccKey.{OccKey}
 use Rattle.plan_basics.specs.declared.keys.OpKey.{OpKey}
 use Rattle.plan_basics.specs.declared.Refusal.{Refusal}
@@ -87,11 +88,11 @@ closes_no_path = acyclic_by place (each_pair two_pairs (λ p o. place p < place 
 
 is_within_limits : IsWithinLimits (record with_backup { clock = 0 })
 is_within_limits = record {
-  workstations = len_at_most name_cmp_total ((cpu1, always_open) ∷ []) 99 (omega arith);
+  workstations = len_at_most name_cmp_total ((cpu1, always_open) ∷ []) MOST_WORKSTATIONS (omega arith);
   resources = let e = len-empty name_cmp Bool in omega arith;
-  occurrences = len_at_most occurrence_cmp_total two_occurrences 5000 (omega arith);
-  operations = len_at_most operation_cmp_total three_operations 20000 (omega arith);
-  pairs = set_at_most pair_cmp_total two_pairs 100000 (omega arith);
+  occurrences = len_at_most occurrence_cmp_total two_occurrences MOST_OCCURRENCES (omega arith);
+  operations = len_at_most operation_cmp_total three_operations MOST_OPERATIONS (omega arith);
+  pairs = set_at_most pair_cmp_total two_pairs MOST_PAIRS (omega arith);
 }
 
 -- ---- nothing refuses it

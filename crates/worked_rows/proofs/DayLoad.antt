@@ -1,6 +1,7 @@
 -- The small plan is a draft.
-use Rattle.std.proofs.Common.{rules, arith, pos, ◌≡◌, inl, refl, sym, ◌∙◌, ap, subst, Bool, true≢false, ℕ, ◌<◌, true, [], ◌∷◌, Some, is_some, length}
+use Rattle.std.proofs.Common.{rules, arith, pos, ◌≡◌, inl, refl, sym, ◌∙◌, ap, subst, Bool, true≢false, ℕ, ◌<◌, ◌≤◌, true, [], ◌∷◌, Some, is_some, length}
 use Rattle.std.specs.FinMap.{contains_key, get, get-empty, get-from_entries, len, len-empty, len-entries}
+use Rattle.plan_basics.specs.declared.limits.TheConstants.{LONGEST_DURATION, MOST_OCCURRENCES, MOST_OPERATIONS, MOST_PAIRS, MOST_WORKSTATIONS, SHORTEST_DURATION}
 use Rattle.plan_basics.specs.declared.Attr.TheVariants.{Automatic}
 use Rattle.plan_basics.specs.declared.keys.OpKey.{OpKey}
 use Rattle.plan_basics.specs.Intervals.{IsInterval, interval_by}
@@ -45,7 +46,7 @@ daily_key = (name_is 16 daily.app (omega arith) (omega arith) refl, omega arith)
 pub open_interval : IsInterval (interval_by 0 52595999 2 0 0)
 open_interval = record { not_empty = omega arith; end = omega arith; servers = omega arith; fixed = (omega arith, omega arith) }
 
-pub lasting_is : (o : OpKey) (duration : ℕ) → IsOperationKey o → (0 < duration) × (duration < 6000) → IsOperation o (lasting duration)
+pub lasting_is : (o : OpKey) (duration : ℕ) → IsOperationKey o → (SHORTEST_DURATION ≤ duration) × (duration ≤ LONGEST_DURATION) → IsOperation o (lasting duration)
 lasting_is o duration key long = operation_is o (lasting duration) key cpu1_name long (omega arith, omega arith) (omega arith) (omega arith) refl refl
 
 first_held : contains_key day.operations first ≡ true
@@ -85,11 +86,11 @@ day_is_valid = record {
   pairs = only_pair (λ p o. (contains_key day.operations p ≡ true) × (contains_key day.operations o ≡ true)) (first_held, second_held);
   acyclic = acyclic_by (λ o. o.number) (only_pair (λ p o. p.number < o.number) (omega arith));
   limits = record {
-    workstations = len_at_most name_cmp_total ((cpu1, always_open) ∷ []) 99 (omega arith);
+    workstations = len_at_most name_cmp_total ((cpu1, always_open) ∷ []) MOST_WORKSTATIONS (omega arith);
     resources = let e = len-empty name_cmp Bool in omega arith;
-    occurrences = len_at_most occurrence_cmp_total ((daily, occurrence) ∷ []) 5000 (omega arith);
-    operations = len_at_most operation_cmp_total ((first, lasting 30) ∷ (second, lasting 60) ∷ []) 20000 (omega arith);
-    pairs = set_at_most pair_cmp_total ((first, second) ∷ []) 100000 (omega arith);
+    occurrences = len_at_most occurrence_cmp_total ((daily, occurrence) ∷ []) MOST_OCCURRENCES (omega arith);
+    operations = len_at_most operation_cmp_total ((first, lasting 30) ∷ (second, lasting 60) ∷ []) MOST_OPERATIONS (omega arith);
+    pairs = set_at_most pair_cmp_total ((first, second) ∷ []) MOST_PAIRS (omega arith);
   };
 }
 

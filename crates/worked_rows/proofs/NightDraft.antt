@@ -2,6 +2,7 @@
 use Rattle.std.proofs.Common.{arith, ◌≡◌, refl, sym, ◌∙◌, ap, subst, ◌<◌, true, [], ◌∷◌, Some, is_some}
 use Rattle.std.proofs.lemmas.List.Sums.{AllPass-from_list_all}
 use Rattle.std.specs.FinMap.{contains_key, empty, get, get-empty, get-from_entries}
+use Rattle.plan_basics.specs.declared.limits.TheConstants.{MOST_NEEDS, MOST_OCCURRENCES, MOST_OPERATIONS, MOST_PAIRS, MOST_RESOURCES, MOST_WORKSTATIONS}
 use Rattle.plan_basics.specs.declared.Attr.TheVariants as attribute
 use Rattle.plan_basics.specs.declared.keys.OpKey.{OpKey}
 use Rattle.plan_basics.specs.Intervals.{IsInterval, interval_by}
@@ -73,7 +74,7 @@ third_is = record {
   not_before = omega arith;
   deadline = omega arith;
   needs = λ r usage found. subst IsResourceName (sym (one_need r usage found)) custfile_name;
-  few_needs = len_at_most name_cmp_total ((custfile, record { mode = Exclusive; keep = true }) ∷ []) 16 (omega arith);
+  few_needs = len_at_most name_cmp_total ((custfile, record { mode = Exclusive; keep = true }) ∷ []) MOST_NEEDS (omega arith);
   code = λ code is. absurd (cc);
 }
 
@@ -115,11 +116,11 @@ night_is_valid = record {
       (ap is_some (found_at (payroll_at 30)), ap is_some (found_at (payroll_at 40)));
   acyclic = acyclic_by (λ o. o.number) (of_pairs (λ p o. p.number < o.number) (omega arith) (omega arith) (omega arith) (omega arith));
   limits = record {
-    workstations = len_at_most name_cmp_total night_workstations 99 (omega arith);
-    resources = len_at_most name_cmp_total night_resources 999 (omega arith);
-    occurrences = len_at_most occurrence_cmp_total night_occurrences 5000 (omega arith);
-    operations = len_at_most operation_cmp_total night_operations 20000 (omega arith);
-    pairs = set_at_most pair_cmp_total night_pairs 100000 (omega arith);
+    workstations = len_at_most name_cmp_total night_workstations MOST_WORKSTATIONS (omega arith);
+    resources = len_at_most name_cmp_total night_resources MOST_RESOURCES (omega arith);
+    occurrences = len_at_most occurrence_cmp_total night_occurrences MOST_OCCURRENCES (omega arith);
+    operations = len_at_most operation_cmp_total night_operations MOST_OPERATIONS (omega arith);
+    pairs = set_at_most pair_cmp_total night_pairs MOST_PAIRS (omega arith);
   };
 }
   where

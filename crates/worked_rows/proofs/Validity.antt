@@ -8,6 +8,7 @@ use Rattle.std.specs.Ordering.{eq_by_cmp, nat_cmp}
 use Rattle.std.specs.Cmp.{IsTotalOrder, nat_cmp_total}
 use Rattle.std.specs.FinMap.{contains_key, empty, from_entries, get, get-empty, len, len-empty, len-insert, nat_cmp-IsAntisymmetric}
 use Rattle.std.specs.FinSet as set
+use Rattle.plan_basics.specs.declared.limits.TheConstants.{LONGEST_DURATION, MOST_FIXED, MOST_INTERVALS, SHORTEST_DURATION}
 use Rattle.plan_basics.specs.declared.Attr.{Attr}
 use Rattle.plan_basics.specs.declared.keys.OpKey.{OpKey}
 use Rattle.plan_basics.specs.Intervals.{IsInterval, OpenInterval}
@@ -91,7 +92,7 @@ module _ (a : Attr) (x : OpenInterval) (is : IsInterval x) where
   station_is = record {
     intervals = λ from y found. let e = one_interval from y found in (e.0 ∙ ap (λ z. z.from) (sym e.1), subst IsInterval (sym e.1) is);
     disjoint = λ p q m y z is_p is_q in_y in_z. (one_interval p y is_p).0 ∙ sym (one_interval q z is_q).0;
-    few = len_at_most nat_cmp_total ((x.from, x) ∷ []) 400 (omega arith);
+    few = len_at_most nat_cmp_total ((x.from, x) ∷ []) MOST_INTERVALS (omega arith);
   }
 
 -- a workstation without intervals
@@ -99,11 +100,11 @@ pub closed_is : (a : Attr) → IsWorkstation (workstation_by a [])
 closed_is a = record {
   intervals = λ from y found. absurd (none_is_not_some y (sym (get-empty nat_cmp from) ∙ found));
   disjoint = λ p q m y z is_p is_q in_y in_z. absurd (none_is_not_some y (sym (get-empty nat_cmp p) ∙ is_p));
-  few = len_at_most nat_cmp_total [] 400 (omega arith);
+  few = len_at_most nat_cmp_total [] MOST_INTERVALS (omega arith);
 }
 
 -- an operation without needs and marks
-pub operation_is : (o : OpKey) (op : Operation) → IsOperationKey o → IsName 4 op.workstation → (0 < op.duration) × (op.duration < 6000) → (op.r1 < 100) × (op.r2 < 100) → IsMoment op.not_before → IsMoment op.deadline → op.needs ≡ empty → op.mark ≡ mark.Unmarked → IsOperation o op
+pub operation_is : (o : OpKey) (op : Operation) → IsOperationKey o → IsName 4 op.workstation → (SHORTEST_DURATION ≤ op.duration) × (op.duration ≤ LONGEST_DURATION) → (op.r1 ≤ MOST_FIXED) × (op.r2 ≤ MOST_FIXED) → IsMoment op.not_before → IsMoment op.deadline → op.needs ≡ empty → op.mark ≡ mark.Unmarked → IsOperation o op
 operation_is o op key name long fixed from till none unmarked = record {
   key = key;
   workstation = name;

@@ -3,7 +3,7 @@ use Rattle.std.proofs.lemmas.List.{take_all}
 use Rattle.plan_model.specs.Plan.{Operation}
 use Rattle.plan_status.proofs.LoadedRows.{row_found}
 use Rattle.plan_status.proofs.RowKeys.{row_shown}
-use Rattle.plan_choice.specs.Taking.{IsAtMost}
+use Rattle.plan_choice.specs.Taking.{IsAtMost, most_given_out}
 use Rattle.plan_choice.proofs.GivenPlaces.{own_place, read_at}
 use Rattle.plan_choice.proofs.GivenRows.{before_at_most, given_before, row_counted, row_passed, rows_counted}
 use Rattle.plan_choice.proofs.taken.given_out_of.Goals as goal
@@ -31,7 +31,7 @@ loop-row-preserved c =
           (ap (λ (op : Operation). op.workstation) c.operation.view_is) w.known_workstation-place.ensures.at in
           let within : place < length stations = omega (arith, w.known_workstation-place.ensures.within, ap length w.deref.ensures.value) in
           let there = read_at stations given (given_before contents i) c.loop-row.invariant place w.index.result.now within w.index.ensures in
-          let most = subst (IsAtMost 1980000) (sym (c.loop-row.invariant.each place op.workstation at.0 w.index.result.now at.1 there)) (before_at_most contents c.requires i op.workstation) in
+          let most = subst (IsAtMost most_given_out) (sym (c.loop-row.invariant.each place op.workstation at.0 w.index.result.now at.1 there)) (before_at_most contents c.requires i op.workstation) in
           rw (w.given-is, w.with_operation.ensures most)
           (row_counted contents c.requires i c.row-item.result.0 op at_row given c.loop-row.invariant (sym c.holds_a_server.ensures ∙ w.if-holds_a_server.true) place at.0 at.1 w.index.result.now there)
       | else-holds_a_server w ↦

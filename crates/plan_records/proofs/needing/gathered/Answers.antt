@@ -1,6 +1,7 @@
 use Rattle.std.proofs.Common.{sym, subst, ap, ◌∙◌, ◌+◌, ◌≤◌, arith, map}
 use Rattle.std.specs.FinMap.{insert, len}
 use Rattle.std.proofs.lemmas.List.{take_all}
+use Rattle.plan_basics.specs.declared.limits.TheConstants.{MOST_NEEDS}
 use Rattle.special_resources.specs.Holdings.{usage_of}
 use Rattle.special_resources.specs.Needs.{ComeBefore, usages_of}
 use Rattle.plan_records.proofs.OwnNeeds.{said_need, comes_next, one_more, so_many}
@@ -20,7 +21,7 @@ loop-said-preserved c =
     let pushed = c.push.ensures.pushed c.if-not-push.false in
     let next = pushed ∙ ap (λ u. insert u said.1.name (usage_of said.1)) so_far ∙ sym more in
     let count = so_many c.args.said.now c.requires (i + 1) (omega arith) in
-    let most = subst (λ u. len u ≤ 16) next c.push.ensures.few in
+    let most = subst (λ u. len u ≤ MOST_NEEDS) next c.push.ensures.few in
     record { few = omega (arith, count, most); so_far = next }
 
 pub returns-then-not-push : goal.returns-then-not-push
