@@ -1,5 +1,7 @@
 // Latest starts of small graphs.
-ghost use Rattle.std.specs.Prelude.{◌≡◌, length};
+ghost use Rattle.std.specs.Prelude.{◌≡◌, ◌<◌, ℕ, length, Contains, IsTrue, IfOk};
+ghost use Rattle.operation_graph.specs.Graphs.{HasEdge};
+ghost use Rattle.latest_start.specs.NodeStarts.{IsAsBefore, IsLiveSuccessor, item_of};
 
 use latest_start::{Item, Latest};
 use operation_graph::Graph;
@@ -100,25 +102,119 @@ fn leaves_time_for_all_that_follow(rt: HostRuntime) {
     }
 }
 
-// The starts that change from one table to the other, and all starts then.
+// The item of a node.
+fn item_at(items: &[Item], node: usize) -> Item
+    requires { node < length items.now }
+    ensures { result ≡ item_of items.now node }
+{
+    items[node]
+}
+
+// Whether an edge leads from one node to the other.
+fn has_edge(graph: &Graph, node: usize, successor: usize) -> bool
+    requires { node < graph.now.nodes }
+    ensures { IsTrue result → HasEdge graph.now node successor }
+{
+    graph.succs(node).contains(&successor)
+}
+
+// Whether a node has this live successor.
+fn has_live_successor(graph: &Graph, items: &[Item], node: usize, successor: usize) -> bool
+    requires { node < graph.now.nodes }
+    ensures { IsTrue result → IsLiveSuccessor graph.now items.now node successor }
+{
+    successor < items.len() && item_at(items, successor).live && has_edge(graph, node, successor)
+}
+
+// Whether a node has its live successors in the other graph too.
+fn has_them_too(
+    graph: &Graph,
+    items: &[Item],
+    other: &Graph,
+    others: &[Item],
+    node: usize,
+) -> bool
+    requires node { node < graph.now.nodes }
+    requires items { length items.now ≡ graph.now.nodes }
+    requires other { node < other.now.nodes }
+    ensures { IsTrue result → ((b : ℕ) → IsLiveSuccessor graph.now items.now node b → IsLiveSuccessor other.now others.now node b) }
+{
+    for successor in graph.succs(node) {
+        if item_at(items, *successor).live && !has_live_successor(other, others, node, *successor) {
+            return false;
+        }
+    }
+    true
+}
+
+// Whether a node was there before, with the same terms and live successors.
+fn is_as_before(
+    before: &Graph,
+    items_before: &[Item],
+    graph: &Graph,
+    items: &[Item],
+    node: usize,
+) -> bool
+    requires node { node < graph.now.nodes }
+    requires items { length items.now ≡ graph.now.nodes }
+    requires items_before { length items_before.now ≡ before.now.nodes }
+    ensures { IsTrue result → IsAsBefore before.now items_before.now graph.now items.now node }
+{
+    if items_before.len() <= node {
+        return false;
+    }
+    let (was, is) = (item_at(items_before, node), item_at(items, node));
+    was.duration == is.duration
+        && was.deadline == is.deadline
+        && has_them_too(graph, items, before, items_before, node)
+        && has_them_too(before, items_before, graph, items, node)
+}
+
+// The nodes that are new or changed.
+fn changed_nodes(
+    alloc: Global,
+    before: &Graph,
+    items_before: &[Item],
+    graph: &Graph,
+    items: &[Item],
+) -> Result<Vec<usize>, AllocError>
+    requires items { length items.now ≡ graph.now.nodes }
+    requires items_before { length items_before.now ≡ before.now.nodes }
+    ensures { IfOk result (λ changed. (n : ℕ) → n < graph.now.nodes → ¬ Contains changed.items n → IsAsBefore before.now items_before.now graph.now items.now n) }
+{
+    let mut changed = Vec::new(alloc);
+    for node in 0..items.len() {
+        if !is_as_before(before, items_before, graph, items, node) {
+            changed.push(node)?;
+        }
+    }
+    Ok(changed)
+}
+
+// Nodes and the starts that they get.
+type Values = Vec<(usize, i64)>;
+
+// The nodes that change from one table to the other, the starts that change, and all starts then.
 fn change(
     rt: &impl Abort,
     alloc: Global,
     from: &Table,
     to: &Table,
-) -> (Vec<(usize, i64)>, Vec<i64>) {
-    let before = items(rt, alloc, from.1).expect(rt, "memory");
-    let graph = graph_of(rt, alloc, before.len(), from.0);
-    let mut latest = Latest::build(alloc, &graph, &before).expect(rt, "latest starts");
-    let after = items(rt, alloc, to.1).expect(rt, "memory");
-    assert!(rt; before.len() <= after.len());
-    let graph = graph_of(rt, alloc, after.len(), to.0);
+) -> (Vec<usize>, Values, Vec<i64>) {
+    let items_before = items(rt, alloc, from.1).expect(rt, "memory");
+    let before = graph_of(rt, alloc, items_before.len(), from.0);
+    let mut latest = Latest::build(alloc, &before, &items_before).expect(rt, "latest starts");
+    let items = items(rt, alloc, to.1).expect(rt, "memory");
+    assert!(rt; items_before.len() <= items.len());
+    let graph = graph_of(rt, alloc, items.len(), to.0);
+    let changed =
+        changed_nodes(alloc, &before, &items_before, &graph, &items).expect(rt, "memory");
     let values = latest
-        .after_change(&graph, &after, &[])
+        .after_change(&graph, &items, &changed)
         .expect(rt, "values");
     latest.update(&values);
-    let starts = starts_kept(alloc, &latest, after.len()).expect(rt, "memory");
-    (values, starts)
+    let starts = starts_kept(alloc, &latest, items.len()).expect(rt, "memory");
+    (changed, values, starts)
 }
 
 const FIRST_PAIR: Table = (&[(0, 1)], EVEN);
@@ -135,29 +231,47 @@ const ONE_MORE: Table = (
 
 const WITHOUT_SECOND: Table = (CHAIN, SECOND_DELETED);
 
-// From which table to which, the starts that change, and all starts then.
-const CHANGES: [(Table, Table, &[(usize, i64)], &[i64]); 4] = [
+const OTHER_DEADLINE: Table = (CHAIN, &[(10, 100, true), (20, 100, true), (30, 40, true)]);
+
+// From which table to which, the nodes that change, the starts that change, and all starts then.
+const CHANGES: [(Table, Table, &[usize], &[(usize, i64)], &[i64]); 5] = [
     (
         FIRST_PAIR,
         (CHAIN, EVEN),
+        &[1],
         &[(0, 40), (1, 50)],
         &[40, 50, 70],
     ),
     (
         (CHAIN, EVEN),
         ONE_MORE,
+        &[1, 3],
         &[(0, 29), (1, 39), (3, 59)],
         &[29, 39, 70, 59],
     ),
-    ((CHAIN, EVEN), WITHOUT_SECOND, &[(0, 90)], &[90, 50, 70]),
-    (WITHOUT_SECOND, WITHOUT_SECOND, &[], &[90, 50, 70]),
+    (
+        (CHAIN, EVEN),
+        WITHOUT_SECOND,
+        &[0],
+        &[(0, 90)],
+        &[90, 50, 70],
+    ),
+    (
+        (CHAIN, EVEN),
+        OTHER_DEADLINE,
+        &[2],
+        &[(0, -20), (1, -10), (2, 10)],
+        &[-20, -10, 10],
+    ),
+    (WITHOUT_SECOND, WITHOUT_SECOND, &[], &[], &[90, 50, 70]),
 ];
 
 #[test]
 fn changes_what_comes_before(rt: HostRuntime) {
-    for (from, to, changed, wanted) in CHANGES {
-        let (values, starts) = change(&rt, rt.alloc(), &from, &to);
-        assert_eq!(rt; values.as_slice(), changed);
-        assert_eq!(rt; starts.as_slice(), wanted);
+    for (from, to, nodes, new, all) in CHANGES {
+        let (changed, values, starts) = change(&rt, rt.alloc(), &from, &to);
+        assert_eq!(rt; changed.as_slice(), nodes);
+        assert_eq!(rt; values.as_slice(), new);
+        assert_eq!(rt; starts.as_slice(), all);
     }
 }

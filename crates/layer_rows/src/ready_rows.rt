@@ -27,7 +27,6 @@ fn entry(rt: &impl Abort, row: &Row) -> ReadyEntry {
 // Puts an entry in, with room made for it.
 fn put(rt: &impl Abort, list: &mut ReadyList, entry: &ReadyEntry) {
     list.reserve(1).expect(rt, "room");
-    assert!(rt; !list.contains(&entry.key), "{entry:?} is there");
     list.insert(entry.key, entry.ws, entry.attr);
 }
 
@@ -146,6 +145,21 @@ fn built_and_edited(rt: HostRuntime) {
     assert!(rt; has_just(list.entries(), &rows, &[1, 2]));
     assert!(rt; has_just(list.of_ws(&workstation(&rt, b"CPU1")), &rows, &[1, 2]));
     assert!(rt; list.of_ws(&workstation(&rt, b"PRT1")).is_empty());
+}
+
+#[test]
+fn one_is_put_in_again(rt: HostRuntime) {
+    let rows = NIGHT.map(|row| entry(&rt, &row));
+    let mut list = built_of(&rt, rt.alloc(), &rows, &[0, 1, 2]);
+    put(&rt, &mut list, &rows[1]);
+    assert!(rt; has_just(list.entries(), &rows, &[0, 1, 2]));
+    assert!(rt; has_just(list.of_ws(&workstation(&rt, b"CPU1")), &rows, &[1, 2]));
+    let mut moved = rows[1];
+    moved.ws = rows[0].ws;
+    put(&rt, &mut list, &moved);
+    assert!(rt; has_just(list.entries(), &rows, &[0, 1, 2]));
+    assert!(rt; has_just(list.of_ws(&workstation(&rt, b"CPU1")), &rows, &[2]));
+    assert!(rt; has_just(list.of_ws(&moved.ws), &rows, &[0, 1]));
 }
 
 const ON_ONE: [Row; 4] = [

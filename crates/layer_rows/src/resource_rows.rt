@@ -29,7 +29,6 @@ fn take(rt: &impl Abort, holdings: &mut Holdings, name: &[u8], number: u8, mode:
     let need = need(rt, name, mode);
     let op = &daily(rt, number);
     assert!(rt; holdings.room() > 0, "no room");
-    assert!(rt; holdings.mode_of(&need.name, *op).is_none(), "taken twice");
     holdings.take(&need, *op);
     assert_eq!(rt; holdings.mode_of(&need.name, *op), Some(mode));
 }
@@ -145,6 +144,23 @@ fn is_taken_again_once_released(rt: HostRuntime) {
                 .all(|holder| holder.operation.number == number)
         );
         assert!(rt; holders.iter().all(|holder| holder.mode == mode));
+    }
+}
+
+#[test]
+fn is_held_in_the_last_mode(rt: HostRuntime) {
+    let held = [(FILE, 10, Mode::Shared), (FILE, 20, Mode::Shared)];
+    let mut holdings = holdings_of(&rt, rt.alloc(), &held);
+    holdings.reserve(1).expect(&rt, "room");
+    let room = holdings.room();
+    take(&rt, &mut holdings, FILE, 10, Mode::Exclusive);
+    assert_eq!(rt; holdings.room(), room);
+    let holders = holdings.holders(&resource(&rt, FILE));
+    let modes = [(10, Mode::Exclusive), (20, Mode::Shared)];
+    assert_eq!(rt; holders.len(), modes.len());
+    for (holder, (number, mode)) in holders.iter().zip(&modes) {
+        assert_eq!(rt; holder.operation.number, *number);
+        assert_eq!(rt; holder.mode, *mode);
     }
 }
 

@@ -3,14 +3,13 @@ use Rattle.std.proofs.Common.{◌≡◌, refl, sym, ◌∙◌, ap, ap₂, subst,
 use Rattle.std.proofs.lemmas.List.Elements.{filter-append}
 use Rattle.plan_basics.specs.declared.keys.OpKey.{OpKey}
 use Rattle.plan_laws.proofs.Sorted.{sorted_unique}
-use Rattle.plan_model.specs.Plan.{Plan}
-use Rattle.plan_model.specs.Ready.{IsOnAutomatic, IsReadyList, OneChoice, named}
+use Rattle.plan_laws.specs.Derived.{OneReadyList}
+use Rattle.plan_model.specs.Ready.{IsOnAutomatic, OneChoice, named}
 use Rattle.plan_model.specs.Starting.{IsAllowedToStart}
 use Rattle.ready_list.specs.Choice.{IsChoice, among, is_among, operations_of}
 use Rattle.ready_list.specs.Order.{ready_cmp_total}
-use Rattle.ready_list.specs.declared.ReadyKey.{ReadyKey}
 
-pub one_ready_list : (P : Plan) (xs ys : List ReadyKey) → IsReadyList P xs → IsReadyList P ys → xs ≡ ys
+pub one_ready_list : OneReadyList
 one_ready_list P xs ys x y =
     sorted_unique ready_cmp_total xs ys x.ascends y.ascends
     (λ k h. (y.has_all k).1 ((x.has_all k).0 h))

@@ -41,6 +41,7 @@ pub mod Running
 pub mod Waiting
 pub mod Tabling
 pub mod RowOrder
+pub mod RecordOrder
 pub mod RowsTold
 pub mod RowsListed
 pub mod RowChanges

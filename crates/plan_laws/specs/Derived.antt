@@ -44,6 +44,10 @@ EachHasOneLatestStart = (P : Plan) → IsValid P → (o : OpKey) → (v : ℤ) �
 abbrev pub SomeReadyList : Type 0
 SomeReadyList = (P : Plan) → IsValid P → (ready : List ReadyKey) × IsReadyList P ready
 
+-- and no other
+abbrev pub OneReadyList : Type 0
+OneReadyList = (P : Plan) (a b : List ReadyKey) → IsReadyList P a → IsReadyList P b → a ≡ b
+
 -- and at each minute a choice from it
 abbrev pub SomeChoice : Type 0
 SomeChoice = (P : Plan) (m : ℕ) → IsValid P → (chosen : List OpKey) × IsChosen P m chosen

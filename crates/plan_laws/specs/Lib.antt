@@ -3,3 +3,4 @@ pub mod Ranks
 pub mod Derived
 pub mod Tables
 pub mod Work
+pub mod Denoting

@@ -21,7 +21,8 @@ ghost use Rattle.plan_records.specs.Rows.{IsWaitingFor};
 ghost use Rattle.std.specs.FinMap.{get};
 ghost use Rattle.plan_model.specs.Status.{IsSatisfied, HasStatus, AllPredecessorsSatisfied, ArePreds, IsInEachClosedSet};
 ghost use Rattle.plan_laws.specs.Steps.{OneStep, OneNumberedStep, OneRun, SomeStep, SomeNumberedStep, SomeRun, PlanAnswers};
-ghost use Rattle.plan_laws.specs.Derived.{SatisfiedIsTold, SatisfiedByStatus, ClassesOfStatus, EachHasOneStatus, EachHasOneLatestStart, SomeReadyList, SomeChoice, EachHasOneOccurrenceStatus};
+ghost use Rattle.plan_laws.specs.Derived.{SatisfiedIsTold, SatisfiedByStatus, ClassesOfStatus, EachHasOneStatus, EachHasOneLatestStart, SomeReadyList, OneReadyList, SomeChoice, EachHasOneOccurrenceStatus};
+ghost use Rattle.plan_laws.specs.Denoting.{OrderDoesNotMatter, OrderDoesNotMatterToAdditions};
 ghost use Rattle.plan_laws.specs.Tables.{EachHasOneRow, OneListOfChanges, RowsTellPlan, RowsTellReceipts, SomeChanges, SomeRows};
 ghost use Rattle.plan_laws.specs.Work.{OneAllowance, SomeAllowance};
 ghost use Rattle.plan_laws.specs.Ranks.{ValidHasRank, PathsAreTold, CyclesAreTold};
@@ -181,6 +182,11 @@ pub fn some_ready_list()
     ensures { SomeReadyList }
 {}
 
+/// There is one ready list at most.
+pub fn one_ready_list()
+    ensures { OneReadyList }
+{}
+
 /// From the ready list of a valid plan there is a choice at each minute.
 pub fn some_choice()
     ensures { SomeChoice }
@@ -203,4 +209,10 @@ pub fn plan_answers()
 pub fn one_allowance()
     ensures some { SomeAllowance }
     ensures one { OneAllowance }
+{}
+
+/// The order in which records stand doesn't matter to the plan that they denote, nor to the addition.
+pub fn order_of_records_does_not_matter()
+    ensures plan { OrderDoesNotMatter }
+    ensures addition { OrderDoesNotMatterToAdditions }
 {}

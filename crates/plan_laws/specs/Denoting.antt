@@ -1,0 +1,14 @@
+-- What records denote goes by the records alone, in whatever order they stand.
+use Rattle.std.specs.Prelude.{◌↔◌, List}
+use Rattle.std.specs.List.Sorted.{IsPermutation}
+use Rattle.plan_items.specs.Items.{Fields}
+use Rattle.plan_model.specs.Plan.{Plan, Supplement}
+use Rattle.plan_records.specs.Records.{Denotes, DenotesAddition}
+
+-- the same records in another order denote the same plan
+abbrev pub OrderDoesNotMatter : Type 0
+OrderDoesNotMatter = (records others : List Fields) (P : Plan) → IsPermutation records others → Denotes records P ↔ Denotes others P
+
+-- and the same addition
+abbrev pub OrderDoesNotMatterToAdditions : Type 0
+OrderDoesNotMatterToAdditions = (records others : List Fields) (s : Supplement) → IsPermutation records others → DenotesAddition records s ↔ DenotesAddition others s
