@@ -3,8 +3,9 @@ use Rattle.std.proofs.Common.{◌≡◌, refl, sym, true≢false, ap, subst, ◌
 use Rattle.std.specs.Result.{IsOk, OnOk}
 use Rattle.plan_basics.specs.declared.Refusal.{Refusal}
 use Rattle.plan_basics.specs.declared.Refusal.TheVariants as refusal
+use Rattle.plan_basics.specs.Refusals.{IsLeastRefusal, NoneRefuses}
 use Rattle.plan_records.specs.Accepting.{MayBeOpenBy}
-use Rattle.workstations.specs.Timetables.{IsLeastRefusal, MayBeTaken, reopened}
+use Rattle.workstations.specs.Timetables.{MayBeTaken, reopened}
 use Rattle.std.proofs.lemmas.Option.{get_or_from_slice_get}
 use Rattle.std.specs.FinMap.{from_entries, get, contains_key, insert}
 use Rattle.std.specs.List.Sorted.{IsStrictlySortedBy}
@@ -163,13 +164,13 @@ module _ (old copy new : PlanContents) (copied : (clock : ℕ) → (plan_of cloc
 
 -- ---- intervals that may be taken
 
-may_be_taken : (P : Plan) (w : Name) (items : List OpenInterval) → ((r : Refusal) → MayBeOpenBy P w items r) → (r : Refusal) → MayBeTaken items r
+may_be_taken : (P : Plan) (w : Name) (items : List OpenInterval) → NoneRefuses (MayBeOpenBy P w items) → NoneRefuses (MayBeTaken items)
 may_be_taken P w items free refusal.Limit = free refusal.Limit
 may_be_taken P w items free refusal.BadPlan = free refusal.BadPlan
 may_be_taken P w items free _ = tt
 
 -- are taken
-pub is_taken : (P : Plan) (w : Name) (items own : List OpenInterval) → own ≡ items → ((r : Refusal) → MayBeOpenBy P w items r)
+pub is_taken : (P : Plan) (w : Name) (items own : List OpenInterval) → own ≡ items → NoneRefuses (MayBeOpenBy P w items)
     → (r : Result (Unit {0}) Refusal) → IfErr r (IsLeastRefusal (MayBeTaken own)) → IsOk r
 is_taken P w items own same free (Ok x) h = refl
 is_taken P w items own same free (Err e) h = absurd (h.0 (subst (λ zs. MayBeTaken zs e) (sym same) (may_be_taken P w items free e)))

@@ -4,10 +4,11 @@ ghost use Rattle.std.specs.FinMap.{insert, contains_key};
 ghost use Rattle.std.specs.Fn.{FnReturnsAt};
 ghost use Rattle.std.specs.Ordering.{eq_by_cmp};
 ghost use Rattle.plan_basics.specs.Keys.{occurrence_cmp};
+ghost use Rattle.plan_basics.specs.Refusals.{NoneRefuses};
 ghost use Rattle.plan_basics.specs.declared.keys.OpKey.{OpKey as OpKeyValue};
 ghost use Rattle.plan_model.specs.Plan.{IsInPlan, Operation};
 ghost use Rattle.ready_list.specs.Choice.{is_among};
-ghost use Rattle.plan_records.specs.Accepting.{MayBeOpenBy, AllHold};
+ghost use Rattle.plan_records.specs.Accepting.{MayBeOpenBy};
 ghost use Rattle.plan_records.specs.Changes.{Changes, is_at, revised};
 ghost use Rattle.plan_records.specs.Contents.{plan_of, AreContents};
 ghost use Rattle.plan_records.specs.declared.What.TheVariants as what;
@@ -106,7 +107,7 @@ pub fn with_intervals(
     intervals: &[Interval],
 ) -> Result<PlanContents, AllocError>
     requires in_order { AreContents contents.now }
-    requires open { AllHold (MayBeOpenBy (plan_of 0 contents.now) name.now intervals.now) }
+    requires open { NoneRefuses (MayBeOpenBy (plan_of 0 contents.now) name.now intervals.now) }
     ensures plan { IfOk result (λ new. (clock : ℕ) → plan_of clock new ≡ opened name.now intervals.now (plan_of clock contents.now)) }
     ensures in_order { IfOk result (λ new. AreContents new) }
 {

@@ -1,29 +1,29 @@
 -- The lines of an addition, one after another.
-use Rattle.std.proofs.Common.{◌≡◌, ◌⊎◌, inl, inr, refl, sym, arith, ℕ, ◌<◌, true, false, true≢false, Decides, Result, IfErr, OnOk}
+use Rattle.std.proofs.Common.{◌≡◌, ◌⊎◌, inl, inr, refl, sym, arith, ℕ, ◌<◌, ◌≤◌, true, false, true≢false, Decides, Result, IfErr, OnOk}
 use Rattle.std.proofs.Math.Dec.{ltb}
 use Rattle.std.proofs.lemmas.Bool.{ltb-false}
-use Rattle.plan_basics.specs.Refusals.{number_of}
+use Rattle.plan_basics.proofs.LeastRefusals.{least_of_all, none_of_all}
+use Rattle.plan_basics.specs.Refusals.{number_of, IsLeastRefusal, NoneRefuses, from_on}
 use Rattle.plan_basics.specs.declared.Refusal.{Refusal}
 use Rattle.plan_basics.specs.declared.Refusal.TheVariants as refusal
 use Rattle.plan_model.specs.Plan.{Supplement}
-use Rattle.plan_records.specs.Accepting.{MayBeAdded, AllHold, FailsFirstAt}
+use Rattle.plan_records.specs.Accepting.{MayBeAdded}
 use Rattle.plan_records.specs.Contents.{plan_of}
 use Rattle.plan_records.specs.declared.contents.PlanContents.{PlanContents}
 use Rattle.plan_checks.proofs.AtClock.{added_at, fails_added_at}
 use Rattle.plan_checks.proofs.Searching.{if_err, if_ok}
-use Rattle.plan_checks.specs.Adding.{IsGrowthRefusal}
 
 -- why what comes in may not come in
 abbrev pub IsBarredAddition : PlanContents → Supplement → Refusal → Type 0
-IsBarredAddition c s r = (r ≡ refusal.Memory) ⊎ ((clock : ℕ) → (3 < number_of r) × FailsFirstAt (MayBeAdded (plan_of clock c) s) r)
+IsBarredAddition c s r = (r ≡ refusal.Memory) ⊎ ((clock : ℕ) → IsLeastRefusal (MayBeAdded (plan_of clock c) s) r)
 
 -- what is told not to be so isn't
 refuted : {A : Type 0} → Decides false A → ¬ A
 refuted told a = true≢false (sym (told.1 a))
 
--- the refusals whose numbers are below this
-abbrev pub Below : ℕ → Refusal → Type 0
-Below bound r = number_of r < bound
+-- the refusals of lower numbers
+abbrev pub Below : Refusal → Refusal → Type 0
+Below r lower = number_of lower < number_of r
 
 -- of a number that isn't below another nothing is asked
 pub past : {A : Type 0} {m n : ℕ} → ltb m n ≡ false → m < n → A
@@ -52,55 +52,74 @@ module _ (c : PlanContents) (s : Supplement) where
   line_by_line Q ends workstations resources statuses new acyclic few refusal.Limit q = few q
   line_by_line Q ends workstations resources statuses new acyclic few r q = tt
 
-  barred : (r : Refusal) → 3 < number_of r → ¬ line r → ((lower : Refusal) → Below (number_of r) lower → line lower) → IsBarredAddition c s r
-  barred r number never before = inr (λ clock. (number, fails_added_at c s clock r (never, before)))
+  -- ---- the plan that it makes: no path returns, and then it holds no more than it may
+
+  pub none_by_growth : line refusal.Cycle → line refusal.Limit → NoneRefuses (from_on refusal.Cycle line)
+  none_by_growth acyclic few refusal.UnknownOperation counts = absurd (omega (arith, counts))
+  none_by_growth acyclic few refusal.UnknownWorkstation counts = absurd (omega (arith, counts))
+  none_by_growth acyclic few refusal.UnknownResource counts = absurd (omega (arith, counts))
+  none_by_growth acyclic few refusal.WrongStatus counts = absurd (omega (arith, counts))
+  none_by_growth acyclic few refusal.Duplicate counts = absurd (omega (arith, counts))
+  none_by_growth acyclic few refusal.Cycle counts = acyclic
+  none_by_growth acyclic few refusal.Limit counts = few
+  none_by_growth acyclic few r counts = tt
+
+  pub returning_by_growth : ¬ line refusal.Cycle → IsLeastRefusal (from_on refusal.Cycle line) refusal.Cycle
+  returning_by_growth never = (λ acyclic. never (acyclic (omega arith)), λ lower less counts. absurd (omega (arith, less, counts)))
+
+  pub full_by_growth : line refusal.Cycle → ¬ line refusal.Limit → IsLeastRefusal (from_on refusal.Cycle line) refusal.Limit
+  full_by_growth acyclic full = (λ few. full (few (omega arith)), before)
+    where
+      before : (lower : Refusal) → Below refusal.Limit lower → number_of refusal.Cycle ≤ number_of lower → line lower
+      before refusal.Cycle less counts = acyclic
+      before lower less counts = absurd (omega (arith, less, counts))
+
+  -- ---- the least of all lines
+
+  barred : (r : Refusal) → ¬ line r → ((lower : Refusal) → Below r lower → line lower) → IsBarredAddition c s r
+  barred r never before = inr (λ clock. fails_added_at c s clock r (never, before))
 
   pub barred_by_ends : Decides false (line refusal.UnknownOperation) → IsBarredAddition c s refusal.UnknownOperation
   barred_by_ends never =
-      barred refusal.UnknownOperation (omega arith) (refuted never)
-      (line_by_line (Below 5) (past refl) (past refl) (past refl) (past refl) (past refl) (past refl) (past refl))
+      barred refusal.UnknownOperation (refuted never)
+      (line_by_line (Below refusal.UnknownOperation) (past refl) (past refl) (past refl) (past refl) (past refl) (past refl) (past refl))
 
   module _ (ends : Decides true (line refusal.UnknownOperation)) where
     pub barred_by_workstations : Decides false (line refusal.UnknownWorkstation) → IsBarredAddition c s refusal.UnknownWorkstation
     barred_by_workstations never =
-        barred refusal.UnknownWorkstation (omega arith) (refuted never)
-        (line_by_line (Below 7) (λ _. ends.0 refl) (past refl) (past refl) (past refl) (past refl) (past refl) (past refl))
+        barred refusal.UnknownWorkstation (refuted never)
+        (line_by_line (Below refusal.UnknownWorkstation) (λ _. ends.0 refl) (past refl) (past refl) (past refl) (past refl) (past refl) (past refl))
 
     module _ (workstations : Decides true (line refusal.UnknownWorkstation)) where
       pub barred_by_resources : Decides false (line refusal.UnknownResource) → IsBarredAddition c s refusal.UnknownResource
       barred_by_resources never =
-          barred refusal.UnknownResource (omega arith) (refuted never)
-          (line_by_line (Below 8) (λ _. ends.0 refl) (λ _. workstations.0 refl) (past refl) (past refl) (past refl) (past refl) (past refl))
+          barred refusal.UnknownResource (refuted never)
+          (line_by_line (Below refusal.UnknownResource) (λ _. ends.0 refl) (λ _. workstations.0 refl) (past refl) (past refl) (past refl) (past refl) (past refl))
 
       module _ (resources : Decides true (line refusal.UnknownResource)) where
         pub barred_by_statuses : Decides false (line refusal.WrongStatus) → IsBarredAddition c s refusal.WrongStatus
         barred_by_statuses never =
-            barred refusal.WrongStatus (omega arith) (refuted never)
-            (line_by_line (Below 9) (λ _. ends.0 refl) (λ _. workstations.0 refl) (λ _. resources.0 refl) (past refl) (past refl) (past refl) (past refl))
+            barred refusal.WrongStatus (refuted never)
+            (line_by_line (Below refusal.WrongStatus) (λ _. ends.0 refl) (λ _. workstations.0 refl) (λ _. resources.0 refl) (past refl) (past refl) (past refl) (past refl))
 
         module _ (statuses : Decides true (line refusal.WrongStatus)) where
           pub barred_by_key : Decides false (line refusal.Duplicate) → IsBarredAddition c s refusal.Duplicate
           barred_by_key never =
-              barred refusal.Duplicate (omega arith) (refuted never)
-              (line_by_line (Below 18) (λ _. ends.0 refl) (λ _. workstations.0 refl) (λ _. resources.0 refl) (λ _. statuses.0 refl) (past refl) (past refl) (past refl))
+              barred refusal.Duplicate (refuted never)
+              (line_by_line (Below refusal.Duplicate) (λ _. ends.0 refl) (λ _. workstations.0 refl) (λ _. resources.0 refl) (λ _. statuses.0 refl) (past refl) (past refl) (past refl))
 
           module _ (new : Decides true (line refusal.Duplicate)) where
             -- by the plan that it makes
-            barred_by_growth : (r : Refusal) → IsGrowthRefusal (plan_of 0 c) s r → IsBarredAddition c s r
-            barred_by_growth refusal.Cycle never =
-                barred refusal.Cycle (omega arith) never
-                (line_by_line (Below 19) (λ _. ends.0 refl) (λ _. workstations.0 refl) (λ _. resources.0 refl) (λ _. statuses.0 refl) (λ _. new.0 refl) (past refl) (past refl))
-            barred_by_growth refusal.Limit full =
-                barred refusal.Limit (omega arith) full.1
-                (line_by_line (Below 20) (λ _. ends.0 refl) (λ _. workstations.0 refl) (λ _. resources.0 refl) (λ _. statuses.0 refl) (λ _. new.0 refl) (λ _. full.0) (past refl))
-            barred_by_growth refusal.Memory none = inl refl
-            barred_by_growth r never = absurd never
+            before_growth : (lower : Refusal) → Below refusal.Cycle lower → line lower
+            before_growth = line_by_line (Below refusal.Cycle) (λ _. ends.0 refl) (λ _. workstations.0 refl) (λ _. resources.0 refl) (λ _. statuses.0 refl) (λ _. new.0 refl) (past refl) (past refl)
 
-            may_be_added : line refusal.Cycle × line refusal.Limit → (clock : ℕ) → AllHold (MayBeAdded (plan_of clock c) s)
-            may_be_added grown clock r =
-                added_at c s 0 clock r
-                (line_by_line (λ _. Unit {0}) (λ _. ends.0 refl) (λ _. workstations.0 refl) (λ _. resources.0 refl) (λ _. statuses.0 refl) (λ _. new.0 refl) (λ _. grown.0) (λ _. grown.1) r tt)
+            barred_by_growth : (r : Refusal) → (r ≡ refusal.Memory) ⊎ IsLeastRefusal (from_on refusal.Cycle line) r → IsBarredAddition c s r
+            barred_by_growth r (inl memory) = inl memory
+            barred_by_growth r (inr least) = inr (λ clock. fails_added_at c s clock r (least_of_all refusal.Cycle line before_growth r least))
 
-            pub told_by_growth : {T : Type 0} (answer : Result T Refusal) → OnOk answer (line refusal.Cycle × line refusal.Limit) → IfErr answer (IsGrowthRefusal (plan_of 0 c) s)
-                → OnOk answer ((clock : ℕ) → AllHold (MayBeAdded (plan_of clock c) s)) × IfErr answer (IsBarredAddition c s)
+            may_be_added : NoneRefuses (from_on refusal.Cycle line) → (clock : ℕ) → NoneRefuses (MayBeAdded (plan_of clock c) s)
+            may_be_added grown clock r = added_at c s 0 clock r (none_of_all refusal.Cycle line before_growth grown r)
+
+            pub told_by_growth : {T : Type 0} (answer : Result T Refusal) → OnOk answer (NoneRefuses (from_on refusal.Cycle line)) → IfErr answer (λ r. (r ≡ refusal.Memory) ⊎ IsLeastRefusal (from_on refusal.Cycle line) r)
+                → OnOk answer ((clock : ℕ) → NoneRefuses (MayBeAdded (plan_of clock c) s)) × IfErr answer (IsBarredAddition c s)
             told_by_growth answer grown refused = (if_ok answer grown may_be_added, if_err answer refused barred_by_growth)

@@ -1,11 +1,12 @@
 -- What stands in the way of what comes in doesn't go by the plan's clock.
 use Rattle.std.proofs.Common.{ℕ}
+use Rattle.plan_basics.specs.Refusals.{IsLeastRefusal}
 use Rattle.plan_basics.specs.declared.Refusal.{Refusal}
 use Rattle.plan_basics.specs.declared.Refusal.TheVariants as refusal
 use Rattle.plan_basics.specs.declared.keys.OpKey.{OpKey}
 use Rattle.plan_model.specs.Plan.{Plan, Supplement}
 use Rattle.plan_model.specs.Valid.{IsWithinLimits}
-use Rattle.plan_records.specs.Accepting.{FailsFirstAt, MayBeAdded, MayBePaired}
+use Rattle.plan_records.specs.Accepting.{MayBeAdded, MayBePaired}
 use Rattle.plan_records.specs.Changes.{with_pair, with_supplement}
 use Rattle.plan_records.specs.Contents.{plan_of}
 use Rattle.plan_records.specs.declared.contents.PlanContents.{PlanContents}
@@ -20,7 +21,7 @@ module _ (c : PlanContents) (s : Supplement) (k clock : ℕ) where
   added_at r h = h
 
 module _ (c : PlanContents) (s : Supplement) (clock : ℕ) where
-  pub fails_added_at : (r : Refusal) → FailsFirstAt (MayBeAdded (plan_of 0 c) s) r → FailsFirstAt (MayBeAdded (plan_of clock c) s) r
+  pub fails_added_at : (r : Refusal) → IsLeastRefusal (MayBeAdded (plan_of 0 c) s) r → IsLeastRefusal (MayBeAdded (plan_of clock c) s) r
   fails_added_at r h = (λ may. h.0 (added_at c s clock 0 r may), λ lower less. added_at c s 0 clock lower (h.1 lower less))
 
 module _ (c : PlanContents) (p s : OpKey) (k clock : ℕ) where

@@ -7,11 +7,11 @@ use Rattle.plan_basics.specs.declared.keys.OccKey.{OccKey}
 use Rattle.plan_basics.specs.declared.keys.OpKey.{OpKey}
 use Rattle.plan_basics.specs.Intervals.{OpenInterval}
 use Rattle.plan_basics.specs.Keys.{Name}
-use Rattle.plan_basics.specs.Refusals.{number_of}
+use Rattle.plan_basics.specs.Refusals.{number_of, IsLeastRefusal, NoneRefuses}
 use Rattle.plan_model.specs.Plan.{Plan}
 use Rattle.plan_model.specs.Starting.{Reaches}
 use Rattle.plan_model.specs.Status.{EachOperation, HasOccurrenceStatus, HasStatus, IsReady, IsUnderWay, IsWaitingOrReady}
-use Rattle.plan_records.specs.Accepting.{MayBeCompleted, MayBeDeleted, MayBeFlagged, MayBeOpenBy, MayBeRerun, MayBeSetAvailable, AllHold, FailsFirstAt}
+use Rattle.plan_records.specs.Accepting.{MayBeCompleted, MayBeDeleted, MayBeFlagged, MayBeOpenBy, MayBeRerun, MayBeSetAvailable}
 use Rattle.status_rules.specs.declared.OccStatus.{OccStatus}
 use Rattle.status_rules.specs.declared.OccStatus.TheVariants as occurrence
 use Rattle.status_rules.specs.declared.Status.{Status}
@@ -19,9 +19,9 @@ use Rattle.status_rules.specs.declared.Status.TheVariants as status
 use Rattle.status_rules.specs.Classes.{is_completable, is_rerunnable, is_waiting_or_ready}
 use Rattle.plan_laws.proofs.Classes.{passes, waits_by, waits_told}
 use Rattle.plan_checks.specs.Commanding.{IsItsUnderWay}
-use Rattle.plan_checks.specs.Barring.{FailsAt, FailsPastKeys, IsReported, MeetsAll}
+use Rattle.plan_checks.specs.Barring.{FailsAt, IsReported, MeetsAll}
 use Rattle.plan_checks.specs.declared.checks.Reported.{Reported}
-use Rattle.workstations.specs.Timetables.{IsLeastRefusal, MayBeTaken}
+use Rattle.workstations.specs.Timetables.{MayBeTaken}
 
 module _ (P : Plan) (o : OpKey) where
   -- an operation may be completed in these statuses
@@ -68,7 +68,7 @@ module _ (P : Plan) (o : OpKey) where
 
   -- ---- a rerun
 
-  pub rerun : IsRerunnable → ((q : OpKey) → q ≢ o → Reaches P o q → ¬ IsUnderWay P q) → AllHold (MayBeRerun P o)
+  pub rerun : IsRerunnable → ((q : OpKey) → q ≢ o → Reaches P o q → ¬ IsUnderWay P q) → NoneRefuses (MayBeRerun P o)
   rerun may none refusal.WrongStatus = may
   rerun may none refusal.Running = none
   rerun may none r = tt
@@ -78,7 +78,7 @@ module _ (P : Plan) (o : OpKey) where
   before_running may refusal.Running less = absurd (omega (arith, less))
   before_running may r less = tt
 
-  pub running_at_rerun : IsRerunnable → (q : OpKey) → q ≢ o → Reaches P o q → IsUnderWay P q → FailsFirstAt (MayBeRerun P o) refusal.Running
+  pub running_at_rerun : IsRerunnable → (q : OpKey) → q ≢ o → Reaches P o q → IsUnderWay P q → IsLeastRefusal (MayBeRerun P o) refusal.Running
   running_at_rerun may q apart reached under_way = (λ none. none q apart reached under_way, before_running may)
 
 -- ---- what is reported of an operation, in all plans where it is so
@@ -94,7 +94,7 @@ module _ (x : Reported) where
   before_flagged P o r less = tt
 
   pub not_flagged : is_waiting_or_ready x.status ≡ false → FailsAt x MayBeFlagged refusal.WrongStatus
-  not_flagged other = (omega arith, λ P o is. (not_waiting_or_ready P o x.status is.alone other, before_flagged P o))
+  not_flagged other P o is = (not_waiting_or_ready P o x.status is.alone other, before_flagged P o)
 
   -- what a completion asks of it
   abbrev Completes : Plan → OpKey → Refusal → Type 0
@@ -106,7 +106,7 @@ module _ (x : Reported) where
   before_completed P o r less = tt
 
   pub not_completed : is_completable x.status ≡ false → FailsAt x Completes refusal.WrongStatus
-  not_completed other = (omega arith, λ P o is. (not_completable P o x.status is.alone other, before_completed P o))
+  not_completed other P o is = (not_completable P o x.status is.alone other, before_completed P o)
 
   module _ (may : is_completable x.status ≡ true) where
     pub completed : x.operation.held ≡ false → MeetsAll x Completes
@@ -120,7 +120,7 @@ module _ (x : Reported) where
     before_held P o is r less = tt
 
     pub held_at_completion : x.operation.held ≡ true → FailsAt x Completes refusal.Held
-    held_at_completion held = (omega arith, λ P o is. (λ free. true≢false (sym held ∙ free), before_held P o is))
+    held_at_completion held P o is = (λ free. true≢false (sym held ∙ free), before_held P o is)
 
 -- ---- the deletion of an occurrence
 
@@ -130,8 +130,8 @@ not_all_deleted P c occurrence.Deleted h other = absurd (other refl)
 not_all_deleted P c s h other = h.1 occurrence.Deleted (omega arith)
 
 module _ (P : Plan) (c : OccKey) (known : contains_key P.occurrences c ≡ true) (s : OccStatus) (has : HasOccurrenceStatus P c s) where
-  pub deleted_twice : s ≡ occurrence.Deleted → FailsPastKeys (MayBeDeleted P c) refusal.WrongStatus
-  deleted_twice is = (omega arith, (λ never. never (subst (HasOccurrenceStatus P c) is has).0, before))
+  pub deleted_twice : s ≡ occurrence.Deleted → IsLeastRefusal (MayBeDeleted P c) refusal.WrongStatus
+  deleted_twice is = (λ never. never (subst (HasOccurrenceStatus P c) is has).0, before)
     where
       before : (lower : Refusal) → number_of lower < 9 → MayBeDeleted P c lower
       before refusal.UnknownOccurrence less = known
@@ -140,8 +140,8 @@ module _ (P : Plan) (c : OccKey) (known : contains_key P.occurrences c ≡ true)
       before r less = tt
 
   module _ (other : s ≢ occurrence.Deleted) where
-    pub running_at_deletion : (o : OpKey) × IsItsUnderWay P c o → FailsPastKeys (MayBeDeleted P c) refusal.Running
-    running_at_deletion (o, (its, under_way)) = (omega arith, (λ none. none o its under_way, before))
+    pub running_at_deletion : (o : OpKey) × IsItsUnderWay P c o → IsLeastRefusal (MayBeDeleted P c) refusal.Running
+    running_at_deletion (o, (its, under_way)) = (λ none. none o its under_way, before)
       where
         before : (lower : Refusal) → number_of lower < 17 → MayBeDeleted P c lower
         before refusal.UnknownOccurrence less = known
@@ -149,7 +149,7 @@ module _ (P : Plan) (c : OccKey) (known : contains_key P.occurrences c ≡ true)
         before refusal.Running less = absurd (omega (arith, less))
         before r less = tt
 
-    pub deleted : ¬ ((o : OpKey) × IsItsUnderWay P c o) → AllHold (MayBeDeleted P c)
+    pub deleted : ¬ ((o : OpKey) × IsItsUnderWay P c o) → NoneRefuses (MayBeDeleted P c)
     deleted none refusal.UnknownOccurrence = known
     deleted none refusal.WrongStatus = not_all_deleted P c s has other
     deleted none refusal.Running = λ o its under_way. none (o, (its, under_way))
@@ -158,12 +158,12 @@ module _ (P : Plan) (c : OccKey) (known : contains_key P.occurrences c ≡ true)
 -- ---- special resources and open intervals
 
 module _ (P : Plan) (n : Name) where
-  pub available : contains_key P.resources n ≡ true → AllHold (MayBeSetAvailable P n)
+  pub available : contains_key P.resources n ≡ true → NoneRefuses (MayBeSetAvailable P n)
   available known refusal.UnknownResource = known
   available known r = tt
 
   module _ (items : List OpenInterval) (known : contains_key P.workstations n ≡ true) where
-    pub open_by : ((r : Refusal) → MayBeTaken items r) → AllHold (MayBeOpenBy P n items)
+    pub open_by : NoneRefuses (MayBeTaken items) → NoneRefuses (MayBeOpenBy P n items)
     open_by taken refusal.UnknownWorkstation = known
     open_by taken refusal.Limit = taken refusal.Limit
     open_by taken refusal.BadPlan = taken refusal.BadPlan
@@ -175,7 +175,7 @@ module _ (P : Plan) (n : Name) where
     open_below r least refusal.BadPlan less = least refusal.BadPlan less
     open_below r least lower less = tt
 
-    pub not_open_by : (r : Refusal) → IsLeastRefusal (MayBeTaken items) r → FailsPastKeys (MayBeOpenBy P n items) r
-    not_open_by refusal.Limit h = (omega arith, (h.0, open_below refusal.Limit h.1))
-    not_open_by refusal.BadPlan h = (omega arith, (h.0, open_below refusal.BadPlan h.1))
+    pub not_open_by : (r : Refusal) → IsLeastRefusal (MayBeTaken items) r → IsLeastRefusal (MayBeOpenBy P n items) r
+    not_open_by refusal.Limit h = (h.0, open_below refusal.Limit h.1)
+    not_open_by refusal.BadPlan h = (h.0, open_below refusal.BadPlan h.1)
     not_open_by r h = absurd (h.0 tt)

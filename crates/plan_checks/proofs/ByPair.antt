@@ -1,22 +1,22 @@
 -- What stands in the way of a dependency that comes in.
-use Rattle.std.proofs.Common.{◌≡◌, ◌≢◌, ◌⊎◌, inl, inr, refl, sym, subst, arith, ℕ, ◌<◌, length, slice_get, Some, Result, Ok, Err, IfErr}
+use Rattle.std.proofs.Common.{◌≡◌, ◌≢◌, ◌⊎◌, inl, inr, refl, sym, subst, ℕ, ◌<◌, length, slice_get, Some, Result, Ok, Err, IfErr}
 use Rattle.std.specs.Result.{IsErrAnd}
 use Rattle.operation_graph.specs.Graphs.{MayTakeEdge}
 use Rattle.plan_basics.specs.declared.Refusal.{Refusal}
 use Rattle.plan_basics.specs.declared.Refusal.TheVariants as refusal
 use Rattle.plan_basics.specs.declared.keys.OpKey.{OpKey}
-use Rattle.plan_basics.specs.Refusals.{number_of}
+use Rattle.plan_basics.specs.Refusals.{IsLeastRefusal, NoneRefuses}
 use Rattle.plan_model.specs.Plan.{IsInPlan, Operation, Plan, Precedes}
 use Rattle.plan_model.specs.Status.{HasStatus, IsWaitingOrReady}
 use Rattle.plan_model.specs.Valid.{IsAcyclic, IsWithinLimits}
-use Rattle.plan_records.specs.Accepting.{MayBeFlagged, MayBePaired, AllHold, FailsFirstAt}
+use Rattle.plan_records.specs.Accepting.{MayBeFlagged, MayBePaired}
 use Rattle.plan_records.specs.Changes.{with_pair}
 use Rattle.plan_records.specs.Contents.{plan_of}
 use Rattle.status_rules.specs.declared.Status.TheVariants as status
 use Rattle.plan_checks.proofs.AdditionLines.{Below, past}
 use Rattle.plan_checks.proofs.PairedPlaces.{acyclic_with, both_known, edge_by_pair, has_no_room, has_room, node_within, pair_by_edge, returning_with}
 use Rattle.plan_checks.specs.Held.{AreHeld, IsHeldAtSome}
-use Rattle.plan_checks.specs.Pairing.{IsEdgeRefusal}
+use Rattle.plan_checks.specs.Pairing.{IsFaultAs}
 use Rattle.plan_checks.specs.Barring.{FailsAt, IsReported, MeetsAll}
 use Rattle.plan_checks.specs.declared.checks.Reported.{Reported}
 use Rattle.plan_checks.specs.declared.loaded.LoadedPlan.{LoadedPlan}
@@ -46,22 +46,22 @@ module _ (P : Plan) (p s : OpKey) where
   line_by_line Q known may new acyclic room r q = tt
 
   module _ (known : AreKnown) where
-    not_joined : ¬ MayBeJoined → FailsFirstAt (MayBePaired P p s) refusal.WrongStatus
-    not_joined never = (never, line_by_line (Below 9) (λ _. known) (past refl) (past refl) (past refl) (past refl))
+    not_joined : ¬ MayBeJoined → IsLeastRefusal (MayBePaired P p s) refusal.WrongStatus
+    not_joined never = (never, line_by_line (Below refusal.WrongStatus) (λ _. known) (past refl) (past refl) (past refl) (past refl))
 
     module _ (may : MayBeJoined) where
-      paired_twice : Precedes P p s → FailsFirstAt (MayBePaired P p s) refusal.Duplicate
-      paired_twice there = (λ new. new there, line_by_line (Below 18) (λ _. known) (λ _. may) (past refl) (past refl) (past refl))
+      paired_twice : Precedes P p s → IsLeastRefusal (MayBePaired P p s) refusal.Duplicate
+      paired_twice there = (λ new. new there, line_by_line (Below refusal.Duplicate) (λ _. known) (λ _. may) (past refl) (past refl) (past refl))
 
       module _ (new : ¬ Precedes P p s) where
-        closing : ¬ IsAcyclic (with_pair P p s).pairs → FailsFirstAt (MayBePaired P p s) refusal.Cycle
-        closing returns = (returns, line_by_line (Below 19) (λ _. known) (λ _. may) (λ _. new) (past refl) (past refl))
+        closing : ¬ IsAcyclic (with_pair P p s).pairs → IsLeastRefusal (MayBePaired P p s) refusal.Cycle
+        closing returns = (returns, line_by_line (Below refusal.Cycle) (λ _. known) (λ _. may) (λ _. new) (past refl) (past refl))
 
         module _ (acyclic : IsAcyclic (with_pair P p s).pairs) where
-          one_too_many : ¬ IsWithinLimits (with_pair P p s) → FailsFirstAt (MayBePaired P p s) refusal.Limit
-          one_too_many full = (full, line_by_line (Below 20) (λ _. known) (λ _. may) (λ _. new) (λ _. acyclic) (past refl))
+          one_too_many : ¬ IsWithinLimits (with_pair P p s) → IsLeastRefusal (MayBePaired P p s) refusal.Limit
+          one_too_many full = (full, line_by_line (Below refusal.Limit) (λ _. known) (λ _. may) (λ _. new) (λ _. acyclic) (past refl))
 
-          paired : IsWithinLimits (with_pair P p s) → AllHold (MayBePaired P p s)
+          paired : IsWithinLimits (with_pair P p s) → NoneRefuses (MayBePaired P p s)
           paired room r = line_by_line (λ _. Unit {0}) (λ _. known) (λ _. may) (λ _. new) (λ _. acyclic) (λ _. room) r tt
 
 -- an error that is handed on
@@ -83,13 +83,9 @@ IsTold h o x = (clock : ℕ) → IsReported (plan_of clock h.contents) o x
 abbrev pub IsToldAt : LoadedPlan → ℕ → Reported → Type 0
 IsToldAt h i x = (o : OpKey) (op : Operation) → slice_get h.contents.operations.items i ≡ Some (o, op) → IsTold h o x
 
--- of what a dependency of s on p asks of the plan at this clock, r's line is the first that fails
-abbrev pub IsBarredAt : LoadedPlan → OpKey → OpKey → ℕ → Refusal → Type 0
-IsBarredAt h p s clock r = (3 < number_of r) × FailsFirstAt (MayBePaired (plan_of clock h.contents) p s) r
-
--- so it is at each clock, or no memory was found to tell
+-- of what a dependency of s on p asks of the plan, r is the least refusal at each clock; or no memory was found to tell
 abbrev pub IsBarredPair : LoadedPlan → OpKey → OpKey → Refusal → Type 0
-IsBarredPair h p s r = (r ≡ refusal.Memory) ⊎ ((clock : ℕ) → IsBarredAt h p s clock r)
+IsBarredPair h p s r = (r ≡ refusal.Memory) ⊎ ((clock : ℕ) → IsLeastRefusal (MayBePaired (plan_of clock h.contents) p s) r)
 
 not_flagged : (P : Plan) (o : OpKey) (r : Refusal) → ¬ MayBeFlagged P o r → (r ≡ refusal.WrongStatus) × ¬ IsWaitingOrReady P o
 not_flagged P o refusal.WrongStatus never = (refl, never)
@@ -126,15 +122,15 @@ module _ {h : LoadedPlan} {i j : ℕ} {p s : OpKey} {x y : Reported} (found : Ar
   known : (clock : ℕ) → AreKnown (plan_of clock h.contents) p s
   known = both_known at h held i j p s a.0 b.0 a.1 b.1
 
-  barred_by_status : (clock : ℕ) (r : Refusal) → r ≡ refusal.WrongStatus → ¬ MayBeJoined (plan_of clock h.contents) p s → IsBarredAt h p s clock r
-  barred_by_status clock r is never = subst (IsBarredAt h p s clock) (sym is) (omega arith, not_joined (plan_of clock h.contents) p s (known clock) never)
+  barred_by_status : (clock : ℕ) (r : Refusal) → r ≡ refusal.WrongStatus → ¬ MayBeJoined (plan_of clock h.contents) p s → IsLeastRefusal (MayBePaired (plan_of clock h.contents) p s) r
+  barred_by_status clock r is never = subst (IsLeastRefusal (MayBePaired (plan_of clock h.contents) p s)) (sym is) (not_joined (plan_of clock h.contents) p s (known clock) never)
 
   -- by the statuses
   pub barred_by_ends : (r : Refusal) → ((r ≡ refusal.WrongStatus) × (x.status ≡ status.Deleted)) ⊎ FailsAt y MayBeFlagged r → IsBarredPair h p s r
   barred_by_ends r (inl deleted) = inr (λ clock.
       barred_by_status clock r deleted.0 (λ may. may.0 (subst (HasStatus (plan_of clock h.contents) p) deleted.1 (found.first clock).status)))
   barred_by_ends r (inr fails) = inr (λ clock.
-      let told = not_flagged (plan_of clock h.contents) s r (fails.1 (plan_of clock h.contents) s (found.second clock)).0 in
+      let told = not_flagged (plan_of clock h.contents) s r (fails (plan_of clock h.contents) s (found.second clock)).0 in
       barred_by_status clock r told.0 (λ may. told.1 may.1))
 
   module _ (live : x.status ≢ status.Deleted) (clear : MeetsAll y MayBeFlagged) where
@@ -145,16 +141,12 @@ module _ {h : LoadedPlan} {i j : ℕ} {p s : OpKey} {x y : Reported} (found : Ar
     )
 
     -- by the graph
-    pub barred_by_edge : (r : Refusal) → IsEdgeRefusal h.graph i j r → IsBarredPair h p s r
-    barred_by_edge refusal.Duplicate there = inr (λ clock. (
-      omega arith,
-      paired_twice (plan_of clock h.contents) p s (known clock) (joined clock) (pair_by_edge at h held i j p s a.0 b.0 a.1 b.1 there),
-    ))
-    barred_by_edge refusal.Cycle closes = inr (λ clock. (
-      omega arith,
-      closing (plan_of clock h.contents) p s (known clock) (joined clock) (λ pair. closes.0 (edge_by_pair at h held i j p s a.0 b.0 a.1 b.1 pair))
-          (returning_with at h held i j p s a.0 b.0 a.1 b.1 closes.1),
-    ))
+    pub barred_by_edge : (r : Refusal) → IsFaultAs h.graph i j r → IsBarredPair h p s r
+    barred_by_edge refusal.Duplicate there = inr (λ clock.
+        paired_twice (plan_of clock h.contents) p s (known clock) (joined clock) (pair_by_edge at h held i j p s a.0 b.0 a.1 b.1 there))
+    barred_by_edge refusal.Cycle closes = inr (λ clock.
+        closing (plan_of clock h.contents) p s (known clock) (joined clock) (λ pair. closes.0 (edge_by_pair at h held i j p s a.0 b.0 a.1 b.1 pair))
+        (returning_with at h held i j p s a.0 b.0 a.1 b.1 closes.1))
     barred_by_edge refusal.Memory none = inl refl
     barred_by_edge r never = absurd never
 
@@ -164,11 +156,9 @@ module _ {h : LoadedPlan} {i j : ℕ} {p s : OpKey} {x y : Reported} (found : Ar
 
       -- by the room
       pub barred_by_room : ¬ (length h.contents.pairs.items < 100000) → IsBarredPair h p s refusal.Limit
-      barred_by_room full = inr (λ clock. (
-        omega arith,
-        one_too_many (plan_of clock h.contents) p s (known clock) (joined clock) new (acyclic_with at h held i j p s a.0 b.0 a.1 b.1 may.1) (has_no_room at h held p s new clock full),
-      ))
+      barred_by_room full = inr (λ clock.
+          one_too_many (plan_of clock h.contents) p s (known clock) (joined clock) new (acyclic_with at h held i j p s a.0 b.0 a.1 b.1 may.1) (has_no_room at h held p s new clock full))
 
-      pub may_be_paired : length h.contents.pairs.items < 100000 → (clock : ℕ) → AllHold (MayBePaired (plan_of clock h.contents) p s)
+      pub may_be_paired : length h.contents.pairs.items < 100000 → (clock : ℕ) → NoneRefuses (MayBePaired (plan_of clock h.contents) p s)
       may_be_paired room clock =
           paired (plan_of clock h.contents) p s (known clock) (joined clock) new (acyclic_with at h held i j p s a.0 b.0 a.1 b.1 may.1) (has_room at h held p s new clock room)

@@ -48,19 +48,6 @@ module _ (P : Plan) (o : OpKey) where
     startable_told m (inl (inr (inr h))) = passes P o x.status is.alone is_startable status.Ready refl h
     startable_told m (inr h) = passes P o x.status is.alone is_startable status.Interrupted refl h.0
 
-  -- ---- a start where starts are reported
-
-  -- a line that fails has a number past that of an unknown operation
-  pub start_number : (op : Operation) (m : ℕ) (r : Refusal) → ¬ MayStart P o op m r → 5 < number_of r
-  start_number op m refusal.WrongStatus never = omega arith
-  start_number op m refusal.Held never = omega arith
-  start_number op m refusal.TooEarly never = omega arith
-  start_number op m refusal.Closed never = omega arith
-  start_number op m refusal.NoServer never = omega arith
-  start_number op m refusal.NoFixed never = omega arith
-  start_number op m refusal.ResourceBusy never = omega arith
-  start_number op m r never = absurd (never tt)
-
 -- ---- what is reported of an operation, in all plans where it is so
 
 module _ (x : Reported) where
@@ -94,7 +81,7 @@ module _ (x : Reported) where
     before_held P o is r less = tt
 
     pub held_at_end : x.operation.held ≡ true → FailsAt x (EndsOn x.attribute) refusal.Held
-    held_at_end held = subst (λ a. FailsAt x (EndsOn a) refusal.Held) (sym on) (omega arith, λ P o is. (λ free. true≢false (sym held ∙ free), before_held P o is))
+    held_at_end held = subst (λ a. FailsAt x (EndsOn a) refusal.Held) (sym on) (λ P o is. (λ free. true≢false (sym held ∙ free), before_held P o is))
 
   module _ (started : x.status ≡ status.Started) where
     its_start : (P : Plan) (o : OpKey) → IsReported P o x → HasStatus P o status.Started
@@ -115,10 +102,7 @@ module _ (x : Reported) where
     before_workstation P o is r less = tt
 
     pub not_interrupted : x.attribute ≢ attribute.StartAndCompletion → FailsAt x (λ P o. MayBeInterrupted P o x.operation) refusal.WrongWorkstation
-    not_interrupted other = (
-      omega arith,
-      λ P o is. (λ on. other (same_some x.attribute attribute.StartAndCompletion (sym is.attribute ∙ on)), before_workstation P o is),
-    )
+    not_interrupted other P o is = (λ on. other (same_some x.attribute attribute.StartAndCompletion (sym is.attribute ∙ on)), before_workstation P o is)
 
 -- what is given out at its workstation, and what is held, as its plan stands
 pub has_taken : (c : PlanContents) (clock : ℕ) (op : Operation) (taken : Capacity) (held : Held) → given_out (plan_of clock c) op.workstation ≡ taken → AreHeldIn (plan_of clock c) held

@@ -2,12 +2,10 @@
 use Rattle.std.specs.Prelude.{◌≡◌, ◌⊎◌, true, Some}
 use Rattle.std.specs.FinMap.{contains_key, get}
 use Rattle.plan_basics.specs.Keys.{Name}
-use Rattle.plan_basics.specs.declared.Refusal.{Refusal}
-use Rattle.plan_basics.specs.declared.Refusal.TheVariants as refusal
 use Rattle.plan_basics.specs.declared.keys.OpKey.{OpKey}
 use Rattle.plan_model.specs.Plan.{Plan, Operation, Supplement}
 use Rattle.plan_model.specs.Status.{HasStatus, IsWaitingOrReady}
-use Rattle.plan_records.specs.Accepting.{IsNew, IsOld, MayBeAdded}
+use Rattle.plan_records.specs.Accepting.{IsNew, IsOld}
 use Rattle.special_resources.specs.Holders.{Usage}
 use Rattle.status_rules.specs.declared.Status.{Status}
 use Rattle.status_rules.specs.declared.Status.TheVariants as status
@@ -43,10 +41,3 @@ HasWorkstation P op = contains_key P.workstations op.workstation ≡ true
 -- the special resources that the operation needs are in the plan
 abbrev pub HasResources : Plan → Operation → Type 0
 HasResources P op = (r : Name) (usage : Usage) → get op.needs r ≡ Some usage → contains_key P.resources r ≡ true
-
--- what a refusal says of the plan with what comes in: a path returns, or none does and it holds too much; memory may lack at any time
-abbrev pub IsGrowthRefusal : Plan → Supplement → Refusal → Type 0
-IsGrowthRefusal P s refusal.Cycle = ¬ MayBeAdded P s refusal.Cycle
-IsGrowthRefusal P s refusal.Limit = MayBeAdded P s refusal.Cycle × ¬ MayBeAdded P s refusal.Limit
-IsGrowthRefusal P s refusal.Memory = Unit {0}
-IsGrowthRefusal P s _ = ⊥

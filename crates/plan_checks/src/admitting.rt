@@ -1,12 +1,12 @@
 // What stands in the way of an occurrence that comes in.
 ghost use Rattle.std.specs.Prelude.{◌≡◌, ◌<◌, ◌⊎◌, ℕ, Decides, IfErr, MatchOption, OnOk};
-ghost use Rattle.plan_basics.specs.Refusals.{number_of};
+ghost use Rattle.plan_basics.specs.Refusals.{from_on, IsLeastRefusal, NoneRefuses};
 ghost use Rattle.plan_basics.specs.declared.Refusal.{Refusal};
 ghost use Rattle.plan_model.specs.Valid.{IsWithinLimits};
-ghost use Rattle.plan_records.specs.Accepting.{AllHold, FailsFirstAt, IsOld, MayBeAdded};
+ghost use Rattle.plan_records.specs.Accepting.{IsOld, MayBeAdded};
 ghost use Rattle.plan_records.specs.Contents.{plan_of, incoming, AreContents, AreValidContents};
 ghost use Rattle.plan_records.specs.Drafts.{IsAddition};
-ghost use Rattle.plan_checks.specs.Adding.{IsGrowthRefusal, IsOldWith, IsOpenPair, MayPrecede, MaySucceed};
+ghost use Rattle.plan_checks.specs.Adding.{IsOldWith, IsOpenPair, MayPrecede, MaySucceed};
 ghost use Rattle.plan_checks.specs.Held.{IsHeldAtSome};
 
 use super::checks::reported_at;
@@ -93,8 +93,8 @@ fn check_grown(alloc: Global, contents: &PlanContents, addition: &Addition) -> R
     requires addition { IsAddition addition.now }
     requires known { MayBeAdded (plan_of 0 contents.now) addition.now Refusal.UnknownOperation }
     requires new { MayBeAdded (plan_of 0 contents.now) addition.now Refusal.Duplicate }
-    ensures ok { OnOk result (MayBeAdded (plan_of 0 contents.now) addition.now Refusal.Cycle × MayBeAdded (plan_of 0 contents.now) addition.now Refusal.Limit) }
-    ensures refused { IfErr result (IsGrowthRefusal (plan_of 0 contents.now) addition.now) }
+    ensures ok { OnOk result (NoneRefuses (from_on Refusal.Cycle (MayBeAdded (plan_of 0 contents.now) addition.now))) }
+    ensures refused { IfErr result (λ r. (r ≡ Refusal.Memory) ⊎ IsLeastRefusal (from_on Refusal.Cycle (MayBeAdded (plan_of 0 contents.now) addition.now)) r) }
 {
     let grown = with_addition(alloc, contents, addition)?;
     if !is_acyclic(alloc, &grown)? {
@@ -110,8 +110,8 @@ fn check_grown(alloc: Global, contents: &PlanContents, addition: &Addition) -> R
 /// ready, and close no path, where there is room. The error is the first that applies, by number, or `Memory`.
 pub fn check_added(alloc: Global, loaded: &LoadedPlan, addition: &Addition) -> Result<(), Refusal>
     requires { IsHeldAtSome loaded.now }
-    ensures ok { OnOk result ((clock : ℕ) → AllHold (MayBeAdded (plan_of clock loaded.now.contents) addition.now)) }
-    ensures refused { IfErr result (λ r. (r ≡ Refusal.Memory) ⊎ ((clock : ℕ) → (3 < number_of r) × FailsFirstAt (MayBeAdded (plan_of clock loaded.now.contents) addition.now) r)) }
+    ensures ok { OnOk result ((clock : ℕ) → NoneRefuses (MayBeAdded (plan_of clock loaded.now.contents) addition.now)) }
+    ensures refused { IfErr result (λ r. (r ≡ Refusal.Memory) ⊎ ((clock : ℕ) → IsLeastRefusal (MayBeAdded (plan_of clock loaded.now.contents) addition.now) r)) }
 {
     let contents = &loaded.contents;
     let parts = addition.parts();

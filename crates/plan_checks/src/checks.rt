@@ -1,9 +1,10 @@
 // What stands in the way of a request.
 ghost use Rattle.std.specs.Prelude.{◌≡◌, ◌⊎◌, ◌<◌, ℕ, true, Some, None, length, slice_get, IfOk, IfErr, OnOk};
 ghost use Rattle.std.specs.FinMap.{get};
+ghost use Rattle.plan_basics.specs.Refusals.{IsLeastRefusal, NoneRefuses};
 ghost use Rattle.plan_basics.specs.declared.keys.OpKey.{OpKey};
-ghost use Rattle.plan_records.specs.Accepting.{AllHold, MayBeEnded, MayBeInterrupted, MayBeUndecided, NeedsPlan};
-ghost use Rattle.plan_checks.specs.Barring.{FailsAt, FailsPastKeys, IsBarred, IsPermitted, IsReported, MayBeStartedAt, MeetsAll};
+ghost use Rattle.plan_records.specs.Accepting.{MayBeDone, MayBeEnded, MayBeInterrupted, MayBeUndecided, NeedsPlan};
+ghost use Rattle.plan_checks.specs.Barring.{FailsAt, IsReported, MayBeStartedAt, MeetsAll};
 ghost use Rattle.plan_checks.specs.Held.{IsHeldAtSome};
 ghost use Rattle.plan_model.specs.Holdings.{given_out, takes};
 ghost use Rattle.plan_model.specs.Plan.{Operation, Plan};
@@ -99,8 +100,8 @@ fn check_started(
 ) -> Result<(), Refusal>
     requires contents { AreValidContents contents.now }
     requires operation { IsReported (plan_of 0 contents.now) key.now reported.now }
-    ensures ok { OnOk result ((clock : ℕ) → AllHold (MayBeStartedAt reported.now at (plan_of clock contents.now) key.now)) }
-    ensures refused { IfErr result (λ r. (r ≡ Refusal.Memory) ⊎ ((clock : ℕ) → FailsPastKeys (MayBeStartedAt reported.now at (plan_of clock contents.now) key.now) r)) }
+    ensures ok { OnOk result ((clock : ℕ) → NoneRefuses (MayBeStartedAt reported.now at (plan_of clock contents.now) key.now)) }
+    ensures refused { IfErr result (λ r. (r ≡ Refusal.Memory) ⊎ ((clock : ℕ) → IsLeastRefusal (MayBeStartedAt reported.now at (plan_of clock contents.now) key.now) r)) }
 {
     match reported.attribute {
         Attr::Automatic => check_started_on_automatic(reported),
@@ -190,8 +191,8 @@ pub fn check_report(
 ) -> Result<(), Refusal>
     requires needs { NeedsPlan what.now }
     requires held { IsHeldAtSome loaded.now }
-    ensures ok { OnOk result ((clock : ℕ) → IsPermitted (plan_of clock loaded.now.contents) at what.now) }
-    ensures refused { IfErr result (λ r. (r ≡ Refusal.Memory) ⊎ ((clock : ℕ) → IsBarred (plan_of clock loaded.now.contents) at what.now r)) }
+    ensures ok { OnOk result ((clock : ℕ) → NoneRefuses (MayBeDone (plan_of clock loaded.now.contents) at what.now)) }
+    ensures refused { IfErr result (λ r. (r ≡ Refusal.Memory) ⊎ ((clock : ℕ) → IsLeastRefusal (MayBeDone (plan_of clock loaded.now.contents) at what.now) r)) }
 {
     let contents = &loaded.contents;
     match what {
@@ -222,8 +223,8 @@ pub fn check_report(
 
 /// What stands in the way of a load, but for its moment: a plan that is loaded, or a text that denotes none.
 pub fn check_load(loaded: bool, draft: &Option<PlanDraft>) -> Result<(), Refusal>
-    ensures ok { OnOk result ((P : Plan) → P.loaded ≡ loaded → (m : ℕ) → IsPermitted P m (What.Load draft.now)) }
-    ensures refused { IfErr result (λ r. (P : Plan) → P.loaded ≡ loaded → (m : ℕ) → IsBarred P m (What.Load draft.now) r) }
+    ensures ok { OnOk result ((P : Plan) → P.loaded ≡ loaded → (m : ℕ) → NoneRefuses (MayBeDone P m (What.Load draft.now))) }
+    ensures refused { IfErr result (λ r. (P : Plan) → P.loaded ≡ loaded → (m : ℕ) → IsLeastRefusal (MayBeDone P m (What.Load draft.now)) r) }
 {
     if loaded {
         Err(Refusal::Loaded)

@@ -1,11 +1,12 @@
 // What stands in the way of an operator's command.
 ghost use Rattle.std.specs.Prelude.{◌≡◌, ◌⊎◌, ℕ, true, None, OnOk, IfOk, IfErr};
 ghost use Rattle.std.specs.FinMap.{contains_key, get};
+ghost use Rattle.plan_basics.specs.Refusals.{IsLeastRefusal, NoneRefuses};
 ghost use Rattle.plan_basics.specs.declared.Refusal.{Refusal};
 ghost use Rattle.plan_model.specs.Status.{HasOccurrenceStatus};
-ghost use Rattle.plan_records.specs.Accepting.{MayBeCompleted, MayBeDeleted, MayBeFlagged, MayBeOpenBy, MayBeRerun, MayBeSetAvailable, AllHold};
+ghost use Rattle.plan_records.specs.Accepting.{MayBeCompleted, MayBeDeleted, MayBeFlagged, MayBeOpenBy, MayBeRerun, MayBeSetAvailable};
 ghost use Rattle.plan_records.specs.Contents.{plan_of, AreValidContents};
-ghost use Rattle.plan_checks.specs.Barring.{FailsAt, FailsPastKeys, IsReported, MeetsAll};
+ghost use Rattle.plan_checks.specs.Barring.{FailsAt, IsReported, MeetsAll};
 ghost use Rattle.plan_checks.specs.Held.{IsHeldAtSome};
 
 use super::checks::Reported;
@@ -54,8 +55,8 @@ pub fn check_rerun(
 ) -> Result<(), Refusal>
     requires held { IsHeldAtSome loaded.now }
     requires operation { IsReported (plan_of 0 loaded.now.contents) key.now reported.now }
-    ensures ok { OnOk result ((clock : ℕ) → AllHold (MayBeRerun (plan_of clock loaded.now.contents) key.now)) }
-    ensures refused { IfErr result (λ r. (r ≡ Refusal.Memory) ⊎ ((clock : ℕ) → FailsPastKeys (MayBeRerun (plan_of clock loaded.now.contents) key.now) r)) }
+    ensures ok { OnOk result ((clock : ℕ) → NoneRefuses (MayBeRerun (plan_of clock loaded.now.contents) key.now)) }
+    ensures refused { IfErr result (λ r. (r ≡ Refusal.Memory) ⊎ ((clock : ℕ) → IsLeastRefusal (MayBeRerun (plan_of clock loaded.now.contents) key.now) r)) }
 {
     if !reported.status.is_rerunnable() {
         return Err(Refusal::WrongStatus);
@@ -84,8 +85,8 @@ fn occurrence_status_of(loaded: &LoadedPlan, occurrence: &OccKey) -> Result<OccS
 /// The deletion of an occurrence may be commanded where it isn't deleted, and none of its operations is under way.
 pub fn check_deleted(loaded: &LoadedPlan, occurrence: &OccKey) -> Result<(), Refusal>
     requires { IsHeldAtSome loaded.now }
-    ensures ok { OnOk result ((clock : ℕ) → AllHold (MayBeDeleted (plan_of clock loaded.now.contents) occurrence.now)) }
-    ensures refused { IfErr result (λ r. (clock : ℕ) → FailsPastKeys (MayBeDeleted (plan_of clock loaded.now.contents) occurrence.now) r) }
+    ensures ok { OnOk result ((clock : ℕ) → NoneRefuses (MayBeDeleted (plan_of clock loaded.now.contents) occurrence.now)) }
+    ensures refused { IfErr result (λ r. (clock : ℕ) → IsLeastRefusal (MayBeDeleted (plan_of clock loaded.now.contents) occurrence.now) r) }
 {
     let status = occurrence_status_of(loaded, occurrence)?;
     if status == OccStatus::Deleted {
@@ -101,8 +102,8 @@ pub fn check_deleted(loaded: &LoadedPlan, occurrence: &OccKey) -> Result<(), Ref
 /// Whether a special resource is available may be told of one in the plan.
 pub fn check_available(contents: &PlanContents, name: &ResName) -> Result<(), Refusal>
     requires { AreValidContents contents.now }
-    ensures ok { OnOk result ((clock : ℕ) → AllHold (MayBeSetAvailable (plan_of clock contents.now) name.now)) }
-    ensures refused { IfErr result (λ r. (clock : ℕ) → FailsPastKeys (MayBeSetAvailable (plan_of clock contents.now) name.now) r) }
+    ensures ok { OnOk result ((clock : ℕ) → NoneRefuses (MayBeSetAvailable (plan_of clock contents.now) name.now)) }
+    ensures refused { IfErr result (λ r. (clock : ℕ) → IsLeastRefusal (MayBeSetAvailable (plan_of clock contents.now) name.now) r) }
 {
     match row_place(&contents.resources, name) {
         Some(_) => Ok(()),
@@ -118,8 +119,8 @@ pub fn check_open_by(
     intervals: &[Interval],
 ) -> Result<(), Refusal>
     requires { AreValidContents contents.now }
-    ensures ok { OnOk result ((clock : ℕ) → AllHold (MayBeOpenBy (plan_of clock contents.now) name.now intervals.now)) }
-    ensures refused { IfErr result (λ r. (r ≡ Refusal.Memory) ⊎ ((clock : ℕ) → FailsPastKeys (MayBeOpenBy (plan_of clock contents.now) name.now intervals.now) r)) }
+    ensures ok { OnOk result ((clock : ℕ) → NoneRefuses (MayBeOpenBy (plan_of clock contents.now) name.now intervals.now)) }
+    ensures refused { IfErr result (λ r. (r ≡ Refusal.Memory) ⊎ ((clock : ℕ) → IsLeastRefusal (MayBeOpenBy (plan_of clock contents.now) name.now intervals.now) r)) }
 {
     let place = workstation_place(&contents.workstations, name).ok_or(Refusal::UnknownWorkstation)?;
     let mut workstation = contents.workstations[place].try_clone()?;

@@ -2,11 +2,11 @@
 ghost use Rattle.std.specs.Prelude.{◌≡◌, ◌≢◌, ◌<◌, ◌⊎◌, ℕ, IfErr, OnOk};
 ghost use Rattle.operation_graph.specs.Graphs.{MayTakeEdge};
 ghost use Rattle.plan_basics.specs.declared.Refusal.{Refusal};
-ghost use Rattle.plan_basics.specs.Refusals.{number_of};
-ghost use Rattle.plan_records.specs.Accepting.{MayBeFlagged, MayBePaired, AllHold, FailsFirstAt};
+ghost use Rattle.plan_basics.specs.Refusals.{IsLeastRefusal, NoneRefuses};
+ghost use Rattle.plan_records.specs.Accepting.{MayBeFlagged, MayBePaired};
 ghost use Rattle.plan_records.specs.Contents.{plan_of};
 ghost use Rattle.status_rules.specs.declared.Status.{Status};
-ghost use Rattle.plan_checks.specs.Pairing.{IsEdgeRefusal};
+ghost use Rattle.plan_checks.specs.Pairing.{IsFaultAs};
 ghost use Rattle.plan_checks.specs.Barring.{FailsAt, MeetsAll};
 ghost use Rattle.plan_checks.specs.Held.{IsHeldAtSome};
 
@@ -35,7 +35,7 @@ fn check_edge(loaded: &LoadedPlan, before: usize, after: usize) -> Result<(), Re
     requires before { before < loaded.now.graph.nodes }
     requires after { after < loaded.now.graph.nodes }
     ensures ok { OnOk result (MayTakeEdge loaded.now.graph before after) }
-    ensures refused { IfErr result (IsEdgeRefusal loaded.now.graph before after) }
+    ensures refused { IfErr result (IsFaultAs loaded.now.graph before after) }
 {
     let mut graph = loaded.graph.try_clone()?;
     match graph.add_edge(before, after) {
@@ -54,8 +54,8 @@ pub fn check_paired(
     successor: &OpKey,
 ) -> Result<(), Refusal>
     requires { IsHeldAtSome loaded.now }
-    ensures ok { OnOk result ((clock : ℕ) → AllHold (MayBePaired (plan_of clock loaded.now.contents) predecessor.now successor.now)) }
-    ensures refused { IfErr result (λ r. (r ≡ Refusal.Memory) ⊎ ((clock : ℕ) → (3 < number_of r) × FailsFirstAt (MayBePaired (plan_of clock loaded.now.contents) predecessor.now successor.now) r)) }
+    ensures ok { OnOk result ((clock : ℕ) → NoneRefuses (MayBePaired (plan_of clock loaded.now.contents) predecessor.now successor.now)) }
+    ensures refused { IfErr result (λ r. (r ≡ Refusal.Memory) ⊎ ((clock : ℕ) → IsLeastRefusal (MayBePaired (plan_of clock loaded.now.contents) predecessor.now successor.now) r)) }
 {
     let rows = &loaded.contents.operations;
     let before = row_place(rows, predecessor).ok_or(Refusal::UnknownOperation)?;

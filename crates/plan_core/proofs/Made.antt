@@ -1,14 +1,11 @@
 -- Contents that a request makes.
-use Rattle.std.proofs.Common.{◌≡◌, refl, sym, ap, subst, ◌∙◌, arith, ◌<◌, ℕ, [], ◌∷◌, List, Option, Some, None, is_some, true, Result, IfOk}
-use Rattle.plan_basics.specs.Intervals.{OpenInterval}
-use Rattle.plan_basics.specs.Keys.{Name}
-use Rattle.plan_basics.specs.Refusals.{number_of}
-use Rattle.plan_basics.specs.declared.Refusal.{Refusal}
+use Rattle.std.proofs.Common.{◌≡◌, refl, sym, ap, subst, ◌∙◌, ℕ, [], ◌∷◌, Option, Some, None, is_some, true, Result, IfOk}
+use Rattle.plan_basics.specs.Refusals.{NoneRefuses}
 use Rattle.plan_basics.specs.declared.Refusal.TheVariants as refusal
 use Rattle.plan_basics.specs.declared.keys.OpKey.{OpKey}
 use Rattle.plan_model.specs.Plan.{Plan, Supplement}
 use Rattle.plan_model.specs.Ready.{with_mark}
-use Rattle.plan_records.specs.Accepting.{MayBeOpenBy, AllHold}
+use Rattle.plan_records.specs.Accepting.{MayBeDone}
 use Rattle.plan_records.specs.Changes.{Changes, IsRequest, marked, revised}
 use Rattle.plan_records.specs.Contents.{AreAdditionParts, AreContents, incoming, plan_of}
 use Rattle.plan_records.specs.Drafts.{IsAddition, IsDraft}
@@ -18,7 +15,6 @@ use Rattle.plan_records.specs.declared.contents.NewOccurrence.{NewOccurrence}
 use Rattle.plan_records.specs.declared.contents.PlanContents.{PlanContents}
 use Rattle.ready_list.specs.Choice.{is_among}
 use Rattle.status_rules.specs.declared.Mark.{Mark}
-use Rattle.plan_checks.specs.Barring.{IsClear}
 use Rattle.plan_core.specs.Requested.{AreMadeBy}
 use Rattle.plan_changes.proofs.Answered.{if_both_ok, if_ok}
 use Rattle.plan_changes.proofs.Marks.{one_marked}
@@ -58,22 +54,15 @@ made_drafted c new d is draft same in_order P = record {
   in_order = in_order;
 }
 
--- ---- what is known of a request that nothing bars
-
--- lines past the third number, where the first three ask nothing
-pub open_by : (P : Plan) (w : Name) (items : List OpenInterval) → ((r : Refusal) → 3 < number_of r → MayBeOpenBy P w items r) → AllHold (MayBeOpenBy P w items)
-open_by P w items h refusal.UnknownWorkstation = h refusal.UnknownWorkstation (omega arith)
-open_by P w items h refusal.Limit = h refusal.Limit (omega arith)
-open_by P w items h refusal.BadPlan = h refusal.BadPlan (omega arith)
-open_by P w items h _ = tt
+-- ---- what is known of a request that nothing refuses
 
 -- of a request, v, that is this one
-pub clear_of : (c : PlanContents) (v w : What) → v ≡ w → (at : ℕ) × ((clock : ℕ) → IsClear (plan_of clock c) at v) → (at : ℕ) × IsClear (plan_of 0 c) at w
-clear_of c v w is clear = (clear.0, subst (λ z. IsClear (plan_of 0 c) clear.0 z) is (clear.1 0))
+pub clear_of : (c : PlanContents) (v w : What) → v ≡ w → (at : ℕ) × ((clock : ℕ) → NoneRefuses (MayBeDone (plan_of clock c) at v)) → (at : ℕ) × NoneRefuses (MayBeDone (plan_of 0 c) at w)
+clear_of c v w is clear = (clear.0, subst (λ z. NoneRefuses (MayBeDone (plan_of 0 c) clear.0 z)) is (clear.1 0))
 
 -- what comes in is of a text that denotes something
-pub has_addition : (P : Plan) (m : ℕ) (a : Option Supplement) → IsClear P m (what.AddOccurrence a) → is_some a ≡ true
-has_addition P m None clear = absurd (clear refusal.BadPlan (omega arith))
+pub has_addition : (P : Plan) (m : ℕ) (a : Option Supplement) → NoneRefuses (MayBeDone P m (what.AddOccurrence a)) → is_some a ≡ true
+has_addition P m None clear = absurd (clear refusal.BadPlan)
 has_addition P m (Some s) clear = refl
 
 -- what its parts tell of an addition

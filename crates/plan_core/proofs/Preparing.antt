@@ -1,11 +1,13 @@
 -- What a request that may be accepted leads to.
 use Rattle.std.proofs.Common.{◌≡◌, sym, ap, subst, ◌∙◌, arith, ℕ, true, pos, List, Option, Some, None, is_some, Result, IfOk}
 use Rattle.plan_basics.specs.Minutes.{IsMoment}
+use Rattle.plan_basics.specs.Refusals.{NoneRefuses}
 use Rattle.plan_basics.specs.declared.Refusal.{Refusal}
 use Rattle.plan_basics.specs.declared.Refusal.TheVariants as refusal
 use Rattle.plan_basics.specs.declared.keys.OpKey.{OpKey}
 use Rattle.plan_laws.proofs.Clock.{changed_loaded, clock_keeps_sound, moment_in_range}
 use Rattle.plan_laws.proofs.Every.{every_change_keeps_sound, no_plan_is_sound}
+use Rattle.plan_laws.proofs.Running.{request_passes}
 use Rattle.plan_model.specs.Plan.{Plan, no_plan}
 use Rattle.plan_model.specs.Ready.{IsChosen, named}
 use Rattle.plan_model.specs.Valid.{IsSound}
@@ -18,8 +20,7 @@ use Rattle.plan_records.specs.declared.What.{What}
 use Rattle.plan_records.specs.declared.What.TheVariants as what
 use Rattle.plan_records.specs.declared.contents.PlanContents.{PlanContents}
 use Rattle.plan_checks.specs.Held.{IsHeld, plan_held}
-use Rattle.plan_checks.specs.Barring.{IsClear}
-use Rattle.plan_core.specs.Requested.{AreMadeBy, NoneRefusesAt}
+use Rattle.plan_core.specs.Requested.{AreMadeBy, MayBeMadeAt}
 use Rattle.plan_changes.proofs.Answered.{if_both_ok}
 use Rattle.plan_checks.proofs.AtClock.{added_at, paired_at}
 use Rattle.plan_core.specs.State.{PlanState, PreparedState}
@@ -36,33 +37,33 @@ seen_sound clock x s held is = subst (λ (s : PlanState). IsSound s.plan) is (he
 
 -- ---- what is free to be made
 
-module _ (P : Plan) (m : ℕ) (w : What) (free : NoneRefusesAt P m w) where
+module _ (P : Plan) (m : ℕ) (w : What) (free : NoneRefuses (MayBeMadeAt P m w)) where
   pub has_plan : NeedsPlan w → P.loaded ≡ true
   has_plan = free refusal.NotLoaded (omega arith)
 
   pub has_draft : (draft : Option Plan) → w ≡ what.Load draft → is_some draft ≡ true
   has_draft draft is = subst (λ v. MayBeDone P m v refusal.BadPlan) is (free refusal.BadPlan (omega arith))
 
-  -- past the number of a plan that lacks, nothing of the plan stands in its way
-  pub is_clear : IsClear P m w
-  is_clear refusal.Past past = absurd (omega (arith, past))
-  is_clear refusal.MomentRange past = absurd (omega (arith, past))
-  is_clear refusal.NotLoaded past = absurd (omega (arith, past))
-  is_clear r past = free r (omega (arith, past))
+  -- nothing of the plan stands in its way
+  pub is_clear : NoneRefuses (MayBeDone P m w)
+  is_clear refusal.Past = (request_passes P m w).0
+  is_clear refusal.MomentRange = (request_passes P m w).1
+  is_clear refusal.NotLoaded = (request_passes P m w).2
+  is_clear r = free r (omega arith)
 
 -- what a request asks of a plan doesn't go by the plan's clock
-pub clear_at : (c : PlanContents) (k clock m : ℕ) (w : What) → IsClear (plan_of k c) m w → IsClear (plan_of clock c) m w
-clear_at c k clock m (what.AddOccurrence (Some s)) h = λ r past. added_at c s k clock r (h r past)
-clear_at c k clock m (what.AddDependency p s) h = λ r past. paired_at c p s k clock r (h r past)
+pub clear_at : (c : PlanContents) (k clock m : ℕ) (w : What) → NoneRefuses (MayBeDone (plan_of k c) m w) → NoneRefuses (MayBeDone (plan_of clock c) m w)
+clear_at c k clock m (what.AddOccurrence (Some s)) h = λ r. added_at c s k clock r (h r)
+clear_at c k clock m (what.AddDependency p s) h = λ r. paired_at c p s k clock r (h r)
 clear_at c k clock m w h = h
 
 -- ---- what is made
 
-module _ (P : Plan) (q : Request) (allows : (r : Refusal) → MayBeAccepted P q r) where
+module _ (P : Plan) (q : Request) (allows : NoneRefuses (MayBeAccepted P q)) where
   needs_loaded : NeedsPlan q.what → P.loaded ≡ true
   needs_loaded = allows refusal.NotLoaded
 
-  pub freed : (at : ℕ) → q.at ≡ pos at → NoneRefusesAt P at q.what
+  pub freed : (at : ℕ) → q.at ≡ pos at → NoneRefuses (MayBeMadeAt P at q.what)
   freed at is r past = subst (λ z. MayBeAccepted P (record { at = z; what = q.what }) r) is (allows r)
 
   module _ (at : ℕ) (is : q.at ≡ pos at) (new : PlanContents) (made : AreMadeBy P q.what new) where

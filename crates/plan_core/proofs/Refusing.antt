@@ -1,7 +1,8 @@
 -- The answers to a request, by what stands in its way.
 use Rattle.std.proofs.Common.{◌≡◌, refl, sym, subst, ◌∙◌, arith, ℕ, ◌<◌, true, false, true≢false, pos, ◌≤ℤ◌, Option, Some, None, is_some}
 use Rattle.plan_basics.specs.Minutes.{IsMoment}
-use Rattle.plan_basics.specs.Refusals.{number_of}
+use Rattle.plan_basics.proofs.LeastRefusals.{least_of_all, none_of_all}
+use Rattle.plan_basics.specs.Refusals.{number_of, IsLeastRefusal, NoneRefuses, from_on}
 use Rattle.plan_basics.specs.declared.Refusal.{Refusal}
 use Rattle.plan_basics.specs.declared.Refusal.TheVariants as refusal
 use Rattle.plan_model.specs.Plan.{Plan}
@@ -11,55 +12,54 @@ use Rattle.plan_records.specs.Step.{Step}
 use Rattle.plan_records.specs.declared.Request.{Request}
 use Rattle.plan_records.specs.declared.What.{What}
 use Rattle.plan_checks.specs.Held.{plan_held}
-use Rattle.plan_checks.specs.Barring.{IsBarred, IsPermitted}
-use Rattle.plan_core.specs.Requested.{NoneRefusesAt, IsRefusedAt}
+use Rattle.plan_laws.proofs.Running.{request_passes}
+use Rattle.plan_core.specs.Requested.{MayBeMadeAt}
 use Rattle.plan_checks.specs.declared.loaded.LoadedPlan.{LoadedPlan}
 
 -- ---- but for its moment
 
 module _ (P : Plan) (m : ℕ) (w : What) (loaded : NeedsPlan w → P.loaded ≡ true) where
-  abbrev request : Request
-  request = record { at = pos m; what = w }
+  by_plan : (r : Refusal) → MayBeDone P m w r → MayBeMadeAt P m w r
+  by_plan refusal.Past may counts = absurd (omega (arith, counts))
+  by_plan refusal.MomentRange may counts = absurd (omega (arith, counts))
+  by_plan refusal.NotLoaded may counts = loaded
+  by_plan r may counts = may
 
-  by_plan : (r : Refusal) → 2 < number_of r → MayBeDone P m w r → MayBeAccepted P request r
-  by_plan refusal.Past past may = absurd (omega (arith, past))
-  by_plan refusal.MomentRange past may = absurd (omega (arith, past))
-  by_plan refusal.NotLoaded past may = loaded
-  by_plan r past may = may
-
-  not_by_plan : (r : Refusal) → 3 < number_of r → ¬ MayBeDone P m w r → ¬ MayBeAccepted P request r
-  not_by_plan refusal.Past past never = absurd (omega (arith, past))
-  not_by_plan refusal.MomentRange past never = absurd (omega (arith, past))
-  not_by_plan refusal.NotLoaded past never = absurd (omega (arith, past))
-  not_by_plan r past never = never
+  not_by_plan : (r : Refusal) → ¬ MayBeDone P m w r → ¬ MayBeMadeAt P m w r
+  not_by_plan refusal.Past never made = never (request_passes P m w).0
+  not_by_plan refusal.MomentRange never made = never (request_passes P m w).1
+  not_by_plan refusal.NotLoaded never made = never (request_passes P m w).2
+  not_by_plan r never made = never (made (omega arith))
 
   -- where nothing of the plan stands in its way
-  pub is_free : IsPermitted P m w → NoneRefusesAt P m w
-  is_free may r past = by_plan r past (may r)
+  pub is_free : NoneRefuses (MayBeDone P m w) → NoneRefuses (MayBeMadeAt P m w)
+  is_free may r = by_plan r (may r)
 
   -- where the plan does
-  pub is_stopped : (r : Refusal) → IsBarred P m w r → IsRefusedAt P m w r
-  is_stopped r barred = let past = barred.0 in (omega (arith, past), not_by_plan r past barred.1.0, λ lower past less. by_plan lower past (barred.1.1 lower less))
+  pub is_stopped : (r : Refusal) → IsLeastRefusal (MayBeDone P m w) r → IsLeastRefusal (MayBeMadeAt P m w) r
+  is_stopped r least = (not_by_plan r least.0, λ lower less. by_plan lower (least.1 lower less))
 
 -- where there is no plan
-pub lacks_plan : (P : Plan) (m : ℕ) (w : What) → NeedsPlan w → P.loaded ≡ false → IsRefusedAt P m w refusal.NotLoaded
-lacks_plan P m w needs none = (omega arith, λ may. true≢false (sym (may needs) ∙ none), λ lower past less. absurd (omega (arith, past, less)))
+pub lacks_plan : (P : Plan) (m : ℕ) (w : What) → NeedsPlan w → P.loaded ≡ false → IsLeastRefusal (MayBeMadeAt P m w) refusal.NotLoaded
+lacks_plan P m w needs none = (λ may. true≢false (sym (may (omega arith) needs) ∙ none), λ lower less counts. absurd (omega (arith, less, counts)))
 
 -- ---- at its moment
 
 module _ (P : Plan) (q : Request) (m : ℕ) (at : q.at ≡ pos m) (onward : pos P.clock ≤ℤ q.at) (in_range : IsMoment m) where
-  by_moment : (r : Refusal) → (2 < number_of r → MayBeAccepted P (record { at = pos m; what = q.what }) r) → MayBeAccepted P q r
-  by_moment refusal.Past may = onward
-  by_moment refusal.MomentRange may = (m, at, in_range)
-  by_moment r may = subst (λ z. MayBeAccepted P (record { at = z; what = q.what }) r) (sym at) (may (omega arith))
+  by_moment : (lower : Refusal) → number_of lower < number_of refusal.NotLoaded → MayBeAccepted P q lower
+  by_moment refusal.Past less = onward
+  by_moment refusal.MomentRange less = (m, at, in_range)
+  by_moment lower less = absurd (omega (arith, less))
 
-  pub may_be_accepted : NoneRefusesAt P m q.what → (r : Refusal) → MayBeAccepted P q r
-  may_be_accepted may r = by_moment r (may r)
+  pub may_be_accepted : NoneRefuses (MayBeMadeAt P m q.what) → NoneRefuses (MayBeAccepted P q)
+  may_be_accepted free =
+      none_of_all refusal.NotLoaded (MayBeAccepted P q) by_moment
+      (subst (λ z. NoneRefuses (from_on refusal.NotLoaded (MayBeAccepted P (record { at = z; what = q.what })))) (sym at) free)
 
-  pub is_refused : (r : Refusal) → IsRefusedAt P m q.what r → Step P q (refused r) P
+  pub is_refused : (r : Refusal) → IsLeastRefusal (MayBeMadeAt P m q.what) r → Step P q (refused r) P
   is_refused r stopped = record {
-    applies = λ may. stopped.1 (subst (λ z. MayBeAccepted P (record { at = z; what = q.what }) r) at may);
-    is_least = λ lower less. by_moment lower (λ past. stopped.2 lower past less);
+    least = least_of_all refusal.NotLoaded (MayBeAccepted P q) by_moment r
+        (subst (λ z. IsLeastRefusal (from_on refusal.NotLoaded (MayBeAccepted P (record { at = z; what = q.what }))) r) (sym at) stopped);
     is_after = refl;
   }
 

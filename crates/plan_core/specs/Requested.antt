@@ -1,7 +1,8 @@
 -- What a request is answered, and what it makes of the plan.
-use Rattle.std.specs.Prelude.{◌≡◌, ℕ, ◌<◌, pos}
+use Rattle.std.specs.Prelude.{◌≡◌, ℕ, pos}
 use Rattle.plan_basics.specs.declared.Refusal.{Refusal}
-use Rattle.plan_basics.specs.Refusals.{number_of}
+use Rattle.plan_basics.specs.declared.Refusal.TheVariants as refusal
+use Rattle.plan_basics.specs.Refusals.{from_on}
 use Rattle.plan_model.specs.Plan.{Plan}
 use Rattle.plan_records.specs.Accepting.{MayBeAccepted}
 use Rattle.plan_records.specs.Answer.{Answer}
@@ -13,16 +14,9 @@ use Rattle.plan_records.specs.declared.Request.{Request}
 use Rattle.plan_records.specs.declared.What.{What}
 use Rattle.plan_records.specs.declared.contents.PlanContents.{PlanContents}
 
--- made at minute m, nothing but this moment may refuse it
-abbrev pub NoneRefusesAt : Plan → ℕ → What → Type 0
-NoneRefusesAt P m w = (r : Refusal) → 2 < number_of r → MayBeAccepted P (record { at = pos m; what = w }) r
-
--- made at minute m, it is refused for r, the least number that applies after those of moments
-abbrev pub IsRefusedAt : Plan → ℕ → What → Refusal → Type 0
-IsRefusedAt P m w r =
-    (2 < number_of r)
-    × ¬ MayBeAccepted P (record { at = pos m; what = w }) r
-    × ((lower : Refusal) → 2 < number_of lower → number_of lower < number_of r → MayBeAccepted P (record { at = pos m; what = w }) lower)
+-- made at minute m, the request isn't refused for this; those refusals that go by the moment don't count
+abbrev pub MayBeMadeAt : Plan → ℕ → What → Refusal → Type 0
+MayBeMadeAt P m w = from_on refusal.NotLoaded (MayBeAccepted P (record { at = pos m; what = w }))
 
 -- contents in order, of the plan to which the request changes P, at whatever clock
 pub record AreMadeBy (P : Plan) (w : What) (new : PlanContents) : Type 0 where

@@ -1,6 +1,6 @@
 // The plan in memory, and the steps that requests take in it.
 ghost use Rattle.std.specs.Prelude.{◌≡◌, ◌⊎◌, ℕ, pos, map, Some, None, IfOk, IfErr, OnOk};
-ghost use Rattle.plan_basics.specs.declared.Refusal.{Refusal};
+ghost use Rattle.plan_basics.specs.Refusals.{IsLeastRefusal, NoneRefuses};
 ghost use Rattle.plan_model.specs.Plan.{no_plan};
 ghost use Rattle.plan_model.specs.Valid.{IsSound};
 ghost use Rattle.plan_records.specs.declared.What.{What};
@@ -9,7 +9,7 @@ ghost use Rattle.plan_records.specs.Answer.{accepted, refused, answer_of};
 ghost use Rattle.plan_records.specs.Accepting.{MayBeAccepted};
 ghost use Rattle.plan_records.specs.Step.{Step};
 ghost use Rattle.plan_core.specs.Provided.{RunStartsAreProvided, StartsAreProvided};
-ghost use Rattle.plan_core.specs.Requested.{AreMadeBy, IsAnswered, NoneRefusesAt, IsRefusedAt};
+ghost use Rattle.plan_core.specs.Requested.{AreMadeBy, IsAnswered, MayBeMadeAt};
 ghost use Rattle.plan_core.specs.State.{IsPreparedFor, plan_after, AcceptedAnswerAll, AnswersAll};
 
 use super::prepared::Prepared;
@@ -64,8 +64,8 @@ impl Plan {
 
     // What stands in the way of a request that is made at a moment, but for that moment.
     fn check_what(&self, what: &What, at: Moment) -> Result<(), Refusal>
-        ensures ok { OnOk result (NoneRefusesAt self.now.plan at what.now) }
-        ensures refused { IfErr result (λ r. (r ≡ Refusal.Memory) ⊎ IsRefusedAt self.now.plan at what.now r) }
+        ensures ok { OnOk result (NoneRefuses (MayBeMadeAt self.now.plan at what.now)) }
+        ensures refused { IfErr result (λ r. (r ≡ Refusal.Memory) ⊎ IsLeastRefusal (MayBeMadeAt self.now.plan at what.now) r) }
     {
         if let What::Load(draft) = what {
             check_load(self.loaded.is_some(), draft)
@@ -78,7 +78,7 @@ impl Plan {
     // The moment of a request that may be accepted; else the least refusal that applies, or that no memory is found.
     fn check(&self, request: &Request) -> Result<Moment, Refusal>
         ensures at { IfOk result (λ m. request.now.at ≡ pos m) }
-        ensures ok { OnOk result ((r : Refusal) → MayBeAccepted self.now.plan request.now r) }
+        ensures ok { OnOk result (NoneRefuses (MayBeAccepted self.now.plan request.now)) }
         ensures refused { IfErr result (λ r. (r ≡ Refusal.Memory) ⊎ Step self.now.plan request.now (refused r) self.now.plan) }
     {
         if request.at < self.clock.minute() {
@@ -91,7 +91,7 @@ impl Plan {
 
     // What a request that may be accepted makes of what the plan holds. The error is always `Memory`.
     fn contents_after(&self, what: &What) -> Result<PlanContents, Refusal>
-        requires { (at : ℕ) × NoneRefusesAt self.now.plan at what.now }
+        requires { (at : ℕ) × NoneRefuses (MayBeMadeAt self.now.plan at what.now) }
         ensures made { IfOk result (AreMadeBy self.now.plan what.now) }
         ensures refused { IfErr result (λ r. r ≡ Refusal.Memory) }
     {

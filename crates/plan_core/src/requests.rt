@@ -3,13 +3,13 @@ ghost use Rattle.std.specs.Prelude.{◌≡◌, ℕ, All, Some, IfOk, IfErr};
 ghost use Rattle.plan_basics.specs.Intervals.{IsInterval};
 ghost use Rattle.plan_basics.specs.Names.{IsName};
 ghost use Rattle.plan_model.specs.Plan.{IsInPlan, Plan};
-ghost use Rattle.plan_records.specs.Accepting.{MayBeAdded, NeedsPlan};
+ghost use Rattle.plan_basics.specs.Refusals.{NoneRefuses};
+ghost use Rattle.plan_records.specs.Accepting.{MayBeAdded, MayBeDone, NeedsPlan};
 ghost use Rattle.plan_records.specs.Changes.{Changes, with_supplement};
 ghost use Rattle.plan_records.specs.Contents.{plan_of, AreContents};
 ghost use Rattle.plan_records.specs.Drafts.{IsAddition};
 ghost use Rattle.plan_records.specs.declared.What.{What};
 ghost use Rattle.plan_records.specs.declared.What.TheVariants as what;
-ghost use Rattle.plan_checks.specs.Barring.{IsClear};
 ghost use Rattle.plan_core.specs.Requested.{AreMadeBy};
 ghost use Rattle.plan_checks.specs.Held.{IsHeldAtSome};
 ghost use Rattle.plan_basics.specs.declared.Refusal.{Refusal};
@@ -76,7 +76,7 @@ fn added(
 pub fn changed(alloc: Global, loaded: &LoadedPlan, what: &What) -> Result<PlanContents, Refusal>
     requires needs { NeedsPlan what.now }
     requires held { IsHeldAtSome loaded.now }
-    requires clear { (at : ℕ) × ((clock : ℕ) → IsClear (plan_of clock loaded.now.contents) at what.now) }
+    requires clear { (at : ℕ) × ((clock : ℕ) → NoneRefuses (MayBeDone (plan_of clock loaded.now.contents) at what.now)) }
     ensures made { IfOk result (λ new. (clock : ℕ) → AreMadeBy (plan_of clock loaded.now.contents) what.now new) }
     ensures refused { IfErr result (λ r. r ≡ Refusal.Memory) }
 {

@@ -83,48 +83,49 @@ some_numbered_step P T n sound request legal = elim (again_or_next (get T n.trac
 
 -- ---- the plan never answers for memory or the store
 
--- under none of these a request is refused
-abbrev NeverRefuse : (Refusal → Type 0) → Type 0
-NeverRefuse allows = allows refusal.Memory × allows refusal.Store × allows refusal.Reopen
+-- of these lines none refuses for its moment, for a plan that lacks, or for memory or the store
+abbrev pub NeverRefuse : (Refusal → Type 0) → Type 0
+NeverRefuse lines = lines refusal.Past × lines refusal.MomentRange × lines refusal.NotLoaded × lines refusal.Memory × lines refusal.Store × lines refusal.Reopen
 
 start_passes : (P : Plan) (m : ℕ) (o : OpKey) (op : Operation) (a : Option Attr) → NeverRefuse (MayBeStarted P m o op a)
-start_passes P m o op (Some attribute.Automatic) = (tt, tt, tt)
-start_passes P m o op (Some attribute.StartAndCompletion) = (tt, tt, tt)
-start_passes P m o op (Some attribute.CompletionOnly) = (tt, tt, tt)
-start_passes P m o op (Some attribute.Nonreporting) = (tt, tt, tt)
-start_passes P m o op None = (tt, tt, tt)
+start_passes P m o op (Some attribute.Automatic) = (tt, tt, tt, tt, tt, tt)
+start_passes P m o op (Some attribute.StartAndCompletion) = (tt, tt, tt, tt, tt, tt)
+start_passes P m o op (Some attribute.CompletionOnly) = (tt, tt, tt, tt, tt, tt)
+start_passes P m o op (Some attribute.Nonreporting) = (tt, tt, tt, tt, tt, tt)
+start_passes P m o op None = (tt, tt, tt, tt, tt, tt)
 
 end_passes : (P : Plan) (o : OpKey) (op : Operation) (a : Option Attr) → NeverRefuse (MayBeEnded P o op a)
-end_passes P o op (Some attribute.Automatic) = (tt, tt, tt)
-end_passes P o op (Some attribute.StartAndCompletion) = (tt, tt, tt)
-end_passes P o op (Some attribute.CompletionOnly) = (tt, tt, tt)
-end_passes P o op (Some attribute.Nonreporting) = (tt, tt, tt)
-end_passes P o op None = (tt, tt, tt)
+end_passes P o op (Some attribute.Automatic) = (tt, tt, tt, tt, tt, tt)
+end_passes P o op (Some attribute.StartAndCompletion) = (tt, tt, tt, tt, tt, tt)
+end_passes P o op (Some attribute.CompletionOnly) = (tt, tt, tt, tt, tt, tt)
+end_passes P o op (Some attribute.Nonreporting) = (tt, tt, tt, tt, tt, tt)
+end_passes P o op None = (tt, tt, tt, tt, tt, tt)
 
 operation_passes : (P : Plan) (o : OpKey) (rest : Operation → Refusal → Type 0) → ((op : Operation) → NeverRefuse (rest op)) → NeverRefuse (OfOperation P o rest)
-operation_passes P o rest each = (λ op e. (each op).0, λ op e. (each op).1, λ op e. (each op).2)
+operation_passes P o rest each = (λ op e. (each op).0, λ op e. (each op).1, λ op e. (each op).2, λ op e. (each op).3, λ op e. (each op).4, λ op e. (each op).5)
 
-request_passes : (P : Plan) (m : ℕ) (w : What) → NeverRefuse (MayBeDone P m w)
+-- nor does any of what a request asks of the plan
+pub request_passes : (P : Plan) (m : ℕ) (w : What) → NeverRefuse (MayBeDone P m w)
 request_passes P m (what.Started o) = operation_passes P o (λ op. MayBeStarted P m o op (attribute_at P op.workstation)) (λ op. start_passes P m o op (attribute_at P op.workstation))
 request_passes P m (what.Ended o) = operation_passes P o (λ op. MayBeEnded P o op (attribute_at P op.workstation)) (λ op. end_passes P o op (attribute_at P op.workstation))
 request_passes P m (what.Error o code) = operation_passes P o (λ op. MayBeEnded P o op (attribute_at P op.workstation)) (λ op. end_passes P o op (attribute_at P op.workstation))
-request_passes P m (what.Interrupted o) = operation_passes P o (MayBeInterrupted P o) (λ op. (tt, tt, tt))
-request_passes P m (what.Unknown o) = operation_passes P o (λ op. MayBeUndecided P o) (λ op. (tt, tt, tt))
-request_passes P m (what.Hold o) = operation_passes P o (λ op. MayBeFlagged P o) (λ op. (tt, tt, tt))
-request_passes P m (what.Release o) = operation_passes P o (λ op. MayBeFlagged P o) (λ op. (tt, tt, tt))
-request_passes P m (what.Nop o) = operation_passes P o (λ op. MayBeFlagged P o) (λ op. (tt, tt, tt))
-request_passes P m (what.Unnop o) = operation_passes P o (λ op. MayBeFlagged P o) (λ op. (tt, tt, tt))
-request_passes P m (what.Rerun o) = operation_passes P o (λ op. MayBeRerun P o) (λ op. (tt, tt, tt))
-request_passes P m (what.Complete o) = operation_passes P o (MayBeCompleted P o) (λ op. (tt, tt, tt))
-request_passes P m (what.AddOccurrence None) = (tt, tt, tt)
-request_passes P m (what.AddOccurrence (Some s)) = (tt, tt, tt)
-request_passes P m w = (tt, tt, tt)
+request_passes P m (what.Interrupted o) = operation_passes P o (MayBeInterrupted P o) (λ op. (tt, tt, tt, tt, tt, tt))
+request_passes P m (what.Unknown o) = operation_passes P o (λ op. MayBeUndecided P o) (λ op. (tt, tt, tt, tt, tt, tt))
+request_passes P m (what.Hold o) = operation_passes P o (λ op. MayBeFlagged P o) (λ op. (tt, tt, tt, tt, tt, tt))
+request_passes P m (what.Release o) = operation_passes P o (λ op. MayBeFlagged P o) (λ op. (tt, tt, tt, tt, tt, tt))
+request_passes P m (what.Nop o) = operation_passes P o (λ op. MayBeFlagged P o) (λ op. (tt, tt, tt, tt, tt, tt))
+request_passes P m (what.Unnop o) = operation_passes P o (λ op. MayBeFlagged P o) (λ op. (tt, tt, tt, tt, tt, tt))
+request_passes P m (what.Rerun o) = operation_passes P o (λ op. MayBeRerun P o) (λ op. (tt, tt, tt, tt, tt, tt))
+request_passes P m (what.Complete o) = operation_passes P o (MayBeCompleted P o) (λ op. (tt, tt, tt, tt, tt, tt))
+request_passes P m (what.AddOccurrence None) = (tt, tt, tt, tt, tt, tt)
+request_passes P m (what.AddOccurrence (Some s)) = (tt, tt, tt, tt, tt, tt)
+request_passes P m w = (tt, tt, tt, tt, tt, tt)
 
-step_answers : (allows : Refusal → Type 0) (P : Plan) (q : Request) (x : Answer) (after : Plan) → NeverRefuse allows → StepBy allows P q x after → IsOfThePlan x
+step_answers : (allows : Refusal → Type 0) (P : Plan) (q : Request) (x : Answer) (after : Plan) → allows refusal.Memory × allows refusal.Store × allows refusal.Reopen → StepBy allows P q x after → IsOfThePlan x
 step_answers allows P q (accepted chosen) after never step = tt
-step_answers allows P q (refused refusal.Memory) after never step = step.applies never.0
-step_answers allows P q (refused refusal.Store) after never step = step.applies never.1
-step_answers allows P q (refused refusal.Reopen) after never step = step.applies never.2
+step_answers allows P q (refused refusal.Memory) after never step = step.least.0 never.0
+step_answers allows P q (refused refusal.Store) after never step = step.least.0 never.1
+step_answers allows P q (refused refusal.Reopen) after never step = step.least.0 never.2
 step_answers allows P q (refused r) after never step = tt
 
 again_answers : (last : Option Receipt) (n : Numbered) (x : Answer) → Again last n x → IsOfThePlan x
@@ -134,11 +135,11 @@ again_answers last n x (inr (inr (inl h))) = subst IsOfThePlan (sym h.1) tt
 again_answers last n x (inr (inr (inr h))) = subst IsOfThePlan (sym h.1) tt
 
 pub plan_answers : PlanAnswers
-plan_answers s t (plain q) x h = let never = request_passes s.plan (minute_of q.at) q.what in step_answers (MayBeAccepted s.plan q) s.plan q x t.plan never h.0
+plan_answers s t (plain q) x h = let never = request_passes s.plan (minute_of q.at) q.what in step_answers (MayBeAccepted s.plan q) s.plan q x t.plan (never.3, never.4, never.5) h.0
 plan_answers s t (numbered n) x (inl h) = again_answers (get s.receipts n.tracker) n x (again (get s.receipts n.tracker) n x h.0)
 plan_answers s t (numbered n) x (inr h) =
     let never = request_passes s.plan (minute_of n.request.at) n.request.what in
-    step_answers (NumberedMayBeAccepted s.plan s.receipts n) s.plan n.request x t.plan ((never.0, λ e. absurd (cc)), (never.1, λ e. absurd (cc)), (never.2, λ e. absurd (cc))) h.2
+    step_answers (NumberedMayBeAccepted s.plan s.receipts n) s.plan n.request x t.plan ((never.3, λ e. absurd (cc)), (never.4, λ e. absurd (cc)), (never.5, λ e. absurd (cc))) h.2
 
 -- ---- calls and runs
 

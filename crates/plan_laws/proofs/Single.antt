@@ -41,14 +41,14 @@ module _ (allows : Refusal → Type 0) (P : Plan) where
   one_refusal : (a b : Plan) (r s : Refusal) → IsRefused allows P r a → IsRefused allows P s b → r ≡ s
   one_refusal a b r s x y = elim (cases_order (number_of r) (number_of s)) [
     | inl e ↦ same_number r s e
-    | inr (inl less) ↦ absurd (x.applies (y.is_least r less))
-    | inr (inr more) ↦ absurd (y.applies (x.is_least s more))
+    | inr (inl less) ↦ absurd (x.least.0 (y.least.1 r less))
+    | inr (inr more) ↦ absurd (y.least.0 (x.least.1 s more))
   ]
 
   pub one_step_by : (a b : Plan) (q : Request) (x y : Answer) → StepBy allows P q x a → StepBy allows P q y b → (x ≡ y) × (a ≡ b)
   one_step_by a b q (accepted c) (accepted d) x y = let one = one_acceptance a b q c d x y in (ap accepted one.0, one.1)
-  one_step_by a b q (accepted c) (refused r) x y = absurd (y.applies (x.none_refuses r))
-  one_step_by a b q (refused r) (accepted c) x y = absurd (x.applies (y.none_refuses r))
+  one_step_by a b q (accepted c) (refused r) x y = absurd (y.least.0 (x.none_refuses r))
+  one_step_by a b q (refused r) (accepted c) x y = absurd (x.least.0 (y.none_refuses r))
   one_step_by a b q (refused r) (refused s) x y = (ap refused (one_refusal a b r s x y), x.is_after ∙ sym y.is_after)
 
 pub one_step : OneStep

@@ -1,7 +1,7 @@
 -- A sound plan has a step for each request.
-use Rattle.std.proofs.Common.{◌≡◌, ◌⊎◌, inl, inr, refl, sym, subst, arith, ℕ, ◌<◌, Bool, true, true≢false, List, Contains, Some, None, pos}
+use Rattle.std.proofs.Common.{◌≡◌, ◌⊎◌, inl, inr, refl, sym, subst, arith, ℕ, Bool, true, true≢false, List, Contains, Some, None, pos}
 use Rattle.std.proofs.lemmas.Int.{ints}
-use Rattle.plan_basics.specs.Refusals.{number_of}
+use Rattle.plan_basics.specs.Refusals.{number_of, IsLeastRefusal, NoneRefuses}
 use Rattle.plan_basics.specs.declared.Refusal.{Refusal}
 use Rattle.plan_basics.specs.declared.Refusal.TheVariants as refusal
 use Rattle.plan_basics.specs.declared.keys.OpKey.{OpKey}
@@ -30,16 +30,13 @@ use Rattle.plan_records.specs.declared.What.TheVariants as what
 -- ---- the least number that applies
 
 module _ (allows : Refusal → Type 0) (told : (r : Refusal) → Told (allows r)) where
-  abbrev IsLeastRefusal : Refusal → Type 0
-  IsLeastRefusal r = ¬ allows r × ((lower : Refusal) → number_of lower < number_of r → allows lower)
-
   failing : Listed (λ r. ¬ allows r)
   failing = alike_listed {S = λ x. (r : Refusal) × Contains all_refusals r × (¬ allows r × (r ≡ x))}
       (λ x h. subst (λ z. ¬ allows z) h.2.1 h.2.0)
       (λ x h. (x, in_all x, (h, refl)))
       (union_listed (λ r x. ¬ allows r × (r ≡ x)) all_refusals (λ r has. where_told (told_none (told r)) (λ _. one_listed r)))
 
-  least_failing : (r : Refusal) → ¬ allows r → (s : Refusal) × IsLeastRefusal s
+  least_failing : (r : Refusal) → ¬ allows r → (s : Refusal) × IsLeastRefusal allows s
   least_failing r never =
       let m = least_of (λ s. pos (number_of s)) failing.0 r ((failing.1 r).1 never) in (
         m.0,
@@ -53,7 +50,7 @@ module _ (allows : Refusal → Type 0) (told : (r : Refusal) → Told (allows r)
       )
 
   -- all of them hold, or some is the first that doesn't
-  pub all_or_least : ((r : Refusal) → allows r) ⊎ ((r : Refusal) × IsLeastRefusal r)
+  pub all_or_least : NoneRefuses allows ⊎ ((r : Refusal) × IsLeastRefusal allows r)
   all_or_least = elim (told_some (λ r. ¬ allows r) (λ r. told_none (told r)) all_refusals) [
     | inl some ↦ inr (least_failing some.0 some.2)
     | inr none ↦ inl (λ r. elim (told r) [ inl may ↦ may | inr not ↦ absurd (none (r, in_all r, not)) ])
@@ -73,7 +70,7 @@ some_change P acyclic m w h = (_, refl)
 
 module _ (P : Plan) (q : Request) (sound : IsSound P) (request : IsRequest q.what) where
   -- a request that nothing refuses is accepted
-  acceptance : ((r : Refusal) → MayBeAccepted P q r) → (chosen : List OpKey) × (after : Plan) × ((allows : Refusal → Type 0) → ((r : Refusal) → allows r) → IsAccepted allows P q chosen after)
+  acceptance : NoneRefuses (MayBeAccepted P q) → (chosen : List OpKey) × (after : Plan) × ((allows : Refusal → Type 0) → NoneRefuses allows → IsAccepted allows P q chosen after)
   acceptance may =
       let m = minute_of q.at in
       let change = some_change P sound.valid.acyclic m q.what (may refusal.BadPlan) in
@@ -88,7 +85,7 @@ module _ (P : Plan) (q : Request) (sound : IsSound P) (request : IsRequest q.wha
   pub some_step_by : (allows : Refusal → Type 0) → ((r : Refusal) → Told (allows r)) → ((r : Refusal) → allows r → MayBeAccepted P q r) → (x : Answer) × (after : Plan) × StepBy allows P q x after
   some_step_by allows told own = elim (all_or_least allows told) [
     | inl all ↦ (let a = acceptance (λ r. own r (all r)) in (accepted a.0, a.1, a.2 allows all))
-    | inr least ↦ (refused least.0, P, record { applies = least.1.0; is_least = least.1.1; is_after = refl })
+    | inr least ↦ (refused least.0, P, record { least = least.1; is_after = refl })
   ]
 
 pub some_step : SomeStep

@@ -3,6 +3,7 @@ use Rattle.std.specs.Prelude.{◌≡◌, ◌⊎◌, ℕ, ◌≤◌, true, false,
 use Rattle.std.specs.FinMap.{get}
 use Rattle.plan_basics.specs.declared.Attr.TheVariants as attribute
 use Rattle.plan_basics.specs.declared.keys.OpKey.{OpKey}
+use Rattle.plan_basics.specs.Refusals.{NoneRefuses}
 use Rattle.plan_basics.specs.declared.Refusal.{Refusal}
 use Rattle.plan_basics.specs.declared.Refusal.TheVariants as refusal
 use Rattle.plan_basics.specs.Keys.{Name}
@@ -32,7 +33,7 @@ MayStart P o op m _ = Unit {0}
 
 -- o is in the plan, and none of these refusals is given at m
 abbrev pub IsAllowedToStart : Plan → OpKey → ℕ → Type 0
-IsAllowedToStart P o m = Has P o (λ op. (line : Refusal) → MayStart P o op m line)
+IsAllowedToStart P o m = Has P o (λ op. NoneRefuses (MayStart P o op m))
 
 -- an operation reaches another by a path whose members after the first aren't deleted; it reaches itself
 abbrev pub Reaches : Plan → OpKey → OpKey → Type 0

@@ -11,7 +11,6 @@ use Rattle.plan_basics.specs.declared.limits.TheConstants.{MOST_INTERVALS}
 use Rattle.plan_basics.specs.Minutes.{IsMoment}
 use Rattle.plan_basics.specs.Intervals.{OpenInterval, AreApart}
 use Rattle.plan_basics.specs.Keys.{Name}
-use Rattle.workstations.specs.Timetables.{IsLeastRefusal}
 use Rattle.status_rules.specs.declared.Mark.TheVariants as mark
 use Rattle.status_rules.specs.declared.Status.TheVariants as status
 use Rattle.plan_model.specs.Plan.{Plan, Operation, Supplement, IsInPlan, IsPairOf, Precedes, HasAttribute, attribute_at}
@@ -170,11 +169,3 @@ MayBeAccepted P q refusal.Past = pos P.clock ≤ℤ q.at
 MayBeAccepted P q refusal.MomentRange = (m : ℕ) × (q.at ≡ pos m) × IsMoment m
 MayBeAccepted P q refusal.NotLoaded = NeedsPlan q.what → P.loaded ≡ true
 MayBeAccepted P q r = MayBeDone P (minute_of q.at) q.what r
-
--- none of these lines refuses
-abbrev pub AllHold : (Refusal → Type 0) → Type 0
-AllHold lines = (r : Refusal) → lines r
-
--- of the lines that refuse, r's has the least number
-abbrev pub FailsFirstAt : (Refusal → Type 0) → Refusal → Type 0
-FailsFirstAt lines r = IsLeastRefusal lines r

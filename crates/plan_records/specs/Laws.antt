@@ -1,7 +1,7 @@
 -- What holds of every step and every run.
 use Rattle.std.specs.Prelude.{◌≡◌, ◌⊎◌, ℕ, ℤ, List, ◌∷◌, ◌++◌}
 use Rattle.plan_basics.specs.declared.keys.OpKey.{OpKey}
-use Rattle.plan_basics.specs.declared.Refusal.{Refusal}
+use Rattle.plan_basics.specs.Refusals.{NoneRefuses}
 use Rattle.plan_basics.specs.declared.Refusal.TheVariants as refusal
 use Rattle.status_rules.specs.declared.Status.TheVariants as status
 use Rattle.plan_model.specs.Plan.{Plan, Has}
@@ -66,7 +66,7 @@ ChoiceKeepsSound = (P : Plan) (m : ℕ) (chosen : List OpKey) → IsSound P → 
 
 -- what an accepted request changes keeps it sound
 abbrev pub ChangeKeepsSound : What → Type 0
-ChangeKeepsSound w = (P Q : Plan) (at : ℤ) → IsSound P → ((r : Refusal) → MayBeAccepted P (record { at = at; what = w }) r) → IsRequest w → Changes P w Q → IsSound Q
+ChangeKeepsSound w = (P Q : Plan) (at : ℤ) → IsSound P → NoneRefuses (MayBeAccepted P (record { at = at; what = w })) → IsRequest w → Changes P w Q → IsSound Q
 
 -- so does every step
 abbrev pub StepKeepsSound : Type 0

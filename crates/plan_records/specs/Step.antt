@@ -7,7 +7,7 @@ use Rattle.plan_basics.specs.declared.Refusal.TheVariants as refusal
 use Rattle.plan_basics.specs.declared.limits.TheConstants.{MOST_TRACKERS, GREATEST_REQUEST_NUMBER, LONGEST_REQUEST_TEXT}
 use Rattle.plan_basics.specs.Keys.{Name, name_cmp}
 use Rattle.plan_basics.specs.Names.{IsName}
-use Rattle.plan_basics.specs.Refusals.{number_of}
+use Rattle.plan_basics.specs.Refusals.{IsLeastRefusal, NoneRefuses}
 use Rattle.plan_model.specs.Plan.{Plan}
 use Rattle.plan_model.specs.Ready.{IsChosen, named}
 use Rattle.plan_records.specs.declared.Request.{Request}
@@ -18,7 +18,7 @@ use Rattle.plan_records.specs.Changes.{IsRequest, Changes}
 
 -- the request is accepted: it changes P to `changed`, at its moment these are chosen, and they are named
 pub record IsAccepted (allows : Refusal → Type 0) (P : Plan) (q : Request) (chosen : List OpKey) (after : Plan) : Type 0 where
-  pub none_refuses : (r : Refusal) → allows r
+  pub none_refuses : NoneRefuses allows
   pub is_request : IsRequest q.what
   pub changed : Plan
   pub changes : Changes P q.what changed
@@ -27,8 +27,7 @@ pub record IsAccepted (allows : Refusal → Type 0) (P : Plan) (q : Request) (ch
 
 -- the request is refused, for the least number that applies
 pub record IsRefused (allows : Refusal → Type 0) (P : Plan) (r : Refusal) (after : Plan) : Type 0 where
-  pub applies : ¬ allows r
-  pub is_least : (lower : Refusal) → number_of lower < number_of r → allows lower
+  pub least : IsLeastRefusal allows r
   pub is_after : after ≡ P
 
 -- the answer, and the plan that it leaves, by these rules of acceptance

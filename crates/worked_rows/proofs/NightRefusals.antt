@@ -83,10 +83,12 @@ module _ (m : ℕ) (later : loading ≤ m) (in_range : m < 52596000) (closed : I
 
   pub start_is_refused : Step night starting (refused refusal.Closed) night
   start_is_refused = record {
-    applies = λ may.
-        let fits = subst (λ a. MayBeStarted night m (payroll_at 5) p5 a refusal.Closed) on_setp (may p5 (found_at (payroll_at 5))) in
-        not_open fits;
-    is_least = lower_lines;
+    least = (
+      λ may.
+          let fits = subst (λ a. MayBeStarted night m (payroll_at 5) p5 a refusal.Closed) on_setp (may p5 (found_at (payroll_at 5))) in
+          not_open fits,
+      lower_lines,
+    );
     is_after = refl;
   }
 
@@ -139,8 +141,7 @@ leads_back =
 
 pub pair_leads_back : PairThatLeadsBack
 pair_leads_back = record {
-  applies = λ acyclic. acyclic (payroll_at 5) leads_back;
-  is_least = lower_than_cycle;
+  least = (λ acyclic. acyclic (payroll_at 5) leads_back, lower_than_cycle);
   is_after = refl;
 }
 
@@ -172,8 +173,7 @@ lower_than_running r h = tt
 
 pub deletion_while_started : DeletionWhileStarted
 deletion_while_started = record {
-  applies = λ may. may (payroll_at 20) refl (inl third_is_started);
-  is_least = lower_than_running;
+  least = (λ may. may (payroll_at 20) refl (inl third_is_started), lower_than_running);
   is_after = refl;
 }
 
@@ -191,7 +191,6 @@ module _ (draft : Option Plan) where
 
 pub second_load : SecondLoad
 second_load draft = record {
-  applies = λ may. true≢false may;
-  is_least = lower_than_loaded draft;
+  least = (λ may. true≢false may, lower_than_loaded draft);
   is_after = refl;
 }

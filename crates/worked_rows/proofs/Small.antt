@@ -94,10 +94,12 @@ lower_lines r h = absurd (omega (arith, h))
 
 pub end_is_refused : Step day ending (refused refusal.WrongStatus) day
 end_is_refused = record {
-  applies = λ may. elim (subst (λ a. MayBeEnded day second (lasting 60) a refusal.WrongStatus) on_automatic (may (lasting 60) second_is)) [
-    | inl started ↦ not_by_mark status.Started (λ h. h) started
-    | inr undecided ↦ not_by_mark status.Undecided (λ h. h) undecided
-  ];
-  is_least = lower_lines;
+  least = (
+    λ may. elim (subst (λ a. MayBeEnded day second (lasting 60) a refusal.WrongStatus) on_automatic (may (lasting 60) second_is)) [
+      | inl started ↦ not_by_mark status.Started (λ h. h) started
+      | inr undecided ↦ not_by_mark status.Undecided (λ h. h) undecided
+    ],
+    lower_lines,
+  );
   is_after = refl;
 }

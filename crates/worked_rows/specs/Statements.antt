@@ -81,26 +81,26 @@ StatusesOfPassed =
     × HasStatus two_passed (payroll_at 40) status.ReadyAfterNonreporting
 
 -- asked at minute m, this is refused for that reason, and the plan stays as it is
-abbrev pub IsRefusedAt : Plan → ℕ → What → Refusal → Type 0
-IsRefusedAt P m w r = Step P (record { at = pos m; what = w }) (refused r) P
+abbrev pub StepRefuses : Plan → ℕ → What → Refusal → Type 0
+StepRefuses P m w r = Step P (record { at = pos m; what = w }) (refused r) P
 
 -- a start is refused while the workstation is closed: at 21:59, before it opens, and at 02:00, since an interval's end is outside
 abbrev pub StartsWhileClosed : Type 0
 StartsWhileClosed =
-    IsRefusedAt night 27437639 (what.Started (payroll_at 5)) refusal.Closed
-    × IsRefusedAt night two_at_night (what.Started (payroll_at 5)) refusal.Closed
+    StepRefuses night 27437639 (what.Started (payroll_at 5)) refusal.Closed
+    × StepRefuses night two_at_night (what.Started (payroll_at 5)) refusal.Closed
 
 -- the first can't be made to wait for the last: a path leads from it to the last
 abbrev pub PairThatLeadsBack : Type 0
-PairThatLeadsBack = IsRefusedAt night loading (what.AddDependency (payroll_at 40) (payroll_at 5)) refusal.Cycle
+PairThatLeadsBack = StepRefuses night loading (what.AddDependency (payroll_at 40) (payroll_at 5)) refusal.Cycle
 
 -- an occurrence with a started operation isn't deleted
 abbrev pub DeletionWhileStarted : Type 0
-DeletionWhileStarted = IsRefusedAt third_started evening (what.DeleteOccurrence payroll) refusal.Running
+DeletionWhileStarted = StepRefuses third_started evening (what.DeleteOccurrence payroll) refusal.Running
 
 -- whatever the text denotes, a plan isn't loaded over another
 abbrev pub SecondLoad : Type 0
-SecondLoad = (draft : Option Plan) → IsRefusedAt night loading (what.Load draft) refusal.Loaded
+SecondLoad = (draft : Option Plan) → StepRefuses night loading (what.Load draft) refusal.Loaded
 
 -- three operations, two servers: CCC by its priority, and then BBB by latest start, AAA by duration, AAA by key, or BBB by its higher priority
 abbrev pub ChoicesForTwoServers : Type 0

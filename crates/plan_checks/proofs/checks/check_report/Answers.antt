@@ -1,11 +1,11 @@
 use Rattle.std.proofs.Common.{◌≡◌, ◌⊎◌, ap, subst, ◌∙◌, ℕ, List, Some, IfErr, rules}
 use Rattle.plan_basics.specs.Intervals.{OpenInterval}
+use Rattle.plan_basics.specs.Refusals.{IsLeastRefusal}
 use Rattle.plan_basics.specs.declared.Refusal.TheVariants as refusal
 use Rattle.plan_records.specs.Accepting.{MayBeOpenBy}
 use Rattle.plan_records.specs.Contents.{plan_of}
 use Rattle.plan_records.specs.declared.What.TheVariants as what
-use Rattle.plan_checks.proofs.Reporting.{asks_completion, asks_end, asks_flag, asks_interruption, asks_rerun, asks_start, asks_unknown, if_all_hold, if_barred, if_fails, if_one_fails, told_anywhere, told_here}
-use Rattle.plan_checks.specs.Barring.{FailsPastKeys}
+use Rattle.plan_checks.proofs.Reporting.{asks_completion, asks_end, asks_flag, asks_interruption, asks_rerun, asks_start, asks_unknown, if_barred, if_fails, if_none_refuses, told_anywhere, told_here}
 use Rattle.plan_checks.proofs.checks.check_report.Goals as goal
 
 pub check_started-requires-clause-operation : goal.check_started-requires-clause-operation
@@ -46,7 +46,7 @@ returns-in_ok-ok_or-in-AddOccurrence-clause-refused c =
 
 pub returns-in-AddDependency-clause-ok : goal.returns-in-AddDependency-clause-ok
 returns-in-AddDependency-clause-ok c =
-    if_all_hold c.args.loaded.now.contents c.args.at c.in-AddDependency.is c.check_paired.result c.check_paired.ensures.ok
+    if_none_refuses c.args.loaded.now.contents c.args.at c.in-AddDependency.is c.check_paired.result c.check_paired.ensures.ok
 
 pub returns-in-AddDependency-clause-refused : goal.returns-in-AddDependency-clause-refused
 returns-in-AddDependency-clause-refused c =
@@ -60,6 +60,6 @@ pub returns-in-ReplaceIntervals-clause-refused : goal.returns-in-ReplaceInterval
 returns-in-ReplaceIntervals-clause-refused c =
     let contents = c.args.loaded.now.contents in
     let name = c.in-ReplaceIntervals.name in
-    if_one_fails contents c.args.at c.in-ReplaceIntervals.is c.check_open_by.result
-    (subst (λ (items : List OpenInterval). IfErr c.check_open_by.result (λ r. (r ≡ refusal.Memory) ⊎ ((clock : ℕ) → FailsPastKeys (MayBeOpenBy (plan_of clock contents) name items) r))) c.deref.ensures.value
+    if_barred contents c.args.at c.in-ReplaceIntervals.is c.check_open_by.result
+    (subst (λ (items : List OpenInterval). IfErr c.check_open_by.result (λ r. (r ≡ refusal.Memory) ⊎ ((clock : ℕ) → IsLeastRefusal (MayBeOpenBy (plan_of clock contents) name items) r))) c.deref.ensures.value
     c.check_open_by.ensures.refused)

@@ -1,12 +1,12 @@
-use Rattle.std.proofs.Common.{◌≡◌, inr, sym, subst, ◌∙◌, arith, ℕ, ◌<◌, true, false, true≢false, rules, Some, Result, Ok, Err, IfErr}
+use Rattle.std.proofs.Common.{◌≡◌, inr, sym, subst, ◌∙◌, ℕ, ◌<◌, true, false, true≢false, rules, Some, Result, Ok, Err, IfErr}
 use Rattle.plan_basics.specs.declared.Refusal.{Refusal}
 use Rattle.plan_basics.specs.declared.Refusal.TheVariants as refusal
-use Rattle.plan_basics.specs.Refusals.{number_of}
+use Rattle.plan_basics.specs.Refusals.{number_of, IsLeastRefusal, NoneRefuses}
 use Rattle.plan_choice.specs.Choosing.{HasTaken}
 use Rattle.plan_model.specs.Starting.{MayStart}
-use Rattle.plan_records.specs.Accepting.{MayBeStarted, AllHold, FailsFirstAt}
+use Rattle.plan_records.specs.Accepting.{MayBeStarted}
 use Rattle.plan_records.specs.Contents.{plan_of}
-use Rattle.plan_checks.proofs.Permitting.{before_line, has_taken, line_by_line, reported_at, start_number, startable, startable_told}
+use Rattle.plan_checks.proofs.Permitting.{before_line, has_taken, line_by_line, reported_at, startable, startable_told}
 use Rattle.plan_checks.proofs.Reporting.{failed_at, met_at}
 use Rattle.plan_checks.proofs.Searching.{if_ok}
 use Rattle.plan_checks.specs.Barring.{MayBeStartedAt}
@@ -30,11 +30,9 @@ returns-in-StartAndCompletion-clause-refused c =
     let no : c.is_startable.result ≡ false = search rules in
     inr (λ clock.
     let P = plan_of clock c.args.contents.now in
-    let is = reported_at c.args.contents.now o x c.requires.operation clock in (
-      omega arith,
-      subst (λ a. FailsFirstAt (MayBeStarted P m o x.operation (Some a)) refusal.WrongStatus) (sym c.in-StartAndCompletion.is)
-          (λ may. true≢false (sym (startable_told P o x is m may) ∙ sym c.is_startable.ensures ∙ no), before_line P o x.operation m),
-    ))
+    let is = reported_at c.args.contents.now o x c.requires.operation clock in
+    subst (λ a. IsLeastRefusal (MayBeStarted P m o x.operation (Some a)) refusal.WrongStatus) (sym c.in-StartAndCompletion.is)
+    (λ may. true≢false (sym (startable_told P o x is m may) ∙ sym c.is_startable.ensures ∙ no), before_line P o x.operation m))
 
 module _ (c : goal.After-drop-holdings-inside) where
   may : (clock : ℕ) → MayStart (plan_of clock c.args.contents.now) c.args.key.now c.args.reported.now.operation c.args.at refusal.WrongStatus
@@ -59,7 +57,7 @@ returns-in_ok-holdings-in-StartAndCompletion-2-clause-ok c =
     let m = c.args.at in
     if_ok c.check_start.result c.check_start.ensures.ok (λ met clock.
     let P = plan_of clock c.args.contents.now in
-    subst (λ z. AllHold (MayBeStarted P m o op (Some z))) (sym c.in-StartAndCompletion.is)
+    subst (λ z. NoneRefuses (MayBeStarted P m o op (Some z))) (sym c.in-StartAndCompletion.is)
     (λ r. line_by_line P o op m (λ _. Unit {0}) (may c clock) (λ line first _. met P (has c clock) line first) r tt))
 
 pub returns-in_ok-holdings-in-StartAndCompletion-2-clause-refused : goal.returns-in_ok-holdings-in-StartAndCompletion-2-clause-refused
@@ -68,8 +66,6 @@ returns-in_ok-holdings-in-StartAndCompletion-2-clause-refused c =
     let op = c.args.reported.now.operation in
     let m = c.args.at in
     if_err c.check_start.result c.check_start.ensures.line c.check_start.ensures.refused c.check_start.ensures.least (λ r line never least. inr (λ clock.
-    let P = plan_of clock c.args.contents.now in (
-      start_number P o op m r (never P (has c clock)),
-      subst (λ z. FailsFirstAt (MayBeStarted P m o op (Some z)) r) (sym c.in-StartAndCompletion.is)
-          (never P (has c clock), line_by_line P o op m (λ lower. number_of lower < number_of r) (may c clock) (λ lower first less. least P (has c clock) lower first less)),
-    )))
+    let P = plan_of clock c.args.contents.now in
+    subst (λ z. IsLeastRefusal (MayBeStarted P m o op (Some z)) r) (sym c.in-StartAndCompletion.is)
+    (never P (has c clock), line_by_line P o op m (λ lower. number_of lower < number_of r) (may c clock) (λ lower first less. least P (has c clock) lower first less))))

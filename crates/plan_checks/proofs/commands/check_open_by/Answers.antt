@@ -1,9 +1,9 @@
 use Rattle.std.proofs.Common.{inr, subst, List}
 use Rattle.plan_basics.specs.Intervals.{OpenInterval}
 use Rattle.plan_basics.specs.Keys.{name_cmp_total, name_cmp-IsAntisymmetric}
-use Rattle.plan_basics.specs.declared.Refusal.{Refusal}
+use Rattle.plan_basics.specs.Refusals.{IsLeastRefusal, NoneRefuses}
 use Rattle.plan_records.specs.Contents.{plan_of}
-use Rattle.workstations.specs.Timetables.{IsLeastRefusal, MayBeTaken}
+use Rattle.workstations.specs.Timetables.{MayBeTaken}
 use Rattle.plan_checks.proofs.ByCommand.{not_open_by, open_by}
 use Rattle.plan_checks.proofs.HeldRows.{found_at}
 use Rattle.plan_checks.proofs.Searching.{if_err, if_ok, row_known}
@@ -19,7 +19,7 @@ returns c =
     let same = c.in_ok-from_slice.ensures.items in
     record {
       ok = if_ok c.replace_intervals.result c.replace_intervals.ensures.taken (λ taken clock.
-          open_by (plan_of clock c.args.contents.now) name intervals is_known (subst (λ (items : List OpenInterval). (r : Refusal) → MayBeTaken items r) same taken));
+          open_by (plan_of clock c.args.contents.now) name intervals is_known (subst (λ (items : List OpenInterval). NoneRefuses (MayBeTaken items)) same taken));
       refused = if_err c.replace_intervals.result c.replace_intervals.ensures.refused (λ r least. inr (λ clock.
           not_open_by (plan_of clock c.args.contents.now) name intervals is_known r (subst (λ (items : List OpenInterval). IsLeastRefusal (MayBeTaken items) r) same least)));
     }

@@ -1,4 +1,4 @@
-use Rattle.std.proofs.Common.{◌≡◌, inr, sym, subst, ◌∙◌, arith, true, false, true≢false, List, All, Contains, rules}
+use Rattle.std.proofs.Common.{◌≡◌, inr, sym, subst, ◌∙◌, true, false, true≢false, List, All, Contains, rules}
 use Rattle.plan_basics.specs.Keys.{operation_cmp_total, operation_cmp-IsAntisymmetric}
 use Rattle.plan_basics.specs.declared.keys.OpKey.{OpKey}
 use Rattle.plan_laws.proofs.Finite.{if_member, member_if}
@@ -26,11 +26,9 @@ returns-then-is_another_under_way-clause-refused c =
     let other = c.is_another_under_way.ensures.0 yes in
     let has : Contains reached other.0 = subst (λ (os : List OpKey). Contains os other.0) c.deref.ensures.value other.1 in
     inr (λ clock.
-    let P = plan_of clock c.args.loaded.now.contents in (
-      omega arith,
-      running_at_rerun P c.args.key.now (rerunnable_by P c.args.key.now x.status is.status may) other.0 other.2.0
-          ((c.in_ok-reached.ensures.reached clock other.0).0 (if_member operation_cmp_total reached other.0 has)) other.2.1,
-    ))
+    let P = plan_of clock c.args.loaded.now.contents in
+    running_at_rerun P c.args.key.now (rerunnable_by P c.args.key.now x.status is.status may) other.0 other.2.0
+    ((c.in_ok-reached.ensures.reached clock other.0).0 (if_member operation_cmp_total reached other.0 has)) other.2.1)
 
 pub returns-clause-ok : goal.returns-clause-ok
 returns-clause-ok c clock =

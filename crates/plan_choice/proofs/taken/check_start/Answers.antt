@@ -2,12 +2,11 @@ use Rattle.std.specs.Result.{IsErrAnd}
 use Rattle.std.proofs.Common.{Result, Ok, Err, IfErr, ◌≡◌, sym, ap, subst, ◌∙◌, ℕ, ◌<◌, ◌≤◌, arith, false, true≢false, Some}
 use Rattle.std.proofs.lemmas.Int.{ints}
 use Rattle.std.specs.FinMap.{get}
-use Rattle.plan_basics.specs.Refusals.{number_of}
+use Rattle.plan_basics.specs.Refusals.{number_of, IsLeastRefusal}
 use Rattle.plan_basics.specs.declared.Refusal.{Refusal}
 use Rattle.plan_model.specs.Plan.{Operation, Plan}
 use Rattle.plan_model.specs.Starting.{MayStart}
 use Rattle.plan_records.specs.Contents.{plan_of}
-use Rattle.workstations.specs.Timetables.{IsLeastRefusal}
 use Rattle.workstations.specs.Workstations.{HasRoom, Workstation}
 use Rattle.plan_choice.specs.Choosing.{HasTaken, IsStartLine}
 use Rattle.plan_choice.proofs.StartLines.{before_busy, line_met, lower_met, no_room, not_free}

@@ -1,7 +1,8 @@
-use Rattle.std.proofs.Common.{◌≡◌, ◌∙◌, refl, inl, inr, ap, subst, sym, arith, ℕ, All, Some, IfOk, option_copied}
+use Rattle.std.proofs.Common.{◌≡◌, ◌∙◌, refl, inl, inr, ap, subst, sym, ℕ, All, Some, IfOk, option_copied}
 use Rattle.plan_basics.specs.Intervals.{IsInterval}
 use Rattle.plan_basics.specs.declared.Refusal.TheVariants as refusal
-use Rattle.plan_records.specs.Accepting.{MayBeOpenBy, AllHold}
+use Rattle.plan_basics.specs.Refusals.{NoneRefuses}
+use Rattle.plan_records.specs.Accepting.{MayBeOpenBy}
 use Rattle.plan_records.specs.Changes.{marked}
 use Rattle.plan_records.specs.Contents.{plan_of}
 use Rattle.plan_records.specs.declared.What.TheVariants as what
@@ -10,14 +11,14 @@ use Rattle.status_rules.specs.declared.Mark.TheVariants as mark
 use Rattle.plan_core.specs.Requested.{AreMadeBy}
 use Rattle.plan_changes.proofs.Answered.{if_ok}
 use Rattle.plan_changes.specs.Opening.{opened}
-use Rattle.plan_core.proofs.Made.{clear_of, has_addition, if_alike, if_made, if_marked, open_by}
+use Rattle.plan_core.proofs.Made.{clear_of, has_addition, if_alike, if_made, if_marked}
 use Rattle.plan_core.proofs.requests.changed.Goals as goal
 use Rattle.plan_core.proofs.requests.changed.Goals.{in-Tick, in-Started, in-Ended2, in-Error, in-Interrupted, in-Unknown, in-Hold, in-Release, in-Nop, in-Unnop}
 use Rattle.plan_core.proofs.requests.changed.Goals.{in-DeleteOccurrence, in-AddOccurrence, in-AddDependency, in-SetAvailable, in-ReplaceIntervals}
 
 pub rerun-requires-clause-known : goal.rerun-requires-clause-known
 rerun-requires-clause-known c =
-    (clear_of c.args.loaded.now.contents c.args.what.now (what.Rerun c.in-Rerun.key) c.in-Rerun.is c.requires.clear).1 refusal.UnknownOperation (omega arith)
+    (clear_of c.args.loaded.now.contents c.args.what.now (what.Rerun c.in-Rerun.key) c.in-Rerun.is c.requires.clear).1 refusal.UnknownOperation
 
 pub returns-in-Rerun-clause-made : goal.returns-in-Rerun-clause-made
 returns-in-Rerun-clause-made c =
@@ -25,14 +26,13 @@ returns-in-Rerun-clause-made c =
 
 pub with_available-new-requires-clause-known : goal.with_available-new-requires-clause-known
 with_available-new-requires-clause-known c =
-    (clear_of c.args.loaded.now.contents c.args.what.now (what.SetAvailable c.in-SetAvailable.name c.in-SetAvailable.available) c.in-SetAvailable.is c.requires.clear).1 refusal.UnknownResource (omega arith)
+    (clear_of c.args.loaded.now.contents c.args.what.now (what.SetAvailable c.in-SetAvailable.name c.in-SetAvailable.available) c.in-SetAvailable.is c.requires.clear).1 refusal.UnknownResource
 
 pub with_intervals-new-requires-clause-open : goal.with_intervals-new-requires-clause-open
 with_intervals-new-requires-clause-open c =
     let plan = plan_of 0 c.args.loaded.now.contents in
     let clear = clear_of c.args.loaded.now.contents c.args.what.now (what.ReplaceIntervals c.in-ReplaceIntervals.name c.in-ReplaceIntervals.intervals) c.in-ReplaceIntervals.is c.requires.clear in
-    subst (λ items. AllHold (MayBeOpenBy plan c.in-ReplaceIntervals.name items)) (sym c.deref-in-ReplaceIntervals.ensures.value)
-    (open_by plan c.in-ReplaceIntervals.name c.in-ReplaceIntervals.intervals.items clear.1)
+    subst (λ items. NoneRefuses (MayBeOpenBy plan c.in-ReplaceIntervals.name items)) (sym c.deref-in-ReplaceIntervals.ensures.value) clear.1
 
 pub unwrap-requires : goal.unwrap-requires
 unwrap-requires c =
@@ -44,7 +44,7 @@ pub added-new-requires-clause-new : goal.added-new-requires-clause-new
 added-new-requires-clause-new c =
     let w = what.AddOccurrence (Some c.unwrap.result.now) in
     let is : c.args.what.now ≡ w = c.in-AddOccurrence.is ∙ ap what.AddOccurrence (sym c.as_ref.ensures.value ∙ ap option_copied c.unwrap.ensures) in
-    (clear_of c.args.loaded.now.contents c.args.what.now w is c.requires.clear).1 refusal.Duplicate (omega arith)
+    (clear_of c.args.loaded.now.contents c.args.what.now w is c.requires.clear).1 refusal.Duplicate
 
 pub returns-clause-made : goal.returns-clause-made
 returns-clause-made c =

@@ -1,11 +1,12 @@
 use Rattle.std.proofs.Common.{rules, ◌≡◌, ◌⊎◌, inr, refl, sym, ap, subst, ◌∙◌, Some, IfErr, OnOk}
+use Rattle.plan_basics.specs.Refusals.{IsLeastRefusal, NoneRefuses}
 use Rattle.plan_basics.specs.declared.Refusal.TheVariants as refusal
 use Rattle.plan_model.specs.Plan.{Plan}
 use Rattle.plan_records.specs.Contents.{plan_of}
 use Rattle.plan_records.specs.declared.What.{What}
 use Rattle.plan_records.specs.declared.What.TheVariants as what
 use Rattle.plan_checks.specs.Held.{plan_held}
-use Rattle.plan_core.specs.Requested.{NoneRefusesAt, IsRefusedAt}
+use Rattle.plan_core.specs.Requested.{MayBeMadeAt}
 use Rattle.plan_core.specs.State.{PlanState}
 use Rattle.plan_checks.proofs.Searching.{if_err, if_ok, if_refused}
 use Rattle.plan_core.proofs.Refusing.{held_loaded, is_free, is_stopped}
@@ -19,8 +20,8 @@ returns-in-Load c =
     let told = c.check_load in
     let same : P.loaded ≡ c.is_some.result = ap (λ (s : PlanState). s.plan.loaded) (sym c.self.view_is) ∙ held_loaded c.self.inside.clock c.self.inside.loaded ∙ sym c.is_some.ensures in
     record {
-      ok = if_ok told.result told.ensures.ok (λ may. subst (NoneRefusesAt P m) (sym c.in-Load.is) (is_free P m w (λ n. absurd n) (may P same m)));
-      refused = if_err told.result told.ensures.refused (λ r barred. inr (subst (λ (v : What). IsRefusedAt P m v r) (sym c.in-Load.is) (is_stopped P m w (λ n. absurd n) r (barred P same m))));
+      ok = if_ok told.result told.ensures.ok (λ may. subst (λ (v : What). NoneRefuses (MayBeMadeAt P m v)) (sym c.in-Load.is) (is_free P m w (λ n. absurd n) (may P same m)));
+      refused = if_err told.result told.ensures.refused (λ r barred. inr (subst (λ (v : What). IsLeastRefusal (MayBeMadeAt P m v) r) (sym c.in-Load.is) (is_stopped P m w (λ n. absurd n) r (barred P same m))));
     }
 
 pub returns-in_ok-loaded : goal.returns-in_ok-loaded
@@ -32,6 +33,6 @@ returns-in_ok-loaded c =
     let some : c.self.inside.loaded ≡ Some c.in_ok-loaded.loaded.now = search rules in
     let same : plan_of clock contents ≡ c.args.self.now.plan = ap (plan_held clock) (sym some) ∙ ap (λ (s : PlanState). s.plan) c.self.view_is in
     record {
-      ok = subst (λ (P : Plan). OnOk c.check_report.result (NoneRefusesAt P m w)) same (if_ok c.check_report.result c.check_report.ensures.ok (λ may. is_free (plan_of clock contents) m w (λ _. refl) (may clock)));
-      refused = subst (λ (P : Plan). IfErr c.check_report.result (λ r. (r ≡ refusal.Memory) ⊎ IsRefusedAt P m w r)) same (if_refused c.check_report.result c.check_report.ensures.refused (λ r barred. is_stopped (plan_of clock contents) m w (λ _. refl) r (barred clock)));
+      ok = subst (λ (P : Plan). OnOk c.check_report.result (NoneRefuses (MayBeMadeAt P m w))) same (if_ok c.check_report.result c.check_report.ensures.ok (λ may. is_free (plan_of clock contents) m w (λ _. refl) (may clock)));
+      refused = subst (λ (P : Plan). IfErr c.check_report.result (λ r. (r ≡ refusal.Memory) ⊎ IsLeastRefusal (MayBeMadeAt P m w) r)) same (if_refused c.check_report.result c.check_report.ensures.refused (λ r barred. is_stopped (plan_of clock contents) m w (λ _. refl) r (barred clock)));
     }

@@ -5,7 +5,7 @@ use Rattle.plan_records.specs.Contents.{plan_of}
 use Rattle.plan_records.specs.declared.What.{What}
 use Rattle.plan_records.specs.declared.What.TheVariants as what
 use Rattle.plan_checks.specs.Held.{IsHeld, plan_held}
-use Rattle.plan_core.specs.Requested.{AreMadeBy, NoneRefusesAt}
+use Rattle.plan_core.specs.Requested.{AreMadeBy, MayBeMadeAt}
 use Rattle.plan_core.specs.State.{PlanState}
 use Rattle.plan_core.proofs.Preparing.{clear_at, has_draft, has_plan, is_clear}
 use Rattle.plan_core.proofs.Refusing.{held_loaded}
@@ -31,7 +31,7 @@ changed-requires c =
     let needs : NeedsPlan w = search rules in
     let some : Some h ≡ c.self.inside.loaded = ap option_copied (sym c.unwrap-in_default.ensures) ∙ c.as_ref-in_default.ensures.value in
     let same : plan_of clock h.contents ≡ c.args.self.now.plan = ap (plan_held clock) some ∙ ap (λ (s : PlanState). s.plan) c.self.view_is in
-    let free = subst (λ (P : Plan). NoneRefusesAt P m w) (sym same) c.requires.1 in
+    let free = subst (λ (P : Plan). NoneRefuses (MayBeMadeAt P m w)) (sym same) c.requires.1 in
     record {
       needs = needs;
       held = (clock, subst (IsHeld clock) (sym some) c.self.invariant);
