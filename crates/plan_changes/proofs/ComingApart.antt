@@ -3,15 +3,15 @@ use Rattle.std.proofs.Common.{◌≡◌, inl, inr, sym, ◌∙◌, true, true≢
 use Rattle.std.specs.FinMap.{contains_key, get}
 use Rattle.plan_basics.specs.declared.Refusal.TheVariants as refusal
 use Rattle.plan_basics.specs.declared.keys.OpKey.{OpKey}
-use Rattle.plan_model.specs.Plan.{IsPairOf, Plan, Supplement}
+use Rattle.plan_model.specs.Plan.{IsPairOf, Plan, AddedParts}
 use Rattle.plan_model.specs.Valid.{IsValid}
-use Rattle.plan_records.specs.Accepting.{MayBeAdded}
+use Rattle.plan_records.specs.Acceptance.{MayBeAdded}
 use Rattle.plan_records.specs.Drafts.{IsAddition}
 use Rattle.plan_laws.proofs.ComingIn.{not_own}
 use Rattle.plan_laws.proofs.Looks.{found_key, told_flag}
-use Rattle.plan_changes.specs.Adding.{HasNothingOf}
+use Rattle.plan_changes.specs.Additions.{HasNothingOf}
 
-module _ (P : Plan) (valid : IsValid P) (s : Supplement) (addition : IsAddition s) (new : MayBeAdded P s refusal.Duplicate) where
+module _ (P : Plan) (valid : IsValid P) (s : AddedParts) (addition : IsAddition s) (new : MayBeAdded P s refusal.Duplicate) where
   not_both : (o : OpKey) → contains_key P.operations o ≡ true → contains_key s.operations o ≡ true → ⊥
   not_both o there comes =
       let found = found_key (get s.operations o) comes in

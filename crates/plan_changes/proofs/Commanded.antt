@@ -4,7 +4,7 @@ use Rattle.std.specs.Result.{IsOk, OnOk}
 use Rattle.plan_basics.specs.declared.Refusal.{Refusal}
 use Rattle.plan_basics.specs.declared.Refusal.TheVariants as refusal
 use Rattle.plan_basics.specs.Refusals.{IsLeastRefusal, NoneRefuses}
-use Rattle.plan_records.specs.Accepting.{MayBeOpenBy}
+use Rattle.plan_records.specs.Acceptance.{MayBeOpenBy}
 use Rattle.workstations.specs.Timetables.{MayBeTaken, reopened}
 use Rattle.std.proofs.lemmas.Option.{get_or_from_slice_get}
 use Rattle.std.specs.FinMap.{from_entries, get, contains_key, insert}
@@ -19,7 +19,7 @@ use Rattle.plan_records.specs.Changes.{is_at, revised}
 use Rattle.plan_records.specs.Contents.{AreContents, plan_of}
 use Rattle.plan_records.specs.declared.contents.PlanContents.{PlanContents}
 use Rattle.plan_records.proofs.RowPlaces.{get_at}
-use Rattle.plan_changes.specs.Opening.{opened}
+use Rattle.plan_changes.specs.Intervals.{opened}
 use Rattle.plan_changes.proofs.OneRow.{from_set, insert_known, keys-set, unrevised}
 
 module _ (c : PlanContents) (order : AreContents c) where

@@ -14,7 +14,7 @@ use Rattle.plan_model.specs.Ready.{with_mark}
 use Rattle.plan_records.proofs.Lists.{length_map}
 use Rattle.plan_records.proofs.MadeEntries.{each_made, find-made}
 use Rattle.plan_records.proofs.RowPlaces.{keys-made}
-use Rattle.plan_changes.specs.Marking.{marked_row, marked_rows}
+use Rattle.plan_changes.specs.Marks.{marked_row, marked_rows}
 use Rattle.plan_changes.proofs.OneRow.{absent_made, made_at, set_made}
 
 abbrev Rows : Type 0

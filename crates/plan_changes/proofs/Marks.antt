@@ -20,7 +20,7 @@ use Rattle.plan_records.specs.Contents.{AreContents, plan_of}
 use Rattle.plan_records.specs.declared.contents.PlanContents.{PlanContents}
 use Rattle.plan_records.proofs.MadeEntries.{each_made, entries-revise}
 use Rattle.plan_records.proofs.RowPlaces.{from_made, keys-made}
-use Rattle.plan_changes.specs.Marking.{marked_rows}
+use Rattle.plan_changes.specs.Marks.{marked_rows}
 
 or_false : (b : Bool) → (b || false) ≡ b
 or_false true = refl

@@ -15,7 +15,7 @@ use Rattle.plan_records.proofs.Keyed.{ascend_by}
 use Rattle.plan_records.proofs.Lists.{Differ, all_by_members, contains_head, contains_later, pairs_from_differ}
 use Rattle.plan_records.proofs.Orders.{map_same}
 use Rattle.plan_records.proofs.Tables.{from_set, get_row, in_set, is_none, no_some, row_found, rows_apart, same_entries, some_is, sorted_apart}
-use Rattle.plan_changes.specs.Adding.{ShareNoKey, ShareNoMember}
+use Rattle.plan_changes.specs.Additions.{ShareNoKey, ShareNoMember}
 
 -- one key is in order
 pub single_up : {K : Type 0} (R : K → K → Ordering) (k : K) → IsStrictlySortedBy R (k ∷ [])

@@ -12,7 +12,7 @@ use Rattle.plan_model.specs.Revise.{get-revise, revise}
 use Rattle.plan_records.proofs.MadeEntries.{each_made, key_of, not_equal}
 use Rattle.plan_records.proofs.RowPlaces.{from_made, keys-made, later_key}
 
--- a place at which a row of the key stands
+-- an index at which a row of the key is
 pub place_within : {K X : Type 0} (rows : List (K × X)) (place : ℕ) (key : K) → (x : X) × (slice_get rows place ≡ Some (key, x)) → place < length rows
 place_within rows place key at = slice_get_within rows place (key, at.0) at.1
 

@@ -1,3 +1,3 @@
-pub mod Marking
-pub mod Adding
-pub mod Opening
+pub mod Marks
+pub mod Additions
+pub mod Intervals

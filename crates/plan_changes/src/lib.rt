@@ -1,10 +1,10 @@
-//! What requests change of what a plan holds: marks and flags of operations, open intervals, availability, and what comes in.
+//! What requests change in a plan: marks and flags of operations, open intervals, availability, and what is added.
 #![tactic(auto)]
 
-mod adding;
-mod commanding;
-mod marking;
+mod additions;
+mod commands;
+mod mark_rows;
 
-pub use adding::{with_addition, with_pair};
-pub use commanding::{deleted, with_available, with_held, with_intervals, with_nop};
-pub use marking::{copy_of, with_marks};
+pub use additions::{with_addition, with_pair};
+pub use commands::{deleted, with_available, with_held, with_intervals, with_nop};
+pub use mark_rows::{copy_of, with_marks};

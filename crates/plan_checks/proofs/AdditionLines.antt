@@ -6,18 +6,18 @@ use Rattle.plan_basics.proofs.LeastRefusals.{least_of_all, none_of_all}
 use Rattle.plan_basics.specs.Refusals.{number_of, IsLeastRefusal, NoneRefuses, from_on}
 use Rattle.plan_basics.specs.declared.Refusal.{Refusal}
 use Rattle.plan_basics.specs.declared.Refusal.TheVariants as refusal
-use Rattle.plan_model.specs.Plan.{Supplement}
-use Rattle.plan_records.specs.Accepting.{MayBeAdded}
+use Rattle.plan_model.specs.Plan.{AddedParts}
+use Rattle.plan_records.specs.Acceptance.{MayBeAdded}
 use Rattle.plan_records.specs.Contents.{plan_of}
 use Rattle.plan_records.specs.declared.contents.PlanContents.{PlanContents}
 use Rattle.plan_checks.proofs.AtClock.{added_at, fails_added_at}
 use Rattle.plan_checks.proofs.Searching.{if_err, if_ok}
 
--- why what comes in may not come in
-abbrev pub IsBarredAddition : PlanContents → Supplement → Refusal → Type 0
+-- why an addition may not be made
+abbrev pub IsBarredAddition : PlanContents → AddedParts → Refusal → Type 0
 IsBarredAddition c s r = (r ≡ refusal.Memory) ⊎ ((clock : ℕ) → IsLeastRefusal (MayBeAdded (plan_of clock c) s) r)
 
--- what is told not to be so isn't
+-- what is decided not to be so isn't
 refuted : {A : Type 0} → Decides false A → ¬ A
 refuted told a = true≢false (sym (told.1 a))
 
@@ -29,7 +29,7 @@ Below r lower = number_of lower < number_of r
 pub past : {A : Type 0} {m n : ℕ} → ltb m n ≡ false → m < n → A
 past {A} {m} {n} e less = let least = ltb-false m n e in absurd (omega (arith, less, least))
 
-module _ (c : PlanContents) (s : Supplement) where
+module _ (c : PlanContents) (s : AddedParts) where
   abbrev line : Refusal → Type 0
   line = MayBeAdded (plan_of 0 c) s
 

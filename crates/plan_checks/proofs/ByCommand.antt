@@ -9,17 +9,17 @@ use Rattle.plan_basics.specs.Intervals.{OpenInterval}
 use Rattle.plan_basics.specs.Keys.{Name}
 use Rattle.plan_basics.specs.Refusals.{number_of, IsLeastRefusal, NoneRefuses}
 use Rattle.plan_model.specs.Plan.{Plan}
-use Rattle.plan_model.specs.Starting.{Reaches}
+use Rattle.plan_model.specs.Starts.{Reaches}
 use Rattle.plan_model.specs.Status.{EachOperation, HasOccurrenceStatus, HasStatus, IsReady, IsUnderWay, IsWaitingOrReady}
-use Rattle.plan_records.specs.Accepting.{MayBeCompleted, MayBeDeleted, MayBeFlagged, MayBeOpenBy, MayBeRerun, MayBeSetAvailable}
+use Rattle.plan_records.specs.Acceptance.{MayBeCompleted, MayBeDeleted, MayBeFlagged, MayBeOpenBy, MayBeRerun, MayBeSetAvailable}
 use Rattle.status_rules.specs.declared.OccStatus.{OccStatus}
 use Rattle.status_rules.specs.declared.OccStatus.TheVariants as occurrence
 use Rattle.status_rules.specs.declared.Status.{Status}
 use Rattle.status_rules.specs.declared.Status.TheVariants as status
 use Rattle.status_rules.specs.Classes.{is_completable, is_rerunnable, is_waiting_or_ready}
 use Rattle.plan_laws.proofs.Classes.{passes, waits_by, waits_told}
-use Rattle.plan_checks.specs.Commanding.{IsItsUnderWay}
-use Rattle.plan_checks.specs.Barring.{FailsAt, IsReported, MeetsAll}
+use Rattle.plan_checks.specs.Commands.{IsItsUnderWay}
+use Rattle.plan_checks.specs.Bars.{FailsAt, IsReported, MeetsAll}
 use Rattle.plan_checks.specs.declared.checks.Reported.{Reported}
 use Rattle.workstations.specs.Timetables.{MayBeTaken}
 

@@ -1,4 +1,4 @@
--- What stands in the way of a dependency that comes in.
+-- What stands in the way of a dependency that is to be added.
 use Rattle.std.proofs.Common.{◌≡◌, ◌≢◌, ◌⊎◌, inl, inr, refl, sym, subst, ℕ, ◌<◌, length, slice_get, Some, Result, Ok, Err, IfErr}
 use Rattle.std.specs.Result.{IsErrAnd}
 use Rattle.operation_graph.specs.Graphs.{MayTakeEdge}
@@ -9,15 +9,15 @@ use Rattle.plan_basics.specs.Refusals.{IsLeastRefusal, NoneRefuses}
 use Rattle.plan_model.specs.Plan.{IsInPlan, Operation, Plan, Precedes}
 use Rattle.plan_model.specs.Status.{HasStatus, IsWaitingOrReady}
 use Rattle.plan_model.specs.Valid.{IsAcyclic, IsWithinLimits}
-use Rattle.plan_records.specs.Accepting.{MayBeFlagged, MayBePaired}
+use Rattle.plan_records.specs.Acceptance.{MayBeFlagged, MayBePaired}
 use Rattle.plan_records.specs.Changes.{with_pair}
 use Rattle.plan_records.specs.Contents.{plan_of}
 use Rattle.status_rules.specs.declared.Status.TheVariants as status
 use Rattle.plan_checks.proofs.AdditionLines.{Below, past}
 use Rattle.plan_checks.proofs.PairedPlaces.{acyclic_with, both_known, edge_by_pair, has_no_room, has_room, node_within, pair_by_edge, returning_with}
 use Rattle.plan_checks.specs.Held.{AreHeld, IsHeldAtSome}
-use Rattle.plan_checks.specs.Pairing.{IsFaultAs}
-use Rattle.plan_checks.specs.Barring.{FailsAt, IsReported, MeetsAll}
+use Rattle.plan_checks.specs.Dependencies.{IsFaultAs}
+use Rattle.plan_checks.specs.Bars.{FailsAt, IsReported, MeetsAll}
 use Rattle.plan_checks.specs.declared.checks.Reported.{Reported}
 use Rattle.plan_checks.specs.declared.loaded.LoadedPlan.{LoadedPlan}
 
@@ -26,7 +26,7 @@ module _ (P : Plan) (p s : OpKey) where
   abbrev pub AreKnown : Type 0
   AreKnown = IsInPlan P p × IsInPlan P s
 
-  -- they have statuses between which a dependency may come in
+  -- they have statuses between which a dependency may be added
   abbrev pub MayBeJoined : Type 0
   MayBeJoined = ¬ HasStatus P p status.Deleted × IsWaitingOrReady P s
 
@@ -71,7 +71,7 @@ handed_on A (Err y) e same a = subst A (sym same) a
 
 -- ---- in the plan that is held
 
--- the row at this place is of o
+-- the row at this index is of o
 abbrev pub HasRow : LoadedPlan → ℕ → OpKey → Type 0
 HasRow h i o = (op : Operation) × (slice_get h.contents.operations.items i ≡ Some (o, op))
 
@@ -79,11 +79,11 @@ HasRow h i o = (op : Operation) × (slice_get h.contents.operations.items i ≡ 
 abbrev pub IsTold : LoadedPlan → OpKey → Reported → Type 0
 IsTold h o x = (clock : ℕ) → IsReported (plan_of clock h.contents) o x
 
--- x is what is reported of the operation whose row is at this place
+-- x is what is reported of the operation whose row is at this index
 abbrev pub IsToldAt : LoadedPlan → ℕ → Reported → Type 0
 IsToldAt h i x = (o : OpKey) (op : Operation) → slice_get h.contents.operations.items i ≡ Some (o, op) → IsTold h o x
 
--- of what a dependency of s on p asks of the plan, r is the least refusal at each clock; or no memory was found to tell
+-- of what a dependency of s on p asks of the plan, r is the least refusal at each clock; or no memory was found to decide it
 abbrev pub IsBarredPair : LoadedPlan → OpKey → OpKey → Refusal → Type 0
 IsBarredPair h p s r = (r ≡ refusal.Memory) ⊎ ((clock : ℕ) → IsLeastRefusal (MayBePaired (plan_of clock h.contents) p s) r)
 
@@ -91,7 +91,7 @@ not_flagged : (P : Plan) (o : OpKey) (r : Refusal) → ¬ MayBeFlagged P o r →
 not_flagged P o refusal.WrongStatus never = (refl, never)
 not_flagged P o r never = absurd (never tt)
 
--- the operations p and s stand in the rows i and j of the plan that is held, and x and y are reported of them
+-- the operations p and s are in the rows i and j of the plan that is held, and x and y are reported of them
 pub record AreFound (h : LoadedPlan) (i j : ℕ) (p s : OpKey) (x y : Reported) : Type 0 where
   pub held : IsHeldAtSome h
   pub before : HasRow h i p

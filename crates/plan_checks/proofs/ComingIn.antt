@@ -1,4 +1,4 @@
--- What comes in, by the rows and pairs in which it stands.
+-- What is added, by the rows and pairs in which it is kept.
 use Rattle.std.proofs.Common.{◌≡◌, ◌≢◌, inl, inr, refl, sym, subst, ap, ◌∙◌, ℕ, ◌<◌, Bool, true, false, not, true≢false}
 use Rattle.std.proofs.Common.{List, length, get_or, slice_get, All, Contains, Option, Some, None, is_some, IfSome, IsNone, Decides}
 use Rattle.std.specs.Cmp.{IsTotalOrder}
@@ -15,10 +15,10 @@ use Rattle.plan_basics.specs.declared.keys.OccKey.{OccKey}
 use Rattle.plan_basics.specs.declared.keys.OpKey.{OpKey}
 use Rattle.plan_model.specs.Plan.{IsPairOf, Occurrences, Operation, Plan}
 use Rattle.plan_model.specs.declared.Occurrence.{Occurrence}
-use Rattle.plan_records.specs.Accepting.{IsNew}
-use Rattle.plan_records.specs.Contents.{AreAdditionParts, incoming}
+use Rattle.plan_records.specs.Acceptance.{IsNew}
+use Rattle.plan_records.specs.Contents.{AreAdditionParts, added_of}
 use Rattle.plan_records.specs.Drafts.{IsOwn}
-use Rattle.plan_records.specs.declared.contents.NewOccurrence.{NewOccurrence}
+use Rattle.plan_records.specs.declared.contents.AdditionParts.{AdditionParts}
 use Rattle.special_resources.specs.Holdings.{usage_of}
 use Rattle.special_resources.specs.Needs.{AreInNameOrder, usages_of}
 use Rattle.special_resources.specs.declared.Need.{Need}
@@ -28,9 +28,9 @@ use Rattle.plan_records.proofs.Lists.{all_by_members, all_told}
 use Rattle.plan_records.proofs.MadeAdditions.{sole_got, sole_key}
 use Rattle.plan_records.proofs.Tables.{from_set, get_row, in_set, is_found, row_found, rows_apart, some_is}
 use Rattle.plan_checks.proofs.Searching.{row_known}
-use Rattle.plan_checks.specs.Adding.{HasResources, IsKnown}
+use Rattle.plan_checks.specs.Additions.{HasResources, IsKnown}
 
--- ---- a place that is looked up
+-- ---- an index that is looked up
 
 module _ {K X : Type 0} {R : K → K → Ordering} (total : IsTotalOrder R) (exact : IsAntisymmetric R) where
   module _ (seen rows : List (K × X)) (same : seen ≡ rows) (up : IsStrictlySortedBy R (keys_of rows)) (k : K) where
@@ -39,7 +39,7 @@ module _ {K X : Type 0} {R : K → K → Ordering} (total : IsTotalOrder R) (exa
     place_in_rows (Some i) (x, at) absent = (λ _. row_known total exact rows up i k x at, λ _. refl)
     place_in_rows None found absent = (λ e. absurd (true≢false (sym e)), λ h. absurd (true≢false (sym h ∙ ap is_some (absent refl))))
 
-    -- whether there is one tells whether the key is there
+    -- whether there is one shows whether the key is there
     pub place_told : (place : Option ℕ) → IfSome place (λ i. (x : X) × (slice_get seen i ≡ Some (k, x))) → (IsNone place → get {R = R} (from_entries seen) k ≡ None)
         → (b : Bool) → b ≡ is_some place → Decides b (contains_key (from_entries {R = R} rows) k ≡ true)
     place_told place found absent b is =
@@ -48,7 +48,7 @@ module _ {K X : Type 0} {R : K → K → Ordering} (total : IsTotalOrder R) (exa
         (subst (λ (xs : List (K × X)). IfSome place (λ i. (x : X) × (slice_get xs i ≡ Some (k, x)))) same found)
         (subst (λ (xs : List (K × X)). IsNone place → get {R = R} (from_entries xs) k ≡ None) same absent))
 
--- where this tells whether there is one, its opposite tells whether there is none
+-- where this shows whether there is one, its opposite shows whether there is none
 pub missing_told : (b has : Bool) → Decides (not b) (has ≡ true) → Decides b (has ≡ false)
 missing_told true true told = absurd (true≢false (sym (told.1 refl)))
 missing_told true false told = (λ _. refl, λ _. refl)
@@ -64,7 +64,7 @@ only_key k q x known = let found = is_found (get {R = occurrence_cmp} (insert em
 pub own_key : (k q : OccKey) (x : Occurrence) → q ≡ k → contains_key (insert {R = occurrence_cmp} empty k x) q ≡ true
 own_key k q x same = some_is (get {R = occurrence_cmp} (insert empty k x) q) x (subst (λ z. get {R = occurrence_cmp} (insert empty k x) z ≡ Some x) (sym same) (sole_got k x))
 
--- what comes in is new where its key is
+-- what is added is new where its key is
 pub new_told : (key : OccKey) (terms : Occurrence) (there : Occurrences) (b : Bool) → Decides b (contains_key there key ≡ false)
     → Decides b ((c : OccKey) → contains_key (insert {R = occurrence_cmp} empty key terms) c ≡ true → contains_key there c ≡ false)
 new_told key terms there b told = (
@@ -74,17 +74,17 @@ new_told key terms there b told = (
 
 -- ---- an end of a pair
 
-module _ (parts : NewOccurrence) (are : AreAdditionParts parts) (P : Plan) (o : OpKey) where
-  own : o.occurrence ≡ parts.key → IsOwn (incoming parts) o
+module _ (parts : AdditionParts) (are : AreAdditionParts parts) (P : Plan) (o : OpKey) where
+  own : o.occurrence ≡ parts.key → IsOwn (added_of parts) o
   own same = own_key parts.key o.occurrence parts.terms same
 
-  own_told : IsOwn (incoming parts) o → o.occurrence ≡ parts.key
+  own_told : IsOwn (added_of parts) o → o.occurrence ≡ parts.key
   own_told is = only_key parts.key o.occurrence parts.terms is
 
-  new_is_own : IsNew (incoming parts) o → IsOwn (incoming parts) o
-  new_is_own new = let found = is_found (get (incoming parts).operations o) new in (are.addition.occurrences.each_operation o found.0 found.1).1
+  new_is_own : IsNew (added_of parts) o → IsOwn (added_of parts) o
+  new_is_own new = let found = is_found (get (added_of parts).operations o) new in (are.addition.occurrences.each_operation o found.0 found.1).1
 
-  pub known_own : o.occurrence ≡ parts.key → (b : Bool) → Decides b (IsNew (incoming parts) o) → Decides b (IsKnown P (incoming parts) o)
+  pub known_own : o.occurrence ≡ parts.key → (b : Bool) → Decides b (IsNew (added_of parts) o) → Decides b (IsKnown P (added_of parts) o)
   known_own same b told = (
     λ yes. inl (told.0 yes),
     λ known. elim known [
@@ -93,7 +93,7 @@ module _ (parts : NewOccurrence) (are : AreAdditionParts parts) (P : Plan) (o : 
     ],
   )
 
-  pub known_other : o.occurrence ≢ parts.key → (b : Bool) → Decides b (contains_key P.operations o ≡ true) → Decides b (IsKnown P (incoming parts) o)
+  pub known_other : o.occurrence ≢ parts.key → (b : Bool) → Decides b (contains_key P.operations o ≡ true) → Decides b (IsKnown P (added_of parts) o)
   known_other other b told = (
     λ yes. let found = is_found (get P.operations o) (told.0 yes) in inr ((found.0, found.1, tt), λ is. other (own_told is)),
     λ known. elim known [
@@ -104,11 +104,11 @@ module _ (parts : NewOccurrence) (are : AreAdditionParts parts) (P : Plan) (o : 
 
 -- ---- all pairs, rows and needs
 
--- what a test of each element told: whether all have Q
+-- what a test of each element showed: whether all have Q
 abbrev pub IsTestOfEach : {X : Type 0} → (X → Type 0) → List X → Bool → Type 0
 IsTestOfEach Q items b = MatchBool b (AllWithin Q items 0 (length items)) ((k : ℕ) × (k < length items) × HoldsAt (λ x. ¬ Q x) items k)
 
--- it tells whether each member of a like list has Q
+-- it shows whether each member of a like list has Q
 each_told : {X : Type 0} {items members : List X} → items ≡ members → (Q : X → Type 0) (b : Bool) → IsTestOfEach Q items b → Decides b ((x : X) → Contains members x → Q x)
 each_told {X} {items} {members} same Q b test =
     let told = all_told Q items b test in (
@@ -131,9 +131,9 @@ module _ (items pairs : List (OpKey × OpKey)) (same : items ≡ pairs) where
   pub pair_read : (i : ℕ) (pair : OpKey × OpKey) → i < length items → pair ≡ get_or items i pair → IsPairOf (from_list pairs) pair.0 pair.1
   pair_read i pair lt is = in_set pair_cmp_total pair_cmp-IsAntisymmetric pairs pair (subst (λ (xs : List (OpKey × OpKey)). Contains xs pair) same (i, lt, sym is))
 
--- what is so of each row's operation is so of each operation that comes in
-pub operations_told : (parts : NewOccurrence) → AreAdditionParts parts → {items : List (OpKey × Operation)} → items ≡ parts.operations.items → (Q : Operation → Type 0) (b : Bool)
-    → IsTestOfEach (λ row. Q row.1) items b → Decides b ((o : OpKey) (op : Operation) → get (incoming parts).operations o ≡ Some op → Q op)
+-- what is so of each row's operation is so of each operation that is added
+pub operations_told : (parts : AdditionParts) → AreAdditionParts parts → {items : List (OpKey × Operation)} → items ≡ parts.operations.items → (Q : Operation → Type 0) (b : Bool)
+    → IsTestOfEach (λ row. Q row.1) items b → Decides b ((o : OpKey) (op : Operation) → get (added_of parts).operations o ≡ Some op → Q op)
 operations_told parts are same Q b test =
     let rows = parts.operations.items in
     let told = each_told same (λ (row : OpKey × Operation). Q row.1) b test in (

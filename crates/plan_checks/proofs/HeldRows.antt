@@ -16,7 +16,7 @@ use Rattle.plan_checks.proofs.Searching.{row_known}
 use Rattle.plan_checks.specs.Held.{AreHeld}
 use Rattle.plan_checks.specs.declared.loaded.LoadedPlan.{LoadedPlan}
 
--- where a search has found a key, it stands
+-- where a search has found a key, it is there
 pub found_at : {K V : Type 0} (rows items : List (K × V)) (k : K) (x : Option ℕ) (i : ℕ) → rows ≡ items → x ≡ Some i → IfSome x (λ j. (v : V) × (slice_get rows j ≡ Some (k, v)))
     → (v : V) × (slice_get items i ≡ Some (k, v))
 found_at {K} {V} rows items k x i same is found =

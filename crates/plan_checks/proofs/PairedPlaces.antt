@@ -1,4 +1,4 @@
--- What the graph of a plan that is held says of a pair that comes in between the operations at two places.
+-- What the graph of a plan that is held says of a pair that is added between the operations at two indices.
 use Rattle.std.proofs.Common.{◌≡◌, ◌↔◌, inl, inr, refl, sym, ap, subst, ◌∙◌, arith, ℕ, ◌+◌, ◌<◌, Bool, true, false, cond, List, length, slice_get, Some}
 use Rattle.std.proofs.lemmas.Option.{slice_get_within}
 use Rattle.std.specs.FinSet as set
@@ -83,7 +83,7 @@ module _ (at : ℕ) (h : LoadedPlan) (held : AreHeld at h) where
     pub edge_by_pair : IsPairOf pairs p s → HasEdge h.graph i j
     edge_by_pair pair = (held.graph.edges i j).1 (p, s, first_key, second_key, pair)
 
-    -- a path from the second place to the first is one from the second operation to the first
+    -- a path from the second index to the first is one from the second operation to the first
     pub acyclic_with : ¬ Closes h.graph i j → IsAcyclic (set.insert pairs (p, s))
     acyclic_with clear = (pair_closes_a_path pairs p s held.sound.valid.acyclic).1 (
       λ same. clear (inl (one_place operation_cmp_total keys held.in_order.operations j i s second_key (first_key ∙ ap Some same))),

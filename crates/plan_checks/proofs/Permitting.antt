@@ -10,9 +10,9 @@ use Rattle.plan_model.specs.Holdings.{given_out, holds_server, takes}
 use Rattle.plan_laws.proofs.Classes.{passes, ready_by}
 use Rattle.plan_laws.proofs.Looks.{same_some}
 use Rattle.plan_model.specs.Plan.{Operation, Plan}
-use Rattle.plan_model.specs.Starting.{MayStart}
+use Rattle.plan_model.specs.Starts.{MayStart}
 use Rattle.plan_model.specs.Status.{HasStatus, IsReady}
-use Rattle.plan_records.specs.Accepting.{MayBeEnded, MayBeInterrupted, MayBeUndecided}
+use Rattle.plan_records.specs.Acceptance.{MayBeEnded, MayBeInterrupted, MayBeUndecided}
 use Rattle.plan_records.specs.Contents.{plan_of}
 use Rattle.plan_records.specs.declared.contents.PlanContents.{PlanContents}
 use Rattle.special_resources.specs.Holdings.{Held}
@@ -20,8 +20,8 @@ use Rattle.status_rules.specs.Classes.{is_ready, is_startable}
 use Rattle.status_rules.specs.declared.Status.{Status}
 use Rattle.status_rules.specs.declared.Status.TheVariants as status
 use Rattle.workstations.specs.declared.Capacity.{Capacity}
-use Rattle.plan_choice.specs.Choosing.{AreHeldIn, HasTaken, IsStartLine}
-use Rattle.plan_checks.specs.Barring.{FailsAt, IsReported, MeetsAll}
+use Rattle.plan_choice.specs.Choices.{AreHeldIn, HasTaken, IsStartLine}
+use Rattle.plan_checks.specs.Bars.{FailsAt, IsReported, MeetsAll}
 use Rattle.plan_checks.specs.declared.checks.Reported.{Reported}
 
 module _ (P : Plan) (o : OpKey) where
@@ -104,7 +104,7 @@ module _ (x : Reported) where
     pub not_interrupted : x.attribute ≢ attribute.StartAndCompletion → FailsAt x (λ P o. MayBeInterrupted P o x.operation) refusal.WrongWorkstation
     not_interrupted other P o is = (λ on. other (same_some x.attribute attribute.StartAndCompletion (sym is.attribute ∙ on)), before_workstation P o is)
 
--- what is given out at its workstation, and what is held, as its plan stands
+-- what is given out at its workstation, and what is held, by its plan
 pub has_taken : (c : PlanContents) (clock : ℕ) (op : Operation) (taken : Capacity) (held : Held) → given_out (plan_of clock c) op.workstation ≡ taken → AreHeldIn (plan_of clock c) held
     → HasTaken (plan_of clock c) c op taken held
 has_taken c clock op taken held given holders = record { workstations = refl; resources = refl; given = given; holders = holders }

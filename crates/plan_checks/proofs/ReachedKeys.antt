@@ -1,4 +1,4 @@
--- What a place of the graph reaches are the places of what its operation reaches.
+-- What an index reaches in the graph are the indices of what its operation reaches.
 use Rattle.std.proofs.Common.{◌≡◌, ◌≢◌, ◌↔◌, sym, ap, subst, ◌∙◌, arith, ℕ, ◌<◌, true, false, ◌+◌, List, [], ◌∷◌, ◌++◌, All, Contains, length, map, drop, get_or, slice_get, Option, Some, None, option_map}
 use Rattle.std.proofs.lemmas.List.{append_assoc, at_drop_more, length-map, map-append}
 use Rattle.std.proofs.lemmas.Option.{get_or_from_slice_get, slice_get-get_or, slice_get-map}
@@ -14,7 +14,7 @@ use Rattle.plan_graph.specs.PlanGraphs.{HoldsAlike, JoinsAmong, ReachAlike, Stan
 use Rattle.plan_laws.proofs.Finite.{if_member, member_if}
 use Rattle.plan_laws.proofs.Looks.{same_some}
 use Rattle.plan_model.specs.Plan.{IsInPlan, IsLive, Operation, Pairs, Plan, Precedes}
-use Rattle.plan_model.specs.Starting.{Reaches}
+use Rattle.plan_model.specs.Starts.{Reaches}
 use Rattle.plan_records.proofs.Lists.{all_by_members}
 use Rattle.plan_records.proofs.RowPlaces.{get_at, place_of_found}
 use Rattle.plan_records.proofs.Tables.{key_found}
@@ -24,7 +24,7 @@ use Rattle.status_rules.specs.declared.Mark.TheVariants as mark
 use Rattle.plan_checks.specs.Held.{AreHeld}
 use Rattle.status_rules.proofs.Live.{live_mark, mark_live}
 use Rattle.status_rules.specs.Classes.{is_live}
-use Rattle.plan_checks.specs.Reaching.{is_live_row}
+use Rattle.plan_checks.specs.Reach.{is_live_row}
 use Rattle.plan_checks.specs.declared.loaded.LoadedPlan.{LoadedPlan}
 
 -- a row of which this is the key
@@ -32,7 +32,7 @@ row_of_key : (x : Option (OpKey × Operation)) (o : OpKey) → option_map (λ ro
 row_of_key None o e = absurd cc
 row_of_key (Some row) o e = (row.1, ap (λ k. Some (k, row.1)) (same_some row.0 o e))
 
--- the key of a row stands at its place
+-- the key of a row is at its index
 pub key_stands : (rows : List (OpKey × Operation)) (i : ℕ) (d : OpKey × Operation) → i < length rows → slice_get (keys_of rows) i ≡ Some (get_or rows i d).0
 key_stands rows i d lt = slice_get-map (λ row. row.0) rows i ∙ ap (option_map (λ row. row.0)) (slice_get-get_or rows i d lt)
 
@@ -94,7 +94,7 @@ module _ (at : ℕ) (h : LoadedPlan) (held : AreHeld at h) where
   alike : (clock : ℕ) → ReachAlike keys pairs h.graph (IsSet (map is_live_row rows)) (IsLive (plan clock))
   alike clock = reach_alike keys pairs h.graph held.graph (IsSet (map is_live_row rows)) (IsLive (plan clock)) (live_alike clock) joins held.in_order.operations
 
-  -- each place has a node
+  -- there are as many nodes as rows
   pub as_many : h.graph.nodes ≡ length rows
   as_many = held.graph.nodes ∙ length-map rows (λ (row : OpKey × Operation). row.0)
 
@@ -106,7 +106,7 @@ module _ (at : ℕ) (h : LoadedPlan) (held : AreHeld at h) where
   reached_within live i places lt exactly = all_by_members (λ place. place < length rows) places (λ j has.
       let r = (exactly.1 j).0 has in subst (λ z. z < length rows) r.2 (ends_within live i r.0 lt r.1))
 
-  -- the keys at the places that a place reaches are what its key reaches
+  -- the keys at the indices that an index reaches are what its key reaches
   pub reached_among : (clock i : ℕ) (p : OpKey) (places : List ℕ) (found : List OpKey) → IsInPlan (plan clock) p → slice_get keys i ≡ Some p
       → AreExactly (ReachesBy (HasEdge h.graph) (IsSet (map is_live_row rows)) i) places → StandAt keys places found → (o : OpKey) → (is_among found o ≡ true) ↔ Reaches (plan clock) p o
   reached_among clock i p places found known here exactly stand o = (to, back)

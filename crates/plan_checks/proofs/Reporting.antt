@@ -10,13 +10,13 @@ use Rattle.plan_basics.specs.Keys.{Name}
 use Rattle.plan_basics.specs.Refusals.{IsLeastRefusal, NoneRefuses}
 use Rattle.plan_laws.proofs.Looks.{same_some}
 use Rattle.plan_model.specs.Plan.{Operation, Plan, attribute_at}
-use Rattle.plan_records.specs.Accepting.{MayBeCompleted, MayBeDone, MayBeEnded, MayBeFlagged, MayBeInterrupted, MayBeRerun, MayBeStarted, MayBeUndecided, OfOperation}
+use Rattle.plan_records.specs.Acceptance.{MayBeCompleted, MayBeDone, MayBeEnded, MayBeFlagged, MayBeInterrupted, MayBeRerun, MayBeStarted, MayBeUndecided, OfOperation}
 use Rattle.plan_records.specs.Contents.{plan_of}
 use Rattle.plan_records.specs.declared.What.{What}
 use Rattle.plan_records.specs.declared.What.TheVariants as what
 use Rattle.plan_records.specs.declared.contents.PlanContents.{PlanContents}
 use Rattle.plan_checks.proofs.Searching.{if_err, if_ok, if_refused}
-use Rattle.plan_checks.specs.Barring.{FailsAt, IsReported, MeetsAll}
+use Rattle.plan_checks.specs.Bars.{FailsAt, IsReported, MeetsAll}
 use Rattle.plan_checks.specs.declared.checks.Reported.{Reported}
 
 -- ---- one operation's lines

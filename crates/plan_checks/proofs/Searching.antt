@@ -1,4 +1,4 @@
--- Rows of which none has been found so far, and what rows say of the keys that stand in them.
+-- Rows of which none has been found so far, and what rows say of the keys that are in them.
 use Rattle.std.proofs.Common.{◌≡◌, ◌⊎◌, inl, inr, sym, ap, ◌∙◌, arith, ℕ, ◌+◌, ◌<◌, true, List, slice_get, Some, Result, Ok, Err, IfErr, OnOk}
 use Rattle.std.proofs.lemmas.Bool.{cases_eq}
 use Rattle.std.specs.Cmp.{IsTotalOrder}
@@ -14,7 +14,7 @@ use Rattle.plan_model.specs.Status.{IsUnderWay}
 use Rattle.plan_records.proofs.RowPlaces.{get_at}
 use Rattle.plan_records.proofs.Tables.{some_is}
 
--- this is so of no element before a place
+-- this is so of no element before an index
 abbrev pub NoneBefore : {X : Type 0} → List X → (X → Type 0) → ℕ → Type 0
 NoneBefore {X} xs Q i = (k : ℕ) (x : X) → k < i → slice_get xs k ≡ Some x → ¬ Q x
 

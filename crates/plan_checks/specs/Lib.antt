@@ -1,6 +1,6 @@
 pub mod Held
-pub mod Barring
-pub mod Reaching
-pub mod Commanding
-pub mod Pairing
-pub mod Adding
+pub mod Bars
+pub mod Reach
+pub mod Commands
+pub mod Dependencies
+pub mod Additions

@@ -3,20 +3,20 @@ ghost use Rattle.std.specs.Prelude.{◌≡◌, ◌⊎◌, ◌<◌, ℕ, true, So
 ghost use Rattle.std.specs.FinMap.{get};
 ghost use Rattle.plan_basics.specs.Refusals.{IsLeastRefusal, NoneRefuses};
 ghost use Rattle.plan_basics.specs.declared.keys.OpKey.{OpKey};
-ghost use Rattle.plan_records.specs.Accepting.{MayBeDone, MayBeEnded, MayBeInterrupted, MayBeUndecided, NeedsPlan};
-ghost use Rattle.plan_checks.specs.Barring.{FailsAt, IsReported, MayBeStartedAt, MeetsAll};
+ghost use Rattle.plan_records.specs.Acceptance.{MayBeDone, MayBeEnded, MayBeInterrupted, MayBeUndecided, NeedsPlan};
+ghost use Rattle.plan_checks.specs.Bars.{FailsAt, IsReported, MayBeStartedAt, MeetsAll};
 ghost use Rattle.plan_checks.specs.Held.{IsHeldAtSome};
 ghost use Rattle.plan_model.specs.Holdings.{given_out, takes};
 ghost use Rattle.plan_model.specs.Plan.{Operation, Plan};
 ghost use Rattle.plan_records.specs.Contents.{plan_of, AreValidContents};
 ghost use Rattle.plan_records.specs.declared.What.{What};
 
-use super::admitting::check_added;
+use super::additions::check_added;
 use super::commands::{
     check_available, check_completed, check_deleted, check_flagged, check_open_by, check_rerun,
 };
 use super::loaded::LoadedPlan;
-use super::pairing::check_paired;
+use super::dependencies::check_paired;
 use plan_basics::{Attr, Moment, OpKey, Refusal};
 use plan_choice::{check_start, given_out_of, holdings_of};
 use plan_model::OperationRecord;
@@ -35,7 +35,7 @@ pub struct Reported {
     pub status: Status,
 }
 
-/// The operation at a place, with what is read off the plan for it.
+/// The operation at an index, with what is read off the plan for it.
 pub fn reported_at(loaded: &LoadedPlan, place: usize) -> Reported
     requires held { IsHeldAtSome loaded.now }
     requires within { place < length loaded.now.contents.operations.items }
@@ -182,8 +182,8 @@ fn check_undecided(reported: &Reported) -> Result<(), Refusal>
 }
 
 /// What stands in the way of a request other than a load that is made at a moment, but for that moment; or no memory is
-/// found to tell.
-pub fn check_report(
+/// found to decide it.
+pub fn check_request(
     alloc: Global,
     loaded: &LoadedPlan,
     what: &What,

@@ -4,14 +4,14 @@ ghost use Rattle.std.specs.FinMap.{contains_key, get};
 ghost use Rattle.plan_basics.specs.Refusals.{IsLeastRefusal, NoneRefuses};
 ghost use Rattle.plan_basics.specs.declared.Refusal.{Refusal};
 ghost use Rattle.plan_model.specs.Status.{HasOccurrenceStatus};
-ghost use Rattle.plan_records.specs.Accepting.{MayBeCompleted, MayBeDeleted, MayBeFlagged, MayBeOpenBy, MayBeRerun, MayBeSetAvailable};
+ghost use Rattle.plan_records.specs.Acceptance.{MayBeCompleted, MayBeDeleted, MayBeFlagged, MayBeOpenBy, MayBeRerun, MayBeSetAvailable};
 ghost use Rattle.plan_records.specs.Contents.{plan_of, AreValidContents};
-ghost use Rattle.plan_checks.specs.Barring.{FailsAt, IsReported, MeetsAll};
+ghost use Rattle.plan_checks.specs.Bars.{FailsAt, IsReported, MeetsAll};
 ghost use Rattle.plan_checks.specs.Held.{IsHeldAtSome};
 
 use super::checks::Reported;
 use super::loaded::LoadedPlan;
-use super::reaching::reached_keys;
+use super::reach::reached_keys;
 use super::under_way::{is_another_under_way, is_occurrence_under_way};
 use plan_basics::{Interval, OccKey, OpKey, Refusal, ResName, WsName};
 use plan_records::{PlanContents, row_place, workstation_place};
@@ -99,7 +99,7 @@ pub fn check_deleted(loaded: &LoadedPlan, occurrence: &OccKey) -> Result<(), Ref
     }
 }
 
-/// Whether a special resource is available may be told of one in the plan.
+/// Whether a special resource is available may be set for one in the plan.
 pub fn check_available(contents: &PlanContents, name: &ResName) -> Result<(), Refusal>
     requires { AreValidContents contents.now }
     ensures ok { OnOk result ((clock : ℕ) → NoneRefuses (MayBeSetAvailable (plan_of clock contents.now) name.now)) }

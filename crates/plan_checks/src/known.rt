@@ -1,20 +1,20 @@
-// Whether the plan has what an occurrence that comes in names.
+// Whether the plan has what an occurrence that is added names.
 ghost use Rattle.std.specs.Prelude.{◌≡◌, true, Decides};
 ghost use Rattle.std.specs.FinMap.{contains_key};
 ghost use Rattle.plan_basics.specs.declared.Refusal.{Refusal};
-ghost use Rattle.plan_records.specs.Accepting.{MayBeAdded};
-ghost use Rattle.plan_records.specs.Contents.{plan_of, incoming, AreAdditionParts, AreContents};
-ghost use Rattle.plan_checks.specs.Adding.{HasResources, HasWorkstation, IsKnown, IsKnownPair};
+ghost use Rattle.plan_records.specs.Acceptance.{MayBeAdded};
+ghost use Rattle.plan_records.specs.Contents.{plan_of, added_of, AreAdditionParts, AreContents};
+ghost use Rattle.plan_checks.specs.Additions.{HasResources, HasWorkstation, IsKnown, IsKnownPair};
 
 use plan_basics::{OpKey, ResName};
 use plan_model::OperationRecord;
-use plan_records::{NewOccurrence, PlanContents, row_place, workstation_place};
+use plan_records::{AdditionParts, PlanContents, row_place, workstation_place};
 
-// Whether an operation comes in, or is one of the plan's other occurrences.
-fn is_known(contents: &PlanContents, parts: &NewOccurrence, key: &OpKey) -> bool
+// Whether an operation is added, or is of another occurrence of the plan.
+fn is_known(contents: &PlanContents, parts: &AdditionParts, key: &OpKey) -> bool
     requires in_order { AreContents contents.now }
     requires parts { AreAdditionParts parts.now }
-    ensures { Decides result (IsKnown (plan_of 0 contents.now) (incoming parts.now) key.now) }
+    ensures { Decides result (IsKnown (plan_of 0 contents.now) (added_of parts.now) key.now) }
 {
     if key.occurrence == parts.key {
         row_place(&parts.operations, key).is_some()
@@ -23,20 +23,20 @@ fn is_known(contents: &PlanContents, parts: &NewOccurrence, key: &OpKey) -> bool
     }
 }
 
-// Whether both ends of a pair come in, or are operations of the plan's other occurrences.
-fn is_known_pair(contents: &PlanContents, parts: &NewOccurrence, pair: &(OpKey, OpKey)) -> bool
+// Whether both ends of a pair are added, or are operations of the plan's other occurrences.
+fn is_known_pair(contents: &PlanContents, parts: &AdditionParts, pair: &(OpKey, OpKey)) -> bool
     requires in_order { AreContents contents.now }
     requires parts { AreAdditionParts parts.now }
-    ensures { Decides result (IsKnownPair (plan_of 0 contents.now) (incoming parts.now) pair.now) }
+    ensures { Decides result (IsKnownPair (plan_of 0 contents.now) (added_of parts.now) pair.now) }
 {
     is_known(contents, parts, &pair.0) && is_known(contents, parts, &pair.1)
 }
 
-/// Whether all operations that pairs name come in or are there.
-pub fn are_ends_known(contents: &PlanContents, parts: &NewOccurrence) -> bool
+/// Whether all operations that pairs name are added or are there.
+pub fn are_ends_known(contents: &PlanContents, parts: &AdditionParts) -> bool
     requires in_order { AreContents contents.now }
     requires parts { AreAdditionParts parts.now }
-    ensures { Decides result (MayBeAdded (plan_of 0 contents.now) (incoming parts.now) Refusal.UnknownOperation) }
+    ensures { Decides result (MayBeAdded (plan_of 0 contents.now) (added_of parts.now) Refusal.UnknownOperation) }
 {
     parts
         .pairs
@@ -52,11 +52,11 @@ fn has_workstation(contents: &PlanContents, operation: &OperationRecord) -> bool
     workstation_place(&contents.workstations, &operation.workstation).is_some()
 }
 
-/// Whether the plan has the workstations of all operations that come in.
-pub fn are_workstations_known(contents: &PlanContents, parts: &NewOccurrence) -> bool
+/// Whether the plan has the workstations of all operations that are added.
+pub fn are_workstations_known(contents: &PlanContents, parts: &AdditionParts) -> bool
     requires in_order { AreContents contents.now }
     requires parts { AreAdditionParts parts.now }
-    ensures { Decides result (MayBeAdded (plan_of 0 contents.now) (incoming parts.now) Refusal.UnknownWorkstation) }
+    ensures { Decides result (MayBeAdded (plan_of 0 contents.now) (added_of parts.now) Refusal.UnknownWorkstation) }
 {
     parts
         .operations
@@ -84,11 +84,11 @@ fn has_resources(contents: &PlanContents, operation: &OperationRecord) -> bool
         .all(|need| has_resource(contents, &need.name))
 }
 
-/// Whether the plan has the special resources that the operations that come in need.
-pub fn are_resources_known(contents: &PlanContents, parts: &NewOccurrence) -> bool
+/// Whether the plan has the special resources that the operations that are added need.
+pub fn are_resources_known(contents: &PlanContents, parts: &AdditionParts) -> bool
     requires in_order { AreContents contents.now }
     requires parts { AreAdditionParts parts.now }
-    ensures { Decides result (MayBeAdded (plan_of 0 contents.now) (incoming parts.now) Refusal.UnknownResource) }
+    ensures { Decides result (MayBeAdded (plan_of 0 contents.now) (added_of parts.now) Refusal.UnknownResource) }
 {
     parts
         .operations
@@ -96,10 +96,10 @@ pub fn are_resources_known(contents: &PlanContents, parts: &NewOccurrence) -> bo
         .all(|row| has_resources(contents, &row.1))
 }
 
-/// Whether the plan has no occurrence of the key of what comes in.
-pub fn is_new_occurrence(contents: &PlanContents, parts: &NewOccurrence) -> bool
+/// Whether the plan has no occurrence of the key of what is added.
+pub fn is_new_occurrence(contents: &PlanContents, parts: &AdditionParts) -> bool
     requires { AreContents contents.now }
-    ensures { Decides result (MayBeAdded (plan_of 0 contents.now) (incoming parts.now) Refusal.Duplicate) }
+    ensures { Decides result (MayBeAdded (plan_of 0 contents.now) (added_of parts.now) Refusal.Duplicate) }
 {
     row_place(&contents.occurrences, &parts.key).is_none()
 }

@@ -7,7 +7,7 @@ use ready_list::ReadyList;
 use status_rules::Counts;
 
 /// What a loaded plan holds, with what is read off it: the graph of its pairs, the standing and the latest start of each
-/// operation and the numbers of each occurrence's operations, at their rows' places, and the ready list.
+/// operation and the numbers of each occurrence's operations, at their rows' indices, and the ready list.
 #[derive(Drop)]
 pub struct LoadedPlan {
     pub contents: PlanContents,

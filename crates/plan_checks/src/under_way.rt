@@ -3,7 +3,7 @@ ghost use Rattle.std.specs.Prelude.{◌≡◌, ◌<◌, All, Contains, Decides, 
 ghost use Rattle.plan_basics.specs.declared.keys.OpKey.{OpKey as OpKeyValue};
 ghost use Rattle.plan_model.specs.Plan.{IsInPlan, Operation};
 ghost use Rattle.plan_records.specs.Contents.{plan_of};
-ghost use Rattle.plan_checks.specs.Commanding.{IsItsUnderWay, IsOtherUnderWay};
+ghost use Rattle.plan_checks.specs.Commands.{IsItsUnderWay, IsOtherUnderWay};
 ghost use Rattle.plan_checks.specs.Held.{IsHeldAtSome};
 
 use super::checks::reported_at;
@@ -35,7 +35,7 @@ pub fn is_another_under_way(loaded: &LoadedPlan, key: &OpKey, others: &[OpKey]) 
     false
 }
 
-// Whether the operation at a place is one of the occurrence's, and under way.
+// Whether the operation at an index is one of the occurrence's, and under way.
 fn is_its_under_way(loaded: &LoadedPlan, occurrence: &OccKey, place: usize) -> bool
     requires held { IsHeldAtSome loaded.now }
     requires within { place < length loaded.now.contents.operations.items }

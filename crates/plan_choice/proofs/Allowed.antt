@@ -7,10 +7,10 @@ use Rattle.plan_basics.specs.declared.keys.OpKey.{OpKey}
 use Rattle.ready_list.specs.Choice.{is_among}
 use Rattle.plan_model.specs.Plan.{Plan, Operation}
 use Rattle.plan_model.specs.Ready.{named}
-use Rattle.plan_model.specs.Starting.{IsAllowedToStart, MayStart}
+use Rattle.plan_model.specs.Starts.{IsAllowedToStart, MayStart}
 use Rattle.plan_model.specs.Status.{IsReady}
 use Rattle.plan_laws.proofs.Looks.{same_some}
-use Rattle.plan_choice.specs.Taking.{CanStart}
+use Rattle.plan_choice.specs.Takings.{CanStart}
 use Rattle.plan_choice.proofs.Naming.{ready_still, still}
 
 module _ (P : Plan) (m : ℕ) (os : List OpKey) (ready : (o : OpKey) → is_among os o ≡ true → IsReady P o)

@@ -20,16 +20,16 @@ use Rattle.ready_list.proofs.Steps.{AreDistinctKeys, chosen_among, not_before}
 use Rattle.plan_model.specs.Holdings.{given_out}
 use Rattle.plan_model.specs.Plan.{HasAttribute, Operation, Plan}
 use Rattle.plan_model.specs.Ready.{IsChosen, IsOnAutomatic, named}
-use Rattle.plan_model.specs.Starting.{IsAllowedToStart}
+use Rattle.plan_model.specs.Starts.{IsAllowedToStart}
 use Rattle.plan_model.specs.Status.{IsReady}
 use Rattle.plan_records.specs.Contents.{AreValidContents, plan_of}
 use Rattle.plan_records.specs.declared.contents.PlanContents.{PlanContents}
 use Rattle.plan_laws.proofs.Kept.{named_none, ready_unmarked}
 use Rattle.plan_laws.proofs.Looks.{same_key, same_some}
 use Rattle.plan_laws.proofs.Sorted.{contains_head, contains_later}
-use Rattle.plan_choice.specs.Choosing.{AreGivenOut, AreHeldIn, AreReadyEntries}
+use Rattle.plan_choice.specs.Choices.{AreGivenOut, AreHeldIn, AreReadyEntries}
 use Rattle.plan_choice.specs.StartGates.{Allows, Answers, Counted, IsCountedIn, PassesOver}
-use Rattle.plan_choice.specs.Taking.{CanStart, IsAtMost, most_given_out}
+use Rattle.plan_choice.specs.Takings.{CanStart, IsAtMost, most_given_out}
 use Rattle.plan_choice.proofs.Allowed.{can_start, may_start}
 use Rattle.plan_choice.proofs.GivenPlaces.{AreAt, more_at}
 use Rattle.plan_choice.proofs.NamedGiven.{named_at_most, named_gives, named_gives_none}

@@ -11,9 +11,9 @@ use Rattle.special_resources.specs.declared.Need.{Need}
 use Rattle.special_resources.proofs.MoreNeeds.{need_by_usage, usage_by_need}
 use Rattle.plan_model.specs.Holdings.{Holds}
 use Rattle.plan_model.specs.Plan.{Operation, Plan, Resources}
-use Rattle.plan_model.specs.Starting.{MayStart}
-use Rattle.plan_choice.specs.Choosing.{AreHeldIn}
-use Rattle.plan_choice.specs.Taking.{CanMeetNeeds, CanUse, CanMeetNeed}
+use Rattle.plan_model.specs.Starts.{MayStart}
+use Rattle.plan_choice.specs.Choices.{AreHeldIn}
+use Rattle.plan_choice.specs.Takings.{CanMeetNeeds, CanUse, CanMeetNeed}
 
 module _ (resources : Resources) (held : Held) (o : OpKey) (needs : List Need) (sorted : AreInNameOrder needs) where
   -- where each need can be met, all can

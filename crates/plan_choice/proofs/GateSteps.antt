@@ -6,17 +6,17 @@ use Rattle.plan_basics.specs.declared.Refusal.{Refusal}
 use Rattle.plan_basics.specs.declared.keys.OpKey.{OpKey}
 use Rattle.plan_laws.proofs.Looks.{same_some}
 use Rattle.plan_model.specs.Plan.{Operation, Plan}
-use Rattle.plan_model.specs.Starting.{MayStart}
+use Rattle.plan_model.specs.Starts.{MayStart}
 use Rattle.plan_records.specs.Contents.{AreValidContents, plan_of}
 use Rattle.plan_records.specs.declared.contents.PlanContents.{PlanContents}
 use Rattle.plan_status.proofs.LoadedRows.{row_found}
 use Rattle.workstations.specs.Workstations.{Workstation}
 use Rattle.workstations.specs.declared.Capacity.{Capacity}
-use Rattle.plan_choice.specs.Choosing.{HasTaken, IsStartLine}
+use Rattle.plan_choice.specs.Choices.{HasTaken, IsStartLine}
 use Rattle.plan_choice.specs.StartGates.{Counted, IsCountedIn}
-use Rattle.plan_choice.specs.Taking.{CanStart}
+use Rattle.plan_choice.specs.Takings.{CanStart}
 
--- the row that is read at a key's place
+-- the row that is read at a key's index
 pub read_found : (c : PlanContents) → AreValidContents c → (rows : List (OpKey × Operation)) → rows ≡ c.operations.items → (place : ℕ) (o : OpKey)
     → (op : Operation) × (slice_get rows place ≡ Some (o, op)) → (read : OpKey × Operation) → read ≡ get_or c.operations.items place read → get (plan_of 0 c).operations o ≡ Some read.1
 read_found c h rows same place o at read e =

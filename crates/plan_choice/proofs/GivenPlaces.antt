@@ -1,4 +1,4 @@
--- What workstations have given out, at their rows' places.
+-- What workstations have given out, at their rows' indices.
 use Rattle.std.proofs.Common.{◌≡◌, ◌≢◌, inl, inr, refl, sym, ap, subst, ◌∙◌, arith, ℕ, ◌<◌, List, get_or, length, set, slice_get, Some}
 use Rattle.std.proofs.lemmas.List.{length-set}
 use Rattle.std.proofs.lemmas.Option.{slice_get_read, some_pair_parts}
@@ -11,28 +11,28 @@ use Rattle.plan_status.proofs.Ascending.{one_place, set_cases}
 use Rattle.workstations.specs.Timetables.{NamedWorkstation}
 use Rattle.workstations.specs.Workstations.{Workstation}
 use Rattle.workstations.specs.declared.Capacity.{Capacity}
-use Rattle.plan_choice.specs.Taking.{with_one_more}
+use Rattle.plan_choice.specs.Takings.{with_one_more}
 
--- at each workstation's place, what the function has at its name
+-- at each workstation's index, what the function has at its name
 abbrev pub AreAt : List NamedWorkstation → List Capacity → (Name → Capacity) → Type 0
 AreAt rows given at = AreByPlace rows given (λ w capacity. capacity ≡ at w)
 
 pub same_at : (rows : List NamedWorkstation) (given : List Capacity) (old new : Name → Capacity) → ((w : Name) → new w ≡ old w) → AreAt rows given old → AreAt rows given new
 same_at rows given old new same are = record { size = are.size; each = λ i w ws x row found. are.each i w ws x row found ∙ sym (same w) }
 
--- the place of a name, in the same rows and under the same name
+-- the index of a name, in the same rows and under the same name
 pub own_place : (xs ys : List NamedWorkstation) → xs ≡ ys → (place : ℕ) (a b : Name) → a ≡ b → (ws : Workstation) × (slice_get xs place ≡ Some (a, ws))
     → (ws : Workstation) × (slice_get ys place ≡ Some (b, ws))
 own_place xs ys same place a b e at = (at.0, ap (λ rows. slice_get rows place) (sym same) ∙ at.1 ∙ ap (λ n. Some (n, at.0)) e)
 
--- what is given out at a place of theirs
+-- what is given out at an index of theirs
 pub read_at : (rows : List NamedWorkstation) (given : List Capacity) (f : Name → Capacity) → AreAt rows given f → (place : ℕ) (read : Capacity) → place < length rows
     → read ≡ get_or given place read → slice_get given place ≡ Some read
 read_at rows given f are place read lt e = slice_get_read given (length given) place read refl (omega (arith, lt, are.size)) e
 
 module _ (rows : List NamedWorkstation) (sorted : IsStrictlySortedBy name_cmp (keys_of rows)) (place : ℕ) (name : Name) (ws : Workstation)
     (at : slice_get rows place ≡ Some (name, ws)) (op : Operation) where
-  -- one operation more at one place
+  -- one operation more at one index
   pub more_at : (given : List Capacity) (old new : Name → Capacity) → new name ≡ with_one_more (old name) op → ((w : Name) → name ≢ w → new w ≡ old w)
       → (was : Capacity) → slice_get given place ≡ Some was → AreAt rows given old → AreAt rows (set given place (with_one_more was op)) new
   more_at given old new more same was there are = record {

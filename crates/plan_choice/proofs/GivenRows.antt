@@ -8,8 +8,8 @@ use Rattle.plan_records.specs.Contents.{AreValidContents, plan_of}
 use Rattle.plan_records.specs.declared.contents.PlanContents.{PlanContents}
 use Rattle.workstations.specs.Workstations.{Workstation}
 use Rattle.workstations.specs.declared.Capacity.{Capacity}
-use Rattle.plan_choice.specs.Choosing.{AreGivenOut}
-use Rattle.plan_choice.specs.Taking.{IsAtMost, most_given_out, takes_server, with_one_more}
+use Rattle.plan_choice.specs.Choices.{AreGivenOut}
+use Rattle.plan_choice.specs.Takings.{IsAtMost, most_given_out, takes_server, with_one_more}
 use Rattle.plan_choice.proofs.GivenPlaces.{AreAt, more_at, same_at}
 use Rattle.plan_choice.proofs.GivenSums.{at_another, at_its_own, at_none, first_at_most, given_all, given_among, given_at_most, row_gives, row_gives_none}
 

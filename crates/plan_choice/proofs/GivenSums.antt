@@ -1,4 +1,4 @@
--- What workstations have given out, row by row, and by places.
+-- What workstations have given out, row by row, and by indices.
 use Rattle.std.proofs.Common.{◌≡◌, ◌≢◌, refl, sym, ap, ◌∙◌, arith, ℕ, ◌+◌, ◌*◌, ◌≤◌, Bool, true, false, ◌&&◌, cond, List, [], ◌∷◌, ◌++◌, length, map, slice_get, sum_by, take, Some, add-zero}
 use Rattle.std.proofs.lemmas.List.{take_more}
 use Rattle.std.proofs.lemmas.List.Sums.{sum_by-cons, sum_by-take-le, sum_by_push}
@@ -17,7 +17,7 @@ use Rattle.plan_model.specs.Holdings.{given_out, holds_server, is_serving, sum_g
 use Rattle.plan_model.specs.Plan.{Plan, Operation, attribute_at}
 use Rattle.plan_records.proofs.MadeEntries.{each_entry, key_of}
 use Rattle.workstations.specs.declared.Capacity.{Capacity}
-use Rattle.plan_choice.specs.Taking.{IsAtMost, most_given_out, takes_server, with_one_more}
+use Rattle.plan_choice.specs.Takings.{IsAtMost, most_given_out, takes_server, with_one_more}
 use Rattle.plan_choice.proofs.Entries.{entries_are_rows}
 
 -- ---- sums over rows

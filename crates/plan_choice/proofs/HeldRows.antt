@@ -15,8 +15,8 @@ use Rattle.plan_records.proofs.RowPlaces.{get_at, place_of_found}
 use Rattle.plan_records.specs.Contents.{AreValidContents, plan_of}
 use Rattle.plan_records.specs.declared.contents.PlanContents.{PlanContents}
 use Rattle.plan_status.proofs.Ascending.{one_place}
-use Rattle.plan_choice.specs.Choosing.{AreHeldIn}
-use Rattle.plan_choice.specs.Taking.{HaveTaken}
+use Rattle.plan_choice.specs.Choices.{AreHeldIn}
+use Rattle.plan_choice.specs.Takings.{HaveTaken}
 use Rattle.plan_choice.proofs.NeedsTaken.{one_or_two}
 
 -- the operation holds the resource in this mode

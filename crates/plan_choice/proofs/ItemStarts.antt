@@ -11,7 +11,7 @@ use Rattle.plan_basics.specs.Keys.{operation_cmp, operation_cmp_total, operation
 use Rattle.plan_basics.specs.declared.keys.OpKey.{OpKey}
 use Rattle.status_rules.proofs.Live.{live_mark, mark_live}
 use Rattle.status_rules.specs.declared.Mark.TheVariants as mark
-use Rattle.plan_model.specs.Starting.{number_of}
+use Rattle.plan_model.specs.Starts.{amount_of}
 use Rattle.plan_model.specs.Plan.{IsLive, Operation, Plan}
 use Rattle.plan_graph.specs.PlanGraphs.{CountsAlike, HoldsAlike, JoinsAmong}
 use Rattle.plan_graph.proofs.PlacePaths.{least_starts_alike}
@@ -20,15 +20,15 @@ use Rattle.plan_records.specs.declared.contents.PlanContents.{PlanContents}
 use Rattle.plan_records.proofs.RowPlaces.{get_at}
 use Rattle.plan_records.proofs.Tables.{key_found}
 use Rattle.plan_laws.proofs.Looks.{same_some}
-use Rattle.plan_choice.specs.Choosing.{AreLatestStarts}
+use Rattle.plan_choice.specs.Choices.{AreLatestStarts}
 use Rattle.plan_status.proofs.RowKeys.{key_of_row, row_of_key}
 use Rattle.plan_choice.specs.StartItems.{start_item}
 
 abbrev pub duration_in : Plan → OpKey → ℕ
-duration_in P o = number_of (get P.operations o) (λ op. op.duration)
+duration_in P o = amount_of (get P.operations o) (λ op. op.duration)
 
 abbrev pub deadline_in : Plan → OpKey → ℕ
-deadline_in P o = number_of (get P.operations o) (λ op. op.deadline)
+deadline_in P o = amount_of (get P.operations o) (λ op. op.deadline)
 
 -- what latest starts go by, row by row
 abbrev pub items_by : List (OpKey × Operation) → List Item
@@ -44,7 +44,7 @@ module _ (c : PlanContents) (h : AreValidContents c) (clock : ℕ) where
   abbrev keys : List OpKey
   keys = keys_of rows
 
-  -- what stands at a key's place is its operation, and its item
+  -- what is at a key's index is its operation, and its item
   standing : (i : ℕ) (o : OpKey) → slice_get keys i ≡ Some o → (op : Operation) × (get P.operations o ≡ Some op) × (item_of (items_by rows) i ≡ start_item op)
   standing i o at =
       let row = row_of_key rows i o at in (
@@ -65,10 +65,10 @@ module _ (c : PlanContents) (h : AreValidContents c) (clock : ℕ) where
           ap (λ (z : Item). z.live) s.2 ∙ mark_live s.0.mark (subst (λ (z : Operation). z.mark ≢ mark.Deleted) (same_some op s.0 (sym is ∙ s.1)) not_deleted)
 
   durations_alike : CountsAlike keys (duration_by (items_by rows)) (duration_in P)
-  durations_alike i o at = let s = standing i o at in ap (λ (z : Item). z.duration) s.2 ∙ sym (ap (λ x. number_of x (λ op. op.duration)) s.1)
+  durations_alike i o at = let s = standing i o at in ap (λ (z : Item). z.duration) s.2 ∙ sym (ap (λ x. amount_of x (λ op. op.duration)) s.1)
 
   deadlines_alike : CountsAlike keys (deadline_by (items_by rows)) (deadline_in P)
-  deadlines_alike i o at = let s = standing i o at in ap (λ (z : Item). z.deadline) s.2 ∙ sym (ap (λ x. number_of x (λ op. op.deadline)) s.1)
+  deadlines_alike i o at = let s = standing i o at in ap (λ (z : Item). z.deadline) s.2 ∙ sym (ap (λ x. amount_of x (λ op. op.deadline)) s.1)
 
   joins : JoinsAmong keys P.pairs
   joins p o pair =

@@ -18,7 +18,7 @@ use Rattle.plan_model.specs.Ready.{named, with_mark}
 use Rattle.plan_model.specs.Revise.{len-revise}
 use Rattle.plan_laws.proofs.Looks.{as_named}
 use Rattle.plan_records.proofs.MadeEntries.{bits_and, each_made, entries-revise, key_of, less_of, not_equal}
-use Rattle.plan_choice.specs.Taking.{IsAtMost, most_given_out, takes_server, with_one_more}
+use Rattle.plan_choice.specs.Takings.{IsAtMost, most_given_out, takes_server, with_one_more}
 use Rattle.plan_choice.proofs.GivenSums.{at_another, at_its_own, given_at_most, same_capacity}
 use Rattle.plan_laws.proofs.Kept.{is_among-append}
 use Rattle.plan_status.proofs.Naming.{row_before}

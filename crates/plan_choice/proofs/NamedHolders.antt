@@ -16,8 +16,8 @@ use Rattle.plan_model.specs.Holdings.{Holds, holds_resource, takes}
 use Rattle.plan_model.specs.Plan.{HasAttribute, Operation, Plan}
 use Rattle.plan_model.specs.Ready.{named, with_mark}
 use Rattle.plan_laws.proofs.Looks.{get-named, same_key, same_some}
-use Rattle.plan_choice.specs.Choosing.{AreHeldIn}
-use Rattle.plan_choice.specs.Taking.{HaveTaken}
+use Rattle.plan_choice.specs.Choices.{AreHeldIn}
+use Rattle.plan_choice.specs.Takings.{HaveTaken}
 use Rattle.plan_choice.proofs.NamedGiven.{among_more}
 use Rattle.plan_choice.proofs.Naming.{still}
 use Rattle.plan_status.proofs.Naming.{row_after}
@@ -41,11 +41,11 @@ module _ (P : Plan) (os : List OpKey) (k : OpKey) (op : Operation) (is : get P.o
   abbrev after : Plan
   after = named (os ++ k ∷ []) P
 
-  -- whether o holds r in this mode is told by what is held
+  -- whether o holds r in this mode is decided by what is held
   abbrev TellsHolding : Held → OpKey → Name → Mode → Type 0
   TellsHolding held o r mode = (get held (r, o) ≡ Some mode) ↔ ((keep : Bool) × Holds after o r (record { mode = mode; keep = keep }))
 
-  -- another stands in both as it does
+  -- another operation is the same in both
   same_row : (o : OpKey) → eq_by_cmp operation_cmp o k ≡ false → get after.operations o ≡ get before.operations o
   same_row o apart =
       get-named (os ++ k ∷ []) P o

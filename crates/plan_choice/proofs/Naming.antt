@@ -15,7 +15,7 @@ use Rattle.plan_laws.proofs.Starts.{by_unmarked, never_arriving, never_ready, ne
 use Rattle.plan_status.proofs.Naming.{live_after, live_before, nonreporting_after, nonreporting_before, same_row, stays_satisfied, was_satisfied}
 
 module _ (os : List OpKey) (P : Plan) where
-  -- what isn't named stands as before
+  -- what isn't named is as before
   pub still : (o : OpKey) (y : Operation) → is_among os o ≡ false → get P.operations o ≡ Some y → get (named os P).operations o ≡ Some y
   still o y out e = same_row P os o out ∙ e
 

@@ -23,7 +23,7 @@ use Rattle.status_rules.specs.declared.Mark.{Mark}
 use Rattle.plan_model.specs.Holdings.{holds_resource}
 use Rattle.plan_laws.proofs.Looks.{found_key, none_is_not_some, same_some, told_flag}
 use Rattle.plan_laws.proofs.Sorted.{not_itself}
-use Rattle.plan_choice.specs.Taking.{HaveTaken}
+use Rattle.plan_choice.specs.Takings.{HaveTaken}
 
 -- ---- what is held after one more is taken
 
@@ -65,7 +65,7 @@ pub record AreTakenSoFar (before : Held) (o : OpKey) (needs : List Need) (mark :
   pub kept : (r : Name) (mode : Mode) → get before (r, o) ≡ Some mode → get now (r, o) ≡ Some mode
   pub own : (r : Name) → get before (r, o) ≡ None → (mode : Mode) → (get now (r, o) ≡ Some mode) ↔ IsTakenAmong needs mark i r mode
 
--- needs at two places are of two resources
+-- needs at two indices are of two resources
 apart : (needs : List Need) → AreInNameOrder needs → (k i : ℕ) (m n : Need) → slice_get needs k ≡ Some m → slice_get needs i ≡ Some n → k < i → m.name ≡ n.name → ⊥
 apart needs sorted k i m n there at less same =
     let within : i < length needs = slice_get_within needs i n at in

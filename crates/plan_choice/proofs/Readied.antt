@@ -9,7 +9,7 @@ use Rattle.ready_list.specs.declared.entry.ReadyEntry.{ReadyEntry}
 use Rattle.status_rules.specs.declared.Status.{Status}
 use Rattle.status_rules.specs.Classes.{is_ready}
 use Rattle.plan_model.specs.Plan.{HasAttribute, Plan, Operation}
-use Rattle.plan_model.specs.Starting.{IsLatestStart}
+use Rattle.plan_model.specs.Starts.{IsLatestStart}
 use Rattle.plan_model.specs.Status.{HasStatus, IsReady}
 use Rattle.plan_model.specs.declared.Occurrence.{Occurrence}
 use Rattle.plan_records.specs.Contents.{AreValidContents, plan_of}
@@ -19,8 +19,8 @@ use Rattle.plan_records.proofs.RowPlaces.{place_of_found}
 use Rattle.plan_laws.proofs.Classes.{ready_by, ready_told}
 use Rattle.plan_laws.proofs.Looks.{found_key}
 use Rattle.plan_laws.proofs.Standing.{one_status}
-use Rattle.plan_choice.specs.Choosing.{AreLatestStarts}
-use Rattle.plan_choice.specs.Readying.{AreAllReady, IsReadyEntry}
+use Rattle.plan_choice.specs.Choices.{AreLatestStarts}
+use Rattle.plan_choice.specs.ReadyItems.{AreAllReady, IsReadyEntry}
 use Rattle.plan_choice.proofs.ReadyLists.{AreReadyBelow, ready_more, ready_pass, ready_rows}
 
 -- what is ready is in the plan

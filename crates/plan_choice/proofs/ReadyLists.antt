@@ -1,4 +1,4 @@
--- Ready lists: no operation stands twice in one, and how one is made.
+-- Ready lists: no operation is repeated in one, and how one is made.
 use Rattle.std.proofs.Common.{◌≡◌, ◌≢◌, ◌⊎◌, inl, inr, sym, ap, subst, ◌∙◌, arith, ℕ, ◌+◌, ◌<◌, false, List, [], ◌∷◌, ◌++◌, get_or, slice_get, Contains, Some, IsPermutation}
 use Rattle.std.specs.List.{AllByRecursion, AllPairs, IsDistinct}
 use Rattle.std.specs.List.Sorted.{IsStrictlySortedBy}
@@ -29,8 +29,8 @@ use Rattle.plan_records.proofs.MadeEntries.{key_of}
 use Rattle.plan_laws.proofs.Looks.{same_some, told_flag}
 use Rattle.plan_laws.proofs.Readying.{one_entry}
 use Rattle.plan_laws.proofs.Sorted.{contains_head, contains_later, not_itself}
-use Rattle.plan_choice.specs.Choosing.{AreReadyEntries}
-use Rattle.plan_choice.specs.Readying.{AreAllReady, IsReadyEntry}
+use Rattle.plan_choice.specs.Choices.{AreReadyEntries}
+use Rattle.plan_choice.specs.ReadyItems.{AreAllReady, IsReadyEntry}
 use Rattle.plan_status.proofs.RowKeys.{key_of_row}
 
 module _ (P : Plan) (valid : IsValid P) where
@@ -52,7 +52,7 @@ module _ (P : Plan) (valid : IsValid P) where
     distinct_operations xs sorted.1 (λ k has. entries k (contains_later x xs k has)),
   )
 
-  -- no operation stands twice in a ready list
+  -- no operation is repeated in a ready list
   pub ready_distinct : (keys : List ReadyKey) → IsReadyList P keys → AreDistinctKeys (operations_of keys)
   ready_distinct keys list = distinct_operations keys list.ascends (λ k has. (list.has_all k).0 has)
 

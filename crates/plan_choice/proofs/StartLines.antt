@@ -9,13 +9,13 @@ use Rattle.special_resources.specs.Holdings.{Held}
 use Rattle.plan_laws.proofs.Looks.{same_some}
 use Rattle.plan_model.specs.Holdings.{given_out}
 use Rattle.plan_model.specs.Plan.{Operation, Plan}
-use Rattle.plan_model.specs.Starting.{FitsAt, MayStart}
+use Rattle.plan_model.specs.Starts.{FitsAt, MayStart}
 use Rattle.plan_records.specs.Contents.{plan_of}
 use Rattle.plan_records.specs.declared.contents.PlanContents.{PlanContents}
 use Rattle.workstations.specs.Workstations.{HasRoom, Workstation}
 use Rattle.workstations.specs.declared.Capacity.{Capacity}
-use Rattle.plan_choice.specs.Choosing.{HasTaken, IsStartLine}
-use Rattle.plan_choice.specs.Taking.{CanMeetNeeds}
+use Rattle.plan_choice.specs.Choices.{HasTaken, IsStartLine}
+use Rattle.plan_choice.specs.Takings.{CanMeetNeeds}
 use Rattle.plan_choice.proofs.FreeResources.{may_start_by_free}
 
 -- what refuses for want of room comes before the line on special resources

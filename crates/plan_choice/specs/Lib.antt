@@ -1,5 +1,5 @@
-pub mod Choosing
-pub mod Readying
+pub mod Choices
+pub mod ReadyItems
 pub mod StartGates
 pub mod StartItems
-pub mod Taking
+pub mod Takings

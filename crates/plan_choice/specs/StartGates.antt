@@ -15,17 +15,17 @@ use Rattle.plan_records.specs.declared.contents.PlanContents.{PlanContents}
 use Rattle.workstations.specs.Workstations.{Workstation}
 use Rattle.workstations.specs.contracts.Capacity as capacity
 use Rattle.workstations.specs.declared.Capacity.{Capacity}
-use Rattle.plan_choice.specs.Choosing.{AreGivenOut, AreHeldIn}
-use Rattle.plan_choice.specs.Taking.{CanStart, HaveTaken, IsAtMost, most_given_out, with_one_more}
+use Rattle.plan_choice.specs.Choices.{AreGivenOut, AreHeldIn}
+use Rattle.plan_choice.specs.Takings.{CanStart, HaveTaken, IsAtMost, most_given_out, with_one_more}
 
--- the plan that is gone through and the moment, and what is given out at each workstation's place and what is held so far
+-- the plan that is gone through and the moment, and what is given out at each workstation's index and what is held so far
 pub record Counted : Type 0 where
   pub contents : PlanContents
   pub at : ℕ
   pub given : List Capacity
   pub held : Held
 
--- the contents are valid, and each workstation has its place
+-- the contents are valid, and each workstation has its index
 pub record CountsValidly (c : PlanContents) (given : List Capacity) : Type 0 where
   pub contents : AreValidContents c
   pub by_place : length given ≡ length c.workstations.items

@@ -3,7 +3,7 @@ ghost use Rattle.std.specs.Prelude.{◌≡◌, ℕ, IfOk, IfErr};
 ghost use Rattle.plan_basics.specs.declared.Refusal.{Refusal};
 ghost use Rattle.plan_model.specs.Ready.{IsChosen};
 ghost use Rattle.plan_records.specs.Contents.{plan_of, AreValidContents};
-ghost use Rattle.plan_choice.specs.Choosing.{AreReadyEntries};
+ghost use Rattle.plan_choice.specs.Choices.{AreReadyEntries};
 
 use super::holders::{holdings_of, take_needs};
 use super::taken::{check_start, given_out_of, with_operation};
@@ -20,7 +20,7 @@ use workstations::Capacity;
 struct StartGate<'a> {
     contents: &'a PlanContents,
     at: Moment,
-    /// What each workstation has given out, at its row's place.
+    /// What each workstation has given out, at its row's index.
     given: Vec<Capacity>,
     holdings: Holdings,
 }

@@ -3,8 +3,8 @@ ghost use Rattle.std.specs.Prelude.{◌≡◌, ℕ, IfOk, IfErr, OnOk};
 ghost use Rattle.plan_basics.specs.declared.Refusal.{Refusal};
 ghost use Rattle.plan_records.specs.Contents.{plan_of, AreValidContents};
 ghost use Rattle.status_rules.specs.declared.Mark.{Mark};
-ghost use Rattle.plan_choice.specs.Choosing.{AreHeldIn};
-ghost use Rattle.plan_choice.specs.Taking.{HaveTaken};
+ghost use Rattle.plan_choice.specs.Choices.{AreHeldIn};
+ghost use Rattle.plan_choice.specs.Takings.{HaveTaken};
 
 use super::taken::starts_are_known;
 use plan_basics::{OpKey, Refusal};

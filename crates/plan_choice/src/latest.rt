@@ -2,7 +2,7 @@
 ghost use Rattle.std.specs.Prelude.{◌≡◌, ℕ, IfOk, IfErr, map};
 ghost use Rattle.plan_basics.specs.declared.Refusal.{Refusal};
 ghost use Rattle.plan_records.specs.Contents.{plan_of, AreValidContents, IsGraphFor};
-ghost use Rattle.plan_choice.specs.Choosing.{AreLatestStarts};
+ghost use Rattle.plan_choice.specs.Choices.{AreLatestStarts};
 ghost use Rattle.plan_choice.specs.StartItems.{start_item};
 
 use latest_start::{Item, Latest};
@@ -34,7 +34,7 @@ fn items_of(alloc: Global, rows: &[(OpKey, OperationRecord)]) -> Result<Vec<Item
     Ok(items)
 }
 
-/// The latest start of each operation, at its row's place: the least, over all paths from it that enter no deleted
+/// The latest start of each operation, at its row's index: the least, over all paths from it that enter no deleted
 /// operation, of the deadline of the last operation less the durations of all. The error is always `Memory`.
 pub fn latest_of(alloc: Global, contents: &PlanContents, graph: &Graph) -> Result<Latest, Refusal>
     requires contents { AreValidContents contents.now }

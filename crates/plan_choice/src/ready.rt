@@ -8,10 +8,10 @@ ghost use Rattle.plan_model.specs.declared.Occurrence.{Occurrence};
 ghost use Rattle.plan_basics.specs.declared.Refusal.{Refusal};
 ghost use Rattle.plan_records.specs.Contents.{plan_of, AreValidContents};
 ghost use Rattle.plan_records.specs.Places.{AreStatuses};
-ghost use Rattle.plan_model.specs.Starting.{IsLatestStart};
+ghost use Rattle.plan_model.specs.Starts.{IsLatestStart};
 ghost use Rattle.plan_model.specs.Status.{IsReady};
-ghost use Rattle.plan_choice.specs.Choosing.{AreLatestStarts, AreReadyEntries};
-ghost use Rattle.plan_choice.specs.Readying.{AreAllReady, IsReadyEntry};
+ghost use Rattle.plan_choice.specs.Choices.{AreLatestStarts, AreReadyEntries};
+ghost use Rattle.plan_choice.specs.ReadyItems.{AreAllReady, IsReadyEntry};
 
 use latest_start::Latest;
 use plan_basics::{OccKey, OpKey, Refusal};

@@ -4,11 +4,11 @@ ghost use Rattle.std.specs.FinMap.{get};
 ghost use Rattle.plan_basics.specs.declared.Refusal.{Refusal};
 ghost use Rattle.plan_basics.specs.declared.keys.OpKey.{OpKey};
 ghost use Rattle.plan_model.specs.Plan.{Plan, attribute_at};
-ghost use Rattle.plan_model.specs.Starting.{MayStart};
+ghost use Rattle.plan_model.specs.Starts.{MayStart};
 ghost use Rattle.plan_records.specs.Contents.{plan_of, AreValidContents};
 ghost use Rattle.plan_model.specs.Holdings.{takes};
-ghost use Rattle.plan_choice.specs.Choosing.{AreGivenOut, HasTaken, IsStartLine};
-ghost use Rattle.plan_choice.specs.Taking.{CanMeetNeed, CanMeetNeeds, CanStart, IsAtMost, MeetsLinesBelow, most_given_out, takes_server, with_one_more};
+ghost use Rattle.plan_choice.specs.Choices.{AreGivenOut, HasTaken, IsStartLine};
+ghost use Rattle.plan_choice.specs.Takings.{CanMeetNeed, CanMeetNeeds, CanStart, IsAtMost, MeetsLinesBelow, most_given_out, takes_server, with_one_more};
 
 use plan_basics::{Attr, Moment, OpKey, Refusal, ResName};
 use plan_model::OperationRecord;
@@ -65,7 +65,7 @@ pub fn with_operation(taken: &Capacity, operation: &OperationRecord) -> Capacity
     }
 }
 
-/// What each workstation has given out, at its row's place.
+/// What each workstation has given out, at its row's index.
 pub fn given_out_of(alloc: Global, contents: &PlanContents) -> Result<Vec<Capacity>, AllocError>
     requires { AreValidContents contents.now }
     ensures { IfOk result (λ found. (clock : ℕ) → AreGivenOut (plan_of clock contents.now) contents.now.workstations.items found.items) }

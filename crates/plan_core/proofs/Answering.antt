@@ -10,7 +10,7 @@ use Rattle.plan_records.specs.declared.Request.{Request}
 use Rattle.plan_core.specs.Requested.{IsAnswered}
 use Rattle.plan_core.specs.State.{AcceptedAnswerAll, AnswersAll, accepted_requests}
 
--- a step answers the request, whatever receipts stand beside the plan
+-- a step answers the request, whatever receipts are kept beside the plan
 pub step_answers : (P Q : Plan) (q : Request) (x : Answer) → Step P q x Q → IsAnswered P q x Q
 step_answers P Q q x step receipts =
     let s : State = record { plan = P; receipts = receipts } in

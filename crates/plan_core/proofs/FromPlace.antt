@@ -1,4 +1,4 @@
--- What is left to be listed from a place on.
+-- What is left to be listed from an index on.
 use Rattle.std.proofs.Common.{◌≡◌, sym, ap, subst, ◌∙◌, ◌↔◌, IsSome, arith, ℕ, ◌+◌, ◌<◌, ◌≤◌, true, true≢false, List, [], ◌∷◌, drop, length, slice_get, Option, Some, None, Bor}
 use Rattle.std.proofs.Math.Numerals.{add-one}
 use Rattle.std.proofs.lemmas.List.{drop_all}
@@ -64,7 +64,7 @@ module _ (h : LoadedPlan) (held : IsHeldAtSome h) where
   pub length_occs : length (occ_views h) ≡ length h.contents.occurrences.items
   length_occs = length_viewed occ_view_of h.contents.occurrences.items h.tallies.items held.1.tallies.size
 
--- the one at the place, and those from the next one on
+-- the one at the index, and those from the next one on
 pub one_left : {X : Type 0} (xs : List X) (i : ℕ) (x : X) → slice_get xs i ≡ Some x → drop i xs ≡ x ∷ drop (i + 1) xs
 one_left xs i x at = left_from xs i x at ∙ ap (λ n. x ∷ drop n xs) (sym (add-one i))
 
@@ -79,7 +79,7 @@ module _ {V : Type 0} (views : LoadedPlan → List V) where
   views_held Are none some clock None loaded e held = subst (λ l. Are (plan_held clock l) []) e (none clock)
   views_held Are none some clock (Some h) loaded e held = subst (λ l. Are (plan_held clock l) (views h.now)) e (some clock h.now (subst (IsHeld clock) (sym e) held))
 
-  -- from the first place on: all of them, of the plan that callers see
+  -- from the first index on: all of them, of the plan that callers see
   pub all_from : (Are : Plan → List V → Type 0) → ((clock : ℕ) → Are (plan_held clock None) []) → ((clock : ℕ) (h : LoadedPlan) → AreHeld clock h → Are (plan_of clock h.contents) (views h))
       → (clock : ℕ) (borrowed : Option (Bor LoadedPlan)) (loaded : Option LoadedPlan) → option_copied borrowed ≡ loaded → IsHeld clock loaded
       → {s : PlanState} → record { plan = plan_held clock loaded } ≡ s → {listed : List V} → listed ≡ views_from views borrowed 0 → Are s.plan listed
@@ -90,10 +90,10 @@ module _ {V : Type 0} (views : LoadedPlan → List V) where
     here : drop i (views h.now) ≡ left
     here = sym (ap (λ l. views_from views l i) was) ∙ is
 
-    -- past the last place none is left
+    -- past the last index none is left
     pub none_from : length (views h.now) ≤ i → left ≡ []
     none_from past = sym here ∙ drop_all i (views h.now) past
 
-    -- before it one, and those from the next place on
+    -- before it one, and those from the next index on
     pub rest_from : (v : V) → slice_get (views h.now) i ≡ Some v → left ≡ v ∷ views_from views borrowed (i + 1)
     rest_from v at = sym here ∙ one_left (views h.now) i v at ∙ ap (λ l. v ∷ views_from views l (i + 1)) (sym was)

@@ -8,7 +8,7 @@ use Rattle.status_rules.specs.declared.Mark.TheVariants as mark
 use Rattle.ready_list.specs.Choice.{is_among}
 use Rattle.plan_model.specs.Plan.{IsLive, Operation, Plan, Precedes}
 use Rattle.plan_model.specs.Ready.{named, with_mark}
-use Rattle.plan_model.specs.Starting.{IsLatestStart, number_of}
+use Rattle.plan_model.specs.Starts.{IsLatestStart, amount_of}
 use Rattle.plan_model.specs.Status.{IsReady}
 use Rattle.plan_laws.proofs.Looks.{get-named}
 use Rattle.plan_status.proofs.Naming.{live_after, live_before, named_if}
@@ -31,14 +31,14 @@ module _ {K : Type 0} (edge : K → K → Type 0) where
 -- ---- the operations' latest starts
 
 -- a number that the mark doesn't change
-number_kept : (f : Operation → ℕ) → ((op : Operation) → f (with_mark mark.Named op) ≡ f op) → (b : Bool) (x : Option Operation) → number_of (option_map (named_if b) x) f ≡ number_of x f
+number_kept : (f : Operation → ℕ) → ((op : Operation) → f (with_mark mark.Named op) ≡ f op) → (b : Bool) (x : Option Operation) → amount_of (option_map (named_if b) x) f ≡ amount_of x f
 number_kept f same b None = refl
 number_kept f same true (Some op) = same op
 number_kept f same false (Some op) = refl
 
 module _ (P : Plan) (os : List OpKey) (ready : (k : OpKey) → is_among os k ≡ true → IsReady P k) where
-  number_after : (f : Operation → ℕ) → ((op : Operation) → f (with_mark mark.Named op) ≡ f op) → (o : OpKey) → number_of (get P.operations o) f ≡ number_of (get (named os P).operations o) f
-  number_after f same o = sym (number_kept f same (is_among os o) (get P.operations o)) ∙ ap (λ x. number_of x f) (sym (get-named os P o))
+  number_after : (f : Operation → ℕ) → ((op : Operation) → f (with_mark mark.Named op) ≡ f op) → (o : OpKey) → amount_of (get P.operations o) f ≡ amount_of (get (named os P).operations o) f
+  number_after f same o = sym (number_kept f same (is_among os o) (get P.operations o)) ∙ ap (λ x. amount_of x f) (sym (get-named os P o))
 
   pub naming_keeps_latest : (o : OpKey) (v : ℤ) → IsLatestStart P o v → IsLatestStart (named os P) o v
   naming_keeps_latest o v latest =

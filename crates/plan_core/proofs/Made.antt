@@ -3,15 +3,15 @@ use Rattle.std.proofs.Common.{◌≡◌, refl, sym, ap, subst, ◌∙◌, ℕ, [
 use Rattle.plan_basics.specs.Refusals.{NoneRefuses}
 use Rattle.plan_basics.specs.declared.Refusal.TheVariants as refusal
 use Rattle.plan_basics.specs.declared.keys.OpKey.{OpKey}
-use Rattle.plan_model.specs.Plan.{Plan, Supplement}
+use Rattle.plan_model.specs.Plan.{Plan, AddedParts}
 use Rattle.plan_model.specs.Ready.{with_mark}
-use Rattle.plan_records.specs.Accepting.{MayBeDone}
+use Rattle.plan_records.specs.Acceptance.{MayBeDone}
 use Rattle.plan_records.specs.Changes.{Changes, IsRequest, marked, revised}
-use Rattle.plan_records.specs.Contents.{AreAdditionParts, AreContents, incoming, plan_of}
+use Rattle.plan_records.specs.Contents.{AreAdditionParts, AreContents, added_of, plan_of}
 use Rattle.plan_records.specs.Drafts.{IsAddition, IsDraft}
 use Rattle.plan_records.specs.declared.What.{What}
 use Rattle.plan_records.specs.declared.What.TheVariants as what
-use Rattle.plan_records.specs.declared.contents.NewOccurrence.{NewOccurrence}
+use Rattle.plan_records.specs.declared.contents.AdditionParts.{AdditionParts}
 use Rattle.plan_records.specs.declared.contents.PlanContents.{PlanContents}
 use Rattle.ready_list.specs.Choice.{is_among}
 use Rattle.status_rules.specs.declared.Mark.{Mark}
@@ -60,11 +60,11 @@ made_drafted c new d is draft same in_order P = record {
 pub clear_of : (c : PlanContents) (v w : What) → v ≡ w → (at : ℕ) × ((clock : ℕ) → NoneRefuses (MayBeDone (plan_of clock c) at v)) → (at : ℕ) × NoneRefuses (MayBeDone (plan_of 0 c) at w)
 clear_of c v w is clear = (clear.0, subst (λ z. NoneRefuses (MayBeDone (plan_of 0 c) clear.0 z)) is (clear.1 0))
 
--- what comes in is of a text that denotes something
-pub has_addition : (P : Plan) (m : ℕ) (a : Option Supplement) → NoneRefuses (MayBeDone P m (what.AddOccurrence a)) → is_some a ≡ true
+-- what is added is of a text that denotes something
+pub has_addition : (P : Plan) (m : ℕ) (a : Option AddedParts) → NoneRefuses (MayBeDone P m (what.AddOccurrence a)) → is_some a ≡ true
 has_addition P m None clear = absurd (clear refusal.BadPlan)
 has_addition P m (Some s) clear = refl
 
--- what its parts tell of an addition
-pub legal_by_parts : (s : Supplement) (parts : NewOccurrence) → s ≡ incoming parts → AreAdditionParts parts → IsAddition s
-legal_by_parts s parts is told = subst (λ (s : Supplement). IsAddition s) (sym is) told.addition
+-- what its parts show of an addition
+pub legal_by_parts : (s : AddedParts) (parts : AdditionParts) → s ≡ added_of parts → AreAdditionParts parts → IsAddition s
+legal_by_parts s parts is told = subst (λ (s : AddedParts). IsAddition s) (sym is) told.addition

@@ -64,7 +64,7 @@ module _ (clock : ℕ) (h : LoadedPlan) (held : AreHeld clock h) where
       }
 
   module _ (i : ℕ) (c : OccKey) (x : Occurrence) (n : Counts) (t : OccStatus) where
-    -- the view at a place, with the status that follows
+    -- the view at an index, with the status that follows
     pub occ_view_at : slice_get rows i ≡ Some (c, x) → slice_get tallies i ≡ Some n → FollowsFrom n t → slice_get (occ_views h) i ≡ Some (record (seen c x n) { status = t })
     occ_view_at row at told =
         let tally = held.tallies.each i c x n row at in
@@ -90,7 +90,7 @@ module _ (clock : ℕ) (h : LoadedPlan) (held : AreHeld clock h) where
   tally_at : (i : ℕ) (c : OccKey) (x : Occurrence) → slice_get rows i ≡ Some (c, x) → (n : Counts) × (slice_get tallies i ≡ Some n)
   tally_at i c x row = row_at tallies i (let lt = slice_get_within rows i (c, x) row in omega (arith, lt, held.tallies.size))
 
-  -- the view at the place of a row
+  -- the view at the index of a row
   pub occ_view_is : (i : ℕ) (c : OccKey) (x : Occurrence) (v : OccView) → slice_get rows i ≡ Some (c, x) → slice_get (occ_views h) i ≡ Some v → (v.key ≡ c) × IsOccView P v
   occ_view_is i c x v row at =
       let n = tally_at i c x row in

@@ -90,7 +90,7 @@ module _ (clock : ℕ) (h : LoadedPlan) (held : AreHeld clock h) where
   one_status o there s t x y = let one = each_has_one_status P held.sound.valid o there in one.2 s x ∙ sym (one.2 t y)
 
   module _ (i k : ℕ) (o : OpKey) (op : Operation) (a : Attr) (s : Standing) (v : ℤ) (c : Occurrence) (t : Status) where
-    -- the view at a place, with the priority of its occurrence and the status that follows
+    -- the view at an index, with the priority of its occurrence and the status that follows
     pub op_view_at : slice_get rows i ≡ Some (o, op) → slice_get h.standings.items i ≡ Some s → slice_get h.latest.starts i ≡ Some v → slice_get h.contents.occurrences.items k ≡ Some (o.occurrence, c)
         → HasAttribute P op.workstation a → FollowsFrom op a s t
         → slice_get (op_views h) i ≡ Some (record (seen o op s v) { priority = c.priority; status = t })
@@ -124,7 +124,7 @@ module _ (clock : ℕ) (h : LoadedPlan) (held : AreHeld clock h) where
   known_at : (i : ℕ) (o : OpKey) (op : Operation) → slice_get rows i ≡ Some (o, op) → (x : Standing × ℤ) × (slice_get known i ≡ Some x)
   known_at i o op row = row_at known i (let lt = slice_get_within rows i (o, op) row in omega (arith, lt, size))
 
-  -- the view at the place of a row
+  -- the view at the index of a row
   pub op_view_is : (i : ℕ) (o : OpKey) (op : Operation) (v : OpView) → slice_get rows i ≡ Some (o, op) → slice_get (op_views h) i ≡ Some v → (v.key ≡ o) × IsOpView P v
   op_view_is i o op v row at =
       let x = known_at i o op row in

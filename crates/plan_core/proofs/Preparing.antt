@@ -11,7 +11,7 @@ use Rattle.plan_laws.proofs.Running.{request_passes}
 use Rattle.plan_model.specs.Plan.{Plan, no_plan}
 use Rattle.plan_model.specs.Ready.{IsChosen, named}
 use Rattle.plan_model.specs.Valid.{IsSound}
-use Rattle.plan_records.specs.Accepting.{MayBeAccepted, MayBeDone, NeedsPlan, minute_of}
+use Rattle.plan_records.specs.Acceptance.{MayBeAccepted, MayBeDone, NeedsPlan, minute_of}
 use Rattle.plan_records.specs.Answer.{accepted}
 use Rattle.plan_records.specs.Contents.{plan_of}
 use Rattle.plan_records.specs.Step.{Step}

@@ -111,6 +111,6 @@ module _ (clock : ℕ) (h : LoadedPlan) (held : AreHeld clock h) where
     each = each_is (on_workstation w h.ready.entries) (of_listed w);
   }
 
-  -- what is left begins with the view of the entry at the place
+  -- what is left begins with the view of the entry at the index
   pub one_ready : (es : List ReadyEntry) (i : ℕ) (e : ReadyEntry) (v : OpView) → drop i es ≡ e ∷ drop (i + 1) es → view_at h e.key.op ≡ Some v → ready_views h (drop i es) ≡ v ∷ ready_views h (drop (i + 1) es)
   one_ready es i e v left is = ap (ready_views h) left ∙ ap (λ (o : Option OpView). cons_option o (ready_views h (drop (i + 1) es))) is

@@ -6,7 +6,7 @@ use Rattle.plan_basics.specs.Refusals.{number_of, IsLeastRefusal, NoneRefuses, f
 use Rattle.plan_basics.specs.declared.Refusal.{Refusal}
 use Rattle.plan_basics.specs.declared.Refusal.TheVariants as refusal
 use Rattle.plan_model.specs.Plan.{Plan}
-use Rattle.plan_records.specs.Accepting.{MayBeAccepted, MayBeDone, NeedsPlan}
+use Rattle.plan_records.specs.Acceptance.{MayBeAccepted, MayBeDone, NeedsPlan}
 use Rattle.plan_records.specs.Answer.{refused}
 use Rattle.plan_records.specs.Step.{Step}
 use Rattle.plan_records.specs.declared.Request.{Request}

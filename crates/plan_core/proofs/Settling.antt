@@ -10,7 +10,7 @@ use Rattle.ready_list.proofs.Members.{contains_from_filter}
 use Rattle.ready_list.specs.Choice.{is_among, operations_of}
 use Rattle.plan_model.specs.Plan.{Operation, Plan}
 use Rattle.plan_model.specs.Ready.{IsChosen, named}
-use Rattle.plan_model.specs.Starting.{IsLatestStart}
+use Rattle.plan_model.specs.Starts.{IsLatestStart}
 use Rattle.plan_model.specs.Status.{IsReady}
 use Rattle.plan_model.specs.Valid.{IsSound, IsValid}
 use Rattle.plan_records.specs.Contents.{AreContents, AreValidContents, IsGraphFor, plan_of}
@@ -21,12 +21,12 @@ use Rattle.plan_laws.proofs.Clock.{valid_later}
 use Rattle.plan_laws.proofs.Finite.{member_if}
 use Rattle.plan_laws.proofs.Looks.{same_some}
 use Rattle.plan_laws.proofs.Kept.{choice_keeps_sound}
-use Rattle.plan_choice.specs.Choosing.{AreLatestStarts}
+use Rattle.plan_choice.specs.Choices.{AreLatestStarts}
 use Rattle.plan_graph.specs.PlanGraphs.{IsGraphOf}
 use Rattle.operation_graph.specs.Graphs.{Digraph}
 use Rattle.plan_status.specs.Standings.{AreStandings, IsStanding}
 use Rattle.plan_status.specs.declared.standings.Standing.{Standing}
-use Rattle.plan_changes.specs.Marking.{marked_row, marked_rows}
+use Rattle.plan_changes.specs.Marks.{marked_row, marked_rows}
 use Rattle.plan_status.proofs.Naming.{naming_keeps_standings}
 use Rattle.plan_core.proofs.LatestKept.{naming_keeps_latest}
 use Rattle.plan_changes.proofs.Marks.{rows_marked}
@@ -42,7 +42,7 @@ chosen_is_ready P m os c o h =
 
 -- ---- what is known of each row stays
 
--- a marked row has the key of the row at its place
+-- a marked row has the key of the row at its index
 row_was : (os : List OpKey) (mark : Mark) (rows : List (OpKey × Operation)) (i : ℕ) (o : OpKey) (op : Operation) →
     slice_get (marked_rows os mark rows) i ≡ Some (o, op) → (was : Operation) × (slice_get rows i ≡ Some (o, was))
 row_was os mark [] i o op e = cc

@@ -5,14 +5,14 @@ use Rattle.std.specs.Map.{keys_of}
 use Rattle.plan_records.proofs.Lists.{contains_cases, contains_none}
 
 module _ {X : Type 0} where
-  -- what is left from a place on begins with what stands there
+  -- what is left from an index on begins with what is there
   pub left_from : (xs : List X) (i : ℕ) (x : X) → slice_get xs i ≡ Some x → drop i xs ≡ x ∷ drop (suc i) xs
   left_from [] i x e = cc
   left_from (y ∷ xs) zero x e = let same : y ≡ x = cc in ap (λ z. z ∷ xs) same
   left_from (y ∷ xs) (suc i) x e = left_from xs i x e
 
 module _ {X Y : Type 0} where
-  -- what stands at a place in both lists stands there side by side
+  -- what is at an index in both lists is there side by side
   pub zipped_at : (xs : List X) (ys : List Y) (i : ℕ) (x : X) (y : Y) → slice_get xs i ≡ Some x → slice_get ys i ≡ Some y → slice_get (zip xs ys) i ≡ Some (x, y)
   zipped_at [] ys i x y e f = cc
   zipped_at (a ∷ xs) [] i x y e f = cc
@@ -35,7 +35,7 @@ module _ {K V X W : Type 0} (view : (K × V) × X → W) where
   abbrev pub viewed : List (K × V) → List X → List W
   viewed rows xs = map view (zip rows xs)
 
-  -- the view at a place is that of what stands there on both sides
+  -- the view at an index is that of what is there on both sides
   pub viewed_at : (rows : List (K × V)) (xs : List X) (i : ℕ) (row : K × V) (x : X) → slice_get rows i ≡ Some row → slice_get xs i ≡ Some x
       → slice_get (viewed rows xs) i ≡ Some (view (row, x))
   viewed_at [] xs i row x e f = cc

@@ -4,7 +4,7 @@ use Rattle.plan_basics.specs.declared.Refusal.{Refusal}
 use Rattle.plan_basics.specs.declared.Refusal.TheVariants as refusal
 use Rattle.plan_basics.specs.Refusals.{from_on}
 use Rattle.plan_model.specs.Plan.{Plan}
-use Rattle.plan_records.specs.Accepting.{MayBeAccepted}
+use Rattle.plan_records.specs.Acceptance.{MayBeAccepted}
 use Rattle.plan_records.specs.Answer.{Answer}
 use Rattle.plan_records.specs.Changes.{Changes, IsRequest}
 use Rattle.plan_records.specs.Contents.{plan_of, AreContents}
@@ -26,7 +26,7 @@ pub record AreMadeBy (P : Plan) (w : What) (new : PlanContents) : Type 0 where
   pub plan : (at : ℕ) → plan_of at new ≡ record changed { clock = at }
   pub in_order : AreContents new
 
--- what a request is answered, and the plan that it leaves: a step, or want of memory, whatever receipts stand beside the plan
+-- what a request is answered, and the plan that it leaves: a step, or want of memory, whatever receipts are kept beside the plan
 abbrev pub IsAnswered : Plan → Request → Answer → Plan → Type 0
 IsAnswered P q reply after =
     (receipts : Receipts) → Answers (record { plan = P; receipts = receipts }) usable (plain q) reply (record { plan = after; receipts = receipts }) usable

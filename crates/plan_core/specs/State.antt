@@ -35,7 +35,7 @@ pub record IsPreparedFor (s : PlanState) (p : PreparedState) : Type 0 where
   pub request : Request
   pub step : Step s.plan request (accepted p.named) (plan_after s p)
 
--- these are the answers to the requests in their order, and the plan at their end, whatever receipts stand beside it
+-- these are the answers to the requests in their order, and the plan at their end, whatever receipts are kept beside it
 abbrev pub AnswersAll : Plan → List Request → List Answer → Plan → Type 0
 AnswersAll P requests answers after = (receipts : Receipts) → Run (record { plan = P; receipts = receipts }) usable (map plain requests) answers (record { plan = after; receipts = receipts }) usable
 

@@ -10,7 +10,7 @@ use Rattle.ready_list.specs.Choice.{operations_of}
 use Rattle.ready_list.specs.declared.ReadyKey.{ReadyKey}
 use Rattle.ready_list.specs.declared.entry.ReadyEntry.{ReadyEntry}
 use Rattle.plan_model.specs.Ready.{IsReadyList}
-use Rattle.plan_model.specs.Starting.{IsLatestStart}
+use Rattle.plan_model.specs.Starts.{IsLatestStart}
 use Rattle.plan_basics.specs.declared.Attr.{Attr}
 use Rattle.plan_basics.specs.declared.Attr.TheVariants.{Automatic}
 use Rattle.plan_basics.specs.declared.keys.OccKey.{OccKey}
@@ -120,7 +120,7 @@ occ_view_of x = record {
 abbrev pub known_of : LoadedPlan → List (Standing × ℤ)
 known_of h = zip h.standings.items h.latest.starts
 
--- the views of all operations that are held, in the order of their rows
+-- the views of all operations of the plan that is held, in the order of their rows
 abbrev pub op_views : LoadedPlan → List OpView
 op_views h = map (op_view_of (plan_of 0 h.contents)) (zip h.contents.operations.items (known_of h))
 
@@ -128,12 +128,12 @@ op_views h = map (op_view_of (plan_of 0 h.contents)) (zip h.contents.operations.
 abbrev pub occ_views : LoadedPlan → List OccView
 occ_views h = map occ_view_of (zip h.contents.occurrences.items h.tallies.items)
 
--- the views of a plan, of operations or of occurrences, from a place on; none where nothing is loaded
+-- the views of a plan, of operations or of occurrences, from an index on; none where nothing is loaded
 abbrev pub views_from : {V : Type 0} → (LoadedPlan → List V) → Option (Bor LoadedPlan) → ℕ → List V
 views_from views None place = []
 views_from views (Some h) place = drop place (views h.now)
 
--- the view of an operation, if it is held
+-- the view of an operation, if the plan that is held has it
 abbrev pub view_at : LoadedPlan → OpKey → Option OpView
 view_at h o = get {R = operation_cmp} (from_entries (map (λ v. (v.key, v)) (op_views h))) o
 
@@ -141,7 +141,7 @@ view_at h o = get {R = operation_cmp} (from_entries (map (λ v. (v.key, v)) (op_
 abbrev pub ready_views : LoadedPlan → List ReadyEntry → List OpView
 ready_views h es = filter_map (λ e. view_at h e.key.op) es
 
--- those from a place on
+-- those from an index on
 abbrev pub ready_from : LoadedPlan → List ReadyEntry → ℕ → List OpView
 ready_from h es place = ready_views h (drop place es)
 

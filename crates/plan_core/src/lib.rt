@@ -1,17 +1,17 @@
 //! The plan in memory: what each request does to it, and what is read off it.
 #![tactic(auto)]
 
-mod listing;
+mod lists;
 mod plan;
 mod prepared;
-mod reading;
-mod readying;
+mod reads;
+mod ready_views;
 mod requests;
 mod settle;
 mod views;
 
-pub use listing::{Occs, Ops};
+pub use lists::{Occs, Ops};
 pub use plan::Plan;
 pub use prepared::Prepared;
-pub use readying::Ready;
+pub use ready_views::Ready;
 pub use views::{OccView, OpView};

@@ -6,7 +6,7 @@ ghost use Rattle.plan_model.specs.Valid.{IsSound};
 ghost use Rattle.plan_records.specs.declared.What.{What};
 ghost use Rattle.plan_records.specs.declared.Request.{Request};
 ghost use Rattle.plan_records.specs.Answer.{accepted, refused, answer_of};
-ghost use Rattle.plan_records.specs.Accepting.{MayBeAccepted};
+ghost use Rattle.plan_records.specs.Acceptance.{MayBeAccepted};
 ghost use Rattle.plan_records.specs.Step.{Step};
 ghost use Rattle.plan_core.specs.Provided.{RunStartsAreProvided, StartsAreProvided};
 ghost use Rattle.plan_core.specs.Requested.{AreMadeBy, IsAnswered, MayBeMadeAt};
@@ -16,7 +16,7 @@ use super::prepared::Prepared;
 use super::requests::{changed, drafted};
 use super::settle::settle;
 use plan_basics::{Moment, OpKey, Refusal};
-use plan_checks::{LoadedPlan, check_load, check_report};
+use plan_checks::{LoadedPlan, check_load, check_request};
 use plan_records::{PlanContents, Reply, Request, What};
 use std::alloc::Global;
 use std::marker::Model;
@@ -43,7 +43,7 @@ impl Model for Plan {
 }
 
 impl Plan {
-    /// No plan: nothing is loaded, and the clock stands at the first minute that a plan can name. It takes no memory.
+    /// No plan: nothing is loaded, and the clock is at the first minute that a plan can name. It takes no memory.
     pub fn empty(alloc: Global) -> Plan
         ensures { result.plan ≡ no_plan }
     {
@@ -71,7 +71,7 @@ impl Plan {
             check_load(self.loaded.is_some(), draft)
         } else {
             let loaded = self.loaded.as_ref().ok_or(Refusal::NotLoaded)?;
-            check_report(self.alloc, loaded, what, at)
+            check_request(self.alloc, loaded, what, at)
         }
     }
 

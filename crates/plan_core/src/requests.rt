@@ -4,8 +4,8 @@ ghost use Rattle.plan_basics.specs.Intervals.{IsInterval};
 ghost use Rattle.plan_basics.specs.Names.{IsName};
 ghost use Rattle.plan_model.specs.Plan.{IsInPlan, Plan};
 ghost use Rattle.plan_basics.specs.Refusals.{NoneRefuses};
-ghost use Rattle.plan_records.specs.Accepting.{MayBeAdded, MayBeDone, NeedsPlan};
-ghost use Rattle.plan_records.specs.Changes.{Changes, with_supplement};
+ghost use Rattle.plan_records.specs.Acceptance.{MayBeAdded, MayBeDone, NeedsPlan};
+ghost use Rattle.plan_records.specs.Changes.{Changes, with_added};
 ghost use Rattle.plan_records.specs.Contents.{plan_of, AreContents};
 ghost use Rattle.plan_records.specs.Drafts.{IsAddition};
 ghost use Rattle.plan_records.specs.declared.What.{What};
@@ -54,8 +54,8 @@ fn rerun(alloc: Global, loaded: &LoadedPlan, key: &OpKey) -> Result<PlanContents
     Ok(with_marks(alloc, &loaded.contents, &reached, Mark::Unmarked)?)
 }
 
-// The contents with what comes in, of whose occurrence there is nothing yet. Its parts are looked at for the proof alone,
-// which learns that it is legal.
+// The contents with what is added, of whose occurrence there is nothing yet. Its parts are looked at for the proof
+// alone, which learns that it is legal.
 #[tactic(auto, using(crate::proofs::Made::legal_by_parts))]
 fn added(
     alloc: Global,
@@ -65,7 +65,7 @@ fn added(
     requires held { IsHeldAtSome loaded.now }
     requires new { MayBeAdded (plan_of 0 loaded.now.contents) addition.now Refusal.Duplicate }
     ensures legal { IsAddition addition.now }
-    ensures plan { IfOk result (λ new. (clock : ℕ) → plan_of clock new ≡ with_supplement (plan_of clock loaded.now.contents) addition.now) }
+    ensures plan { IfOk result (λ new. (clock : ℕ) → plan_of clock new ≡ with_added (plan_of clock loaded.now.contents) addition.now) }
     ensures in_order { IfOk result (λ new. AreContents new) }
 {
     let _ = addition.parts();

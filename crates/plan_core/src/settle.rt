@@ -4,7 +4,7 @@ ghost use Rattle.plan_basics.specs.declared.Refusal.{Refusal};
 ghost use Rattle.plan_model.specs.Ready.{IsChosen, named};
 ghost use Rattle.plan_model.specs.Valid.{IsSound};
 ghost use Rattle.plan_records.specs.Contents.{plan_of, AreContents, AreValidContents, IsGraphFor};
-ghost use Rattle.plan_choice.specs.Choosing.{AreLatestStarts};
+ghost use Rattle.plan_choice.specs.Choices.{AreLatestStarts};
 ghost use Rattle.plan_status.specs.Standings.{AreStandings};
 ghost use Rattle.plan_checks.specs.Held.{AreHeld};
 

@@ -52,7 +52,7 @@ pub struct OccView {
     pub complete: u32,
 }
 
-/// The view of the operation at a place.
+/// The view of the operation at an index.
 pub(crate) fn op_view(loaded: &LoadedPlan, place: usize) -> OpView
     requires held { IsHeldAtSome loaded.now }
     requires within { place < length loaded.now.contents.operations.items }
@@ -81,7 +81,7 @@ pub(crate) fn op_view(loaded: &LoadedPlan, place: usize) -> OpView
     }
 }
 
-/// The view of the occurrence at a place.
+/// The view of the occurrence at an index.
 pub(crate) fn occ_view(loaded: &LoadedPlan, place: usize) -> OccView
     requires held { IsHeldAtSome loaded.now }
     requires within { place < length loaded.now.contents.occurrences.items }

@@ -1,3 +1,3 @@
-pub mod Loading
+pub mod Loads
 pub mod Statuses
 pub mod Words

@@ -47,7 +47,7 @@ abbrev pub fault_of_words_kind : ErrorKind → Fault
 fault_of_words_kind kind.OutOfMemory = fault.Memory
 fault_of_words_kind _ = fault.Encoding
 
--- how a run ends that has told this answer
+-- how a run ends that has shown this answer
 abbrev pub ending_of : Result (Vec OpKey Global) Refusal → Ending
 ending_of (Ok named) = ending.Done
 ending_of (Err r) = ending.Refused
@@ -56,13 +56,13 @@ ending_of (Err r) = ending.Refused
 abbrev pub IsComplaint : WordsKind → Type 0
 IsComplaint k = (k ≢ words.DisplayHelp) × (k ≢ words.DisplayVersion)
 
--- a run that has told what is to be said of the words: misunderstood where that is a complaint, else done
+-- a run that has shown what is to be said of the words: misunderstood where that is a complaint, else done
 abbrev pub EndsExplaining : WordsKind → Ending → Type 0
 EndsExplaining k ending.Done = ¬ IsComplaint k
 EndsExplaining k ending.Refused = ⊥
 EndsExplaining k ending.Misunderstood = IsComplaint k
 
--- the exit status of a run: its ending's, or its fault's, or 3 where that can't be told
+-- the exit status of a run: its ending's, or its fault's, or 3 where that can't be shown
 abbrev pub IsStatusOf : Result Ending Fault → ℕ → Type 0
 IsStatusOf (Ok e) status = status ≡ ending_status e
 IsStatusOf (Err f) status = (status ≡ fault_status f) ⊎ (status ≡ 3)

@@ -1,4 +1,4 @@
--- The words that the program is given, and those that it tells a fault by.
+-- The words that the program is given, and those that it shows a fault by.
 use Rattle.std.specs.Prelude.{ℕ, List, [], Option, Some, None, codes}
 use Rattle.clap.specs.Matches.{first_value}
 use Rattle.clap.specs.declared.parser.matches.Found.{Found}
@@ -14,7 +14,7 @@ text_or_empty None = []
 abbrev pub text_given : Found → List ℕ → List ℕ
 text_given found name = text_or_empty (first_value found name)
 
--- what is told of a fault
+-- how a fault is shown
 abbrev pub fault_text : Fault → List ℕ
 fault_text fault.Encoding = codes "fault words (not UTF-8)"
 fault_text fault.Words = codes "fault words"

@@ -3,7 +3,7 @@ ghost use Rattle.std.specs.Prelude.{◌≡◌, ◌↔◌, ◌⊎◌, ◌≤◌, 
 ghost use Rattle.clap.specs.Matches.{found_of};
 ghost use Rattle.clap.specs.Values.{kind_of};
 ghost use Rattle.plan_basics.specs.Minutes.{IsMinuteText};
-ghost use Rattle.plan_desk.specs.Loading.{IsAnswerToLoad, IsPlanOf};
+ghost use Rattle.plan_desk.specs.Loads.{IsAnswerToLoad, IsPlanOf};
 ghost use Rattle.plan_desk.specs.Statuses.{ending_of, EndsExplaining, fault_status, IsOfSurroundings, IsStatusOf};
 ghost use Rattle.plan_desk.specs.Words.{text_given};
 ghost use Rattle.plan_desk.specs.declared.desk.Fault.{Fault};
@@ -19,7 +19,7 @@ use std::alloc::{AllocError, Global};
 use std::io::{Read, Write};
 use std::{fmt, fs, io};
 
-/// How a run ends that has told its answer.
+/// How a run ends that has shown its answer.
 #[derive(Clone, Copy, Debug, PartialEq, Eq)]
 pub enum Ending {
     /// Accepted, or the help that was asked for.
@@ -45,7 +45,7 @@ impl Ending {
     }
 }
 
-/// Why a run ends without an answer.
+/// Why a run ends without its answer being shown in full.
 #[derive(Clone, Copy, Debug, PartialEq, Eq)]
 pub enum Fault {
     /// A word isn't UTF-8.
@@ -175,7 +175,7 @@ fn load(alloc: Global, at: i64, draft: Option<PlanDraft>) -> Result<Vec<OpKey>, 
     Ok(plan.apply(prepared))
 }
 
-/// Tells an answer: that it is accepted and a line for each key that it names, or the refusal.
+/// Shows an answer: that it is accepted and a line for each key that it names, or the refusal.
 #[tactic(auto, using(crate::proofs::Statuses::of_the_surroundings))]
 fn tell<W: Write>(
     out: &mut Watched<W>,
@@ -210,7 +210,7 @@ fn check<W: Write>(
     tell(out, &load(rt.alloc(), at, draft))
 }
 
-/// Tells what `clap` has to say where it hands out no words: help on standard output, else what is wrong with them.
+/// Shows what `clap` has to say where it hands out no words: help on standard output, else what is wrong with them.
 #[tactic(auto, using(crate::proofs::Statuses::of_the_surroundings))]
 fn explain<W: Write, E: Write>(
     error: &Error,
@@ -251,7 +251,7 @@ fn obey<W: Write, E: Write>(
     Ok(ending)
 }
 
-/// Tells a fault on standard error, and gives the exit status: that of a stream's fault where standard error fails too.
+/// Shows a fault on standard error, and gives the exit status: that of a stream's fault where standard error fails too.
 pub fn tell_fault<E: Write>(fault: Fault, err: &mut Watched<E>) -> u8
     ensures { (result ≡ fault_status fault) ⊎ (result ≡ 3) }
 {
@@ -262,7 +262,7 @@ pub fn tell_fault<E: Write>(fault: Fault, err: &mut Watched<E>) -> u8
     }
 }
 
-/// The exit status of a run: that of its ending, or of its fault, which is told.
+/// The exit status of a run: that of its ending, or of its fault, which is shown.
 fn status_of<E: Write>(outcome: Result<Ending, Fault>, err: &mut Watched<E>) -> u8
     ensures { IsStatusOf outcome result }
 {

@@ -185,7 +185,7 @@ const ROWS: [Row; 11] = [
     },
 ];
 
-/// The text of a row's lines.
+/// The text of a case's lines.
 fn text_of(alloc: Global, row: &Row) -> Result<Vec<u8>, AllocError> {
     let mut text = Vec::new(alloc);
     for line in row.lines {

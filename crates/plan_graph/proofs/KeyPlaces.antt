@@ -1,4 +1,4 @@
--- Where keys in order stand.
+-- Indices of keys in order.
 use Rattle.std.proofs.Common.{◌≡◌, ◌≢◌, inl, inr, refl, sym, ap, subst, ◌∙◌, arith, ℕ, ◌+◌, ◌<◌, List, length, get_or, slice_get, Some, Contains, Result, Ok, Err}
 use Rattle.std.specs.Cmp.{IsTotalOrder}
 use Rattle.std.specs.FinMap.{IsAntisymmetric}
@@ -32,7 +32,7 @@ module _ {K : Type 0} {R : K → K → Ordering} (total : IsTotalOrder R) where
   pub different_in_order : (ks : List K) → IsStrictlySortedBy R ks → AreDifferent ks
   different_in_order ks sorted i j d lt within = not_below (get_or ks i d) (get_or ks j d) (Less-from_sorted R ks i j d sorted lt within)
 
-  -- so that each stands at one place
+  -- so that each is at one index
   pub one_place : (ks : List K) → IsStrictlySortedBy R ks → (i j : ℕ) (k : K) → slice_get ks i ≡ Some k → slice_get ks j ≡ Some k → i ≡ j
   one_place ks sorted i j k at_i at_j = elim (cases_lt i j) [
     | inl lt ↦ absurd (never i j lt at_i at_j)
@@ -44,7 +44,7 @@ module _ {K : Type 0} {R : K → K → Ordering} (total : IsTotalOrder R) where
           different_in_order ks sorted a b k lt (slice_get_within ks b k at_b)
           (get_or_from_slice_get ks a k k at_a ∙ sym (get_or_from_slice_get ks b k k at_b))
 
-  -- keys in strict order stand in order
+  -- keys in strict order are in order
   pub sorted_from_strict : (ks : List K) → IsStrictlySortedBy R ks → IsSortedBy (λ a b. is_lt (R a b)) ks
   sorted_from_strict ks up = λ k d low high. ap is_lt (total.antisymm (get_or ks (k + 1) d) (get_or ks k d) ∙ ap ordering_reverse (Less-from_sorted R ks k (k + 1) d up (omega arith) high))
 

@@ -1,4 +1,4 @@
--- Edges between the places of keys, as pairs lead from key to key.
+-- Edges between the indices of keys, as pairs lead from key to key.
 use Rattle.std.proofs.Common.{◌≡◌, ◌↔◌, sym, ap, subst, ◌∙◌, arith, ℕ, ◌<◌, List, length, get_or, slice_get, Option, Some, None, All, Contains}
 use Rattle.std.specs.FinSet.{from_list}
 use Rattle.std.specs.List.Sorted.{IsStrictlySortedBy}
@@ -22,7 +22,7 @@ Pair = OpKey × OpKey
 abbrev Edge : Type 0
 Edge = ℕ × ℕ
 
--- one key stands at a place
+-- one key is at an index
 pub same_key : (keys : List OpKey) (i : ℕ) (p o : OpKey) → slice_get keys i ≡ Some p → slice_get keys i ≡ Some o → p ≡ o
 same_key keys i p o at_p at_o = cc
 
@@ -120,7 +120,7 @@ module _ (keys : List OpKey) (pairs : Pairs) (edge : ℕ → ℕ → Type 0) (ed
         let r = leads_by_places path in
         acyclic r.0 (subst (LeadsBy edge r.0) (sym (one_place operation_cmp_total keys sorted r.0 r.1 p r.2 r.3)) r.4)
 
-    -- a path leads from place to place exactly where one leads from key to key
+    -- a path leads from index to index exactly where one leads from key to key
     pub leads_alike : (i j : ℕ) (p o : OpKey) → slice_get keys i ≡ Some p → slice_get keys j ≡ Some o → LeadsBy edge i j ↔ LeadsBy (IsPairOf pairs) p o
     leads_alike i j p o at_p at_o = (to, back)
       where

@@ -1,4 +1,4 @@
--- Paths over the places of keys, and over the keys.
+-- Paths over the indices of keys, and over the keys.
 use Rattle.std.proofs.Common.{◌≡◌, ◌↔◌, refl, sym, ap, subst, ◌∙◌, arith, ℕ, ℤ, pos, ◌-ℤ◌, ◌≤ℤ◌, List, [], ◌∷◌, slice_get, Some, sum_by}
 use Rattle.std.specs.List.Sorted.{IsStrictlySortedBy}
 use Rattle.std.proofs.lemmas.List.Sums.{sum_by-cons}
@@ -13,7 +13,7 @@ use Rattle.plan_graph.specs.PlanGraphs.{CountsAlike, HoldsAlike, IsGraphOf, Join
 use Rattle.plan_graph.proofs.KeyPlaces.{one_place}
 use Rattle.plan_graph.proofs.PairEdges.{same_key}
 
--- ---- keys that stand at places
+-- ---- keys that are at indices
 
 module _ (keys : List OpKey) where
   first_stands : (i : ℕ) (p : OpKey) (places : List ℕ) (rest : List OpKey) → StandAt keys (i ∷ places) (p ∷ rest) → slice_get keys i ≡ Some p
@@ -25,7 +25,7 @@ module _ (keys : List OpKey) where
   more_stand : (i : ℕ) (p : OpKey) (places : List ℕ) (rest : List OpKey) → slice_get keys i ≡ Some p → StandAt keys places rest → StandAt keys (i ∷ places) (p ∷ rest)
   more_stand i p places rest at stand = λ k. at k ∷ stand k
 
-  -- the last of the keys stands at the last of the places
+  -- the last of the keys is at the last of the indices
   pub ends_stand : (i : ℕ) (p : OpKey) (places : List ℕ) (rest : List OpKey) → slice_get keys i ≡ Some p → StandAt keys places rest → slice_get keys (end_of i places) ≡ Some (end_of p rest)
   ends_stand i p [] [] at stand = at
   ends_stand i p [] (o ∷ rest) at stand = absurd cc
@@ -41,23 +41,23 @@ module _ (keys : List OpKey) where
 
 -- ---- paths
 
--- each path of live members over the places is one over their keys
+-- each path of live members over the indices is one over their keys
 abbrev pub PathsHaveKeys : List OpKey → Pairs → Digraph → (ℕ → Type 0) → (OpKey → Type 0) → Type 0
 PathsHaveKeys keys pairs g live_at live = (i : ℕ) (p : OpKey) (places : List ℕ) → slice_get keys i ≡ Some p → IsPathBy (HasEdge g) live_at i places
     → (rest : List OpKey) × StandAt keys places rest × IsPathBy (IsPairOf pairs) live p rest
 
--- and each over the keys is one over their places
+-- and each over the keys is one over their indices
 abbrev pub PathsHavePlaces : List OpKey → Pairs → Digraph → (ℕ → Type 0) → (OpKey → Type 0) → Type 0
 PathsHavePlaces keys pairs g live_at live = (i : ℕ) (p : OpKey) (rest : List OpKey) → slice_get keys i ≡ Some p → IsPathBy (IsPairOf pairs) live p rest
     → (places : List ℕ) × StandAt keys places rest × IsPathBy (HasEdge g) live_at i places
 
--- the least start over all paths from a place is that over all paths from its key
+-- the least start over all paths from an index is that over all paths from its key
 abbrev pub LeastStartsAlike : List OpKey → Pairs → Digraph → (ℕ → Type 0) → (OpKey → Type 0) → (ℕ → ℕ) → (OpKey → ℕ) → (ℕ → ℕ) → (OpKey → ℕ) → Type 0
 LeastStartsAlike keys pairs g live_at live duration_at duration deadline_at deadline = (i : ℕ) (p : OpKey) (v : ℤ) → slice_get keys i ≡ Some p
     → IsLeastStart (HasEdge g) live_at duration_at deadline_at i v ↔ IsLeastStart (IsPairOf pairs) live duration deadline p v
 
 module _ (keys : List OpKey) (pairs : Pairs) (g : Digraph) (graph : IsGraphOf keys pairs g) (live_at : ℕ → Type 0) (live : OpKey → Type 0) (alike : HoldsAlike keys live_at live) where
-  -- each path over the places is one over their keys
+  -- each path over the indices is one over their keys
   pub paths_have_keys : PathsHaveKeys keys pairs g live_at live
   paths_have_keys i p [] at path = ([], refl, tt)
   paths_have_keys i p (j ∷ places) at (e, l, path) =
@@ -66,7 +66,7 @@ module _ (keys : List OpKey) (pairs : Pairs) (g : Digraph) (graph : IsGraphOf ke
       (h.1 ∷ r.0, more_stand keys j h.1 places r.0 h.3 r.1, (subst (λ z. IsPairOf pairs z h.1) (same_key keys i h.0 p h.2 at) h.4, (alike j h.1 h.3).0 l, r.2))
 
   module _ (ends : JoinsAmong keys pairs) where
-    -- each path over the keys is one over their places
+    -- each path over the keys is one over their indices
     pub paths_have_places : PathsHavePlaces keys pairs g live_at live
     paths_have_places i p [] at path = ([], refl, tt)
     paths_have_places i p (o ∷ rest) at (e, l, path) =
@@ -74,7 +74,7 @@ module _ (keys : List OpKey) (pairs : Pairs) (g : Digraph) (graph : IsGraphOf ke
         let r = paths_have_places b.0 o rest b.1 path in
         (b.0 ∷ r.0, more_stand keys b.0 o r.0 rest b.1 r.1, ((graph.edges i b.0).1 (p, o, at, b.1, e), (alike b.0 o b.1).1 l, r.2))
 
-    -- what a place reaches is what its key reaches
+    -- what an index reaches is what its key reaches
     pub reach_alike : IsStrictlySortedBy operation_cmp keys → ReachAlike keys pairs g live_at live
     reach_alike sorted i j p o at_p at_o = (to, back)
       where
@@ -98,7 +98,7 @@ module _ (keys : List OpKey) (pairs : Pairs) (g : Digraph) (graph : IsGraphOf ke
           let sum = sums_alike keys duration_at duration durations (i ∷ places) (p ∷ rest) (more_stand keys i p places rest at stand) in
           λ k. pos (last k) -ℤ pos (sum k)
 
-      -- the least start at a place is that of its key
+      -- the least start at an index is that of its key
       pub least_starts_alike : LeastStartsAlike keys pairs g live_at live duration_at duration deadline_at deadline
       least_starts_alike i p v at = (to, back)
         where

@@ -1,4 +1,4 @@
-//! The graph of a plan's operations: its nodes are the places of their keys, its edges those of the pairs.
+//! The graph of a plan's operations: its nodes are the indices of their keys, its edges come from the pairs.
 #![tactic(auto)]
 
 ghost use Rattle.std.specs.Prelude.{◌≡◌, Some, Contains, slice_get, IfOk, MatchOption};
@@ -13,7 +13,7 @@ use operation_graph::{EdgeFault, Graph};
 use plan_basics::OpKey;
 use std::alloc::{AllocError, Global};
 
-// Where a key stands that is among keys in order.
+// The index of a key that is among keys in order.
 fn known_place(keys: &[OpKey], key: &OpKey) -> usize
     requires sorted { IsStrictlySortedBy operation_cmp keys.now }
     requires known { Contains keys.now key.now }
@@ -22,7 +22,7 @@ fn known_place(keys: &[OpKey], key: &OpKey) -> usize
     keys.binary_search(key).unwrap()
 }
 
-// An edge for each pair, from the place of the predecessor to that of the successor.
+// An edge for each pair, from the index of the predecessor to that of the successor.
 fn edges_at_places(
     alloc: Global,
     keys: &[OpKey],
@@ -41,8 +41,8 @@ fn edges_at_places(
 
 /// The graph of these pairs between operations of these keys; `None` where some path of pairs returns to its start.
 ///
-/// A node is the place of a key. It is an error where a growth was refused. It takes time linear in keys and pairs, beside a
-/// search among the keys for each end.
+/// A node is the index of a key. It is an error where a growth was refused. It takes time linear in keys and pairs,
+/// beside a search among the keys for each end.
 pub fn graph_of(
     alloc: Global,
     keys: &[OpKey],

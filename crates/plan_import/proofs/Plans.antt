@@ -2,7 +2,7 @@
 use Rattle.std.proofs.Common.{◌≡◌, ℕ, List, Option, Some, None, IfSome, MatchOption}
 use Rattle.csv.specs.Reading.{strip_bom, default_config}
 use Rattle.csv.specs.declared.parser.State.TheVariants as st
-use Rattle.plan_model.specs.Plan.{Plan, Supplement}
+use Rattle.plan_model.specs.Plan.{Plan, AddedParts}
 use Rattle.plan_items.specs.Items.{Fields}
 use Rattle.plan_records.specs.Records.{Denotes, DenotesAddition}
 use Rattle.plan_import.specs.Records.{IsReadingOf}
@@ -26,8 +26,8 @@ pub denoted_by_text : (o : Option (List ℕ)) (records : List Fields) (found : O
     → IfSome o (λ text. MatchOption found ((P : Plan) → ¬ TextDenotes text P) (λ draft. TextDenotes text draft))
 denoted_by_text o records found reads denoted = denoted_by Denotes o records found reads denoted
 
-pub addition_by_text : (o : Option (List ℕ)) (records : List Fields) (found : Option Supplement)
+pub addition_by_text : (o : Option (List ℕ)) (records : List Fields) (found : Option AddedParts)
     → IfSome o (λ text. IsReadingOf (strip_bom text) (Some records))
-    → MatchOption found ((s : Supplement) → ¬ DenotesAddition records s) (λ a. DenotesAddition records a)
-    → IfSome o (λ text. MatchOption found ((s : Supplement) → ¬ TextDenotesAddition text s) (λ a. TextDenotesAddition text a))
+    → MatchOption found ((s : AddedParts) → ¬ DenotesAddition records s) (λ a. DenotesAddition records a)
+    → IfSome o (λ text. MatchOption found ((s : AddedParts) → ¬ TextDenotesAddition text s) (λ a. TextDenotesAddition text a))
 addition_by_text o records found reads denoted = denoted_by DenotesAddition o records found reads denoted

@@ -35,7 +35,7 @@ pub record IsPlain {R : Type 0} (text : Reader R) : Type 0 where
 abbrev pub next_of : {R : Type 0} → Reader R → List ℕ → Option Read
 next_of text bytes = next_record default_config (reader_state text) [] [] bytes
 
--- what a turn tells of the reader before and after it, where its bytes are known: the next record, one of another length, or the end
+-- what a turn says of the reader before and after it, where its bytes are known: the next record, one of another length, or the end
 abbrev pub TurnsTo : {R : Type 0} → (R → Option (List ℕ)) → Reader R → Reader R → Turn → Type 0
 TurnsTo remaining old new (turn.Record fields) = IsPlain new × IsTen (fields_of fields)
     × ((bytes : List ℕ) → source_of remaining old ≡ Some bytes → (rest : List ℕ) × (source_of remaining new ≡ Some rest) × (next_of old bytes ≡ Some (fields_of fields, reader_state new, rest)))

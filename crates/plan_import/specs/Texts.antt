@@ -1,7 +1,7 @@
 -- Which plan a text denotes, and which addition: that of its records.
 use Rattle.std.specs.Prelude.{ℕ, List}
 use Rattle.csv.specs.Reading.{strip_bom}
-use Rattle.plan_model.specs.Plan.{Plan, Supplement}
+use Rattle.plan_model.specs.Plan.{Plan, AddedParts}
 use Rattle.plan_items.specs.Items.{Fields}
 use Rattle.plan_records.specs.Records.{Denotes, DenotesAddition}
 use Rattle.plan_import.specs.Records.{AreOfTen}
@@ -15,5 +15,5 @@ abbrev pub TextDenotes : List ℕ → Plan → Type 0
 TextDenotes text P = (records : List Fields) × ReadsAs text records × Denotes records P
 
 -- the text denotes the addition: its records do
-abbrev pub TextDenotesAddition : List ℕ → Supplement → Type 0
+abbrev pub TextDenotesAddition : List ℕ → AddedParts → Type 0
 TextDenotesAddition text s = (records : List Fields) × ReadsAs text records × DenotesAddition records s

@@ -1,11 +1,11 @@
-//! Plans, and occurrences that come in, from texts of comma-separated fields, over any reader of bytes.
+//! Plans, and occurrences to be added, from texts of comma-separated fields, over any reader of bytes.
 #![tactic(auto)]
 
 ghost use Rattle.std.specs.Prelude.{◌≡◌, ◌↔◌, IfOk, IfSome, MatchOption, Err, true, false, option_map};
 ghost use Rattle.csv.specs.Records.{fields_of as row_fields};
 ghost use Rattle.csv.specs.Reading.{strip_bom, source_of, reader_state, stops_reader, error_kind};
 ghost use Rattle.csv.specs.declared.parser.State.TheVariants as st;
-ghost use Rattle.plan_model.specs.Plan.{Plan, Supplement};
+ghost use Rattle.plan_model.specs.Plan.{Plan, AddedParts};
 ghost use Rattle.plan_items.specs.Items.{fields_of};
 ghost use Rattle.plan_records.specs.Records.{records_of};
 ghost use Rattle.plan_import.specs.Records.{IsReadingOf, IsPlain, TurnsTo};
@@ -84,7 +84,7 @@ fn fault_of(error: &csv::Error) -> Option<ImportFault>
     }
 }
 
-/// The next record, its end, or that it has not ten fields.
+/// The next record, or that it hasn't ten fields, or that the text has ended.
 fn next_turn<R: Read>(
     alloc: Global,
     text: &mut Reader<R>,
@@ -202,7 +202,7 @@ pub fn read_occurrence<R: Read>(
     reader: &mut Watched<R>,
 ) -> Result<Option<Addition>, ImportFault>
     ensures addition { IfOk result (λ found. IfSome (R.remaining (inner_of reader.old)) (λ text.
-        MatchOption found ((s : Supplement) → ¬ TextDenotesAddition text s) (λ a. TextDenotesAddition text a))) }
+        MatchOption found ((s : AddedParts) → ¬ TextDenotesAddition text s) (λ a. TextDenotesAddition text a))) }
     ensures reader_fault { (result ≡ Err ImportFault.Reader) ↔ (failed_of reader.new ≡ true) }
 {
     let Some(records) = read_records(alloc, reader)? else {

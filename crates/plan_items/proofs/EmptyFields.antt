@@ -18,7 +18,7 @@ from_empty [] n e = All-nil IsEmpty
 from_empty (field ∷ rest) zero e = absurd (cc)
 from_empty (field ∷ rest) (suc n) e = All-cons IsEmpty field rest (cc) (from_empty rest n (cc))
 
--- the fields from a place on are all empty
+-- the fields from an index on are all empty
 pub empty_from : (fields : List (Vec ℕ Global)) (n : ℕ) → length fields ≡ 10 → All IsEmpty (take (length fields - n) (drop n fields)) → drop n (fields_of fields) ≡ replicate (10 - n) []
 empty_from fields n ten h =
     let rest : List (Vec ℕ Global) = drop n fields in

@@ -25,7 +25,7 @@ text_at fields i = get_or fields i []
 pub ten_fields : (fields : List (Vec ℕ Global)) → length fields ≡ 10 → length (fields_of fields) ≡ 10
 ten_fields fields ten = rw length-map ten
 
--- from a place on the fields are these
+-- from an index on the fields are these
 abbrev pub HasFront : Fields → ℕ → Fields → Type 0
 HasFront fields i [] = Unit {0}
 HasFront fields i (t ∷ ts) = (text_at fields i ≡ t) × HasFront fields (suc i) ts

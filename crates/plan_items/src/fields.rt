@@ -3,7 +3,7 @@ ghost use Rattle.std.specs.Prelude.{◌≡◌, ◌↔◌, ◌-◌, ◌<◌, ◌�
 ghost use Rattle.plan_items.specs.Parts.{IsReading};
 ghost use Rattle.plan_items.specs.Items.{fields_of};
 
-// The field at a place.
+// The field at an index.
 pub fn field(fields: &[Vec<u8>; 10], place: usize) -> &[u8]
     requires { place < 10 }
     ensures { result.now ≡ slice_index_or (fields_of fields.now) place [] }
@@ -18,7 +18,7 @@ fn are_empty(fields: &[Vec<u8>]) -> bool
     fields.iter().all(|field| field.is_empty())
 }
 
-// Whether the fields from a place on are empty.
+// Whether the fields from an index on are empty.
 pub fn are_empty_from(fields: &[Vec<u8>; 10], place: usize) -> bool
     requires { place ≤ 10 }
     ensures { IsTrue result ↔ (drop place (fields_of fields.now) ≡ replicate (10 - place) []) }

@@ -1,4 +1,4 @@
--- Whether an operation is allowed to start can be told.
+-- Whether an operation is allowed to start can be decided.
 use Rattle.std.proofs.Common.{◌≡◌, ◌≢◌, ◌⊎◌, inl, inr, refl, sym, ap, subst, arith, ℕ, ◌+◌, ◌≤◌, Bool, true, false, Option, Some, None}
 use Rattle.std.proofs.lemmas.Bool.{cases_lt}
 use Rattle.std.specs.FinMap.{get, nat_cmp-IsAntisymmetric}
@@ -25,7 +25,7 @@ use Rattle.plan_laws.proofs.Decide.{told_attribute}
 use Rattle.operation_graph.proofs.Telling.{Told, told_alike, told_and, told_if_then, told_none, told_or, told_true}
 use Rattle.plan_model.specs.Holdings.{Holds, given_out, holds_resource, takes}
 use Rattle.plan_model.specs.Plan.{HasAttribute, Operation, Plan, attribute_at}
-use Rattle.plan_model.specs.Starting.{FitsAt, IsAllowedToStart, MayStart}
+use Rattle.plan_model.specs.Starts.{FitsAt, IsAllowedToStart, MayStart}
 use Rattle.plan_model.specs.Status.{HasStatus, IsReady}
 use Rattle.plan_model.specs.Valid.{IsAcyclic}
 

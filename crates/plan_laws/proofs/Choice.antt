@@ -5,7 +5,7 @@ use Rattle.plan_basics.specs.declared.keys.OpKey.{OpKey}
 use Rattle.plan_laws.proofs.Sorted.{sorted_unique}
 use Rattle.plan_laws.specs.Derived.{OneReadyList}
 use Rattle.plan_model.specs.Ready.{IsOnAutomatic, OneChoice, named}
-use Rattle.plan_model.specs.Starting.{IsAllowedToStart}
+use Rattle.plan_model.specs.Starts.{IsAllowedToStart}
 use Rattle.ready_list.specs.Choice.{IsChoice, among, is_among, operations_of}
 use Rattle.ready_list.specs.Order.{ready_cmp_total}
 

@@ -1,4 +1,4 @@
--- From a ready list in which each operation stands once there is a choice, where each of its tests can be told.
+-- From a ready list in which no operation is repeated there is a choice, where each of its tests can be decided.
 use Rattle.std.proofs.Common.{◌≡◌, inl, inr, refl, sym, ◌∙◌, subst, false, List, [], ◌∷◌, ◌++◌, append-nil, append_assoc}
 use Rattle.plan_basics.specs.declared.Attr.TheVariants.{Automatic}
 use Rattle.plan_basics.specs.declared.keys.OpKey.{OpKey}
@@ -12,7 +12,7 @@ use Rattle.operation_graph.proofs.Telling.{Told}
 use Rattle.plan_laws.specs.Derived.{SomeChoice}
 use Rattle.plan_model.specs.Plan.{HasAttribute}
 use Rattle.plan_model.specs.Ready.{IsOnAutomatic, named}
-use Rattle.plan_model.specs.Starting.{IsAllowedToStart}
+use Rattle.plan_model.specs.Starts.{IsAllowedToStart}
 
 module _ (automatic : OpKey → Type 0) (allowed : List OpKey → OpKey → Type 0) (automatic_told : (o : OpKey) → Told (automatic o)) (may_told : (os : List OpKey) (o : OpKey) → Told (allowed os o))
     (ready : List OpKey) (fresh : (before after : List OpKey) (o : OpKey) → ready ≡ before ++ o ∷ after → is_among before o ≡ false) where

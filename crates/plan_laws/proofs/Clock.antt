@@ -8,7 +8,7 @@ use Rattle.plan_laws.proofs.Kept.{choice_keeps_sound}
 use Rattle.plan_laws.proofs.Looks.{none_is_not_some, same_some}
 use Rattle.plan_model.specs.Plan.{Plan}
 use Rattle.plan_model.specs.Valid.{IsSound, IsValid}
-use Rattle.plan_records.specs.Accepting.{NeedsPlan, minute_of}
+use Rattle.plan_records.specs.Acceptance.{NeedsPlan, minute_of}
 use Rattle.plan_records.specs.Changes.{Changes, IsRequest}
 use Rattle.plan_records.specs.Laws.{ChangeKeepsSound, StepKeepsSound}
 use Rattle.plan_records.specs.declared.Request.{Request}

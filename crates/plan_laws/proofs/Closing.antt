@@ -1,4 +1,4 @@
--- A pair that comes in closes a path exactly where a path leads back from its second end to its first.
+-- A pair that is added closes a path exactly where a path leads back from its second end to its first.
 use Rattle.std.proofs.Common.{◌≢◌, ◌↔◌, inl, inr, sym, ◌∙◌, ap}
 use Rattle.std.specs.Ordering.{eq_by_cmp, is_eq}
 use Rattle.std.specs.Cmp.{tied_itself}

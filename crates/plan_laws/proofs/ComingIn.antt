@@ -16,12 +16,12 @@ use Rattle.plan_laws.proofs.Pairs.{pair_cmp_total, pair_same}
 use Rattle.plan_laws.proofs.Flags.{waiting_not_satisfied, waiting_unmarked}
 use Rattle.plan_laws.proofs.Looks.{found_key, same_some}
 use Rattle.plan_model.specs.Holdings.{Holds, holds_resource}
-use Rattle.plan_model.specs.Plan.{IsInPlan, IsLive, IsPairOf, LivePredecessor, Occurrences, Operation, Operations, Pairs, Plan, Supplement, pair_cmp}
+use Rattle.plan_model.specs.Plan.{IsInPlan, IsLive, IsPairOf, LivePredecessor, Occurrences, Operation, Operations, Pairs, Plan, AddedParts, pair_cmp}
 use Rattle.plan_model.specs.Revise.{get-joined, joined, or_else}
 use Rattle.plan_model.specs.Status.{AllPredecessorsSatisfied, IsSatisfied, IsWaitingOrReady}
 use Rattle.plan_model.specs.Valid.{AreOccurrences, IsSound, IsUntouched, IsValid, MayBear}
-use Rattle.plan_records.specs.Accepting.{IsNew, IsOld, MayBeAdded}
-use Rattle.plan_records.specs.Changes.{with_supplement}
+use Rattle.plan_records.specs.Acceptance.{IsNew, IsOld, MayBeAdded}
+use Rattle.plan_records.specs.Changes.{with_added}
 use Rattle.plan_records.specs.Drafts.{IsAddition, IsOwn}
 use Rattle.plan_records.specs.Laws.{ChangeKeepsSound}
 use Rattle.special_resources.specs.Holders.{Usage}
@@ -157,37 +157,37 @@ only_first : {X : Type 0} (a b : Option X) (x : X) → (is_some a ≡ true → �
 only_first (Some y) b x never e = absurd (never refl)
 only_first None b x never e = e
 
-module _ (P : Plan) (s : Supplement) where
-  -- a pair of both together is of the plan, or comes in
-  pub pair_cases : (p o : OpKey) → IsPairOf (with_supplement P s).pairs p o → IsPairOf P.pairs p o ⊎ IsPairOf s.pairs p o
+module _ (P : Plan) (s : AddedParts) where
+  -- a pair of both together is of the plan, or is added
+  pub pair_cases : (p o : OpKey) → IsPairOf (with_added P s).pairs p o → IsPairOf P.pairs p o ⊎ IsPairOf s.pairs p o
   pair_cases p o h = or_cases (set.contains P.pairs (p, o)) (set.contains s.pairs (p, o)) (sym (set.contains-union pair_cmp_total P.pairs s.pairs (p, o)) ∙ h)
 
-  -- an operation of the plan, or one that comes in, is one of both together
-  pub from_first : (o : OpKey) → contains_key P.operations o ≡ true → contains_key (with_supplement P s).operations o ≡ true
+  -- an operation of the plan, or one that is added, is one of both together
+  pub from_first : (o : OpKey) → contains_key P.operations o ≡ true → contains_key (with_added P s).operations o ≡ true
   from_first o h = joined_first operation_cmp_total P.operations s.operations o h
 
-  from_second : (o : OpKey) → contains_key s.operations o ≡ true → contains_key (with_supplement P s).operations o ≡ true
+  from_second : (o : OpKey) → contains_key s.operations o ≡ true → contains_key (with_added P s).operations o ≡ true
   from_second o h = joined_second operation_cmp_total P.operations s.operations o h
 
-  -- and so is what a pair that comes in may join
-  pub an_end : (o : OpKey) → IsNew s o ⊎ IsOld P s o → contains_key (with_supplement P s).operations o ≡ true
+  -- and so is what a pair that is added may join
+  pub an_end : (o : OpKey) → IsNew s o ⊎ IsOld P s o → contains_key (with_added P s).operations o ≡ true
   an_end o (inl new) = from_second o new
   an_end o (inr old) = from_first o (known_in P o old.0)
 
--- what is in the plan is of none of the occurrences that come in
-pub not_own : (P : Plan) (s : Supplement) → IsValid P → MayBeAdded P s refusal.Duplicate → (o : OpKey) → contains_key P.operations o ≡ true → ¬ IsOwn s o
+-- what is in the plan is of none of the occurrences that are added
+pub not_own : (P : Plan) (s : AddedParts) → IsValid P → MayBeAdded P s refusal.Duplicate → (o : OpKey) → contains_key P.operations o ≡ true → ¬ IsOwn s o
 not_own P s valid new o h own =
     let known = found_key (get P.operations o) h in
     true≢false (sym (valid.occurrences.each_operation o known.0 known.1).1 ∙ new o.occurrence own)
 
-module _ (P : Plan) (sound : IsSound P) (s : Supplement) (addition : IsAddition s) (may : (r : Refusal) → MayBeAdded P s r) (loaded : P.loaded ≡ true) where
+module _ (P : Plan) (sound : IsSound P) (s : AddedParts) (addition : IsAddition s) (may : (r : Refusal) → MayBeAdded P s r) (loaded : P.loaded ≡ true) where
   own : (o : OpKey) (x : Operation) → get s.operations o ≡ Some x → IsOwn s o
   own o x e = (addition.occurrences.each_operation o x e).1
 
-  cases : (o : OpKey) (x : Operation) → get (with_supplement P s).operations o ≡ Some x → (get s.operations o ≡ Some x) ⊎ (get P.operations o ≡ Some x)
+  cases : (o : OpKey) (x : Operation) → get (with_added P s).operations o ≡ Some x → (get s.operations o ≡ Some x) ⊎ (get P.operations o ≡ Some x)
   cases o x e = joined_cases operation_cmp_total P.operations s.operations o x e
 
-  occurrences_of_both : AreOccurrences (with_supplement P s).occurrences (with_supplement P s).operations
+  occurrences_of_both : AreOccurrences (with_added P s).occurrences (with_added P s).operations
   occurrences_of_both = record {
     each_occurrence = λ c x e. elim (joined_cases occurrence_cmp_total P.occurrences s.occurrences c x e) [
       | inl new ↦ addition.occurrences.each_occurrence c x new
@@ -203,8 +203,8 @@ module _ (P : Plan) (sound : IsSound P) (s : Supplement) (addition : IsAddition 
     ];
   }
 
-  pub addition_is_sound : IsSound (with_supplement P s)
-  addition_is_sound = growth_is_sound P sound (with_supplement P s).occurrences (with_supplement P s).operations (with_supplement P s).pairs (record {
+  pub addition_is_sound : IsSound (with_added P s)
+  addition_is_sound = growth_is_sound P sound (with_added P s).occurrences (with_added P s).operations (with_added P s).pairs (record {
     loaded = loaded;
     valid = record {
       clock = sound.valid.clock;
@@ -231,10 +231,10 @@ module _ (P : Plan) (sound : IsSound P) (s : Supplement) (addition : IsAddition 
     ];
   })
 
-pub addition_keeps_sound : (s : Supplement) → ChangeKeepsSound (what.AddOccurrence (Some s))
+pub addition_keeps_sound : (s : AddedParts) → ChangeKeepsSound (what.AddOccurrence (Some s))
 addition_keeps_sound s P Q at sound may request c =
     let same : s ≡ c.0 = same_some s c.0 c.1 in
-    subst IsSound (ap (with_supplement P) same ∙ sym c.2) (addition_is_sound P sound s request lines (may refusal.NotLoaded tt))
+    subst IsSound (ap (with_added P) same ∙ sym c.2) (addition_is_sound P sound s request lines (may refusal.NotLoaded tt))
   where
     lines : (r : Refusal) → MayBeAdded P s r
     lines refusal.UnknownOperation = may refusal.UnknownOperation

@@ -1,4 +1,4 @@
--- Whether an operation is satisfied can be told, where there is a rank.
+-- Whether an operation is satisfied can be decided, where there is a rank.
 use Rattle.std.proofs.Common.{◌≡◌, ◌⊎◌, inl, inr, refl, sym, ◌∙◌, ap, subst, arith, ℕ, zero, suc, ◌<◌, true, false, Option, Some, None}
 use Rattle.std.specs.FinMap.{get}
 use Rattle.std.specs.FinSet as set

@@ -1,4 +1,4 @@
--- Whether a request may be accepted can be told, refusal by refusal.
+-- Whether a request may be accepted can be decided, refusal by refusal.
 use Rattle.std.proofs.Common.{◌≡◌, ◌⊎◌, inl, inr, refl, sym, subst, arith, ℕ, Bool, true, false, List, length, Option, Some, None, ℤ, pos, negsuc, is_some}
 use Rattle.std.specs.Prelude.{◌≤ℤ◌}
 use Rattle.std.specs.FinMap.{contains_key, get}
@@ -26,10 +26,10 @@ use Rattle.plan_laws.proofs.Readying.{ready_told}
 use Rattle.plan_laws.proofs.Standing.{status_told}
 use Rattle.plan_laws.proofs.Decide.{told_attribute}
 use Rattle.operation_graph.proofs.Telling.{Told, told_alike, told_and, told_if_then, told_none, told_or, told_true}
-use Rattle.plan_model.specs.Plan.{Operation, Plan, Supplement, attribute_at}
+use Rattle.plan_model.specs.Plan.{Operation, Plan, AddedParts, attribute_at}
 use Rattle.plan_model.specs.Valid.{HaveResources, HaveWorkstations, IsAcyclic}
-use Rattle.plan_records.specs.Accepting.{IsBadText, IsNew, IsOld, MayBeAccepted, MayBeAdded, MayBeCompleted, MayBeDeleted, MayBeDone, MayBeEnded, MayBeFlagged, MayBeInterrupted, MayBeLoaded, MayBeOpenBy, MayBePaired, MayBeRerun, MayBeSetAvailable, MayBeStarted, MayBeUndecided, NeedsPlan, OfOperation, minute_of}
-use Rattle.plan_records.specs.Changes.{with_pair, with_supplement}
+use Rattle.plan_records.specs.Acceptance.{IsBadText, IsNew, IsOld, MayBeAccepted, MayBeAdded, MayBeCompleted, MayBeDeleted, MayBeDone, MayBeEnded, MayBeFlagged, MayBeInterrupted, MayBeLoaded, MayBeOpenBy, MayBePaired, MayBeRerun, MayBeSetAvailable, MayBeStarted, MayBeUndecided, NeedsPlan, OfOperation, minute_of}
+use Rattle.plan_records.specs.Changes.{with_pair, with_added}
 use Rattle.plan_records.specs.declared.Request.{Request}
 use Rattle.plan_records.specs.declared.What.{What}
 use Rattle.plan_records.specs.declared.What.TheVariants as what
@@ -93,9 +93,9 @@ module _ (P : Plan) (acyclic : IsAcyclic P.pairs) where
   deleted_told c refusal.Running = none_under_way_told P acyclic c
   deleted_told c r = inl tt
 
-  -- ---- what comes in
+  -- ---- what is added
 
-  module _ (s : Supplement) where
+  module _ (s : AddedParts) where
     new_told : (o : OpKey) → Told (IsNew s o)
     new_told o = told_has_key (contains_key s.operations o)
 
@@ -115,8 +115,8 @@ module _ (P : Plan) (acyclic : IsAcyclic P.pairs) where
     added_told refusal.UnknownResource = resources_told
     added_told refusal.WrongStatus = told_pairs s.pairs _ (λ p o. told_and (told_if_then (old_told o) (λ _. waiting_or_ready_told P acyclic o)) (λ _. told_if_then (old_told p) (λ _. told_none (status_told P acyclic p status.Deleted))))
     added_told refusal.Duplicate = told_keys occurrence_cmp_total occurrence_cmp-IsAntisymmetric s.occurrences (λ c. contains_key P.occurrences c ≡ false) (λ c. told_true (contains_key P.occurrences c) false)
-    added_told refusal.Cycle = told_acyclic_pairs (with_supplement P s).pairs
-    added_told refusal.Limit = limits_told (with_supplement P s)
+    added_told refusal.Cycle = told_acyclic_pairs (with_added P s).pairs
+    added_told refusal.Limit = limits_told (with_added P s)
     added_told r = inl tt
 
   paired_told : (p s : OpKey) (r : Refusal) → Told (MayBePaired P p s r)

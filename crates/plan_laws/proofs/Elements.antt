@@ -1,4 +1,4 @@
--- What holds of each of a list's elements, by their places, and of each two.
+-- What holds of each of a list's elements, by their indices, and of each two.
 use Rattle.std.proofs.Common.{arith, zero, suc, List, [], ◌∷◌, inl}
 use Rattle.std.specs.Prelude.{All, AllPairs}
 use Rattle.operation_graph.proofs.Telling.{Told, told_alike, told_and}

@@ -1,4 +1,4 @@
--- What can be told of a finite map's entries, and of a plan's operations.
+-- What can be decided of a finite map's entries, and of a plan's operations.
 use Rattle.std.proofs.Common.{◌≡◌, inl, inr, refl, sym, subst, Option, Some, None}
 use Rattle.std.specs.declared.cmp.Ordering.{Ordering}
 use Rattle.std.specs.Cmp.{IsTotalOrder}

@@ -88,7 +88,7 @@ images_listed {S = S} f l = alike_listed {S = λ y. (x : _) × Contains l.0 x ×
     (λ y h. (h.0, (l.1 h.0).1 h.1, h.2))
     (union_listed (λ x y. f x ≡ y) l.0 (λ x has. one_listed (f x)))
 
--- where something else can be told: all of them, or none
+-- where something else can be decided: all of them, or none
 pub where_told : {A B : Type 0} {S : A → Type 0} → Told B → (B → Listed S) → Listed (λ x. B × S x)
 where_told (inl b) l = alike_listed (λ x s. (b, s)) (λ x h. h.1) (l b)
 where_told (inr never) l = none_listed (λ x h. never h.0)

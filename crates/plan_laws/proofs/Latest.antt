@@ -15,7 +15,7 @@ use Rattle.plan_laws.proofs.Entries.{same_operation}
 use Rattle.operation_graph.proofs.Telling.{Told, told_and}
 use Rattle.plan_laws.specs.Derived.{EachHasOneLatestStart}
 use Rattle.plan_model.specs.Plan.{IsLive, Plan, Precedes}
-use Rattle.plan_model.specs.Starting.{IsLatestStart}
+use Rattle.plan_model.specs.Starts.{IsLatestStart}
 use Rattle.plan_model.specs.Valid.{IsAcyclic}
 
 -- ---- the least of finitely many

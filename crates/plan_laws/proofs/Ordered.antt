@@ -1,4 +1,4 @@
--- A plan without returning paths has a rank, and paths in it can be told.
+-- A plan without returning paths has a rank, and paths in it can be decided.
 use Rattle.std.proofs.Common.{ℕ, ◌≤◌, length}
 use Rattle.std.specs.FinSet as set
 use Rattle.operation_graph.specs.Paths.{IsRankBy, LeadsBy}

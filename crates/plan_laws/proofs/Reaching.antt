@@ -1,4 +1,4 @@
--- What can be told of pairs, of limits, and of what an operation reaches.
+-- What can be decided of pairs, of limits, and of what an operation reaches.
 use Rattle.std.proofs.Common.{◌≡◌, ◌≢◌, inl, inr, ap, ◌≤◌, true, List, Contains, Some, is_some}
 use Rattle.std.specs.declared.cmp.Ordering.{Ordering}
 use Rattle.std.specs.Cmp.{IsTotalOrder}
@@ -20,7 +20,7 @@ use Rattle.plan_laws.proofs.Readying.{ready_told}
 use Rattle.plan_laws.proofs.Standing.{status_told}
 use Rattle.operation_graph.proofs.Telling.{Told, told_alike, told_and, told_each, told_equal, told_if_then, told_none, told_or, told_some, told_three}
 use Rattle.plan_model.specs.Plan.{IsInPlan, IsPairOf, Pairs, Plan}
-use Rattle.plan_model.specs.Starting.{Reaches}
+use Rattle.plan_model.specs.Starts.{Reaches}
 use Rattle.plan_model.specs.Status.{EachOperation, HasStatus, IsUnderWay, IsWaitingOrReady}
 use Rattle.plan_model.specs.Valid.{IsAcyclic, IsWithinLimits}
 

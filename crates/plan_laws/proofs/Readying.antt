@@ -1,4 +1,4 @@
--- A valid plan has a ready list, in which each operation stands once.
+-- A valid plan has a ready list, in which no operation is repeated.
 use Rattle.std.proofs.Common.{◌≡◌, inl, inr, refl, sym, ◌∙◌, ap, subst, false, List, [], ◌∷◌, ◌++◌, Contains, Less}
 use Rattle.std.specs.List.Sorted.{IsStrictlySortedBy}
 use Rattle.std.proofs.lemmas.Bool.{or_from}

@@ -16,7 +16,7 @@ use Rattle.plan_laws.proofs.Runs.{accepted_call, refused_changes_nothing}
 use Rattle.plan_model.specs.Plan.{Plan}
 use Rattle.plan_model.specs.Ready.{IsChosen}
 use Rattle.plan_model.specs.Valid.{IsSound}
-use Rattle.plan_records.specs.Accepting.{minute_of}
+use Rattle.plan_records.specs.Acceptance.{minute_of}
 use Rattle.plan_records.specs.Receipts.{AreReceipts, IsReceipt}
 use Rattle.plan_records.specs.Run.{Answers, Call, CallStep, State, Usable, empty_state, numbered, plain}
 use Rattle.plan_records.specs.Schedules.{IsDeskState}

@@ -4,7 +4,7 @@ use Rattle.std.specs.List.{AllZip, swap}
 use Rattle.std.specs.List.Sorted.{IsPermutation}
 use Rattle.std.proofs.lemmas.List.Sorted.{All-permutation, Contains-permutation, IsPermutation-keeps, IsPermutation-refl, IsPermutation-swap, IsPermutation-sym, IsPermutation-trans}
 use Rattle.std.proofs.lemmas.Slice.Zip.{AllZip-long}
-use Rattle.plan_model.specs.Plan.{Plan, Supplement}
+use Rattle.plan_model.specs.Plan.{Plan, AddedParts}
 use Rattle.plan_items.specs.declared.Item.{Item}
 use Rattle.plan_items.specs.Items.{Fields, Says}
 use Rattle.plan_records.specs.declared.RowKey.{RowKey}
@@ -14,7 +14,7 @@ use Rattle.plan_records.proofs.Orders.{differ_permuted}
 use Rattle.plan_laws.specs.Denoting.{OrderDoesNotMatter, OrderDoesNotMatterToAdditions}
 use Rattle.plan_laws.proofs.RowOrder.{row_cmp_total, row_cmp-IsAntisymmetric}
 
--- ---- two lists, place by place
+-- ---- two lists, index by index
 module _ {A B : Type 0} (R : A → B → Type 0) where
   zip_at : (xs : List A) (ys : List B) (i : ℕ) (d : A) (e : B) → i < length xs → AllZip R xs ys → R (get_or xs i d) (get_or ys i e)
   zip_at [] ys i d e lt h = absurd (omega arith)
@@ -72,7 +72,7 @@ denotes_moved records others P moved d = record {
 pub order_does_not_matter : OrderDoesNotMatter
 order_does_not_matter records others P moved = (denotes_moved records others P moved, denotes_moved others records P (IsPermutation-sym records others moved))
 
-addition_moved : (records others : List Fields) (s : Supplement) → IsPermutation records others → DenotesAddition records s → DenotesAddition others s
+addition_moved : (records others : List Fields) (s : AddedParts) → IsPermutation records others → DenotesAddition records s → DenotesAddition others s
 addition_moved records others s moved d = record { addition = d.addition; described = described_moved _ _ records others moved d.described }
 
 pub order_does_not_matter_to_additions : OrderDoesNotMatterToAdditions

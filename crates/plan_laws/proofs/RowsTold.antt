@@ -1,4 +1,4 @@
--- Whether a row is one of a valid plan's can be told.
+-- Whether a row is one of a valid plan's can be decided.
 use Rattle.std.proofs.Common.{◌≡◌, inl, inr, refl, sym, ap, subst, ℕ, true, Option, Some, None, ℤ}
 use Rattle.std.specs.FinMap.{get, int_cmp-IsAntisymmetric, nat_cmp-IsAntisymmetric}
 use Rattle.std.specs.FinSet as set
@@ -23,7 +23,7 @@ use Rattle.plan_laws.proofs.Standing.{status_told}
 use Rattle.operation_graph.proofs.Telling.{Told, told_alike, told_and, told_equal, told_three, told_true}
 use Rattle.plan_laws.proofs.Waiting.{one_count, one_occurrence_status, same_precedence, some_occurrence_status, some_waiting}
 use Rattle.plan_model.specs.Plan.{LivePredecessor, Operation, Plan}
-use Rattle.plan_model.specs.Starting.{IsLatestStart}
+use Rattle.plan_model.specs.Starts.{IsLatestStart}
 use Rattle.plan_model.specs.Status.{HasOccurrenceStatus, HasStatus, IsSatisfied}
 use Rattle.plan_model.specs.Valid.{IsAcyclic}
 use Rattle.plan_model.specs.declared.Occurrence.{Occurrence}

@@ -19,7 +19,7 @@ use Rattle.operation_graph.proofs.Telling.{Told, told_and, told_equal, told_if_t
 use Rattle.plan_laws.specs.Steps.{IsCall, IsOfThePlan, PlanAnswers, SomeNumberedStep, SomeRun}
 use Rattle.plan_model.specs.Plan.{Operation, Plan, attribute_at}
 use Rattle.plan_model.specs.Valid.{IsSound}
-use Rattle.plan_records.specs.Accepting.{MayBeAccepted, MayBeCompleted, MayBeDone, MayBeEnded, MayBeFlagged, MayBeInterrupted, MayBeRerun, MayBeStarted, MayBeUndecided, OfOperation, minute_of}
+use Rattle.plan_records.specs.Acceptance.{MayBeAccepted, MayBeCompleted, MayBeDone, MayBeEnded, MayBeFlagged, MayBeInterrupted, MayBeRerun, MayBeStarted, MayBeUndecided, OfOperation, minute_of}
 use Rattle.plan_records.specs.Answer.{Answer, accepted, refused}
 use Rattle.plan_records.specs.Run.{Answers, Call, CallStep, State, numbered, plain, usable}
 use Rattle.plan_records.specs.Step.{AnswersAgain, HasReceiptRoom, Numbered, NumberedMayBeAccepted, Receipt, Receipts, StepBy, last_number, receipts_after}

@@ -10,9 +10,9 @@ use Rattle.plan_model.specs.Ready.{IsChosen, named, with_mark}
 use Rattle.plan_records.specs.declared.What.{What}
 use Rattle.plan_records.specs.declared.What.TheVariants as what
 use Rattle.plan_records.specs.declared.Request.{Request}
-use Rattle.plan_records.specs.Accepting.{MayBeAccepted, minute_of}
+use Rattle.plan_records.specs.Acceptance.{MayBeAccepted, minute_of}
 use Rattle.plan_records.specs.Answer.{Answer, accepted, refused}
-use Rattle.plan_records.specs.Changes.{Changes, revised, with_supplement}
+use Rattle.plan_records.specs.Changes.{Changes, revised, with_added}
 use Rattle.plan_records.specs.Step.{IsAccepted, IsRefused, StepBy}
 use Rattle.plan_laws.specs.Steps.{OneStep}
 use Rattle.plan_laws.proofs.Choice.{one_choice}
@@ -20,14 +20,14 @@ use Rattle.plan_laws.proofs.Looks.{same_some}
 use Rattle.plan_laws.proofs.Numbers.{same_number}
 pub use Rattle.std.specs.Cmp.{both_ways as same_bool}
 
--- two tests that tell one set are one test
+-- two tests that decide one set are one test
 one_test : {S : OpKey → Type 0} (t u : OpKey → Bool) → ((q : OpKey) → (t q ≡ true) ↔ S q) → ((q : OpKey) → (u q ≡ true) ↔ S q) → t ≡ u
 one_test t u f g = λ i q. same_bool (t q) (u q) (λ e. (g q).1 ((f q).0 e)) (λ e. (f q).1 ((g q).0 e)) i
 
 pub one_change : (P a b : Plan) (w : What) → Changes P w a → Changes P w b → a ≡ b
 one_change P a b (what.Load draft) x y = same_some a b (sym x ∙ y)
 one_change P a b (what.Rerun o) x y = x.2 ∙ ap (λ t. revised t (with_mark mark.Unmarked) P) (one_test x.0 y.0 x.1 y.1) ∙ sym y.2
-one_change P a b (what.AddOccurrence s) x y = x.2 ∙ ap (with_supplement P) (same_some x.0 y.0 (sym x.1 ∙ y.1)) ∙ sym y.2
+one_change P a b (what.AddOccurrence s) x y = x.2 ∙ ap (with_added P) (same_some x.0 y.0 (sym x.1 ∙ y.1)) ∙ sym y.2
 one_change P a b w x y = x ∙ sym y
 
 module _ (allows : Refusal → Type 0) (P : Plan) where

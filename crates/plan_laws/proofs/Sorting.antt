@@ -86,7 +86,7 @@ module _ {K : Type 0} {R : K → K → Ordering} (o : IsTotalOrder R) (same : Is
   pub ascending : {S : K → Type 0} → Listed S → Ascending S
   ascending l = let a = in_order l.0 in (a.0, a.1, λ k. (λ h. (l.1 k).0 ((a.2 k).0 h), λ s. (a.2 k).1 ((l.1 k).1 s)))
 
-  -- what stands before an element is less
+  -- what comes before an element is less
   pub less_before : (xs : List K) (x k : K) → IsStrictlySortedBy R (x ∷ xs) → Contains xs k → R x k ≡ Less
   unfolding IsStrictlySortedBy
   less_before xs x k up has = at_member (λ z. R x z ≡ Less) xs k up.0 has

@@ -1,4 +1,4 @@
--- In a plan without returning paths statuses can be told; in a valid one each operation has exactly one.
+-- In a plan without returning paths statuses can be decided; in a valid one each operation has exactly one.
 use Rattle.std.proofs.Common.{◌≡◌, inl, inr, refl, sym, ◌∙◌, subst, Bool, true, false, cond, not, Option, Some, None, MatchOption}
 use Rattle.std.specs.FinMap.{get}
 use Rattle.plan_basics.specs.declared.Attr.TheVariants as attribute

@@ -17,10 +17,10 @@ use Rattle.plan_laws.proofs.Looks.{found_key, get-named, get-revised, mapped, no
 use Rattle.plan_model.specs.Plan.{Has, HasAttribute, Operation, Plan, attribute_at}
 use Rattle.plan_model.specs.Ready.{IsChosen, IsOnAutomatic, named, with_mark}
 use Rattle.plan_model.specs.Revise.{get-joined, or_else}
-use Rattle.plan_model.specs.Starting.{IsAllowedToStart}
+use Rattle.plan_model.specs.Starts.{IsAllowedToStart}
 use Rattle.plan_model.specs.Status.{AllPredecessorsSatisfied, HasStatus, IsReady, UnmarkedStatus}
 use Rattle.plan_model.specs.Valid.{IsSound, IsUntouched}
-use Rattle.plan_records.specs.Accepting.{MayBeAccepted, MayBeDone, MayBeStarted, minute_of}
+use Rattle.plan_records.specs.Acceptance.{MayBeAccepted, MayBeDone, MayBeStarted, minute_of}
 use Rattle.plan_records.specs.Changes.{Changes, IsRequest, is_at, revised}
 use Rattle.plan_records.specs.Drafts.{IsAddition, IsDraft}
 use Rattle.plan_records.specs.Laws.{IsAtStart, IsProvidedFor, StartsAreProvidedFor}
@@ -164,9 +164,9 @@ module _ (P : Plan) (sound : IsSound P) (m : ℕ) (o : OpKey) (not_started : ¬ 
   by_revision : {A : Type 0} (test : OpKey → Bool) (f : Operation → Operation) (Q : Plan) → Q ≡ revised test f P → StartsNone f → IsStarted Q o → A
   by_revision test f Q e keeps h = never (started_before test f P o keeps (subst (λ X. IsStarted X o) e h))
 
-  by_supplement : {A : Type 0} (x y : Option Operation) (op : Operation) → ((new : Operation) → x ≡ Some new → IsUntouched new) → y ≡ get P.operations o → or_else x y ≡ Some op → marked_status op.mark ≡ Some status.Started → A
-  by_supplement (Some new) y op fresh is e h = absurd (untouched op (fresh op e) h)
-  by_supplement None y op fresh is e h = never (op, sym is ∙ e, h)
+  by_added : {A : Type 0} (x y : Option Operation) (op : Operation) → ((new : Operation) → x ≡ Some new → IsUntouched new) → y ≡ get P.operations o → or_else x y ≡ Some op → marked_status op.mark ≡ Some status.Started → A
+  by_added (Some new) y op fresh is e h = absurd (untouched op (fresh op e) h)
+  by_added None y op fresh is e h = never (op, sym is ∙ e, h)
 
   -- after the change it is started only where it is the operation that the request reports
   changed_start : (w : What) → Lines P m w → IsRequest w → (Q : Plan) → Changes P w Q → IsStarted Q o → (w ≡ what.Started o) × IsProvidedFor P o m
@@ -191,7 +191,7 @@ module _ (P : Plan) (sound : IsSound P) (m : ℕ) (o : OpKey) (not_started : ¬ 
   changed_start (what.DeleteOccurrence k) l r Q c h = by_revision (λ p. eq_by_cmp occurrence_cmp p.occurrence k) (with_mark mark.Deleted) Q c (mark_starts_none mark.Deleted (λ e. cc)) h
   changed_start (what.AddOccurrence None) l r Q c h = absurd (none_is_not_some c.0 c.1)
   changed_start (what.AddOccurrence (Some s)) l r Q c h =
-      by_supplement (get c.0.operations o) (get P.operations o) h.0 (λ new e. (subst IsAddition (same_some s c.0 c.1) r).untouched o new e) refl (sym (get-joined operation_cmp_total P.operations c.0.operations o) ∙ ap (λ X. get X.operations o) (sym c.2) ∙ h.1) h.2
+      by_added (get c.0.operations o) (get P.operations o) h.0 (λ new e. (subst IsAddition (same_some s c.0 c.1) r).untouched o new e) refl (sym (get-joined operation_cmp_total P.operations c.0.operations o) ∙ ap (λ X. get X.operations o) (sym c.2) ∙ h.1) h.2
   changed_start (what.AddDependency p s) l r Q c h = same_operations Q (ap (λ X. X.operations) c) h
   changed_start (what.SetAvailable n available) l r Q c h = same_operations Q (ap (λ X. X.operations) c) h
   changed_start (what.ReplaceIntervals w items) l r Q c h = same_operations Q (ap (λ X. X.operations) c) h
@@ -203,7 +203,7 @@ not_named os P o e h =
     let m = mapped (λ op. cond (is_among os o) (with_mark mark.Named op) op) (get P.operations o) h.0 (sym (get-named os P o) ∙ h.1) in
     (m.0, m.1, subst (λ op. marked_status op.mark ≡ Some status.Started) (sym m.2 ∙ cond-false (is_among os o) (with_mark mark.Named m.0) m.0 e) h.2)
 
--- what stands on an automatic workstation does so once some are named
+-- what is on an automatic workstation is so once some are named
 pub automatic_kept : (P : Plan) (before : List OpKey) (o : OpKey) (op : Operation) (a : Attr) → IsOnAutomatic P o → get (named before P).operations o ≡ Some op → HasAttribute P op.workstation a → a ≡ attribute.Automatic
 automatic_kept P before o op a on is w =
     let m = mapped (λ x. cond (is_among before o) (with_mark mark.Named x) x) (get P.operations o) op (sym (get-named before P o) ∙ is) in

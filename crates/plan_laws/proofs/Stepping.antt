@@ -19,9 +19,9 @@ use Rattle.plan_laws.specs.Steps.{SomeStep}
 use Rattle.plan_model.specs.Plan.{Plan}
 use Rattle.plan_model.specs.Ready.{named, with_mark}
 use Rattle.plan_model.specs.Valid.{IsAcyclic, IsSound}
-use Rattle.plan_records.specs.Accepting.{MayBeAccepted, MayBeDone, minute_of}
+use Rattle.plan_records.specs.Acceptance.{MayBeAccepted, MayBeDone, minute_of}
 use Rattle.plan_records.specs.Answer.{Answer, accepted, refused}
-use Rattle.plan_records.specs.Changes.{Changes, IsRequest, revised, with_supplement}
+use Rattle.plan_records.specs.Changes.{Changes, IsRequest, revised, with_added}
 use Rattle.plan_records.specs.Step.{IsAccepted, StepBy}
 use Rattle.plan_records.specs.declared.Request.{Request}
 use Rattle.plan_records.specs.declared.What.{What}
@@ -62,7 +62,7 @@ some_change : (P : Plan) → IsAcyclic P.pairs → (m : ℕ) (w : What) → MayB
 some_change P acyclic m (what.Load None) h = absurd (true≢false (sym h))
 some_change P acyclic m (what.Load (Some draft)) h = (draft, refl)
 some_change P acyclic m (what.AddOccurrence None) h = absurd h
-some_change P acyclic m (what.AddOccurrence (Some s)) h = (with_supplement P s, (s, refl, refl))
+some_change P acyclic m (what.AddOccurrence (Some s)) h = (with_added P s, (s, refl, refl))
 some_change P acyclic m (what.Rerun o) h =
     let test : OpKey → Bool = λ q. is_told (reach_told P acyclic o q) in
     (revised test (with_mark mark.Unmarked) P, (test, λ q. (if_told (reach_told P acyclic o q), told_if (reach_told P acyclic o q)), refl))
@@ -81,7 +81,7 @@ module _ (P : Plan) (q : Request) (sound : IsSound P) (request : IsRequest q.wha
       let choice = some_choice (record Q { clock = m }) m later.valid in
       (choice.0, named choice.0 (record Q { clock = m }), λ allows all. record { none_refuses = all; is_request = request; changed = Q; changes = change.1; is_chosen = choice.1; is_after = refl })
 
-  -- by any rules that can be told, and under which nothing passes that the request's own refuse
+  -- by any rules that can be decided, and under which nothing passes that the request's own refuse
   pub some_step_by : (allows : Refusal → Type 0) → ((r : Refusal) → Told (allows r)) → ((r : Refusal) → allows r → MayBeAccepted P q r) → (x : Answer) × (after : Plan) × StepBy allows P q x after
   some_step_by allows told own = elim (all_or_least allows told) [
     | inl all ↦ (let a = acceptance (λ r. own r (all r)) in (accepted a.0, a.1, a.2 allows all))

@@ -18,7 +18,7 @@ use Rattle.plan_laws.proofs.Standing.{one_status, some_status}
 use Rattle.plan_laws.proofs.Waiting.{one_count, some_occurrence_status, some_waiting}
 use Rattle.plan_laws.specs.Tables.{EachHasOneRow, RowsTellPlan, RowsTellReceipts}
 use Rattle.plan_model.specs.Plan.{LivePredecessor, Operation, Plan, Precedes}
-use Rattle.plan_model.specs.Starting.{IsLatestStart}
+use Rattle.plan_model.specs.Starts.{IsLatestStart}
 use Rattle.plan_model.specs.Status.{HasStatus, IsSatisfied}
 use Rattle.plan_model.specs.Valid.{IsAcyclic, IsValid}
 use Rattle.plan_model.specs.declared.Occurrence.{Occurrence}

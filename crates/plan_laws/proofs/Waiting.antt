@@ -26,7 +26,7 @@ use Rattle.plan_model.specs.Status.{HasOccurrenceStatus, HasStatus, IsSatisfied,
 use Rattle.plan_model.specs.Valid.{IsAcyclic}
 use Rattle.plan_records.specs.Rows.{IsCount, IsWaitingFor}
 
--- those things of a list of which something can be told
+-- those things of a list of which something can be decided
 pub told_listed : {A : Type 0} {S : A → Type 0} → (xs : List A) → ((x : A) → S x → Contains xs x) → ((x : A) → Told (S x)) → Listed S
 told_listed {A} {S} xs within told = alike_listed {S = λ x. (y : A) × Contains xs y × (S y × (y ≡ x))}
     (λ x h. subst S h.2.1 h.2.0)

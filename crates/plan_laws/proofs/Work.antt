@@ -13,7 +13,7 @@ use Rattle.plan_laws.proofs.Sorting.{ascending}
 use Rattle.plan_laws.proofs.Latest.{plan_paths}
 use Rattle.plan_laws.specs.Work.{OneAllowance, SomeAllowance}
 use Rattle.plan_model.specs.Plan.{Plan}
-use Rattle.plan_model.specs.Starting.{Reaches}
+use Rattle.plan_model.specs.Starts.{Reaches}
 use Rattle.plan_model.specs.Valid.{IsAcyclic, IsValid}
 use Rattle.plan_records.specs.Rows.{AreChanges}
 use Rattle.plan_records.specs.Work.{HasChangedRow, IsAllowanceByChange, IsWorkedOn, by_whole_plan, neighbours}

@@ -1,8 +1,8 @@
--- What records denote goes by the records alone, in whatever order they stand.
+-- What records denote goes by the records alone, in whatever order they are.
 use Rattle.std.specs.Prelude.{◌↔◌, List}
 use Rattle.std.specs.List.Sorted.{IsPermutation}
 use Rattle.plan_items.specs.Items.{Fields}
-use Rattle.plan_model.specs.Plan.{Plan, Supplement}
+use Rattle.plan_model.specs.Plan.{Plan, AddedParts}
 use Rattle.plan_records.specs.Records.{Denotes, DenotesAddition}
 
 -- the same records in another order denote the same plan
@@ -11,4 +11,4 @@ OrderDoesNotMatter = (records others : List Fields) (P : Plan) → IsPermutation
 
 -- and the same addition
 abbrev pub OrderDoesNotMatterToAdditions : Type 0
-OrderDoesNotMatterToAdditions = (records others : List Fields) (s : Supplement) → IsPermutation records others → DenotesAddition records s ↔ DenotesAddition others s
+OrderDoesNotMatterToAdditions = (records others : List Fields) (s : AddedParts) → IsPermutation records others → DenotesAddition records s ↔ DenotesAddition others s

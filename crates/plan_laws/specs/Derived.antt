@@ -10,7 +10,7 @@ use Rattle.plan_model.specs.Plan.{Plan, IsInPlan}
 use Rattle.plan_model.specs.Status.{HasOccurrenceStatus, HasStatus, IsReady, IsSatisfied, IsUnderWay, IsWaitingOrReady}
 use Rattle.plan_model.specs.Ready.{IsReadyList, IsChosen}
 use Rattle.ready_list.specs.declared.ReadyKey.{ReadyKey}
-use Rattle.plan_model.specs.Starting.{IsLatestStart}
+use Rattle.plan_model.specs.Starts.{IsLatestStart}
 use Rattle.plan_model.specs.Valid.{IsValid}
 
 -- an operation of a valid plan is satisfied or it isn't
@@ -21,14 +21,14 @@ SatisfiedIsTold = (P : Plan) → IsValid P → (o : OpKey) → IsSatisfied P o �
 abbrev pub SatisfiedByStatus : Type 0
 SatisfiedByStatus = (P : Plan) (o : OpKey) → IsSatisfied P o ↔ (HasStatus P o status.Complete ⊎ HasStatus P o status.Deleted)
 
--- the classes of this status tell what is so of o
+-- the classes of this status show what is so of o
 pub record AreItsClasses (P : Plan) (o : OpKey) (s : Status) : Type 0 where
   pub ready : IsReady P o ↔ (is_ready s ≡ true)
   pub waiting_or_ready : IsWaitingOrReady P o ↔ (is_waiting_or_ready s ≡ true)
   pub under_way : IsUnderWay P o ↔ (is_under_way s ≡ true)
   pub satisfied : IsSatisfied P o ↔ (is_satisfied s ≡ true)
 
--- of each operation of a valid plan the classes of its status tell whether it is ready, waiting or ready, under way, and satisfied
+-- of each operation of a valid plan the classes of its status show whether it is ready, waiting or ready, under way, and satisfied
 abbrev pub ClassesOfStatus : Type 0
 ClassesOfStatus = (P : Plan) → IsValid P → (o : OpKey) (s : Status) → HasStatus P o s → AreItsClasses P o s
 

@@ -1,4 +1,4 @@
--- How many operation records a request may look at: the plans before and after it tell one number.
+-- How many operation records a request may look at: the plans before and after it decide one number.
 use Rattle.std.specs.Prelude.{◌≡◌, ℕ}
 use Rattle.plan_model.specs.Plan.{Plan}
 use Rattle.plan_model.specs.Valid.{IsValid}

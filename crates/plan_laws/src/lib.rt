@@ -55,8 +55,8 @@ pub fn choice_keeps_sound()
     ensures { ChoiceKeepsSound }
 {}
 
-/// Whether an operation is satisfied can be told, where there is a rank, as in each valid plan; and it is so where each
-/// closed set has it.
+/// Whether an operation is satisfied can be decided, where there is a rank, as in each valid plan; and it is so where
+/// each closed set has it.
 pub fn satisfied_is_told()
     ensures told { (P : Plan) → (rank : OpKey → ℕ) → IsRankBy (Precedes P) rank → (o : OpKey) → IsSatisfied P o ⊎ ¬ IsSatisfied P o }
     ensures each { (P : Plan) → (rank : OpKey → ℕ) → IsRankBy (Precedes P) rank → (o : OpKey) → IsSatisfied P o ↔ IsInEachClosedSet P o }
@@ -68,7 +68,7 @@ pub fn status_is_by_table()
     ensures { (P : Plan) → (o : OpKey) → (op : Operation) → (ws : Workstation) → (p : Preds) → get P.operations o ≡ Some op → get P.workstations op.workstation ≡ Some ws → ArePreds P o p → HasStatus P o (status_by op.mark op.held op.nop ws.attribute p) }
 {}
 
-/// A counter of waiting predecessors is zero exactly where all of them are satisfied.
+/// The number of live predecessors that aren't satisfied is zero exactly where all of them are.
 pub fn counter_at_zero()
     ensures { (P : Plan) → (rank : OpKey → ℕ) → IsRankBy (Precedes P) rank → (o : OpKey) → IsWaitingFor P o 0 ↔ AllPredecessorsSatisfied P o }
 {}
@@ -95,7 +95,7 @@ pub fn reached_starts_are_provided_for()
     ensures { ReachedStartsAreProvidedFor }
 {}
 
-/// A pair that comes in closes a path exactly where its ends are one, or a path leads back from the second to the first.
+/// A pair that is added closes a path exactly where its ends are one, or a path leads back from second to first.
 pub fn pair_closes_a_path()
     ensures { (pairs : Pairs) → (p : OpKey) → (s : OpKey) → IsAcyclic pairs → IsAcyclic (set.insert pairs (p, s)) ↔ ((p ≢ s) × ¬ LeadsBy (IsPairOf pairs) s p) }
 {}
@@ -119,7 +119,7 @@ pub fn valid_has_rank()
     ensures { ValidHasRank }
 {}
 
-/// Whether a path leads from one operation to another can be told, and whether one returns to its start.
+/// Whether a path leads from one operation to another can be decided, and whether one returns to its start.
 pub fn paths_are_told()
     ensures paths { PathsAreTold }
     ensures cycles { CyclesAreTold }
@@ -130,7 +130,7 @@ pub fn satisfied_by_status()
     ensures { SatisfiedByStatus }
 {}
 
-/// Of each operation of a valid plan the classes of its status tell whether it is ready, waiting or ready, under way, and
+/// Of each operation of a valid plan the classes of its status show if it is ready, waiting or ready, under way, and
 /// satisfied.
 pub fn classes_of_status()
     ensures { ClassesOfStatus }
@@ -205,13 +205,13 @@ pub fn plan_answers()
     ensures { PlanAnswers }
 {}
 
-/// How many operation records a request may look at is one number, told by the plans before and after.
+/// How many operation records a request may look at is one number, which the plans before and after decide.
 pub fn one_allowance()
     ensures some { SomeAllowance }
     ensures one { OneAllowance }
 {}
 
-/// The order in which records stand doesn't matter to the plan that they denote, nor to the addition.
+/// The order of records doesn't matter to the plan that they denote, nor to the addition.
 pub fn order_of_records_does_not_matter()
     ensures plan { OrderDoesNotMatter }
     ensures addition { OrderDoesNotMatterToAdditions }

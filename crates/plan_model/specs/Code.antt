@@ -10,7 +10,7 @@ use Rattle.special_resources.specs.Needs.{Usages, usages_code}
 use Rattle.status_rules.specs.contracts.Mark as mark
 use Rattle.status_rules.specs.declared.Mark.{Mark}
 use Rattle.workstations.specs.Timetables.{workstation_code}
-use Rattle.plan_model.specs.Plan.{Operation, Plan, Supplement, Workstations, Resources, Occurrences, Operations, Pairs}
+use Rattle.plan_model.specs.Plan.{Operation, Plan, AddedParts, Workstations, Resources, Occurrences, Operations, Pairs}
 use Rattle.plan_model.specs.declared.Occurrence.{Occurrence}
 
 -- a name is stored as its bytes
@@ -63,9 +63,9 @@ plan_code = code_by
     (λ p. record { loaded = p.0.0; clock = p.0.1.0; workstations = p.0.1.1; resources = p.1.0; occurrences = p.1.1.0; operations = p.1.1.1.0; pairs = p.1.1.1.1 })
     (λ _. refl)
 
--- what comes in as its three parts
-abbrev pub supplement_code : Coded Supplement
-supplement_code = code_by
+-- an addition as its three parts
+abbrev pub added_code : Coded AddedParts
+added_code = code_by
     (Occurrences × (Operations × Pairs))
     (coded× occurrences_code (coded× operations_code pairs_code))
     (λ c. (c.occurrences, (c.operations, c.pairs)))

@@ -66,8 +66,8 @@ pub record Plan : Type 0 where
 abbrev pub no_plan : Plan
 no_plan = record { loaded = false; clock = 0; workstations = map.empty; resources = map.empty; occurrences = map.empty; operations = map.empty; pairs = set.empty }
 
--- occurrences that come in, with their operations and pairs
-pub record Supplement : Type 0 where
+-- occurrences that are added, with their operations and pairs
+pub record AddedParts : Type 0 where
   pub occurrences : Occurrences
   pub operations : Operations
   pub pairs : Pairs

@@ -12,7 +12,7 @@ use Rattle.ready_list.specs.Choice.{operations_of, is_among, IsChoice}
 use Rattle.plan_model.specs.Plan.{Plan, Operation, Has, HasAttribute}
 use Rattle.plan_model.specs.declared.Occurrence.{Occurrence}
 use Rattle.plan_model.specs.Status.{IsReady}
-use Rattle.plan_model.specs.Starting.{IsAllowedToStart, IsLatestStart}
+use Rattle.plan_model.specs.Starts.{IsAllowedToStart, IsLatestStart}
 use Rattle.plan_model.specs.Revise.{revise}
 
 -- an operation that is arriving or ready, with what its place in the list goes by

@@ -46,7 +46,7 @@ UnmarkedStatus P o status.Ready = ¬ IsSatisfied P o × AllPredecessorsSatisfied
 UnmarkedStatus P o status.Waiting = ¬ IsSatisfied P o × ¬ AllPredecessorsSatisfied P o
 UnmarkedStatus P o _ = ⊥
 
--- the status of o: told by its mark, or without a mark by what precedes it
+-- the status of o: decided by its mark, or without a mark by what precedes it
 abbrev pub HasStatus : Plan → OpKey → Status → Type 0
 HasStatus P o s = Has P o (λ op. MatchOption (marked_status op.mark) (UnmarkedStatus P o s) (λ told. s ≡ told))
 

@@ -39,7 +39,7 @@ pub record IsOperation (o : OpKey) (op : Operation) : Type 0 where
   pub few_needs : len op.needs ≤ MOST_NEEDS
   pub code : (code : Name) → op.mark ≡ mark.Error code → IsName 4 code
 
--- occurrences with their operations, of a plan or of what comes in: each occurrence has one, and each operation has its occurrence
+-- occurrences with their operations, of a plan or of what is added: each occurrence has one, and each operation has its occurrence
 pub record AreOccurrences (occurrences : Occurrences) (operations : Operations) : Type 0 where
   pub each_occurrence : (c : OccKey) (x : Occurrence) → get occurrences c ≡ Some x → IsOccurrence c x
   pub each_operation : (o : OpKey) (op : Operation) → get operations o ≡ Some op → IsOperation o op × (contains_key occurrences o.occurrence ≡ true)

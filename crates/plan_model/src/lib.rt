@@ -1,4 +1,4 @@
-//! What a plan holds: the records of its occurrences and operations. Everything that is read off a plan, as a status or
+//! What a plan holds: its occurrences and its operation records. Everything that is read off a plan, as a status or
 //! a latest start, is defined in `specs/`, over finite maps in which nothing is derived.
 #![tactic(auto)]
 
@@ -14,7 +14,7 @@ pub struct Occurrence {
     pub deadline: Moment,
 }
 
-/// An operation: what was planned of it, and what was reported. Contracts see it as the record `Operation` of the
+/// An operation record: what was planned of an operation, and what was reported. Contracts see it as `Operation` of the
 /// definitions.
 #[derive(Clone, Copy, Debug)]
 pub struct OperationRecord {

@@ -15,7 +15,7 @@ use Rattle.plan_model.specs.declared.Occurrence.{Occurrence}
 use Rattle.plan_items.specs.declared.Item.{Item}
 use Rattle.plan_items.specs.declared.OperationItem.{OperationItem}
 use Rattle.plan_records.specs.declared.contents.PlanContents.{PlanContents}
-use Rattle.plan_records.specs.Loading.{Fits, AreWorkstationsInOrder, AreResourcesInOrder, AreOccurrencesInOrder, AreOperations, AreRowsOf, IsNeedIn, AreNeedsInOrder, IsPairIn, ArePairs, ArePairsInOrder, CanBeLoaded, AreContentsOf, keys_said, needs_of, occurrence_of, terms_of}
+use Rattle.plan_records.specs.PlanItems.{Fits, AreWorkstationsInOrder, AreResourcesInOrder, AreOccurrencesInOrder, AreOperations, AreRowsOf, IsNeedIn, AreNeedsInOrder, IsPairIn, ArePairs, ArePairsInOrder, CanBeLoaded, AreContentsOf, keys_said, needs_of, occurrence_of, terms_of}
 use Rattle.plan_records.proofs.ItemKinds.{workstations_in, intervals_in, resources_in, occurrences_in, operations_in, needs_in, pairs_in}
 use Rattle.plan_records.proofs.Lists.{keys_permuted}
 use Rattle.plan_records.proofs.Openings.{station_in}

@@ -9,7 +9,7 @@ use Rattle.plan_items.specs.Items.{Fields, fields_of, IsItem, Says}
 use Rattle.plan_items.proofs.ItemLaws.{one_item}
 use Rattle.plan_records.specs.declared.contents.PlanContents.{PlanContents}
 use Rattle.plan_records.specs.Contents.{plan_of, AreDraftContents}
-use Rattle.plan_records.specs.Loading.{CanBeLoaded, AreContentsOf}
+use Rattle.plan_records.specs.PlanItems.{CanBeLoaded, AreContentsOf}
 use Rattle.plan_records.specs.Records.{records_of, StandsIn, IsItemOfPlan, AreItems, Denotes}
 use Rattle.plan_records.proofs.Needed.{needed}
 use Rattle.plan_records.proofs.Made.{are_items, some_workstation, some_occurrence, is_draft}

@@ -21,15 +21,15 @@ use Rattle.plan_model.specs.Valid.{IsAcyclic}
 use Rattle.plan_model.specs.declared.Occurrence.{Occurrence}
 use Rattle.plan_graph.specs.PlanGraphs.{AreAmong}
 use Rattle.plan_items.specs.declared.OperationItem.{OperationItem}
-use Rattle.plan_records.specs.Loading.{Fits, IsOneOf, BelongsTo, AreOperations, EachHasOperation, AreRowsOf, IsPairIn, ArePairsInOrder, keys_said, needs_of, occurrence_of, operation_of, row_of, terms_of}
+use Rattle.plan_records.specs.PlanItems.{Fits, IsOneOf, BelongsTo, AreOperations, EachHasOperation, AreRowsOf, IsPairIn, ArePairsInOrder, keys_said, needs_of, occurrence_of, operation_of, row_of, terms_of}
 use Rattle.plan_records.proofs.Keyed.{key_to_row, row_to_key, said_apart}
 use Rattle.plan_records.proofs.Lists.{all_by_members, contains_cases, contains_head, contains_none, in_map, from_map}
 use Rattle.plan_records.proofs.Pairs.{pair_cmp_total, pair_cmp-IsAntisymmetric}
 use Rattle.plan_records.proofs.RowPlaces.{get_at}
 use Rattle.plan_records.proofs.Tables.{no_some, in_set, key_found}
 use Rattle.plan_records.proofs.Terms.{found_key, terms_there}
-use Rattle.plan_records.specs.Adding.{ComesWith, new_row}
-use Rattle.plan_records.specs.Sorting.{AreInKeyOrder}
+use Rattle.plan_records.specs.AdditionItems.{ComesWith, new_row}
+use Rattle.plan_records.specs.KeyOrder.{AreInKeyOrder}
 
 -- ---- the row of an operation
 
@@ -55,7 +55,7 @@ row_made occurrences needs said terms due own e is own_is =
     let found = ap (λ o. unwrap_or said.deadline (due_of (unwrap_or o (record { priority = 0; deadline = 0 })))) e in
     ap₂ (λ d u. (said.key, operation_with said d u)) (is ∙ sym found) own_is
 
--- what its row tells of an operation whose occurrence is there
+-- what its row shows of an operation whose occurrence is there
 pub row_told :
     (occurrences : Terms) (needs : Wants) (said : OperationItem) (terms : Occurrence) (found : Option (OpKey × Operation)) →
     get {R = occurrence_cmp} (from_entries occurrences) said.key.occurrence ≡ Some terms →
@@ -100,7 +100,7 @@ module _ (c : OccKey) (terms : Occurrence) (needs : Wants) where
   pub belongs : (said : OperationItem) → ComesWith c needs said → BelongsTo Sole needs said
   belongs said is = record { occurrence = subst (Contains (c ∷ [])) (sym is.occurrence) (contains_head c []); few_needs = is.few_needs }
 
-  -- they are as of an occurrence that comes in
+  -- they are as of an occurrence that is added
   pub sole_rows : (said : List OperationItem) → All (BelongsTo Sole needs) said → map (row_of Sole needs) said ≡ map (new_row terms needs) said
   sole_rows [] come = refl
   sole_rows (s ∷ said) come =
@@ -145,7 +145,7 @@ none_has names occurrences needs said rows same none are = none (has_over (keys_
 
 -- ---- pairs
 
--- what is answered only where P is so tells whether it is
+-- what is answered only where P is so shows whether it is
 pub told_by : {G : Type 0} (P : Type 0) (Q : G → Type 0) (found : Option G) → MatchOption found (¬ P) (λ g. Q g × P) → IsTrue (is_some found) ↔ P
 told_by P Q None h = (λ e. absurd (true≢false (sym e)), λ p. absurd (h p))
 told_by P Q (Some g) h = (λ _. h.1, λ _. refl)

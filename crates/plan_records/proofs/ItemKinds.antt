@@ -18,7 +18,7 @@ use Rattle.plan_items.specs.declared.OperationItem.{OperationItem}
 use Rattle.plan_records.specs.declared.RowKey.{RowKey}
 use Rattle.plan_records.specs.declared.RowKey.TheVariants as key
 use Rattle.plan_records.specs.Records.{key_of}
-use Rattle.plan_records.specs.Loading.{as_workstation, as_interval, as_resource, as_occurrence, as_operation, as_pair, as_need, need_key}
+use Rattle.plan_records.specs.PlanItems.{as_workstation, as_interval, as_resource, as_occurrence, as_operation, as_pair, as_need, need_key}
 use Rattle.plan_records.proofs.Lists.{Differ, Kept, differ_from_pairs, pairs_from_differ, differ_filter, differ_kept, differ_map, from_filter, in_filter, in_map, from_map, length_map}
 use Rattle.plan_records.proofs.Tables.{map_count, same_some, no_some}
 

@@ -10,7 +10,7 @@ use Rattle.plan_basics.specs.declared.keys.OpKey.{OpKey}
 use Rattle.plan_basics.specs.Keys.{occurrence_cmp_total, occurrence_cmp-IsAntisymmetric, operation_cmp_total, operation_cmp-IsAntisymmetric}
 use Rattle.special_resources.specs.declared.Need.{Need}
 use Rattle.special_resources.specs.Holdings.{usage_of}
-use Rattle.plan_model.specs.Plan.{Plan, Operation, Supplement, IsPairOf}
+use Rattle.plan_model.specs.Plan.{Plan, Operation, AddedParts, IsPairOf}
 use Rattle.plan_model.specs.Valid.{AreOccurrences, AreUntouched}
 use Rattle.plan_model.specs.declared.Occurrence.{Occurrence}
 use Rattle.plan_items.specs.declared.Item.{Item}
@@ -20,20 +20,20 @@ use Rattle.plan_records.specs.declared.RowKey.{RowKey}
 use Rattle.plan_records.specs.declared.RowKey.TheVariants as key
 use Rattle.plan_records.specs.Drafts.{IsDraft, IsAddition}
 use Rattle.plan_records.specs.Records.{key_of, entered, StandsInSupplement, StandsIn, IsItemOf, IsItemOfPlan, AreItems, IsAsSaid}
-use Rattle.plan_records.specs.Loading.{keys_said, needs_of}
-use Rattle.plan_records.specs.Adding.{MayComeIn}
+use Rattle.plan_records.specs.PlanItems.{keys_said, needs_of}
+use Rattle.plan_records.specs.AdditionItems.{MayComeIn}
 use Rattle.plan_records.proofs.Lists.{contains_head}
 use Rattle.plan_records.proofs.Tables.{some_is}
 use Rattle.plan_records.proofs.NeedsSaid.{NeedsDiffer, as_many_said}
 use Rattle.plan_records.proofs.ItemKinds as kinds
 use Rattle.plan_records.proofs.ItemKinds.{needs_in, occurrences_in, operations_in, pairs_in, read_apart, read_stands, key_in, so_many}
 
--- an item that may come in stands there
-abbrev pub Stands : Supplement → Item → Type 0
+-- an item that may be added is there
+abbrev pub Stands : AddedParts → Item → Type 0
 Stands s i = MayComeIn i → StandsInSupplement s i
 
--- occurrences with their operations and pairs, of which nothing is reported yet: the items that may come in are all that they hold
-pub record Holds (items : List Item) (s : Supplement) : Type 0 where
+-- occurrences with their operations and pairs, of which nothing is reported yet: the items that may be added are all that they hold
+pub record Holds (items : List Item) (s : AddedParts) : Type 0 where
   pub distinct : AllPairs (λ a b. key_of a ≢ key_of b) items
   pub stand : All (Stands s) items
   pub all : (k : RowKey) → IsItemOf s k → (i : Item) × Contains items i × (key_of i ≡ k)
@@ -41,7 +41,7 @@ pub record Holds (items : List Item) (s : Supplement) : Type 0 where
   pub untouched : AreUntouched s.operations
 
 -- those of an addition
-pub held_by_addition : (s : Supplement) → IsAddition s → (items : List Item) → AreItems (StandsInSupplement s) (IsItemOf s) items → Holds items s
+pub held_by_addition : (s : AddedParts) → IsAddition s → (items : List Item) → AreItems (StandsInSupplement s) (IsItemOf s) items → Holds items s
 held_by_addition s addition items are = record {
   distinct = are.distinct;
   stand = All-weaker (StandsInSupplement s) (Stands s) (λ i h may. h) items are.stand;
@@ -72,7 +72,7 @@ held_by_plan P draft items are = record {
     part (key.Resource r) e = absurd e
     part _ e = e
 
-module _ {items : List Item} {s : Supplement} (held : Holds items s) where
+module _ {items : List Item} {s : AddedParts} (held : Holds items s) where
   pub occurrence_is : (y : OccKey × Occurrence) → Contains (occurrences_in items) y → get s.occurrences y.0 ≡ Some y.1
   occurrence_is y has = read_stands kinds.occurrences (Stands s) items held.stand y has tt
 

@@ -45,7 +45,7 @@ module _ {S K X : Type 0} (key : S → K) (make : S → X) (said : List S) where
   pub said_apart : AllPairs (λ a b. a.0 ≢ b.0) (map row said) → AllPairs (λ a b. key a ≢ key b) said
   said_apart apart = pairs_from_differ (λ a b. key a ≢ key b) said (differ_unmap row (λ a b. a.0 ≢ b.0) said (differ_from_pairs (λ a b. a.0 ≢ b.0) (map row said) apart))
 
-  -- they stand in any order
+  -- they are in any order
   module _ (rows : List (K × X)) (same : IsPermutation (map row said) rows) where
     -- the keys that are said and those of the rows are the same
     pub key_to_row : (k : K) → Contains (map key said) k → Contains (keys_of rows) k
@@ -86,7 +86,7 @@ module _ {K X : Type 0} {R : K → K → Ordering} (total : IsTotalOrder R) (exa
       let is = own_from k r.0 x r.2 in
       subst (Contains rows) (λ i. (is.0 i, is.1 i)) r.1
 
--- a place that is looked up tells whether a row has the key
+-- an index that is looked up shows whether a row has the key
 pub key_told :
     {K X : Type 0} {R : K → K → Ordering} (total : IsTotalOrder R) (exact : IsAntisymmetric R) (rows : List (K × X)) (key : K) (place : Option ℕ) → IsStrictlySortedBy R (keys_of rows) →
     IfSome place (λ i. (x : X) × (slice_get rows i ≡ Some (key, x))) → (IsNone place → get {R = R} (from_entries rows) key ≡ None) →

@@ -29,8 +29,8 @@ use Rattle.plan_records.specs.declared.RowKey.TheVariants as key
 use Rattle.plan_records.specs.Contents.{plan_of}
 use Rattle.plan_records.specs.Drafts.{IsDraft}
 use Rattle.plan_records.specs.Records.{key_of, StandsIn, IsItemOfPlan, AreItems}
-use Rattle.plan_records.specs.Loading.{Fits, IsNeedIn, IsPairIn, IsOpening, CanOpen, intervals_of, opened_in, AreContentsOf, as_workstation, as_interval, as_resource, keys_said, needs_of, row_of, terms_of}
-use Rattle.plan_records.specs.Adding.{IsNeedOf}
+use Rattle.plan_records.specs.PlanItems.{Fits, IsNeedIn, IsPairIn, IsOpening, CanOpen, intervals_of, opened_in, AreContentsOf, as_workstation, as_interval, as_resource, keys_said, needs_of, row_of, terms_of}
+use Rattle.plan_records.specs.AdditionItems.{IsNeedOf}
 use Rattle.plan_records.proofs.Lists.{pairs_from_differ, in_map, from_map, in_filter, all_by_members, keys_permuted}
 use Rattle.plan_records.proofs.Tables.{some_is, is_found, sorted_apart, len_set}
 use Rattle.plan_records.proofs.Pairs.{pair_cmp_total, pair_cmp-IsAntisymmetric}
@@ -128,7 +128,7 @@ module _ (items : List Item) (c : PlanContents) (legal_items : All items_of.IsIt
       let row = from_map (λ (row : Name × Bool). row.0) (resources_in items) n.0.name within.resource in
       subst (λ z. contains_key P.resources z ≡ true) (row.2 ∙ n.2) (some_is (get P.resources row.0.0) row.0.1 (resource_at row.0 row.1))
 
-  -- ---- each item stands in the plan
+  -- ---- each item is in the plan
   stands : (i : Item) → Contains items i → StandsIn P i
   stands (item.Workstation n t) has = ap (option_map (λ (ws : Workstation). ws.attribute)) (workstation_at (n, t) (in_filter as_workstation items (item.Workstation n t) (n, t) has refl))
   stands (item.Interval n x) has =

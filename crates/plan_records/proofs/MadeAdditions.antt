@@ -1,4 +1,4 @@
--- The parts of what items say, where these come in, are the addition of these items.
+-- The parts of what items say, where these are added, are the addition of these items.
 use Rattle.std.proofs.Common.{◌≡◌, ◌≢◌, ◌⊎◌, inl, inr, refl, sym, subst, ap, ◌∙◌, arith, ◌+◌, true, false, cond, List, map, All, Contains, Some, is_some}
 use Rattle.std.specs.List.{AllPairs}
 use Rattle.std.specs.Ordering.{eq_by_cmp}
@@ -7,17 +7,17 @@ use Rattle.std.proofs.lemmas.List.Elements.{All-contains, Contains-get_or}
 use Rattle.plan_basics.specs.declared.keys.OccKey.{OccKey}
 use Rattle.plan_basics.specs.declared.keys.OpKey.{OpKey}
 use Rattle.plan_basics.specs.Keys.{IsOperationKey, occurrence_cmp, occurrence_cmp_total, occurrence_cmp-IsAntisymmetric}
-use Rattle.plan_model.specs.Plan.{Occurrences, Supplement, IsPairOf}
+use Rattle.plan_model.specs.Plan.{Occurrences, AddedParts, IsPairOf}
 use Rattle.plan_model.specs.declared.Occurrence.{Occurrence}
 use Rattle.plan_items.specs.declared.Item.{Item}
 use Rattle.plan_items.specs.declared.OperationItem.{OperationItem}
 use Rattle.plan_items.specs.Items as items_of
-use Rattle.plan_records.specs.declared.contents.NewOccurrence.{NewOccurrence}
-use Rattle.plan_records.specs.Contents.{incoming, AreAdditionParts}
+use Rattle.plan_records.specs.declared.contents.AdditionParts.{AdditionParts}
+use Rattle.plan_records.specs.Contents.{added_of, AreAdditionParts}
 use Rattle.plan_records.specs.Drafts.{IsOwn, IsEnd, IsAddition}
 use Rattle.plan_records.specs.Records.{key_of, StandsInSupplement, IsItemOf, AreItems}
-use Rattle.plan_records.specs.Loading.{keys_said, occurrence_of}
-use Rattle.plan_records.specs.Adding.{MayComeIn, ComesWith, IsEndAmong, IsNewPair, ArePartsOf}
+use Rattle.plan_records.specs.PlanItems.{keys_said, occurrence_of}
+use Rattle.plan_records.specs.AdditionItems.{MayComeIn, ComesWith, IsEndAmong, IsNewPair, ArePartsOf}
 use Rattle.plan_basics.proofs.Members.{tied_is}
 use Rattle.plan_records.proofs.Lists.{in_map, all_by_members, sole_member, sole_there}
 use Rattle.plan_records.proofs.Tables.{some_is, is_found, same_some, no_some, itself}
@@ -43,9 +43,9 @@ module _ (c : OccKey) (terms : Occurrence) where
       let none : Occurrences = empty in
       len-insert occurrence_cmp_total none c terms ∙ ap (λ o. cond (is_some o) (len none) (len none + 1)) (get-empty occurrence_cmp c) ∙ ap (λ k. k + 1) (len-empty occurrence_cmp Occurrence)
 
-module _ (items : List Item) (n : NewOccurrence) (legal : All items_of.IsItem items) (made : ArePartsOf items n) where
-  abbrev S : Supplement
-  S = incoming n
+module _ (items : List Item) (n : AdditionParts) (legal : All items_of.IsItem items) (made : ArePartsOf items n) where
+  abbrev S : AddedParts
+  S = added_of n
 
   -- ---- no two items are of one key
   none_apart : {Y : Type 0} (R : Y → Y → Type 0) (ys : List Y) → ((y : Y) → Contains ys y → ⊥) → AllPairs R ys

@@ -17,7 +17,7 @@ use Rattle.special_resources.specs.declared.Need.{Need}
 use Rattle.special_resources.specs.Holders.{Usage}
 use Rattle.special_resources.specs.Holdings.{usage_of}
 use Rattle.special_resources.specs.Needs.{usages_of}
-use Rattle.plan_model.specs.Plan.{Operation, Occurrences, Supplement, IsPairOf}
+use Rattle.plan_model.specs.Plan.{Operation, Occurrences, AddedParts, IsPairOf}
 use Rattle.plan_model.specs.Valid.{IsOccurrence, IsOperation, AreOccurrences, AreUntouched, IsUntouched}
 use Rattle.plan_model.specs.declared.Occurrence.{Occurrence}
 use Rattle.plan_items.specs.declared.Item.{Item}
@@ -27,8 +27,8 @@ use Rattle.plan_items.specs.Items as items_of
 use Rattle.plan_records.specs.declared.RowKey.{RowKey}
 use Rattle.plan_records.specs.declared.RowKey.TheVariants as key
 use Rattle.plan_records.specs.Records.{key_of, StandsInSupplement, IsItemOf}
-use Rattle.plan_records.specs.Loading.{EachHasOperation, as_occurrence, as_operation, as_pair, as_need, keys_said, need_key, needs_of, occurrence_of}
-use Rattle.plan_records.specs.Adding.{MayComeIn, AreNewNeeds, IsNeedOf}
+use Rattle.plan_records.specs.PlanItems.{EachHasOperation, as_occurrence, as_operation, as_pair, as_need, keys_said, need_key, needs_of, occurrence_of}
+use Rattle.plan_records.specs.AdditionItems.{MayComeIn, AreNewNeeds, IsNeedOf}
 use Rattle.plan_records.proofs.Lists.{differ_from_pairs, in_map, from_map, in_filter, length_map}
 use Rattle.plan_records.proofs.Tables.{some_is, is_found, rows_apart, get_row, row_found, len_rows, in_set, from_set}
 use Rattle.plan_records.proofs.Pairs.{pair_cmp_total, pair_cmp-IsAntisymmetric}
@@ -79,7 +79,7 @@ pub record AreParts (items : List Item) (terms : OperationItem → Occurrence) (
   pub pairs : IsPermutation (pairs_in items) ordered
 
 module _ {items : List Item} {terms : OperationItem → Occurrence} {occurrences : Occurrences} {rows : List (OpKey × Operation)} {ordered : List (OpKey × OpKey)} (parts : AreParts items terms occurrences rows ordered) where
-  abbrev S : Supplement
+  abbrev S : AddedParts
   S = record { occurrences = occurrences; operations = from_entries rows; pairs = set.from_list ordered }
 
   abbrev row : OperationItem → OpKey × Operation
@@ -104,7 +104,7 @@ module _ {items : List Item} {terms : OperationItem → Occurrence} {occurrences
       let r = from_map (λ (said : OperationItem). said.key) (operations_in items) o has in
       subst (λ z. contains_key S.operations z ≡ true) r.2 (some_is (get S.operations r.0.key) (row r.0).1 (row_at r.0 r.1))
 
-  -- ---- each item stands there
+  -- ---- each item is there
   need_at : (o : OpKey) (need : Need) → Contains (needs_in items) (o, need) → (op : Operation) × (get S.operations o ≡ Some op) × (get op.needs need.name ≡ Some (usage_of need))
   need_at o need has =
       let r = from_map (λ (said : OperationItem). said.key) (operations_in items) o (All-contains (IsNeedOf (keys_said (operations_in items))) (needs_in items) (o, need) parts.needs.within has) in

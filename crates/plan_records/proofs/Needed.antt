@@ -20,7 +20,7 @@ use Rattle.plan_items.specs.declared.OperationItem.{OperationItem}
 use Rattle.plan_records.specs.declared.RowKey.TheVariants as key
 use Rattle.plan_records.specs.Drafts.{IsDraft}
 use Rattle.plan_records.specs.Records.{entered, StandsIn, IsItemOfPlan, AreItems}
-use Rattle.plan_records.specs.Loading.{intervals_of, IsOpening, CanOpen, AreWorkstations, AreResources, Fits, AreOccurrenceRows, AreOperations, occurrence_of, IsNeedIn, AreNeeds, IsPairIn, ArePairs, CanBeLoaded, keys_said}
+use Rattle.plan_records.specs.PlanItems.{intervals_of, IsOpening, CanOpen, AreWorkstations, AreResources, Fits, AreOccurrenceRows, AreOperations, occurrence_of, IsNeedIn, AreNeeds, IsPairIn, ArePairs, CanBeLoaded, keys_said}
 use Rattle.plan_records.proofs.Lists.{Differ, differ_map, length_map, in_map, from_map, all_by_members}
 use Rattle.plan_records.proofs.Tables.{some_is, same_some, no_some, map_count, set_count, in_set, from_set}
 use Rattle.plan_records.proofs.Pairs.{pair_cmp_total, pair_cmp-IsAntisymmetric}

@@ -1,17 +1,17 @@
--- Where items are those of an addition, they can come in, kind by kind.
+-- Where items are those of an addition, they can be added, kind by kind.
 use Rattle.std.proofs.Common.{◌≡◌, inl, inr, sym, subst, ap, ◌∙◌, refl, arith, true, List, [], ◌∷◌, length, Contains}
 use Rattle.std.specs.FinMap.{get, contains_key}
 use Rattle.plan_basics.specs.declared.keys.OccKey.{OccKey}
 use Rattle.plan_basics.specs.declared.keys.OpKey.{OpKey}
-use Rattle.plan_model.specs.Plan.{Supplement}
+use Rattle.plan_model.specs.Plan.{AddedParts}
 use Rattle.plan_model.specs.declared.Occurrence.{Occurrence}
 use Rattle.plan_items.specs.declared.Item.{Item}
 use Rattle.plan_items.specs.declared.Item.TheVariants as item
 use Rattle.plan_items.specs.declared.OperationItem.{OperationItem}
 use Rattle.plan_records.specs.Drafts.{IsOwn, IsEnd, IsAddition}
 use Rattle.plan_records.specs.Records.{StandsInSupplement, IsItemOf, AreItems}
-use Rattle.plan_records.specs.Loading.{keys_said}
-use Rattle.plan_records.specs.Adding.{MayComeIn, ComesWith, AreNewOperations, IsNeedOf, AreNewNeeds, IsEndAmong, IsNewPair, AreNewPairs, CanComeIn}
+use Rattle.plan_records.specs.PlanItems.{keys_said}
+use Rattle.plan_records.specs.AdditionItems.{MayComeIn, ComesWith, AreNewOperations, IsNeedOf, AreNewNeeds, IsEndAmong, IsNewPair, AreNewPairs, CanComeIn}
 use Rattle.plan_records.proofs.Lists.{from_map, all_by_members, sole_member, sole_there}
 use Rattle.plan_records.proofs.Tables.{some_is}
 use Rattle.plan_records.proofs.ItemKinds as kinds
@@ -25,7 +25,7 @@ sole_of [] one = absurd (omega (arith, one))
 sole_of (x ∷ []) one = (x, refl)
 sole_of (x ∷ y ∷ ys) one = absurd (omega (arith, one))
 
-module _ (s : Supplement) (addition : IsAddition s) (items : List Item) (are : AreItems (StandsInSupplement s) (IsItemOf s) items) where
+module _ (s : AddedParts) (addition : IsAddition s) (items : List Item) (are : AreItems (StandsInSupplement s) (IsItemOf s) items) where
   held : Holds items s
   held = held_by_addition s addition items are
 

@@ -20,7 +20,7 @@ use Rattle.plan_model.specs.declared.Occurrence.{Occurrence}
 use Rattle.plan_items.specs.declared.OperationItem.{OperationItem}
 use Rattle.plan_items.specs.Items.{IsOperationItem}
 use Rattle.plan_model.specs.Valid.{IsOperation}
-use Rattle.plan_records.specs.Loading.{AreNeedsInOrder, need_key, needs_of, operation_of}
+use Rattle.plan_records.specs.PlanItems.{AreNeedsInOrder, need_key, needs_of, operation_of}
 use Rattle.plan_records.proofs.Lists.{Differ, differ_from_pairs, map_alike, differ_filter, differ_map, length_map, in_map, from_map}
 use Rattle.plan_records.proofs.Tables.{AreApart, get_row, row_found, len_rows, some_is, same_some, same_entries}
 use Rattle.plan_records.proofs.Orders.{differ_permuted}

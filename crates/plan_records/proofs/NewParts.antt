@@ -1,4 +1,4 @@
--- The parts of an occurrence that comes in, as they are said and in order.
+-- The parts of an occurrence that is added, as they are said and in order.
 use Rattle.std.proofs.Common.{◌≡◌, subst, sym, ◌∙◌, arith, List, [], ◌∷◌, length, All, Contains}
 use Rattle.std.specs.List.Sorted.{IsPermutation}
 use Rattle.std.specs.Map.{keys_of}
@@ -11,9 +11,9 @@ use Rattle.plan_model.specs.Plan.{Operation}
 use Rattle.plan_model.specs.declared.Occurrence.{Occurrence}
 use Rattle.plan_items.specs.declared.Item.{Item}
 use Rattle.plan_items.specs.declared.OperationItem.{OperationItem}
-use Rattle.plan_records.specs.declared.contents.NewOccurrence.{NewOccurrence}
-use Rattle.plan_records.specs.Loading.{AreNeedsInOrder, keys_said, needs_of, operation_of}
-use Rattle.plan_records.specs.Adding.{MayComeIn, ComesWith, AreNewOperations, AreNewRows, IsNeedOf, IsNewPair, AreNewPairs, AreNewPairsInOrder, ComeIn, CanComeIn, ArePartsOf}
+use Rattle.plan_records.specs.declared.contents.AdditionParts.{AdditionParts}
+use Rattle.plan_records.specs.PlanItems.{AreNeedsInOrder, keys_said, needs_of, operation_of}
+use Rattle.plan_records.specs.AdditionItems.{MayComeIn, ComesWith, AreNewOperations, AreNewRows, IsNeedOf, IsNewPair, AreNewPairs, AreNewPairsInOrder, ComeIn, CanComeIn, ArePartsOf}
 use Rattle.plan_records.proofs.ItemKinds.{occurrences_in, operations_in, needs_in, pairs_in}
 use Rattle.plan_records.proofs.Keyed.{key_to_row, row_to_key}
 use Rattle.plan_records.proofs.NeedsSaid.{need_counts, rows_alike}
@@ -53,7 +53,7 @@ head_of x y e = cc
 
 module _ (items : List Item) where
   module _ (c : OccKey) (terms : Occurrence) (one : occurrences_in items ≡ (c, terms) ∷ []) (sorted : Wants) (needs : AreNeedsInOrder (needs_in items) sorted) where
-    -- what comes in is that occurrence
+    -- what is added is that occurrence
     come : CanComeIn items → ComeIn c terms items
     come can = subst (λ (row : OccKey × Occurrence). ComeIn row.0 row.1 items) (head_of (can.0, can.1) (c, terms) (sym can.2.one ∙ one)) can.2
 
@@ -71,7 +71,7 @@ module _ (items : List Item) where
       no_new_pairs none can = none (pairs_over (come can).pairs keys)
 
   pub parts_are :
-      (n : NewOccurrence) (sorted : Wants) → All MayComeIn items → occurrences_in items ≡ (n.key, n.terms) ∷ [] → AreNeedsInOrder (needs_in items) sorted →
+      (n : AdditionParts) (sorted : Wants) → All MayComeIn items → occurrences_in items ≡ (n.key, n.terms) ∷ [] → AreNeedsInOrder (needs_in items) sorted →
       AreNewRows n.key n.terms sorted (operations_in items) n.operations.items → All (IsNeedOf (keys_of n.operations.items)) sorted →
       AreNewPairsInOrder n.key (keys_of n.operations.items) (pairs_in items) n.pairs.items → ArePartsOf items n
   parts_are n sorted may one needs rows within pairs =

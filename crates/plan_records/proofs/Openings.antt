@@ -11,8 +11,8 @@ use Rattle.plan_basics.specs.Keys.{Name, name_cmp, name_cmp_total, name_cmp-IsAn
 use Rattle.plan_basics.specs.Intervals.{OpenInterval}
 use Rattle.workstations.specs.Timetables.{NamedWorkstation}
 use Rattle.workstations.specs.Workstations.{Workstation}
-use Rattle.plan_records.specs.Loading.{own_interval, intervals_of, CanOpen, opened_in, AreOfThese, AreWorkstations, AreWorkstationsInOrder}
-use Rattle.plan_records.specs.Sorting.{AreInKeyOrder}
+use Rattle.plan_records.specs.PlanItems.{own_interval, intervals_of, CanOpen, opened_in, AreOfThese, AreWorkstations, AreWorkstationsInOrder}
+use Rattle.plan_records.specs.KeyOrder.{AreInKeyOrder}
 use Rattle.plan_records.proofs.Lists.{all_by_members}
 use Rattle.plan_records.proofs.Keyed.{key_to_row, row_to_key, own_is, own_not}
 

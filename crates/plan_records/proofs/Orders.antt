@@ -40,13 +40,13 @@ module _ {K : Type 0} {R : K → K → Ordering} (total : IsTotalOrder R) where
         let high : k + 1 < length (x ∷ xs) = omega (arith, lt, length-map (x ∷ xs) key) in
         neighbours R key (x ∷ xs) k x high ∙ is_less _ (h k x high))
 
-    -- a test of neighbours tells whether the keys ascend
+    -- a test of neighbours shows whether the keys ascend
     pub ascends_told : (xs : List X) (r : Bool) → IsAllAdjacentAnswer (λ x y b. b ≡ is_lt (R (key x) (key y))) xs r → IsTrue r ↔ IsStrictlySortedBy R (map key xs)
     ascends_told xs true h = (λ _. ascends_then xs h, λ _. refl)
     ascends_told xs false h = (λ e. absurd (true≢false (sym e)), λ up. absurd (ascends_when xs h up))
 
   module _ (exact : IsAntisymmetric R) where
-    -- a search by a key tells whether it is the key of an element, where the list is sorted by it
+    -- a search by a key shows whether it is the key of an element, where the list is sorted by it
     pub search_told_by : {X : Type 0} (key : X → K) (xs : List X) (k : K) (r : Result ℕ ℕ) → IsSearchInRange r (length xs) → IsBinarySearchResult (λ x. R (key x) k) xs r → IsSortedBy (λ a b. is_lt (R (key a) (key b))) xs → IsTrue (is_ok r) ↔ Contains (map key xs) k
     search_told_by {X} key xs k (Ok i) within h sorted = (λ _. found (row_at xs i within), λ _. refl)
       where
@@ -63,7 +63,7 @@ module _ {K : Type 0} {R : K → K → Ordering} (total : IsTotalOrder R) where
               | inr after ↦ let greater : R (key (get_or xs j x)) k ≡ Greater = parts.1 j x after lt in cc
             ]
 
-    -- a search in a list that ascends tells whether it has the key
+    -- a search in a list that ascends shows whether it has the key
     pub search_told : (xs : List K) (x : K) (r : Result ℕ ℕ) → IsSearchInRange r (length xs) → IsBinarySearchResult (λ y. R y x) xs r → IsStrictlySortedBy R xs → IsTrue (is_ok r) ↔ Contains xs x
     search_told xs x r within h up = subst (λ ys. IsTrue (is_ok r) ↔ Contains ys x) (map_same xs) (search_told_by (λ y. y) xs x r within h (sorted_from_strict total xs up))
 

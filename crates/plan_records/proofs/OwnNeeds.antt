@@ -23,7 +23,7 @@ use Rattle.special_resources.proofs.Keyed.{sorted_before, sorted_left}
 use Rattle.special_resources.proofs.MoreNeeds.{need_by_usage, pushed_usages}
 use Rattle.special_resources.proofs.Splits.{before_point, from_point}
 use Rattle.ready_list.proofs.Ordered.{partitioned_by}
-use Rattle.plan_records.specs.Loading.{need_key, need_cmp, own_need, needs_of}
+use Rattle.plan_records.specs.PlanItems.{need_key, need_cmp, own_need, needs_of}
 use Rattle.plan_records.proofs.Lists.{at_member, in_map, length_map}
 use Rattle.plan_records.proofs.Pairs.{sorted_dropped}
 
@@ -43,7 +43,7 @@ said_need said = said.1
 abbrev name_of : Need → Name
 name_of n = n.name
 
--- ---- where those of an operation stand
+-- ---- where those of an operation are
 
 -- whether it is of an operation before this one, and of this one or one before
 abbrev pub is_before : OpKey → Said → Bool
@@ -139,7 +139,7 @@ module _ (o : OpKey) (xs : List Said) (from : ℕ) (le : from ≤ length xs) (be
       let early = before_point (λ said. is_up_to o said ≡ true) (λ said. is_up_to o said ≡ false) (drop from xs) number end within k d lt in
       ap (λ t. cond t (Some (get_or (take number (drop from xs)) k d).1) None) (between_is _ late early)))
 
-  -- those between the two places are the operation's
+  -- those between the two indices are the operation's
   pub part_is : map said_need (take number (drop from xs)) ≡ needs_of o xs
   part_is =
       sym middle
@@ -193,7 +193,7 @@ needs_append : (xs ys : List Said) → map said_need (xs ++ ys) ≡ map said_nee
 needs_append [] ys = refl
 needs_append (x ∷ xs) ys = ap (λ ns. x.1 ∷ ns) (needs_append xs ys)
 
--- those before a place are as many usages
+-- those before an index are as many usages
 pub so_many : (xs : List Said) → AreInNameOrder (map said_need xs) → (i : ℕ) → i ≤ length xs → len (usages_of (map said_need (take i xs))) ≡ i
 so_many xs up i le =
     let whole = subst AreInNameOrder (sym (ap (map said_need) (take-append-drop i xs)) ∙ needs_append (take i xs) (drop i xs)) up in
@@ -212,7 +212,7 @@ module _ (xs : List Said) (up : AreInNameOrder (map said_need xs)) (i : ℕ) (sa
   front_in_order : AreInNameOrder (map said_need (take i xs))
   front_in_order = sorted_left name_cmp name_of (map said_need (take i xs)) (said.1 ∷ map said_need (drop (suc i) xs)) in_order
 
-  -- those before a place come before what stands there
+  -- those before an index come before what is there
   pub comes_next : ComeBefore (usages_of (map said_need (take i xs))) said.1.name
   comes_next = come_earlier (map said_need (take i xs)) (map said_need (drop (suc i) xs)) said.1 in_order
 

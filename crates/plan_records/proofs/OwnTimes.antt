@@ -12,7 +12,7 @@ use Rattle.plan_basics.specs.Keys.{Name, name_cmp_total, name_cmp-IsAntisymmetri
 use Rattle.plan_basics.specs.Intervals.{OpenInterval, IsInterval, AreApart}
 use Rattle.workstations.specs.Workstations.{Workstation, IsWorkstation, with_intervals}
 use Rattle.workstations.proofs.Lookups.{entries_of, timetable_of, got_among, opened_is}
-use Rattle.plan_records.specs.Loading.{own_interval, intervals_of, IsOpening, CanOpen, AreWorkstations}
+use Rattle.plan_records.specs.PlanItems.{own_interval, intervals_of, IsOpening, CanOpen, AreWorkstations}
 use Rattle.plan_records.proofs.Lists.{all_by_members, Differ, differ_from_pairs, pairs_from_differ, differ_weaken, differ_map, differ_kept, Kept, in_map, from_map}
 use Rattle.plan_records.proofs.Tables.{is_found, get_row}
 use Rattle.plan_records.proofs.ItemKinds.{interval_key}

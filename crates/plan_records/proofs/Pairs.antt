@@ -1,4 +1,4 @@
--- Pairs as they come in one after another.
+-- Pairs as they are added one after another.
 use Rattle.std.proofs.Common.{◌≡◌, ◌⊎◌, inl, inr, sym, ap, ◌∙◌, true≢false, ℕ, zero, suc, ◌||◌, List, [], ◌∷◌, ◌++◌, drop}
 use Rattle.std.proofs.lemmas.Bool.{or_cases, or_right}
 use Rattle.std.specs.Cmp.{Equal-is, eq_by_cmp_equiv}

@@ -19,7 +19,7 @@ use Rattle.plan_basics.proofs.Members.{less_not_tied}
 use Rattle.plan_model.specs.Revise.{get-revise, revise}
 use Rattle.plan_records.proofs.MadeEntries.{each_made, find-made, key_of}
 
--- how two keys that stand beside one another are ordered
+-- how two keys that are next to one another are ordered
 module _ {K X : Type 0} (R : K → K → Ordering) (key : X → K) (xs : List X) where
   pub neighbours : (k : ℕ) (d : X) → k + 1 < length xs → R (get_or (map key xs) k (key d)) (get_or (map key xs) (k + 1) (key d)) ≡ R (key (get_or xs k d)) (key (get_or xs (k + 1) d))
   neighbours k d high = ap₂ R (get_or-map key xs k d (key d) (omega (arith, high))) (get_or-map key xs (k + 1) d (key d) high)
@@ -39,7 +39,7 @@ module _ {K X : Type 0} (R : K → K → Ordering) where
   later_key k (row ∷ rows) zero q v h e = let same : row ≡ (q, v) = cc in subst (λ z. R k z.0 ≡ Less) same h.0
   later_key k (row ∷ rows) (suc i) q v h e = later_key k rows i q v h.1 e
 
-  -- of two rows, that with the smaller key stands first
+  -- of two rows, that with the smaller key is first
   pub places_ascend : (o : IsTotalOrder R) (rows : List (K × X)) → IsStrictlySortedBy R (keys_of rows) → (i j : ℕ) (a b : K) (v w : X) → slice_get rows i ≡ Some (a, v) → slice_get rows j ≡ Some (b, w) → R a b ≡ Less → i < j
   places_ascend o [] sorted i j a b v w e f less = cc
   places_ascend o (row ∷ rows) sorted zero zero a b v w e f less =
@@ -57,7 +57,7 @@ module _ {K X : Type 0} (R : K → K → Ordering) where
   places_ascend o (row ∷ rows) sorted (suc i) (suc j) a b v w e f less =
       let h = places_ascend o rows (sorted_tail R row.0 (keys_of rows) sorted) i j a b v w e f less in omega (arith, h)
 
-  -- a row's key stands nowhere else
+  -- a row's key is nowhere else
   pub find_at : (o : IsTotalOrder R) (rows : List (K × X)) → IsStrictlySortedBy R (keys_of rows) → (i : ℕ) (k : K) (v : X) → slice_get rows i ≡ Some (k, v) → find R k rows ≡ Some v
   find_at o [] sorted i k v e = cc
   find_at o (row ∷ rows) sorted zero k v e =
@@ -81,7 +81,7 @@ module _ {K X : Type 0} (R : K → K → Ordering) (o : IsTotalOrder R) (same : 
   place_found [] k v e = cc
   place_found (row ∷ rows) k v e = found_place k v row rows (eq_by_cmp R k row.0) refl e (place_found rows k v)
 
-  -- what is in the map stands at some place
+  -- what is in the map is at some index
   pub place_of_found : (rows : List (K × X)) (k : K) (v : X) → get {R = R} (from_entries rows) k ≡ Some v → (i : ℕ) × (slice_get rows i ≡ Some (k, v))
   place_of_found rows k v e = place_found rows k v (sym (get-from_entries o rows k) ∙ e)
 
@@ -152,7 +152,7 @@ module _ {K X : Type 0} (R : K → K → Ordering) (o : IsTotalOrder R) (same : 
     pub search_misses : IsNone place → get {R = R} (from_entries rows) k ≡ None
     search_misses none = missed r h (subst IsNone is none)
 
--- a place below the length has an element
+-- an index below the length has an element
 pub row_at : {X : Type 0} (xs : List X) (i : ℕ) → i < length xs → (x : X) × (slice_get xs i ≡ Some x)
 row_at xs i lt = elim (slice_get_cases xs i).1 [
   | inl here ↦ (here.0, here.2)

@@ -11,7 +11,7 @@ use Rattle.plan_basics.specs.declared.keys.OccKey.{OccKey}
 use Rattle.plan_basics.specs.declared.keys.OpKey.{OpKey}
 use Rattle.plan_basics.specs.Keys.{operation_cmp, occurrence_cmp, occurrence_cmp_total, occurrence_cmp-IsAntisymmetric}
 use Rattle.plan_model.specs.declared.Occurrence.{Occurrence}
-use Rattle.plan_records.specs.Loading.{terms_of}
+use Rattle.plan_records.specs.PlanItems.{terms_of}
 use Rattle.plan_records.proofs.Lists.{from_map}
 use Rattle.plan_records.proofs.Tables.{some_is, rows_apart, get_row, key_found}
 

@@ -10,7 +10,7 @@ use Rattle.plan_basics.specs.Keys.{Name, name_cmp_total, name_cmp-IsAntisymmetri
 use Rattle.plan_basics.specs.Intervals.{OpenInterval}
 use Rattle.workstations.specs.Workstations.{Workstation}
 use Rattle.special_resources.specs.Holders.{Usage}
-use Rattle.plan_model.specs.Plan.{Plan, Operation, Supplement}
+use Rattle.plan_model.specs.Plan.{Plan, Operation, AddedParts}
 use Rattle.plan_model.specs.declared.Occurrence.{Occurrence}
 use Rattle.plan_items.specs.declared.Item.{Item}
 use Rattle.plan_records.specs.declared.RowKey.TheVariants as key
@@ -38,7 +38,7 @@ agree_in {l = l} {v = v} part m n same known (x, there, in_m) (y, found, in_n) a
     agree (part a) (part b) known u (subst (λ z. get (part z) l ≡ Some v) one in_m) (subst (λ z. get (part z) l ≡ Some v) two in_n) e
 
 -- ---- occurrences, operations and pairs
-module _ {items : List Item} {s t : Supplement} (a : Holds items s) (b : Holds items t) where
+module _ {items : List Item} {s t : AddedParts} (a : Holds items s) (b : Holds items t) where
   same_occurrence : (c : OccKey) (x : Occurrence) → get s.occurrences c ≡ Some x → get t.occurrences c ≡ Some x
   same_occurrence c x e =
       let r = read_in kinds.occurrences items c (a.all (key.Occurrence c) (some_is (get s.occurrences c) x e)) in
@@ -52,7 +52,7 @@ module _ {items : List Item} {s t : Supplement} (a : Holds items s) (b : Holds i
       let n = read_in kinds.needs items (o, r) (a.all (key.Need o r) (op, is_op, some_is (get op.needs r) u e)) in
       agree_in (λ (x : Operation). x.needs) s.operations t.operations (ap (λ q. q.0) n.2) (ap (λ q. q.1) n.2) (need_is a n.0 n.1) (need_is b n.0 n.1) op other is_op is_other u e
 
-module _ {items : List Item} {s t : Supplement} (a : Holds items s) (b : Holds items t) where
+module _ {items : List Item} {s t : AddedParts} (a : Holds items s) (b : Holds items t) where
   same_occurrences : s.occurrences ≡ t.occurrences
   same_occurrences = same_entries occurrence_cmp_total occurrence_cmp-IsAntisymmetric s.occurrences t.occurrences (same_occurrence a b) (same_occurrence b a)
 
@@ -85,8 +85,8 @@ module _ {items : List Item} {s t : Supplement} (a : Holds items s) (b : Holds i
       let same : other ≡ op = λ i. record { workstation = w i; duration = n i; r1 = x i; r2 = y i; not_before = m i; deadline = d i; needs = needs i; mark = mark i; held = held i; nop = nop i } in
       found ∙ ap (λ z. Some z) same
 
-same_supplement : {items : List Item} {s t : Supplement} → Holds items s → Holds items t → s ≡ t
-same_supplement {s = s} {t = t} a b =
+same_added : {items : List Item} {s t : AddedParts} → Holds items s → Holds items t → s ≡ t
+same_added {s = s} {t = t} a b =
     let c = same_occurrences a b in
     let o = same_entries operation_cmp_total operation_cmp-IsAntisymmetric s.operations t.operations (same_operation a b) (same_operation b a) in
     let p = same_pairs a b in
@@ -123,7 +123,7 @@ one_plan records P Q d e =
     let items = d.described.items in
     let a = d.described.are in
     let b : AreItems (StandsIn Q) (IsItemOfPlan Q) items = subst (AreItems (StandsIn Q) (IsItemOfPlan Q)) (same_items records e.described.items items e.described.said d.described.said) e.described.are in
-    let s : entered P ≡ entered Q = same_supplement (held_by_plan P d.draft items a) (held_by_plan Q e.draft items b) in
+    let s : entered P ≡ entered Q = same_added (held_by_plan P d.draft items a) (held_by_plan Q e.draft items b) in
     let loaded = d.draft.loaded ∙ sym e.draft.loaded in
     let clock = d.clock ∙ sym e.clock in
     let workstations = same_entries name_cmp_total name_cmp-IsAntisymmetric P.workstations Q.workstations (same_workstation items P Q a b) (same_workstation items Q P b a) in
@@ -134,4 +134,4 @@ pub one_addition : OneAddition
 one_addition records s t d e =
     let items = d.described.items in
     let b : AreItems (StandsInSupplement t) (IsItemOf t) items = subst (AreItems (StandsInSupplement t) (IsItemOf t)) (same_items records e.described.items items e.described.said d.described.said) e.described.are in
-    same_supplement (held_by_addition s d.addition items d.described.are) (held_by_addition t e.addition items b)
+    same_added (held_by_addition s d.addition items d.described.are) (held_by_addition t e.addition items b)

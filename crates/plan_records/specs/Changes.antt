@@ -10,8 +10,8 @@ use Rattle.plan_basics.specs.Keys.{name_cmp, occurrence_cmp, operation_cmp}
 use Rattle.workstations.specs.Workstations.{with_intervals}
 use Rattle.status_rules.specs.declared.Mark.{Mark}
 use Rattle.status_rules.specs.declared.Mark.TheVariants as mark
-use Rattle.plan_model.specs.Plan.{Plan, Operation, Supplement}
-use Rattle.plan_model.specs.Starting.{Reaches}
+use Rattle.plan_model.specs.Plan.{Plan, Operation, AddedParts}
+use Rattle.plan_model.specs.Starts.{Reaches}
 use Rattle.plan_model.specs.Ready.{with_mark}
 use Rattle.plan_model.specs.Revise.{revise, joined}
 use Rattle.plan_records.specs.declared.What.{What}
@@ -38,9 +38,9 @@ is_at o q = eq_by_cmp operation_cmp q o
 abbrev pub marked : OpKey → Mark → Plan → Plan
 marked o mark P = revised (is_at o) (with_mark mark) P
 
--- with what comes in
-abbrev pub with_supplement : Plan → Supplement → Plan
-with_supplement P s = record P { occurrences = joined P.occurrences s.occurrences; operations = joined P.operations s.operations; pairs = set.union P.pairs s.pairs }
+-- with what is added
+abbrev pub with_added : Plan → AddedParts → Plan
+with_added P s = record P { occurrences = joined P.occurrences s.occurrences; operations = joined P.operations s.operations; pairs = set.union P.pairs s.pairs }
 
 -- with one more pair
 abbrev pub with_pair : Plan → OpKey → OpKey → Plan
@@ -62,7 +62,7 @@ Changes P (what.Unnop o) Q = Q ≡ revised (is_at o) (λ op. record op { nop = f
 Changes P (what.Rerun o) Q = (test : OpKey → Bool) × ((q : OpKey) → (test q ≡ true) ↔ Reaches P o q) × (Q ≡ revised test (with_mark mark.Unmarked) P)
 Changes P (what.Complete o) Q = Q ≡ marked o mark.Done P
 Changes P (what.DeleteOccurrence c) Q = Q ≡ revised (λ o. eq_by_cmp occurrence_cmp o.occurrence c) (with_mark mark.Deleted) P
-Changes P (what.AddOccurrence a) Q = (s : Supplement) × (a ≡ Some s) × (Q ≡ with_supplement P s)
+Changes P (what.AddOccurrence a) Q = (s : AddedParts) × (a ≡ Some s) × (Q ≡ with_added P s)
 Changes P (what.AddDependency p s) Q = Q ≡ with_pair P p s
 Changes P (what.SetAvailable r available) Q = Q ≡ record P { resources = insert P.resources r available }
 Changes P (what.ReplaceIntervals w items) Q = Q ≡ record P { workstations = revise (λ v ws. cond (eq_by_cmp name_cmp v w) (with_intervals items.items ws) ws) P.workstations }

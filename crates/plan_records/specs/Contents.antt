@@ -8,27 +8,27 @@ use Rattle.plan_basics.specs.declared.keys.OccKey.{OccKey}
 use Rattle.plan_basics.specs.declared.keys.OpKey.{OpKey}
 use Rattle.plan_basics.specs.Keys.{name_cmp, occurrence_cmp, operation_cmp}
 use Rattle.plan_model.specs.declared.Occurrence.{Occurrence}
-use Rattle.plan_model.specs.Plan.{Plan, Operation, Supplement, pair_cmp}
+use Rattle.plan_model.specs.Plan.{Plan, Operation, AddedParts, pair_cmp}
 use Rattle.plan_model.specs.Valid.{IsValid}
 use Rattle.plan_records.specs.declared.contents.PlanContents.{PlanContents}
-use Rattle.plan_records.specs.declared.contents.NewOccurrence.{NewOccurrence}
+use Rattle.plan_records.specs.declared.contents.AdditionParts.{AdditionParts}
 use Rattle.plan_graph.specs.PlanGraphs.{IsGraphOf}
 use Rattle.operation_graph.specs.Graphs.{Digraph}
 use Rattle.plan_records.specs.Drafts.{IsDraft, IsAddition}
 
 -- an occurrence with its operations and pairs
-abbrev pub supplement_of : OccKey → Occurrence → List (OpKey × Operation) → List (OpKey × OpKey) → Supplement
-supplement_of occurrence terms operations pairs = record { occurrences = map.insert map.empty occurrence terms; operations = map.from_entries operations; pairs = set.from_list pairs }
+abbrev pub added_parts : OccKey → Occurrence → List (OpKey × Operation) → List (OpKey × OpKey) → AddedParts
+added_parts occurrence terms operations pairs = record { occurrences = map.insert map.empty occurrence terms; operations = map.from_entries operations; pairs = set.from_list pairs }
 
--- what comes in of these parts
-abbrev pub incoming : NewOccurrence → Supplement
-incoming n = supplement_of n.key n.terms n.operations.items n.pairs.items
+-- the addition of these parts
+abbrev pub added_of : AdditionParts → AddedParts
+added_of n = added_parts n.key n.terms n.operations.items n.pairs.items
 
 -- operations by key, pairs by predecessor and then successor, each of them once, and they are an addition
-pub record AreAdditionParts (n : NewOccurrence) : Type 0 where
+pub record AreAdditionParts (n : AdditionParts) : Type 0 where
   pub operations : IsStrictlySortedBy operation_cmp (keys_of n.operations.items)
   pub pairs : IsStrictlySortedBy pair_cmp n.pairs.items
-  pub addition : IsAddition (incoming n)
+  pub addition : IsAddition (added_of n)
 
 -- the loaded plan that holds this, at a clock
 abbrev pub plan_of : ℕ → PlanContents → Plan
@@ -60,6 +60,6 @@ pub record AreDraftContents (c : PlanContents) : Type 0 where
   pub in_order : AreContents c
   pub draft : IsDraft (plan_of 0 c)
 
--- the graph of the contents' operations and pairs, by the places of the operations
+-- the graph of the contents' operations and pairs, by the indices of the operations
 abbrev pub IsGraphFor : PlanContents → Digraph → Type 0
 IsGraphFor c g = IsGraphOf (keys_of c.operations.items) (set.from_list c.pairs.items) g

@@ -6,7 +6,7 @@ use Rattle.plan_basics.specs.declared.Refusal.TheVariants as refusal
 use Rattle.status_rules.specs.declared.Status.TheVariants as status
 use Rattle.plan_model.specs.Plan.{Plan, Has}
 use Rattle.plan_model.specs.Status.{HasStatus, AllPredecessorsSatisfied}
-use Rattle.plan_model.specs.Starting.{MayStart}
+use Rattle.plan_model.specs.Starts.{MayStart}
 use Rattle.plan_model.specs.Ready.{named, IsChosen}
 use Rattle.plan_model.specs.Valid.{IsSound}
 use Rattle.plan_records.specs.declared.Request.{Request}
@@ -15,7 +15,7 @@ use Rattle.plan_records.specs.Answer.{accepted}
 use Rattle.plan_records.specs.declared.What.{What}
 use Rattle.plan_records.specs.declared.What.TheVariants as what
 use Rattle.plan_records.specs.Changes.{IsRequest, Changes}
-use Rattle.plan_records.specs.Accepting.{MayBeAccepted, minute_of}
+use Rattle.plan_records.specs.Acceptance.{MayBeAccepted, minute_of}
 use Rattle.plan_records.specs.Step.{Step}
 use Rattle.plan_records.specs.Run.{State, Call, plain, numbered, Usable, usable, Answers, Run}
 

@@ -1,11 +1,11 @@
--- What is known of rows, place by place.
+-- What is known of rows, index by index.
 use Rattle.std.specs.Prelude.{◌≡◌, ℕ, List, length, Some, slice_get}
 use Rattle.plan_basics.specs.declared.keys.OpKey.{OpKey}
 use Rattle.status_rules.specs.declared.Status.{Status}
 use Rattle.plan_model.specs.Plan.{Plan, Operation}
 use Rattle.plan_model.specs.Status.{HasStatus}
 
--- at each row's place, what is so of its key
+-- at each row's index, what is so of its key
 pub record AreByPlace {K V X : Type 0} (rows : List (K × V)) (xs : List X) (is : K → X → Type 0) : Type 0 where
   pub size : length xs ≡ length rows
   pub each : (i : ℕ) (k : K) (v : V) (x : X) → slice_get rows i ≡ Some (k, v) → slice_get xs i ≡ Some x → is k x

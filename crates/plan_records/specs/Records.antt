@@ -4,7 +4,7 @@ use Rattle.std.specs.List.{AllPairs, AllZip}
 use Rattle.std.specs.FinMap.{get, len, contains_key}
 use Rattle.std.specs.declared.alloc.Global.{Global}
 use Rattle.workstations.specs.Workstations.{Workstation}
-use Rattle.plan_model.specs.Plan.{Plan, Operation, Supplement, HasAttribute, IsPairOf}
+use Rattle.plan_model.specs.Plan.{Plan, Operation, AddedParts, HasAttribute, IsPairOf}
 use Rattle.plan_model.specs.declared.Occurrence.{Occurrence}
 use Rattle.plan_items.specs.declared.Item.{Item}
 use Rattle.plan_items.specs.declared.Item.TheVariants as item
@@ -36,8 +36,8 @@ pub record IsAsSaid (said : OperationItem) (c : Occurrence) (op : Operation) : T
   pub not_before : op.not_before ≡ said.not_before
   pub deadline : op.deadline ≡ unwrap_or said.deadline c.deadline
 
--- what comes in holds just what an item of an occurrence, an operation, a pair or a need says
-abbrev pub StandsInSupplement : Supplement → Item → Type 0
+-- what is added holds just what an item of an occurrence, an operation, a pair or a need says
+abbrev pub StandsInSupplement : AddedParts → Item → Type 0
 StandsInSupplement s (item.Occurrence c priority deadline) = get s.occurrences c ≡ Some (record { priority = priority; deadline = deadline })
 StandsInSupplement s (item.Operation said) = (op : Operation) × (c : Occurrence) × (get s.operations said.key ≡ Some op) × (get s.occurrences said.key.occurrence ≡ Some c) × IsAsSaid said c op
 StandsInSupplement s (item.Dependency p o) = IsPairOf s.pairs p o
@@ -45,7 +45,7 @@ StandsInSupplement s (item.Need o need) = (op : Operation) × (get s.operations 
 StandsInSupplement s _ = ⊥
 
 -- the occurrences of a plan, with their operations and pairs
-abbrev pub entered : Plan → Supplement
+abbrev pub entered : Plan → AddedParts
 entered P = record { occurrences = P.occurrences; operations = P.operations; pairs = P.pairs }
 
 -- a plan holds just what an item says: of a workstation, an interval or a resource too
@@ -56,7 +56,7 @@ StandsIn P (item.Resource name available) = get P.resources name ≡ Some availa
 StandsIn P other = StandsInSupplement (entered P) other
 
 -- what an addition holds
-abbrev pub IsItemOf : Supplement → RowKey → Type 0
+abbrev pub IsItemOf : AddedParts → RowKey → Type 0
 IsItemOf s (key.Occurrence c) = contains_key s.occurrences c ≡ true
 IsItemOf s (key.Operation o) = contains_key s.operations o ≡ true
 IsItemOf s (key.Dependency p o) = IsPairOf s.pairs p o
@@ -70,7 +70,7 @@ IsItemOfPlan P (key.Interval w m) = (ws : Workstation) × (get P.workstations w 
 IsItemOfPlan P (key.Resource r) = contains_key P.resources r ≡ true
 IsItemOfPlan P k = IsItemOf (entered P) k
 
--- items of different keys that all stand there, and are all that is there
+-- items of different keys that are all there, and are all that is there
 pub record AreItems (stands : Item → Type 0) (is_item : RowKey → Type 0) (items : List Item) : Type 0 where
   pub distinct : AllPairs (λ a b. key_of a ≢ key_of b) items
   pub stand : All stands items
@@ -91,7 +91,7 @@ pub record Denotes (records : List Fields) (P : Plan) : Type 0 where
   pub described : AreDescriptions (StandsIn P) (IsItemOfPlan P) records
 
 -- the records denote the addition
-pub record DenotesAddition (records : List Fields) (s : Supplement) : Type 0 where
+pub record DenotesAddition (records : List Fields) (s : AddedParts) : Type 0 where
   pub addition : IsAddition s
   pub described : AreDescriptions (StandsInSupplement s) (IsItemOf s) records
 
@@ -101,4 +101,4 @@ OnePlan = (records : List Fields) (P Q : Plan) → Denotes records P → Denotes
 
 -- and one addition at most
 abbrev pub OneAddition : Type 0
-OneAddition = (records : List Fields) (s t : Supplement) → DenotesAddition records s → DenotesAddition records t → s ≡ t
+OneAddition = (records : List Fields) (s t : AddedParts) → DenotesAddition records s → DenotesAddition records t → s ≡ t

@@ -10,7 +10,7 @@ use Rattle.plan_basics.specs.Keys.{name_cmp, occurrence_cmp, operation_cmp}
 use Rattle.workstations.specs.Workstations.{Workstation}
 use Rattle.plan_model.specs.Plan.{Plan, Operation, Has, HasAttribute, Precedes, LivePredecessor}
 use Rattle.plan_model.specs.Status.{HasStatus, HasOccurrenceStatus, IsSatisfied}
-use Rattle.plan_model.specs.Starting.{IsLatestStart}
+use Rattle.plan_model.specs.Starts.{IsLatestStart}
 use Rattle.plan_records.specs.declared.PlanRow.{PlanRow}
 use Rattle.plan_records.specs.declared.PlanRow.TheVariants as row
 use Rattle.plan_records.specs.declared.OperationRow.{OperationRow}

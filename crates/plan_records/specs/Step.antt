@@ -13,7 +13,7 @@ use Rattle.plan_model.specs.Ready.{IsChosen, named}
 use Rattle.plan_records.specs.declared.Request.{Request}
 use Rattle.plan_records.specs.Answer.{Answer}
 use Rattle.plan_records.specs.Answer.{accepted, refused}
-use Rattle.plan_records.specs.Accepting.{MayBeAccepted, minute_of}
+use Rattle.plan_records.specs.Acceptance.{MayBeAccepted, minute_of}
 use Rattle.plan_records.specs.Changes.{IsRequest, Changes}
 
 -- the request is accepted: it changes P to `changed`, at its moment these are chosen, and they are named

@@ -13,10 +13,10 @@ use Rattle.plan_records.specs.declared.What.{What}
 use Rattle.plan_records.specs.declared.What.TheVariants as what
 use Rattle.plan_records.specs.declared.OperationRow.{OperationRow}
 use Rattle.plan_records.specs.declared.PlanRow.TheVariants as row
-use Rattle.plan_model.specs.Starting.{Reaches}
+use Rattle.plan_model.specs.Starts.{Reaches}
 use Rattle.plan_records.specs.Rows.{IsRow}
 
--- how many pairs it stands in, as predecessor or successor
+-- how many pairs it is in, as predecessor or successor
 abbrev pub neighbours : Plan → OpKey → ℕ
 neighbours P o = count_by (λ pair. eq_by_cmp operation_cmp o pair.0 || eq_by_cmp operation_cmp o pair.1) (set.items P.pairs)
 
@@ -29,11 +29,11 @@ abbrev pub IsWorkedOn : Plan → What → Plan → OpKey → Type 0
 IsWorkedOn P (what.Rerun o) Q q = HasChangedRow P Q q ⊎ Reaches P o q
 IsWorkedOn P w Q q = HasChangedRow P Q q
 
--- four for each operation and each pair of the plan that comes out, and four more
+-- four for each operation and each pair of the plan that it leaves, and four more
 abbrev pub by_whole_plan : Plan → ℕ
 by_whole_plan Q = 4 * (1 + len Q.operations + set.len Q.pairs)
 
--- four for each entry of the ready lists before and after, four for each operation that is worked on and each pair that it stands in, and four more
+-- four for each entry of the ready lists before and after, four for each operation that is worked on and each pair that it is in, and four more
 pub record IsAllowanceByChange (P : Plan) (w : What) (Q : Plan) (allowance : ℕ) : Type 0 where
   pub before : List ReadyKey
   pub after : List ReadyKey

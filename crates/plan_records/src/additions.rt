@@ -4,14 +4,14 @@ ghost use Rattle.std.specs.List.Sorted.{IsStrictlySortedBy};
 ghost use Rattle.plan_basics.specs.Keys.{operation_cmp};
 ghost use Rattle.plan_basics.specs.declared.keys.OccKey.{OccKey};
 ghost use Rattle.plan_model.specs.declared.Occurrence.{Occurrence};
-ghost use Rattle.plan_records.specs.Loading.{need_cmp, need_key};
-ghost use Rattle.plan_records.specs.Adding.{MayComeIn, ComesWith, AreNewOperations, new_row, AreNewRows, IsNeedOf, IsEndAmong, IsNewPair, AreNewPairs, AreNewPairsInOrder, CanComeIn, ArePartsOf};
+ghost use Rattle.plan_records.specs.PlanItems.{need_cmp, need_key};
+ghost use Rattle.plan_records.specs.AdditionItems.{MayComeIn, ComesWith, AreNewOperations, new_row, AreNewRows, IsNeedOf, IsEndAmong, IsNewPair, AreNewPairs, AreNewPairsInOrder, CanComeIn, ArePartsOf};
 
-use super::building::{needs, occurrences, operations, pairs};
-use super::contents::NewOccurrence;
+use super::builder::{needs, occurrences, operations, pairs};
+use super::contents::AdditionParts;
 use super::in_order::{is_among, rows};
-use super::needing::needs_in_order;
-use super::sorting::{in_key_order, keys};
+use super::needs::needs_in_order;
+use super::key_order::{in_key_order, keys};
 use plan_basics::{OccKey, OpKey};
 use plan_items::{Item, OperationItem};
 use plan_model::{Occurrence, OperationRecord};
@@ -45,7 +45,7 @@ fn sole(said: &[(OccKey, Occurrence)]) -> Option<(OccKey, Occurrence)>
     Some(*row)
 }
 
-// The operations' rows in key order, where there is one at least, each comes with the occurrence and none stands twice.
+// The operations' rows in key order, where there is one at least, each fits the occurrence and none is repeated.
 fn new_operations(
     alloc: Global,
     key: &OccKey,
@@ -98,7 +98,7 @@ fn are_new_pairs(key: &OccKey, keys: &[OpKey], pairs: &[(OpKey, OpKey)]) -> bool
     pairs.iter().all(|pair| is_new_pair(key, keys, pair))
 }
 
-// The pairs by predecessor and then successor, where each is such and none stands twice.
+// The pairs by predecessor and then successor, where each is such and none is repeated.
 fn new_pairs(
     key: &OccKey,
     keys: &[OpKey],
@@ -114,7 +114,7 @@ fn new_pairs(
 }
 
 /// The occurrence whose items these are, with its operations and pairs in order; `None` where they are those of none.
-pub fn parts_of(alloc: Global, items: &[Item]) -> Result<Option<NewOccurrence>, AllocError>
+pub fn parts_of(alloc: Global, items: &[Item]) -> Result<Option<AdditionParts>, AllocError>
     ensures { IfOk result (λ found. MatchOption found (¬ CanComeIn items.now) (λ n. ArePartsOf items.now n)) }
 {
     if !may_all_come_in(items) {
@@ -139,7 +139,7 @@ pub fn parts_of(alloc: Global, items: &[Item]) -> Result<Option<NewOccurrence>, 
     let Some(pairs) = new_pairs(&occurrence.0, &keys, pairs(alloc, items)?)? else {
         return Ok(None);
     };
-    Ok(Some(NewOccurrence {
+    Ok(Some(AdditionParts {
         key: occurrence.0,
         terms: occurrence.1,
         operations,

@@ -1,4 +1,4 @@
-// What a loaded plan holds, and an occurrence that comes in.
+// What a loaded plan holds, and an occurrence that is added.
 use plan_basics::{OccKey, OpKey, ResName};
 use plan_model::{Occurrence, OperationRecord};
 use workstations::Workstation;
@@ -16,10 +16,10 @@ pub struct PlanContents {
     pub pairs: Vec<(OpKey, OpKey)>,
 }
 
-/// An occurrence that comes in: its key, priority and deadline; its operations in key order; and the pairs that come in with
+/// An occurrence that is added: its key, priority and deadline; its operations in key order; and the pairs added with
 /// it, by predecessor and then successor.
 #[derive(Debug, Drop)]
-pub struct NewOccurrence {
+pub struct AdditionParts {
     pub key: OccKey,
     pub terms: Occurrence,
     pub operations: Vec<(OpKey, OperationRecord)>,

@@ -1,13 +1,13 @@
 // What texts denote: a plan to be loaded, or an addition to one.
 ghost use Rattle.std.specs.Prelude.{◌≡◌, IfOk, IfErr, MatchOption};
 ghost use Rattle.plan_records.specs.Drafts.{IsDraft};
-ghost use Rattle.plan_records.specs.Contents.{plan_of, supplement_of, AreContents, AreAdditionParts};
+ghost use Rattle.plan_records.specs.Contents.{plan_of, added_parts, AreContents, AreAdditionParts};
 ghost use Rattle.plan_records.specs.Records.{records_of, Denotes, DenotesAddition};
-ghost use Rattle.plan_model.specs.Plan.{Plan, Supplement};
+ghost use Rattle.plan_model.specs.Plan.{Plan, AddedParts};
 
 use super::additions::parts_of;
-use super::building::{Record, contents_of, read_items};
-use super::contents::{NewOccurrence, PlanContents};
+use super::builder::{Record, contents_of, read_items};
+use super::contents::{AdditionParts, PlanContents};
 use plan_basics::Refusal;
 use std::marker::Model;
 
@@ -62,22 +62,22 @@ impl PlanDraft {
     }
 }
 
-/// The occurrence that a text denotes, with its operations and pairs. Contracts see it as what comes in.
+/// The occurrence that a text denotes, with its operations and pairs. Contracts see it as what is added.
 #[derive(Debug, Drop)]
 pub struct Addition {
-    parts: NewOccurrence,
+    parts: AdditionParts,
 }
 
 impl Model for Addition {
-    ghost use Rattle.plan_model.specs.Plan.{Supplement};
-    ghost use Rattle.plan_model.specs.Code.{supplement_code};
-    ghost use Rattle.plan_records.specs.Contents.{incoming, AreAdditionParts};
+    ghost use Rattle.plan_model.specs.Plan.{AddedParts};
+    ghost use Rattle.plan_model.specs.Code.{added_code};
+    ghost use Rattle.plan_records.specs.Contents.{added_of, AreAdditionParts};
 
-    ghost Value = { Supplement };
+    ghost Value = { AddedParts };
 
-    ghost coded = { supplement_code };
+    ghost coded = { added_code };
 
-    ghost view = { λ a. incoming a.parts };
+    ghost view = { λ a. added_of a.parts };
 
     ghost invariant = { λ a. AreAdditionParts a.parts };
 }
@@ -86,9 +86,9 @@ impl Addition {
     /// The addition that the records of a text denote; `None` where they denote none. There is one occurrence with at least
     /// one operation, each of which may need R1, R2 and up to `MOST_NEEDS` special resources. Each pair has an end in the
     /// occurrence, and its ends there are operations of the text; whatever else is named is looked up in the plan when the
-    /// occurrence comes in. The records may come in any order. The error is always `Memory`.
+    /// occurrence is added. The records may come in any order. The error is always `Memory`.
     pub fn build(records: Vec<Record>) -> Result<Option<Addition>, Refusal>
-        ensures denoted { IfOk result (λ found. MatchOption found ((s : Supplement) → ¬ DenotesAddition (records_of records.items) s) (λ a. DenotesAddition (records_of records.items) a)) }
+        ensures denoted { IfOk result (λ found. MatchOption found ((s : AddedParts) → ¬ DenotesAddition (records_of records.items) s) (λ a. DenotesAddition (records_of records.items) a)) }
         ensures memory { IfErr result (λ r. r ≡ Refusal.Memory) }
     {
         let alloc = *records.allocator();
@@ -101,9 +101,9 @@ impl Addition {
         Ok(Some(Addition { parts }))
     }
 
-    /// What comes in.
-    pub fn parts(&self) -> &NewOccurrence
-        ensures view { self.now ≡ supplement_of result.now.key result.now.terms result.now.operations.items result.now.pairs.items }
+    /// What is added.
+    pub fn parts(&self) -> &AdditionParts
+        ensures view { self.now ≡ added_parts result.now.key result.now.terms result.now.operations.items result.now.pairs.items }
         ensures in_order { AreAdditionParts result.now }
     {
         &self.parts

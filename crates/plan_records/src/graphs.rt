@@ -7,12 +7,12 @@ ghost use Rattle.plan_records.specs.Contents.{plan_of, AreContents, AreValidCont
 
 use super::contents::PlanContents;
 use super::in_order;
-use super::sorting::keys;
+use super::key_order::keys;
 use operation_graph::Graph;
 use plan_graph::graph_of;
 use std::alloc::{AllocError, Global};
 
-/// The graph of the operations and pairs of a valid plan: a node is the place of an operation.
+/// The graph of the operations and pairs of a valid plan: a node is the index of an operation.
 pub fn graph_for(alloc: Global, contents: &PlanContents) -> Result<Graph, AllocError>
     requires { AreValidContents contents.now }
     ensures { IfOk result (IsGraphFor contents.now) }
@@ -29,5 +29,5 @@ pub fn is_acyclic(alloc: Global, contents: &PlanContents) -> Result<bool, AllocE
     ensures { IfOk result (λ told. Decides told (IsAcyclic (plan_of 0 contents.now).pairs)) }
 {
     let keys = keys(alloc, &contents.operations)?;
-    in_order::is_acyclic(alloc, &keys, &contents.pairs)
+    in_order::are_pairs_acyclic(alloc, &keys, &contents.pairs)
 }

@@ -9,13 +9,13 @@ ghost use Rattle.plan_basics.specs.Keys.{name_cmp, occurrence_cmp, operation_cmp
 ghost use Rattle.plan_model.specs.Plan.{pair_cmp};
 ghost use Rattle.plan_model.specs.Valid.{IsAcyclic};
 ghost use Rattle.plan_graph.specs.PlanGraphs.{AreAmong};
-ghost use Rattle.plan_records.specs.Adding.{new_row};
-ghost use Rattle.plan_records.specs.Loading.{row_of, occurrence_of, need_cmp, need_key, needs_of, IsOneOf, BelongsTo, AreOccurrenceRows, AreOccurrencesInOrder, AreOperations, EachHasOperation, AreRowsOf, IsPairIn, ArePairs, ArePairsInOrder};
+ghost use Rattle.plan_records.specs.AdditionItems.{new_row};
+ghost use Rattle.plan_records.specs.PlanItems.{row_of, occurrence_of, need_cmp, need_key, needs_of, IsOneOf, BelongsTo, AreOccurrenceRows, AreOccurrencesInOrder, AreOperations, EachHasOperation, AreRowsOf, IsPairIn, ArePairs, ArePairsInOrder};
 
-use super::needing::own_needs;
-use super::opening::is_named;
+use super::needs::own_needs;
+use super::intervals::is_named;
 use super::places::row_place;
-use super::sorting::{in_key_order, keys};
+use super::key_order::{in_key_order, keys};
 use plan_basics::limits::{MOST_OCCURRENCES, MOST_OPERATIONS, MOST_PAIRS};
 use plan_basics::{OccKey, OpKey};
 use plan_graph::graph_of;
@@ -26,7 +26,7 @@ use status_rules::Mark;
 use std::alloc::{AllocError, Global};
 use workstations::Workstation;
 
-// The occurrences in key order, where there is one at least, and none stands twice.
+// The occurrences in key order, where there is one at least, no more than a plan may hold, and none is repeated.
 pub fn occurrences_in_order(
     said: Vec<(OccKey, Occurrence)>,
 ) -> Result<Option<Vec<(OccKey, Occurrence)>>, AllocError>
@@ -134,7 +134,7 @@ fn each_has_operation(keys: &[OpKey], occurrences: &[(OccKey, Occurrence)]) -> b
     occurrences.iter().all(|row| has_operation(keys, &row.0))
 }
 
-// The operations' rows in key order, where each fits, none stands twice and each occurrence has one.
+// The operations' rows in key order, where they are few enough, each fits, none is repeated, each occurrence has one.
 pub fn operations_in_order(
     alloc: Global,
     workstations: &[Workstation],
@@ -191,7 +191,7 @@ fn are_pairs_in(keys: &[OpKey], pairs: &[(OpKey, OpKey)]) -> bool
 }
 
 // Whether no path of these pairs returns to its start.
-pub fn is_acyclic(
+pub fn are_pairs_acyclic(
     alloc: Global,
     keys: &[OpKey],
     pairs: &[(OpKey, OpKey)],
@@ -205,7 +205,7 @@ pub fn is_acyclic(
     Ok(graph.is_some())
 }
 
-// The pairs by predecessor and then successor, where each is between these keys, none stands twice and no path of them
+// The pairs by predecessor and then successor, where each is between these keys, none is repeated and no path of them
 // returns to its start.
 pub fn pairs_in_order(
     alloc: Global,
@@ -224,7 +224,7 @@ pub fn pairs_in_order(
     let Some(pairs) = in_key_order(pairs, |pair| *pair)? else {
         return Ok(None);
     };
-    if !is_acyclic(alloc, keys, &pairs)? {
+    if !are_pairs_acyclic(alloc, keys, &pairs)? {
         return Ok(None);
     }
     Ok(Some(pairs))

@@ -4,27 +4,27 @@
 ghost use Rattle.plan_records.specs.Records.{OnePlan, OneAddition};
 
 mod additions;
-mod building;
+mod builder;
 mod contents;
 mod drafts;
 mod graphs;
 mod in_order;
-mod needing;
-mod opening;
+mod needs;
+mod intervals;
 mod places;
-mod sorting;
+mod key_order;
 
-pub use building::Record;
-pub use contents::{NewOccurrence, PlanContents};
+pub use builder::Record;
+pub use contents::{AdditionParts, PlanContents};
 pub use drafts::{Addition, PlanDraft};
 pub use graphs::{graph_for, is_acyclic};
 pub use places::{known_row, known_workstation, row_place, workstation_place};
 use plan_basics::{Attr, ErrCode, Interval, Moment, OccKey, OpKey, Refusal, ResName, WsName};
-pub use sorting::ExactKey;
+pub use key_order::ExactKey;
 use special_resources::Need;
 use status_rules::{Mark, OccStatus, Status};
 
-/// What is asked: a report of a tracker, or a command of an operator.
+/// What is asked: a report of a tracker, a command of an operator, or a tick.
 #[derive(Drop)]
 pub enum What {
     /// The plan of a text is to be loaded; `None` for a text that denotes none.
@@ -42,7 +42,7 @@ pub enum What {
     Rerun(OpKey),
     Complete(OpKey),
     DeleteOccurrence(OccKey),
-    /// The occurrence of a text comes in; `None` for a text that denotes none.
+    /// The occurrence of a text is to be added; `None` for a text that denotes none.
     AddOccurrence(Option<Addition>),
     AddDependency(OpKey, OpKey),
     SetAvailable(ResName, bool),

@@ -1,4 +1,4 @@
--- Rows in key order: which of two comes first, and that a key stands at one place. A list with one element changed, or one more behind it.
+-- Rows in key order: which of two comes first, and that a key is at one index. A list with one element changed, or one more behind it.
 use Rattle.std.proofs.Common.{◌≡◌, ◌≢◌, ◌⊎◌, inl, inr, refl, ap, subst, arith, ℕ, zero, suc, ◌<◌, List, [], ◌∷◌, ◌++◌, Contains, replicate, set, slice_get, Some, Ordering, Less}
 use Rattle.std.proofs.lemmas.Bool.{cases_order}
 use Rattle.std.proofs.lemmas.Map.Keys.{sorted_head, sorted_tail}
@@ -9,7 +9,7 @@ use Rattle.std.specs.Map.{keys_of}
 use Rattle.plan_laws.proofs.Sorted.{contains_cases, contains_head, contains_later, contains_none, not_itself}
 use Rattle.plan_records.proofs.RowPlaces.{later_key}
 
--- at the place that is set stands the new element, elsewhere what stood there
+-- at the index that is set is the new element, elsewhere what was there
 pub set_cases : {X : Type 0} (xs : List X) (i k : ℕ) (z u : X) → slice_get (set xs i z) k ≡ Some u → ((k ≡ i) × (u ≡ z)) ⊎ ((k ≢ i) × (slice_get xs k ≡ Some u))
 set_cases [] i k z u e = cc
 set_cases (x ∷ xs) zero zero z u e = let same : u ≡ z = cc in inl (refl, same)

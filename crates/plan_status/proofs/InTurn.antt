@@ -1,4 +1,4 @@
--- The edges of a plan's graph, as pairs of keys, stand in turn.
+-- The edges of a plan's graph, as pairs of keys, are in turn.
 use Rattle.std.proofs.Common.{◌≡◌, inl, inr, sym, ◌∙◌, ap, subst, arith, ℕ, zero, suc, ◌+◌, ◌<◌, ◌≤◌, true, false, cond, List, [], ◌∷◌, ◌++◌, length, get_or, map, take, Some, Option, option_map, unwrap_or, slice_get, Contains, ◌↔◌}
 use Rattle.std.specs.FinMap.{from_entries, get}
 use Rattle.std.specs.FinSet as set
@@ -29,7 +29,7 @@ Rows = List (OpKey × Operation)
 abbrev Edge : Type 0
 Edge = ℕ × ℕ
 
--- the key at a place, some other where there is none
+-- the key at an index, some other where there is none
 abbrev key_at : Rows → ℕ → OpKey
 key_at rows i = unwrap_or (option_map (λ (row : OpKey × Operation). row.0) (slice_get rows i)) (record { occurrence = record { app = []; arrival = 0 }; number = 0 })
 
@@ -44,7 +44,7 @@ pairs_so_far rows edges i = map (pair_of rows) (take i edges)
 key_is : (rows : Rows) (i : ℕ) (k : OpKey) (op : Operation) → slice_get rows i ≡ Some (k, op) → key_at rows i ≡ k
 key_is rows i k op e = ap (λ (z : Option (OpKey × Operation)). unwrap_or (option_map (λ (row : OpKey × Operation). row.0) z) (record { occurrence = record { app = []; arrival = 0 }; number = 0 })) e
 
--- an element of the first ones stands before that place
+-- an element of the first ones is before that index
 in_taken : {X : Type 0} (i : ℕ) (xs : List X) (x : X) → Contains (take i xs) x → (j : ℕ) × (j < i) × (slice_get xs j ≡ Some x)
 in_taken zero xs x h = absurd (contains_none x h)
 in_taken (suc i) [] x h = absurd (contains_none x h)
@@ -101,7 +101,7 @@ module _ (c : PlanContents) (h : AreValidContents c) (g : Digraph) (graph : IsGr
         is_pair = subst (λ k. IsPairOf (plan_of 0 c).pairs (key_at rows e.0) k) same_o (subst (λ k. IsPairOf (plan_of 0 c).pairs k o) same_p found.4);
       }
 
-  -- the edge at a place
+  -- the edge at an index
   module _ (i : ℕ) (lt : i < length edges) (e : Edge) (at : slice_get edges i ≡ Some e) where
     has_edge : HasEdge g e.0 e.1
     has_edge = (all.listed e.0 e.1).0 (taken_in i edges e lt at)
@@ -109,14 +109,14 @@ module _ (c : PlanContents) (h : AreValidContents c) (g : Digraph) (graph : IsGr
     pair_at : IsPairAt c e
     pair_at = pair_is e has_edge
 
-  -- the edge at a place below the length
+  -- the edge at an index below the length
   pub pair_below : (i : ℕ) → i < length edges → IsPairAt c (get_or edges i (0, 0))
   pair_below i lt = pair_at i lt (get_or edges i (0, 0)) (slice_get-get_or edges i (0, 0) lt)
 
   edge_of : (j : ℕ) (e : Edge) → slice_get edges j ≡ Some e → IsPairAt c e
   edge_of j e at = pair_at j (slice_get_within edges j e at) e at
 
-  -- equal keys stand at one place
+  -- equal keys are at one index
   same_place : (i j : ℕ) (a b : OpKey) (v w : Operation) → slice_get rows i ≡ Some (a, v) → slice_get rows j ≡ Some (b, w) → a ≡ b → i ≡ j
   same_place i j a b v w at_i at_j same = one_place operation_cmp_total rows h.in_order.operations i j a v w at_i (subst (λ k. slice_get rows j ≡ Some (k, w)) (sym same) at_j)
 

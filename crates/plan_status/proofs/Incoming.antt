@@ -1,4 +1,4 @@
--- One more pair comes in, after those that lead to where it leads from: whether its predecessor is satisfied is settled, and its successor alone may stand otherwise.
+-- One more pair is added, after those that lead to where it leads from: whether its predecessor is satisfied is settled, and its successor's standing alone may change.
 use Rattle.std.proofs.Common.{◌≡◌, ◌≢◌, ◌⊎◌, ◌↔◌, inl, inr, refl, sym, ◌∙◌, subst, true≢false, Bool, true, false, ◌&&◌, ◌||◌, ◌+◌, cond, List, ◌∷◌, Decides}
 use Rattle.plan_basics.specs.declared.keys.OpKey.{OpKey}
 use Rattle.status_rules.specs.LeastSet.{by_all_before, by_given}
@@ -45,7 +45,7 @@ module _ (P : Plan) (pairs : List (OpKey × OpKey)) (pair : OpKey × OpKey) (nex
   pub settled : (q o : OpKey) → LivePredecessor now q o → IsSatisfied was q ↔ IsSatisfied now q
   settled q o live = let there = not_there q o live.0 in (still_satisfied there, was_satisfied there)
 
-  -- elsewhere operations stand as before
+  -- elsewhere standings are as before
   pub stands_as_before : (o : OpKey) → o ≢ pair.1 → (s : Standing) → IsStanding was o s → IsStanding now o s
   stands_as_before o other = standing_alike was now o
       (λ q. (λ live. (still_precedes q o live.0, live.1), λ live. (preceded q o other live.0, live.1)))

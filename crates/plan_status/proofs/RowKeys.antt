@@ -1,4 +1,4 @@
--- Where rows stand, and where their keys do.
+-- Indices of rows, and those of their keys.
 use Rattle.std.proofs.Common.{◌≡◌, sym, ap, subst, ◌∙◌, ℕ, zero, suc, ◌<◌, List, [], ◌∷◌, get_or, length, slice_get, Some, option_map}
 use Rattle.std.specs.Map.{keys_of}
 use Rattle.std.proofs.lemmas.Option.{slice_get-get_or, slice_get-map}
@@ -12,6 +12,6 @@ module _ {K V : Type 0} where
   row_of_key (row ∷ rows) zero k at = let same : row.0 ≡ k = cc in (row.1, ap (λ z. Some (z, row.1)) same)
   row_of_key (row ∷ rows) (suc i) k at = row_of_key rows i k at
 
--- what is read of rows that are shown as a slice stands there
+-- what is read of rows that are shown as a slice is there
 pub row_shown : {X : Type 0} (shown rows : List X) → shown ≡ rows → (i : ℕ) (x : X) → i < length shown → x ≡ get_or shown i x → slice_get rows i ≡ Some x
 row_shown shown rows same i x lt is = subst (λ xs. slice_get xs i ≡ Some x) same (slice_get-get_or shown i x lt ∙ ap Some (sym is))

@@ -1,4 +1,4 @@
--- The standings of rows, as pair after pair comes in.
+-- The standings of rows, as pair after pair is added.
 use Rattle.std.proofs.Common.{◌≡◌, inl, inr, refl, sym, ◌∙◌, ap, subst, true≢false, arith, ℕ, ◌+◌, ◌≤◌, true, false, List, [], ◌∷◌, ◌++◌, get_or, length, replicate, set, Some, slice_get}
 use Rattle.std.specs.FinMap.{from_entries, get}
 use Rattle.std.specs.FinSet.{from_list}
@@ -21,7 +21,7 @@ use Rattle.plan_status.specs.declared.standings.Standing.{Standing}
 use Rattle.plan_status.proofs.Ascending.{all_alike, one_place, set_cases}
 use Rattle.plan_status.proofs.Incoming.{stands_as_before}
 
--- what is read at a row's place
+-- what is read at a row's index
 pub row_known : (rows : List (OpKey × Operation)) → IsStrictlySortedBy operation_cmp (keys_of rows) → (place : ℕ) (k : OpKey) (op : Operation) → slice_get rows place ≡ Some (k, op)
     → (row : OpKey × Operation) → row ≡ get_or rows place row → get {R = operation_cmp} (from_entries rows) k ≡ Some row.1
 row_known rows sorted place k op at row is =
@@ -33,7 +33,7 @@ standing_at rows place row at xs size x is =
     let within = slice_get_within rows place row at in
     slice_get-get_or xs place x (omega (arith, within, size)) ∙ ap Some (sym is)
 
--- what stands after no other
+-- what comes after no other
 abbrev pub first : Standing
 first = record { preds = record { live = false; satisfied = true; nonreporting = false }; waiting = 0 }
 
@@ -48,7 +48,7 @@ stands_first P o = record {
   waiting = ([], tt, λ p. (λ has. absurd (contains_none p has), λ h. absurd (no_pair p o h.0.0)), refl);
 }
 
--- each operation waits for at most as many as pairs have come in
+-- each operation waits for at most as many as pairs have been added
 abbrev pub WaitForAtMost : ℕ → List Standing → Type 0
 WaitForAtMost n standings = (i : ℕ) (s : Standing) → slice_get standings i ≡ Some s → s.waiting ≤ n
 
@@ -64,7 +64,7 @@ at_most_more n standings place w t most le more i s e = elim (set_cases standing
 ]
 
 module _ (P : Plan) (rows : List (OpKey × Operation)) where
-  -- before a pair comes in
+  -- before a pair is added
   pub standings_first : (n : ℕ) (standings : List Standing) → n ≡ length rows → standings ≡ replicate n first → AreStandings (with_pairs [] P) rows standings
   standings_first n standings e is = record {
     size = ap length is ∙ length-replicate n first ∙ e;
@@ -86,13 +86,13 @@ module _ (P : Plan) (rows : List (OpKey × Operation)) where
       ];
     }
 
-    -- one more pair comes in
+    -- one more pair is added
     pub standings_more : (more : List (OpKey × OpKey)) → more ≡ pairs ++ pair ∷ [] → AreStandings (with_pairs more P) rows (set standings place t)
     standings_more more e =
         subst (λ ps. AreStandings (with_pairs ps P) rows (set standings place t)) (sym e)
         (subst (λ s. AreStandings (record P { pairs = s }) rows (set standings place t)) (sym (pair_pushed pairs pair)) one_more)
 
--- all pairs have come in
+-- all pairs have been added
 pub standings_all : (c : PlanContents) (clock : ℕ) (pairs : List (OpKey × OpKey)) (standings : List Standing) → from_list {R = pair_cmp} pairs ≡ (plan_of 0 c).pairs
     → AreStandings (with_pairs pairs (plan_of 0 c)) c.operations.items standings → AreStandings (plan_of clock c) c.operations.items standings
 standings_all c clock pairs standings e are =

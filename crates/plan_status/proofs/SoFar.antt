@@ -1,4 +1,4 @@
--- What is known of rows place by place, as one is added after another.
+-- What is known of rows index by index, as one is added after another.
 use Rattle.std.proofs.Common.{◌≡◌, ◌⊎◌, inl, inr, refl, sym, ap, subst, ◌∙◌, ℕ, zero, suc, ◌+◌, List, [], ◌∷◌, ◌++◌, length, slice_get, Some}
 use Rattle.std.proofs.lemmas.List.{length-append}
 use Rattle.plan_records.specs.Places.{AreByPlace}

@@ -16,7 +16,7 @@ module _ (c : PlanContents) (are : AreValidContents c) {op seen : Operation} (sa
   pub workplace_known : (o : OpKey) × (get (plan_of 0 c).operations o ≡ Some op) → is_some (get {R = name_cmp} (from_entries rows) seen.workstation) ≡ true
   workplace_known on = rw (same, its) (are.valid.have_workstations on.0 op on.1)
 
-  -- and is what is read at the row's place
+  -- and is what is read at the row's index
   pub workplace_read : (place : ℕ) → (ws : Workstation) × (slice_get rows place ≡ Some (seen.workstation, ws)) → (x : NamedWorkstation) → x ≡ get_or c.workstations.items place x
       → get (plan_of 0 c).workstations op.workstation ≡ Some x.1
   workplace_read place at x read =

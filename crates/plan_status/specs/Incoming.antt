@@ -1,4 +1,4 @@
--- What standings are worked out from: operations on their workstations, and pairs that come in one after another.
+-- What standings are worked out from: operations on their workstations, and pairs that are added one after another.
 use Rattle.std.specs.Prelude.{◌≡◌, List, ◌∷◌, Some}
 use Rattle.std.specs.FinMap.{get}
 use Rattle.std.specs.FinSet.{from_list}
@@ -21,7 +21,7 @@ pub record ComesAfter (pairs : List (OpKey × OpKey)) (pair : OpKey × OpKey) : 
   pub is_new : ¬ IsPairOf (from_list pairs) pair.0 pair.1
   pub leads_on : (o : OpKey) → ¬ IsPairOf (from_list (pair ∷ pairs)) pair.1 o
 
--- where these are the standings of the pair's ends before it comes in, `next` is its successor's after that
+-- where these are the standings of the pair's ends before it is added, `next` is its successor's after that
 abbrev pub IsNextStanding : Plan → List (OpKey × OpKey) → OpKey × OpKey → Standing → Standing → Standing → Type 0
 IsNextStanding P pairs pair predecessors successors next =
     ComesAfter pairs pair → IsStanding (with_pairs pairs P) pair.0 predecessors → IsStanding (with_pairs pairs P) pair.1 successors

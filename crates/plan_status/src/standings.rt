@@ -94,7 +94,7 @@ fn standing_after(
     with_one_more(standing, satisfied, nonreporting)
 }
 
-/// The standing of each operation, at its row's place. The error is always `Memory`.
+/// The standing of each operation, at its row's index. The error is always `Memory`.
 pub fn standings_of(
     alloc: Global,
     contents: &PlanContents,

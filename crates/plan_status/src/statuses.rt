@@ -28,7 +28,7 @@ pub fn status_with(operation: &OperationRecord, attribute: Attr, standing: &Stan
     )
 }
 
-/// The status of each operation, at its row's place.
+/// The status of each operation, at its row's index.
 pub fn statuses_of(
     alloc: Global,
     contents: &PlanContents,

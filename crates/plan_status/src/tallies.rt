@@ -47,7 +47,7 @@ fn count_one(counts: &mut Counts, status: Status)
     }
 }
 
-/// The numbers of each occurrence's operations, at its row's place.
+/// The numbers of each occurrence's operations, at its row's index.
 pub fn tallies_of(
     alloc: Global,
     contents: &PlanContents,

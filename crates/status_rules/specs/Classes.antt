@@ -14,7 +14,7 @@ is_ready status.ReadyAfterNonreporting = true
 is_ready status.Ready = true
 is_ready _ = false
 
--- waiting (W), arriving or ready: its flags may be set, and a predecessor may come in
+-- waiting (W), arriving or ready: its flags may be set, and a predecessor may be added
 abbrev pub is_waiting_or_ready : Status → Bool
 is_waiting_or_ready status.Waiting = true
 is_waiting_or_ready s = is_ready s
@@ -50,7 +50,7 @@ is_rerunnable status.Error = true
 is_rerunnable status.Undecided = true
 is_rerunnable _ = false
 
--- ---- what an operation holds, by the status that its mark tells: none where nothing was reported
+-- ---- what an operation holds, by the status that its mark decides: none where nothing was reported
 
 -- started (S) or undecided (U): it holds a server, R1 and R2
 abbrev pub holds_server : Option Status → Bool

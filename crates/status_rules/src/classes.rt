@@ -16,7 +16,7 @@ impl Status {
         )
     }
 
-    /// Waiting, arriving or ready: their flags may be set, and a predecessor may come in.
+    /// Waiting, arriving or ready: their flags may be set, and a predecessor may be added.
     pub fn is_waiting_or_ready(self) -> bool
         ensures { result ≡ is_waiting_or_ready self }
     {

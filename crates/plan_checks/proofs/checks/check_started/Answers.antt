@@ -2,14 +2,14 @@ use Rattle.std.proofs.Common.{◌≡◌, inr, sym, subst, ◌∙◌, ℕ, ◌<�
 use Rattle.plan_basics.specs.declared.Refusal.{Refusal}
 use Rattle.plan_basics.specs.declared.Refusal.TheVariants as refusal
 use Rattle.plan_basics.specs.Refusals.{number_of, IsLeastRefusal, NoneRefuses}
-use Rattle.plan_choice.specs.Choosing.{HasTaken}
-use Rattle.plan_model.specs.Starting.{MayStart}
-use Rattle.plan_records.specs.Accepting.{MayBeStarted}
+use Rattle.plan_choice.specs.Choices.{HasTaken}
+use Rattle.plan_model.specs.Starts.{MayStart}
+use Rattle.plan_records.specs.Acceptance.{MayBeStarted}
 use Rattle.plan_records.specs.Contents.{plan_of}
 use Rattle.plan_checks.proofs.Permitting.{before_line, has_taken, line_by_line, reported_at, startable, startable_told}
 use Rattle.plan_checks.proofs.Reporting.{failed_at, met_at}
 use Rattle.plan_checks.proofs.Searching.{if_ok}
-use Rattle.plan_checks.specs.Barring.{MayBeStartedAt}
+use Rattle.plan_checks.specs.Bars.{MayBeStartedAt}
 use Rattle.plan_checks.proofs.checks.check_started.Goals as goal
 
 pub returns-in-Automatic : goal.returns-in-Automatic

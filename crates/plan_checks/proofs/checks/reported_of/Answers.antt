@@ -7,7 +7,7 @@ use Rattle.plan_checks.proofs.HeldRows.{found_at}
 use Rattle.plan_checks.proofs.checks.reported_of.Goals as goal
 use Rattle.plan_checks.proofs.checks.reported_of.Goals.{In_ok-place}
 
--- the row at the place that is found
+-- the row at the index that is found
 row : (c : In_ok-place) → (op : Operation) × (slice_get c.args.loaded.now.contents.operations.items c.in_ok-place.place ≡ Some (c.args.key.now, op))
 row c = found_at c.deref.result.now c.args.loaded.now.contents.operations.items c.args.key.now c.row_place.result c.in_ok-place.place c.deref.ensures.value c.in_ok-place.ensures.ok_part c.row_place.ensures.found
 

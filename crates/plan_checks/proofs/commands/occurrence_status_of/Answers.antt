@@ -6,7 +6,7 @@ use Rattle.plan_checks.proofs.HeldRows.{found_at, occurrence_known, status_by_ta
 use Rattle.plan_checks.proofs.commands.occurrence_status_of.Goals as goal
 use Rattle.plan_checks.proofs.commands.occurrence_status_of.Goals.{In_ok-place}
 
--- the row at the place that is found
+-- the row at the index that is found
 row : (c : In_ok-place) → (terms : Occurrence) × (slice_get c.args.loaded.now.contents.occurrences.items c.in_ok-place.place ≡ Some (c.args.occurrence.now, terms))
 row c =
     found_at c.deref.result.now c.args.loaded.now.contents.occurrences.items c.args.occurrence.now c.row_place.result c.in_ok-place.place c.deref.ensures.value c.in_ok-place.ensures.ok_part

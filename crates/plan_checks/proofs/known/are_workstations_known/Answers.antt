@@ -1,7 +1,7 @@
 use Rattle.std.proofs.Common.{rules, tests}
 use Rattle.std.proofs.lemmas.Iterator.{YieldsList-from_slice, cases_from_all}
 use Rattle.plan_records.specs.Contents.{plan_of}
-use Rattle.plan_checks.specs.Adding.{HasWorkstation}
+use Rattle.plan_checks.specs.Additions.{HasWorkstation}
 use Rattle.plan_checks.proofs.ComingIn.{operations_told}
 use Rattle.plan_checks.proofs.known.are_workstations_known.Goals as goal
 

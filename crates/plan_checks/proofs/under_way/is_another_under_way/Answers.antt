@@ -4,7 +4,7 @@ use Rattle.plan_model.specs.Plan.{IsInPlan}
 use Rattle.plan_records.specs.Contents.{plan_of}
 use Rattle.plan_checks.proofs.Searching.{none_more}
 use Rattle.plan_checks.proofs.under_way.is_another_under_way.Goals as goal
-use Rattle.plan_checks.specs.Commanding.{IsOtherUnderWay}
+use Rattle.plan_checks.specs.Commands.{IsOtherUnderWay}
 
 pub loop-other-init : goal.loop-other-init
 loop-other-init c = λ k q lt at. absurd (omega (arith, lt))

@@ -1,7 +1,7 @@
 use Rattle.plan_records.specs.Contents.{plan_of}
 use Rattle.plan_checks.proofs.Searching.{NoneBefore}
 use Rattle.plan_checks.proofs.under_way.is_another_under_way.Given as goal
-use Rattle.plan_checks.specs.Commanding.{IsOtherUnderWay}
+use Rattle.plan_checks.specs.Commands.{IsOtherUnderWay}
 
 -- none of those that are gone through
 abbrev pub invariant-loop-other : goal.invariant-loop-other

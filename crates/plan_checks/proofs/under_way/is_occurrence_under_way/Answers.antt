@@ -5,7 +5,7 @@ use Rattle.plan_records.proofs.RowPlaces.{place_of_found, row_at}
 use Rattle.plan_records.specs.Contents.{plan_of}
 use Rattle.plan_checks.proofs.Searching.{none_more, under_way_in_plan}
 use Rattle.plan_checks.proofs.under_way.is_occurrence_under_way.Goals as goal
-use Rattle.plan_checks.specs.Commanding.{IsItsUnderWay}
+use Rattle.plan_checks.specs.Commands.{IsItsUnderWay}
 
 pub loop-place-init : goal.loop-place-init
 loop-place-init c = λ k row lt at. absurd (omega (arith, lt))

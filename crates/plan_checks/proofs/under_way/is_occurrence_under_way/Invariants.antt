@@ -1,7 +1,7 @@
 use Rattle.plan_records.specs.Contents.{plan_of}
 use Rattle.plan_checks.proofs.Searching.{NoneBefore}
 use Rattle.plan_checks.proofs.under_way.is_occurrence_under_way.Given as goal
-use Rattle.plan_checks.specs.Commanding.{IsItsUnderWay}
+use Rattle.plan_checks.specs.Commands.{IsItsUnderWay}
 
 -- none of those that are gone through
 abbrev pub invariant-loop-place : goal.invariant-loop-place

@@ -3,7 +3,7 @@ use Rattle.special_resources.specs.Holdings.{HoldingState}
 use Rattle.plan_model.specs.Plan.{Operation}
 use Rattle.plan_status.proofs.LoadedRows.{row_found}
 use Rattle.plan_status.proofs.RowKeys.{row_shown}
-use Rattle.plan_choice.specs.Taking.{HaveTaken}
+use Rattle.plan_choice.specs.Takings.{HaveTaken}
 use Rattle.plan_choice.proofs.HeldRows.{AreHeldAmong, none_held, row_holds_none, row_takes, rows_held}
 use Rattle.plan_choice.proofs.holders.holdings_of.Goals as goal
 use Rattle.plan_choice.proofs.holders.holdings_of.Goals.{After-row-item, then-starts_are_known+in_ok-take_marked, else-starts_are_known}

@@ -4,7 +4,7 @@ use Rattle.std.proofs.lemmas.Option.{slice_get-get_or}
 use Rattle.special_resources.specs.Needs.{usages_of}
 use Rattle.plan_model.specs.Plan.{Operation}
 use Rattle.plan_records.proofs.Tables.{is_none}
-use Rattle.plan_choice.specs.Taking.{HaveTaken}
+use Rattle.plan_choice.specs.Takings.{HaveTaken}
 use Rattle.plan_choice.proofs.NeedsTaken.{AreTakenSoFar, all_taken, held_already, not_held, taken_too}
 use Rattle.plan_choice.proofs.holders.take_marked.Goals as goal
 use Rattle.plan_choice.proofs.holders.take_marked.Goals.{then-holds_resource+then-is_none, else-holds_resource, else-holds_resource-via-then-holds_resource+else-is_none, else-holds_resource-via-else-holds_resource}

@@ -2,7 +2,7 @@ use Rattle.std.proofs.Common.{◌≡◌, ap, subst, ◌∙◌, ℕ}
 use Rattle.std.proofs.lemmas.Result.{IfOk-weaker}
 use Rattle.latest_start.specs.NodeStarts.{AreLatestStartsOf}
 use Rattle.plan_records.specs.Contents.{plan_of}
-use Rattle.plan_choice.specs.Choosing.{AreLatestStarts}
+use Rattle.plan_choice.specs.Choices.{AreLatestStarts}
 use Rattle.plan_choice.proofs.ItemStarts.{items_by, starts_of_rows}
 use Rattle.plan_choice.proofs.latest.latest_of.Goals as goal
 

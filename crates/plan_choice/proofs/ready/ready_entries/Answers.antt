@@ -5,7 +5,7 @@ use Rattle.std.proofs.lemmas.Option.{get_or_from_slice_get, slice_get-get_or}
 use Rattle.plan_basics.specs.declared.keys.OpKey.{OpKey}
 use Rattle.status_rules.specs.declared.Status.TheVariants.{Started}
 use Rattle.plan_model.specs.Plan.{Operation}
-use Rattle.plan_model.specs.Starting.{IsLatestStart}
+use Rattle.plan_model.specs.Starts.{IsLatestStart}
 use Rattle.plan_model.specs.Status.{IsReady}
 use Rattle.plan_records.specs.Contents.{plan_of}
 use Rattle.plan_records.proofs.RowPlaces.{row_at}

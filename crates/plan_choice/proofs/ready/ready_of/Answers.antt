@@ -1,7 +1,7 @@
 use Rattle.std.proofs.Common.{Result, Ok, Err, IfOk, IsPermutation, ℕ}
 use Rattle.ready_list.specs.Entries.{IsInOrder}
 use Rattle.plan_records.specs.Contents.{plan_of}
-use Rattle.plan_choice.specs.Choosing.{AreReadyEntries}
+use Rattle.plan_choice.specs.Choices.{AreReadyEntries}
 use Rattle.plan_choice.proofs.ReadyLists.{list_at, list_in_order}
 use Rattle.plan_choice.proofs.ready.ready_of.Goals as goal
 

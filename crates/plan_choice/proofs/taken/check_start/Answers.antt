@@ -5,10 +5,10 @@ use Rattle.std.specs.FinMap.{get}
 use Rattle.plan_basics.specs.Refusals.{number_of, IsLeastRefusal}
 use Rattle.plan_basics.specs.declared.Refusal.{Refusal}
 use Rattle.plan_model.specs.Plan.{Operation, Plan}
-use Rattle.plan_model.specs.Starting.{MayStart}
+use Rattle.plan_model.specs.Starts.{MayStart}
 use Rattle.plan_records.specs.Contents.{plan_of}
 use Rattle.workstations.specs.Workstations.{HasRoom, Workstation}
-use Rattle.plan_choice.specs.Choosing.{HasTaken, IsStartLine}
+use Rattle.plan_choice.specs.Choices.{HasTaken, IsStartLine}
 use Rattle.plan_choice.proofs.StartLines.{before_busy, line_met, lower_met, no_room, not_free}
 use Rattle.plan_status.proofs.Workplaces.{workplace_known, workplace_read}
 use Rattle.plan_choice.proofs.taken.check_start.Goals as goal

@@ -3,7 +3,7 @@ use Rattle.std.proofs.lemmas.List.{take_all}
 use Rattle.plan_model.specs.Plan.{Operation}
 use Rattle.plan_status.proofs.LoadedRows.{row_found}
 use Rattle.plan_status.proofs.RowKeys.{row_shown}
-use Rattle.plan_choice.specs.Taking.{IsAtMost, most_given_out}
+use Rattle.plan_choice.specs.Takings.{IsAtMost, most_given_out}
 use Rattle.plan_choice.proofs.GivenPlaces.{own_place, read_at}
 use Rattle.plan_choice.proofs.GivenRows.{before_at_most, given_before, row_counted, row_passed, rows_counted}
 use Rattle.plan_choice.proofs.taken.given_out_of.Goals as goal

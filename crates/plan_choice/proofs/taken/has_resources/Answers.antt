@@ -2,7 +2,7 @@ use Rattle.std.proofs.Common.{◌≡◌, sym, ap, subst, ◌∙◌, arith, refl,
 use Rattle.special_resources.specs.Needs.{usages_of}
 use Rattle.plan_model.specs.Plan.{Operation, Resources}
 use Rattle.plan_records.specs.Contents.{plan_of}
-use Rattle.plan_choice.specs.Taking.{CanMeetNeeds, CanMeetNeed}
+use Rattle.plan_choice.specs.Takings.{CanMeetNeeds, CanMeetNeed}
 use Rattle.plan_choice.proofs.FreeResources.{all_free, one_busy}
 use Rattle.plan_choice.proofs.taken.has_resources.Goals as goal
 

@@ -1,7 +1,7 @@
 use Rattle.std.proofs.Common.{◌<◌, ℕ, get_or}
 use Rattle.special_resources.specs.declared.Need.{Need}
 use Rattle.plan_records.specs.Contents.{plan_of}
-use Rattle.plan_choice.specs.Taking.{CanMeetNeed}
+use Rattle.plan_choice.specs.Takings.{CanMeetNeed}
 use Rattle.plan_choice.proofs.taken.has_resources.Given as goal
 
 -- the needs that were passed can be met

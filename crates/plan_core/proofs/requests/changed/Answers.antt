@@ -2,7 +2,7 @@ use Rattle.std.proofs.Common.{◌≡◌, ◌∙◌, refl, inl, inr, ap, subst, s
 use Rattle.plan_basics.specs.Intervals.{IsInterval}
 use Rattle.plan_basics.specs.declared.Refusal.TheVariants as refusal
 use Rattle.plan_basics.specs.Refusals.{NoneRefuses}
-use Rattle.plan_records.specs.Accepting.{MayBeOpenBy}
+use Rattle.plan_records.specs.Acceptance.{MayBeOpenBy}
 use Rattle.plan_records.specs.Changes.{marked}
 use Rattle.plan_records.specs.Contents.{plan_of}
 use Rattle.plan_records.specs.declared.What.TheVariants as what
@@ -10,7 +10,7 @@ use Rattle.plan_records.specs.declared.contents.PlanContents.{PlanContents}
 use Rattle.status_rules.specs.declared.Mark.TheVariants as mark
 use Rattle.plan_core.specs.Requested.{AreMadeBy}
 use Rattle.plan_changes.proofs.Answered.{if_ok}
-use Rattle.plan_changes.specs.Opening.{opened}
+use Rattle.plan_changes.specs.Intervals.{opened}
 use Rattle.plan_core.proofs.Made.{clear_of, has_addition, if_alike, if_made, if_marked}
 use Rattle.plan_core.proofs.requests.changed.Goals as goal
 use Rattle.plan_core.proofs.requests.changed.Goals.{in-Tick, in-Started, in-Ended2, in-Error, in-Interrupted, in-Unknown, in-Hold, in-Release, in-Nop, in-Unnop}

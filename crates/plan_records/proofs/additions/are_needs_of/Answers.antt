@@ -1,6 +1,6 @@
 use Rattle.std.proofs.Common.{rules, tests}
 use Rattle.std.proofs.lemmas.Iterator.{YieldsList-from_slice, cases_from_all}
-use Rattle.plan_records.specs.Adding.{IsNeedOf}
+use Rattle.plan_records.specs.AdditionItems.{IsNeedOf}
 use Rattle.plan_records.proofs.Lists.{all_told}
 use Rattle.plan_records.proofs.additions.are_needs_of.Goals as goal
 

@@ -1,6 +1,6 @@
 use Rattle.std.proofs.Common.{◌∙◌, rules}
 use Rattle.std.proofs.lemmas.List.Elements.{All-weaker}
-use Rattle.plan_records.specs.Loading.{operation_of}
+use Rattle.plan_records.specs.PlanItems.{operation_of}
 use Rattle.plan_records.proofs.InOrder.{belongs, comes, sole_in_order, sole_rows}
 use Rattle.plan_records.proofs.Lists.{some_from_test}
 use Rattle.plan_records.proofs.Keyed.{answered, made_apart, said_apart}

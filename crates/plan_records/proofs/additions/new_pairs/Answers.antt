@@ -1,7 +1,7 @@
 use Rattle.std.proofs.Common.{subst, refl, rules, All}
 use Rattle.std.specs.List.Sorted.{IsStrictlySortedBy}
 use Rattle.plan_model.specs.Plan.{pair_cmp}
-use Rattle.plan_records.specs.Adding.{IsNewPair}
+use Rattle.plan_records.specs.AdditionItems.{IsNewPair}
 use Rattle.plan_records.proofs.Keyed.{answered}
 use Rattle.plan_records.proofs.Orders.{map_same}
 use Rattle.plan_records.proofs.additions.new_pairs.Goals as goal

@@ -2,8 +2,8 @@ use Rattle.std.proofs.Common.{◌≡◌, ◌∙◌, ◌∷◌, [], ap, sym, refl
 use Rattle.std.proofs.Math.Path.{transport}
 use Rattle.std.specs.List.{filter_map}
 use Rattle.std.specs.Map.{keys_of}
-use Rattle.plan_records.specs.Loading.{AreNeedsInOrder, as_need, as_occurrence, as_operation}
-use Rattle.plan_records.specs.Adding.{AreNewOperations, AreNewRows, IsNeedOf, AreNewPairs, AreNewPairsInOrder}
+use Rattle.plan_records.specs.PlanItems.{AreNeedsInOrder, as_need, as_occurrence, as_operation}
+use Rattle.plan_records.specs.AdditionItems.{AreNewOperations, AreNewRows, IsNeedOf, AreNewPairs, AreNewPairsInOrder}
 use Rattle.plan_records.proofs.NewParts.{no_new_operations, no_new_needs, no_new_pairs, parts_are}
 use Rattle.plan_records.proofs.additions.parts_of.Goals as goal
 use Rattle.plan_records.proofs.additions.parts_of.Goals.{In-Some, In-Some-2, In-Some-3}

@@ -1,7 +1,7 @@
 use Rattle.std.proofs.Common.{rules, tests}
 use Rattle.std.proofs.lemmas.Iterator.{YieldsList-from_slice, cases_from_all}
 use Rattle.std.specs.Map.{keys_of}
-use Rattle.plan_records.specs.Loading.{IsOneOf}
+use Rattle.plan_records.specs.PlanItems.{IsOneOf}
 use Rattle.plan_records.proofs.Lists.{all_told}
 use Rattle.plan_records.proofs.in_order.are_named.Goals as goal
 

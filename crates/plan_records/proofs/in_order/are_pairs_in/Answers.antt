@@ -1,6 +1,6 @@
 use Rattle.std.proofs.Common.{rules, tests}
 use Rattle.std.proofs.lemmas.Iterator.{YieldsList-from_slice, cases_from_all}
-use Rattle.plan_records.specs.Loading.{IsPairIn}
+use Rattle.plan_records.specs.PlanItems.{IsPairIn}
 use Rattle.plan_records.proofs.Lists.{all_told}
 use Rattle.plan_records.proofs.in_order.are_pairs_in.Goals as goal
 

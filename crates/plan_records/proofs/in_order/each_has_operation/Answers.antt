@@ -2,7 +2,7 @@ use Rattle.std.proofs.Common.{map, Contains, rules, tests}
 use Rattle.std.proofs.lemmas.Iterator.{YieldsList-from_slice, cases_from_all}
 use Rattle.plan_basics.specs.declared.keys.OccKey.{OccKey}
 use Rattle.plan_model.specs.declared.Occurrence.{Occurrence}
-use Rattle.plan_records.specs.Loading.{occurrence_of}
+use Rattle.plan_records.specs.PlanItems.{occurrence_of}
 use Rattle.plan_records.proofs.Lists.{all_told}
 use Rattle.plan_records.proofs.in_order.each_has_operation.Goals as goal
 

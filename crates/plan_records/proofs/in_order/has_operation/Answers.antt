@@ -1,7 +1,7 @@
 use Rattle.std.proofs.Common.{rules}
 use Rattle.std.proofs.lemmas.List.Sorted.{answers_always}
 use Rattle.plan_basics.specs.Keys.{occurrence_cmp_total, occurrence_cmp-IsAntisymmetric}
-use Rattle.plan_records.specs.Loading.{occurrence_of}
+use Rattle.plan_records.specs.PlanItems.{occurrence_of}
 use Rattle.plan_records.proofs.Orders.{search_told_by}
 use Rattle.plan_records.proofs.Terms.{by_occurrence}
 use Rattle.plan_records.proofs.in_order.has_operation.Goals as goal

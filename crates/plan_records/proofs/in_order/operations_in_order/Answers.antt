@@ -3,8 +3,8 @@ use Rattle.std.specs.List.{AllPairs}
 use Rattle.std.specs.List.Sorted.{IsStrictlySortedBy}
 use Rattle.std.specs.Map.{keys_of}
 use Rattle.plan_basics.specs.Keys.{operation_cmp}
-use Rattle.plan_records.specs.Loading.{EachHasOperation, row_of}
-use Rattle.plan_records.specs.Sorting.{AreInKeyOrder}
+use Rattle.plan_records.specs.PlanItems.{EachHasOperation, row_of}
+use Rattle.plan_records.specs.KeyOrder.{AreInKeyOrder}
 use Rattle.plan_records.proofs.InOrder.{belonging, fitting, named, operation_in, rows_are, none_has}
 use Rattle.plan_records.proofs.Keyed.{made_apart}
 use Rattle.plan_records.proofs.in_order.operations_in_order.Goals as goal

@@ -1,7 +1,7 @@
 use Rattle.std.proofs.Common.{sym, subst, ap, ap₂, ◌∙◌, arith, map, ◌++◌, ◌∷◌, []}
 use Rattle.std.proofs.lemmas.List.{map_more, take_all}
 use Rattle.std.proofs.lemmas.List.Elements.{AllWithin-more, at_read}
-use Rattle.plan_records.specs.Loading.{BelongsTo, row_of}
+use Rattle.plan_records.specs.PlanItems.{BelongsTo, row_of}
 use Rattle.plan_records.proofs.in_order.rows.Goals as goal
 
 pub loop-said-preserved : goal.loop-said-preserved

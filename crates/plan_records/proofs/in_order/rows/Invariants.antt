@@ -1,6 +1,6 @@
 use Rattle.std.proofs.Common.{◌≡◌, map, take}
 use Rattle.std.specs.List.{AllWithin}
-use Rattle.plan_records.specs.Loading.{BelongsTo, row_of}
+use Rattle.plan_records.specs.PlanItems.{BelongsTo, row_of}
 use Rattle.plan_records.proofs.in_order.rows.Given as goal
 
 abbrev pub invariant-loop-said : goal.invariant-loop-said

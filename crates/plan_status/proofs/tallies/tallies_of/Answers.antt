@@ -39,7 +39,7 @@ known_row-place-requires-clause-known c =
     subst (λ rows. is_some (get {R = occurrence_cmp} (from_entries rows) key.occurrence) ≡ true) (sym c.deref.ensures.value)
     (its_occurrence contents c.requires.contents key at.0 (row_found contents c.requires.contents c.loop-i.i key at.0 at.1))
 
--- its occurrence's place
+-- its occurrence's index
 place_at : (c : goal.After-index_mut) → (terms : Occurrence) × (slice_get c.args.contents.now.occurrences.items c.known_row-place.result ≡ Some (c.index.result.now.0.occurrence, terms))
 place_at c =
     let key = c.index.result.now.0 in

@@ -27,7 +27,7 @@ check_start-requires-clause-operation c = found ((goal.at.check_start-requires-c
 abbrev before : After-index-2 → Counted
 before c = record { contents = c.self.inside.contents.now; at = c.self.inside.at; given = c.self.inside.given.items; held = c.self.inside.holdings.held }
 
--- the place of the operation's workstation
+-- the index of the operation's workstation
 its_place : (c : After-index-2) → (ws : Workstation) × (slice_get (before c).contents.workstations.items c.known_workstation-place.result ≡ Some (c.index.result.now.1.workstation, ws))
 its_place c =
     own_place c.deref-2.result.now c.self.inside.contents.now.workstations.items c.deref-2.ensures.value c.known_workstation-place.result c.operation.inside.workstation c.index.result.now.1.workstation

@@ -33,6 +33,6 @@ returns-in_ok-loaded c =
     let some : c.self.inside.loaded ≡ Some c.in_ok-loaded.loaded.now = search rules in
     let same : plan_of clock contents ≡ c.args.self.now.plan = ap (plan_held clock) (sym some) ∙ ap (λ (s : PlanState). s.plan) c.self.view_is in
     record {
-      ok = subst (λ (P : Plan). OnOk c.check_report.result (NoneRefuses (MayBeMadeAt P m w))) same (if_ok c.check_report.result c.check_report.ensures.ok (λ may. is_free (plan_of clock contents) m w (λ _. refl) (may clock)));
-      refused = subst (λ (P : Plan). IfErr c.check_report.result (λ r. (r ≡ refusal.Memory) ⊎ IsLeastRefusal (MayBeMadeAt P m w) r)) same (if_refused c.check_report.result c.check_report.ensures.refused (λ r barred. is_stopped (plan_of clock contents) m w (λ _. refl) r (barred clock)));
+      ok = subst (λ (P : Plan). OnOk c.check_request.result (NoneRefuses (MayBeMadeAt P m w))) same (if_ok c.check_request.result c.check_request.ensures.ok (λ may. is_free (plan_of clock contents) m w (λ _. refl) (may clock)));
+      refused = subst (λ (P : Plan). IfErr c.check_request.result (λ r. (r ≡ refusal.Memory) ⊎ IsLeastRefusal (MayBeMadeAt P m w) r)) same (if_refused c.check_request.result c.check_request.ensures.refused (λ r barred. is_stopped (plan_of clock contents) m w (λ _. refl) r (barred clock)));
     }

@@ -1,6 +1,6 @@
 use Rattle.std.proofs.Common.{rules, ◌≡◌, sym, ap, subst, ◌∙◌, Some, option_copied}
 use Rattle.plan_model.specs.Plan.{Plan}
-use Rattle.plan_records.specs.Accepting.{NeedsPlan}
+use Rattle.plan_records.specs.Acceptance.{NeedsPlan}
 use Rattle.plan_records.specs.Contents.{plan_of}
 use Rattle.plan_records.specs.declared.What.{What}
 use Rattle.plan_records.specs.declared.What.TheVariants as what

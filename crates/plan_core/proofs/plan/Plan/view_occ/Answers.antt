@@ -17,7 +17,7 @@ returns-in_err-loaded-clause-some c =
     none_known c.from_residual.result c.from_residual.ensures (λ P. contains_key P.occurrences c.args.key.now ≡ true) clock c.args.self.now.plan
     (ap (plan_held clock) c.in_err-loaded.ensures.value ∙ ap (λ s. s.plan) c.self.view_is) (no_occurrence clock c.args.key.now)
 
--- the row at the place that is found
+-- the row at the index that is found
 row : (c : In_ok-place) → (terms : Occurrence) × (slice_get c.in_ok-loaded.loaded.now.contents.occurrences.items c.in_ok-place.place ≡ Some (c.args.key.now, terms))
 row c = subst (λ rows. (terms : Occurrence) × (slice_get rows c.in_ok-place.place ≡ Some (c.args.key.now, terms))) c.deref.ensures.value c.in_ok-place.ensures.found
 

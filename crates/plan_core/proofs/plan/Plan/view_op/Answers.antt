@@ -14,7 +14,7 @@ returns-in_err-loaded-clause-some c =
     none_known c.from_residual.result c.from_residual.ensures (λ P. IsInPlan P c.args.key.now) clock c.args.self.now.plan
     (ap (plan_held clock) c.in_err-loaded.ensures.value ∙ ap (λ s. s.plan) c.self.view_is) (no_operation clock c.args.key.now)
 
--- the row at the place that is found
+-- the row at the index that is found
 row : (c : In_ok-place) → (op : Operation) × (slice_get c.in_ok-loaded.loaded.now.contents.operations.items c.in_ok-place.place ≡ Some (c.args.key.now, op))
 row c = subst (λ rows. (op : Operation) × (slice_get rows c.in_ok-place.place ≡ Some (c.args.key.now, op))) c.deref.ensures.value c.in_ok-place.ensures.found
 

@@ -1,8 +1,0 @@
-use Rattle.std.specs.List.{AllWithin}
-use Rattle.plan_records.specs.Contents.{plan_of, incoming}
-use Rattle.plan_checks.specs.Adding.{IsOpenPair}
-use Rattle.plan_checks.proofs.admitting.are_pairs_open.Given as goal
-
--- so of the pairs before the index
-abbrev pub invariant-loop-pair : goal.invariant-loop-pair
-invariant-loop-pair l = AllWithin (IsOpenPair (plan_of 0 l.loaded.contents) (incoming l.parts)) l.pair-items 0 l.pair-index

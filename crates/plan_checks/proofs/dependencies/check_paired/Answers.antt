@@ -1,0 +1,47 @@
+use Rattle.std.proofs.Common.{◌<◌, length, rules}
+use Rattle.plan_checks.proofs.ByPair.{AreFound, IsBarredPair, IsToldAt, after_within, barred_by_edge, barred_by_ends, barred_by_room, before_within, handed_on, may_be_paired}
+use Rattle.plan_checks.proofs.HeldRows.{found_at}
+use Rattle.plan_checks.specs.declared.checks.Reported.{Reported}
+use Rattle.plan_checks.proofs.dependencies.check_paired.Goals as goal
+use Rattle.plan_checks.proofs.dependencies.check_paired.Goals.{In_ok-after}
+
+-- both rows, and what is reported of them
+found : (c : In_ok-after) (x y : Reported) → IsToldAt c.args.loaded.now c.in_ok-before.before x → IsToldAt c.args.loaded.now c.in_ok-after.after y
+    → AreFound c.args.loaded.now c.in_ok-before.before c.in_ok-after.after c.args.predecessor.now c.args.successor.now x y
+found c x y told_x told_y =
+    let rows = c.args.loaded.now.contents.operations.items in
+    let p = c.args.predecessor.now in
+    let s = c.args.successor.now in
+    let a = found_at c.deref.result.now rows p c.row_place.result c.in_ok-before.before c.deref.ensures.value c.in_ok-before.ensures.ok_part c.row_place.ensures.found in
+    let b = found_at c.deref-2.result.now rows s c.row_place-2.result c.in_ok-after.after c.deref-2.ensures.value c.in_ok-after.ensures.ok_part c.row_place-2.ensures.found in
+    record { held = c.requires; before = a; after = b; first = told_x p a.0 a.1; second = told_y s b.0 b.1 }
+
+pub check_edge-requires-clause-before : goal.check_edge-requires-clause-before
+check_edge-requires-clause-before c = before_within (found (goal.at.check_edge-requires-clause-before c).In_ok-after c.reported_at.result c.reported_at-2.result c.reported_at.ensures c.reported_at-2.ensures)
+
+pub check_edge-requires-clause-after : goal.check_edge-requires-clause-after
+check_edge-requires-clause-after c = after_within (found (goal.at.check_edge-requires-clause-after c).In_ok-after c.reported_at.result c.reported_at-2.result c.reported_at.ensures c.reported_at-2.ensures)
+
+pub returns-in_err-check_ends-clause-refused : goal.returns-in_err-check_ends-clause-refused
+returns-in_err-check_ends-clause-refused c =
+    let at = found (goal.at.returns-in_err-check_ends-clause-refused c).In_ok-after c.reported_at.result c.reported_at-2.result c.reported_at.ensures c.reported_at-2.ensures in
+    handed_on (IsBarredPair c.args.loaded.now c.args.predecessor.now c.args.successor.now) c.from_residual-in_err-check_ends.result c.in_err-check_ends.field-0.0 c.from_residual-in_err-check_ends.ensures.1
+    (barred_by_ends at c.in_err-check_ends.field-0.0 c.in_err-check_ends.ensures.refused)
+
+pub returns-in_err-check_edge-clause-refused : goal.returns-in_err-check_edge-clause-refused
+returns-in_err-check_edge-clause-refused c =
+    let at = found (goal.at.returns-in_err-check_edge-clause-refused c).In_ok-after c.reported_at.result c.reported_at-2.result c.reported_at.ensures c.reported_at-2.ensures in
+    handed_on (IsBarredPair c.args.loaded.now c.args.predecessor.now c.args.successor.now) c.from_residual-in_err-check_edge.result c.in_err-check_edge.field-0.0 c.from_residual-in_err-check_edge.ensures.1
+    (barred_by_edge at c.in_ok-check_ends.ensures.ok.0 c.in_ok-check_ends.ensures.ok.1 c.in_err-check_edge.field-0.0 c.in_err-check_edge.ensures.refused)
+
+pub returns-then-len-lt100000-clause-ok : goal.returns-then-len-lt100000-clause-ok
+returns-then-len-lt100000-clause-ok c =
+    let at = found (goal.at.returns-then-len-lt100000-clause-ok c).In_ok-after c.reported_at.result c.reported_at-2.result c.reported_at.ensures c.reported_at-2.ensures in
+    let room : length c.args.loaded.now.contents.pairs.items < 100000 = search rules in
+    may_be_paired at c.in_ok-check_ends.ensures.ok.0 c.in_ok-check_ends.ensures.ok.1 c.in_ok-check_edge.ensures.ok room
+
+pub returns-else-len-lt100000-clause-refused : goal.returns-else-len-lt100000-clause-refused
+returns-else-len-lt100000-clause-refused c =
+    let at = found (goal.at.returns-else-len-lt100000-clause-refused c).In_ok-after c.reported_at.result c.reported_at-2.result c.reported_at.ensures c.reported_at-2.ensures in
+    let full : length c.args.loaded.now.contents.pairs.items < 100000 → ⊥ = search rules in
+    barred_by_room at c.in_ok-check_ends.ensures.ok.0 c.in_ok-check_ends.ensures.ok.1 c.in_ok-check_edge.ensures.ok full

@@ -1,0 +1,127 @@
+// What the words of a turn ask.
+use super::crowds::{crowd, filled};
+use super::names::{minute, moment, occurrence, operation, resource, workstation};
+use super::sections::joined;
+use super::words::cut;
+use plan_basics::{ErrCode, Interval, OpKey, Watched};
+use plan_import::{read_occurrence, read_plan};
+use plan_records::{Request, What};
+use std::alloc::Global;
+
+/// What a turn asks: its minute and its words, before the bar.
+pub fn request(alloc: Global, turn: &str) -> Option<Request> {
+    let (asked, _) = cut(turn, " | ")?;
+    let (at, asked) = cut(asked, " ")?;
+    let (word, rest) = cut(asked, " ").unwrap_or((asked, ""));
+    Some(Request {
+        at: minute(at)?,
+        what: what(alloc, word, rest)?,
+    })
+}
+
+fn what(alloc: Global, word: &str, rest: &str) -> Option<What> {
+    match word {
+        "tick" => tick(rest),
+        "load" => load(alloc, &joined(alloc, rest)?),
+        "load-crowd" => load(alloc, &crowd(alloc, rest.parse().ok()?).ok()?),
+        "load-filled" => load(alloc, &filled(joined(alloc, rest)?).ok()?),
+        "add" => add(alloc, &joined(alloc, rest)?),
+        "open" => open(alloc, rest),
+        "open-times" => open_times(alloc, rest),
+        "away" => Some(What::SetAvailable(resource(rest)?, false)),
+        "available" => Some(What::SetAvailable(resource(rest)?, true)),
+        "delete" => Some(What::DeleteOccurrence(occurrence(rest)?)),
+        "depend" => depend(rest),
+        "error" => error(rest),
+        _ => of_operation(word, operation(rest)?),
+    }
+}
+
+fn tick(rest: &str) -> Option<What> {
+    if rest.is_empty() {
+        Some(What::Tick)
+    } else {
+        None
+    }
+}
+
+// The plan of a text is loaded.
+fn load(alloc: Global, text: &str) -> Option<What> {
+    let mut reader = Watched::new(text.as_bytes());
+    Some(What::Load(read_plan(alloc, &mut reader).ok()?))
+}
+
+// The occurrence of a text is added.
+fn add(alloc: Global, text: &str) -> Option<What> {
+    let mut reader = Watched::new(text.as_bytes());
+    Some(What::AddOccurrence(read_occurrence(alloc, &mut reader).ok()?))
+}
+
+// What is asked of one operation.
+fn of_operation(word: &str, key: OpKey) -> Option<What> {
+    Some(match word {
+        "started" => What::Started(key),
+        "ended" => What::Ended(key),
+        "interrupted" => What::Interrupted(key),
+        "unknown" => What::Unknown(key),
+        "hold" => What::Hold(key),
+        "release" => What::Release(key),
+        "nop" => What::Nop(key),
+        "unnop" => What::Unnop(key),
+        "rerun" => What::Rerun(key),
+        "complete" => What::Complete(key),
+        _ => return None,
+    })
+}
+
+// An operation and its error code.
+fn error(rest: &str) -> Option<What> {
+    let (name, code) = cut(rest, " ")?;
+    Some(What::Error(operation(name)?, ErrCode::from_text(code.as_bytes())?))
+}
+
+// An operation and what it depends on.
+fn depend(rest: &str) -> Option<What> {
+    let (successor, predecessor) = cut(rest, " on ")?;
+    Some(What::AddDependency(operation(predecessor)?, operation(successor)?))
+}
+
+// An open interval: its first minute, its end, its servers, R1 and R2.
+fn interval(text: &str) -> Option<Interval> {
+    let (from, text) = cut(text, " ")?;
+    let (end, text) = cut(text, " ")?;
+    let (servers, fixed) = cut(text, " ")?;
+    let (r1, r2) = cut(fixed, " ")?;
+    let (servers, r1, r2) = (small(servers)?, small(r1)?, small(r2)?);
+    Interval::new(moment(from)?, moment(end)?, servers, r1, r2)
+}
+
+fn small(text: &str) -> Option<u8> {
+    text.parse().ok()
+}
+
+// The open intervals of a text, with commas between them.
+fn intervals(alloc: Global, text: &str) -> Option<Vec<Interval>> {
+    let mut all = Vec::new(alloc);
+    if text != "-" {
+        for text in text.split(',') {
+            all.push(interval(text)?).ok()?;
+        }
+    }
+    Some(all)
+}
+
+// A workstation gets new open intervals.
+fn open(alloc: Global, rest: &str) -> Option<What> {
+    let (name, text) = cut(rest, " ")?;
+    Some(What::ReplaceIntervals(workstation(name)?, intervals(alloc, text)?))
+}
+
+// It gets so many, all the same.
+fn open_times(alloc: Global, rest: &str) -> Option<What> {
+    let (count, rest) = cut(rest, " ")?;
+    let (name, text) = cut(rest, " ")?;
+    let count: usize = count.parse().ok()?;
+    let same = vec![in alloc; interval(text)?; count].ok()?;
+    Some(What::ReplaceIntervals(workstation(name)?, same))
+}

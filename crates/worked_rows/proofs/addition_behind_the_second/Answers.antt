@@ -1,5 +1,0 @@
-use Rattle.worked_rows.proofs.BackupChosen.{backup_added}
-use Rattle.worked_rows.proofs.addition_behind_the_second.Goals as goal
-
-pub returns : goal.returns
-returns c = backup_added

@@ -1,5 +1,0 @@
-use Rattle.worked_rows.proofs.TrioRows.{choice_for_fixed_resource}
-use Rattle.worked_rows.proofs.choice_for_fixed_resource.Goals as goal
-
-pub returns : goal.returns
-returns c = choice_for_fixed_resource

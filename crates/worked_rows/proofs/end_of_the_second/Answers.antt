@@ -1,5 +1,0 @@
-use Rattle.worked_rows.proofs.NightEnds.{end_of_the_second}
-use Rattle.worked_rows.proofs.end_of_the_second.Goals as goal
-
-pub returns : goal.returns
-returns c = end_of_the_second

@@ -1,5 +1,0 @@
-use Rattle.worked_rows.proofs.BillingWaits.{kept_resource}
-use Rattle.worked_rows.proofs.kept_resource.Goals as goal
-
-pub returns : goal.returns
-returns c = kept_resource

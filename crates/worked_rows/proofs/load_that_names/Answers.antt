@@ -1,5 +1,0 @@
-use Rattle.worked_rows.proofs.DayLoad.{load_names_first}
-use Rattle.worked_rows.proofs.load_that_names.Goals as goal
-
-pub returns : goal.returns
-returns c = load_names_first

@@ -1,5 +1,0 @@
-use Rattle.worked_rows.proofs.Moments.{moments_are}
-use Rattle.worked_rows.proofs.moments_of_the_night.Goals as goal
-
-pub returns : goal.returns
-returns c = moments_are

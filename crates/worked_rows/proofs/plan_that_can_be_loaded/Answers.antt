@@ -1,5 +1,0 @@
-use Rattle.worked_rows.proofs.DayLoad.{day_is_draft}
-use Rattle.worked_rows.proofs.plan_that_can_be_loaded.Goals as goal
-
-pub returns : goal.returns
-returns c = day_is_draft

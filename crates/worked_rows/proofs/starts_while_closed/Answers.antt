@@ -1,5 +1,0 @@
-use Rattle.worked_rows.proofs.NightRefusals.{starts_while_closed}
-use Rattle.worked_rows.proofs.starts_while_closed.Goals as goal
-
-pub returns : goal.returns
-returns c = starts_while_closed
