@@ -1,5 +1,5 @@
 -- What the class of an operation's status says of the operation.
-use Rattle.std.proofs.Common.{◌≡◌, ◌⊎◌, ◌↔◌, inl, inr, refl, sym, ap, subst, ◌∙◌, true, true≢false, Bool, Decides, MatchOption, Some}
+use Rattle.std.proofs.Common.{◌≡◌, ◌⊎◌, inl, inr, refl, sym, ap, subst, ◌∙◌, true, true≢false, Bool, Decides, MatchOption, Some}
 use Rattle.std.specs.FinMap.{get}
 use Rattle.plan_basics.specs.declared.keys.OpKey.{OpKey}
 use Rattle.status_rules.specs.Classes.{is_ready, is_satisfied, is_under_way, is_waiting_or_ready}
