@@ -1,7 +1,8 @@
 use Rattle.std.proofs.Common.{◌≡◌, sym, ap, subst, ◌∙◌, ◌+◌, arith, true, Some, None, is_some, slice_get}
-use Rattle.std.specs.FinMap.{get}
+use Rattle.std.specs.FinMap.{get, len}
 use Rattle.std.proofs.lemmas.Option.{slice_get-get_or}
 use Rattle.special_resources.specs.Needs.{usages_of}
+use Rattle.special_resources.proofs.Replacing.{one_more}
 use Rattle.plan_model.specs.Plan.{Operation}
 use Rattle.plan_records.proofs.Tables.{is_none}
 use Rattle.plan_choice.specs.Takings.{HaveTaken}
@@ -25,9 +26,10 @@ loop-need-preserved c =
       | then-holds_resource+then-is_none w ↦
           let holds = sym c.holds_resource.ensures ∙ w.if-holds_resource.true in
           let free : get now (need.name, o) ≡ None = sym w.mode_of.ensures ∙ is_none w.mode_of.result w.if-is_none.ensures in
+          let more = ap len w.take.ensures.held ∙ one_more now (need.name, o) need.mode (ap is_some free) in
           rw w.holdings-is
           record {
-            room = omega (arith, room, w.take.ensures.room);
+            room = omega (arith, room, more, w.take.ensures.room);
             taken = subst (AreTakenSoFar before o needs mark (i + 1)) (sym w.take.ensures.held) (taken_too before o needs mark i need at now so_far holds free);
           }
       | else-holds_resource w ↦
