@@ -99,7 +99,8 @@ pub fn with_available(
     Ok(new)
 }
 
-/// The contents with a workstation of theirs open in these intervals, which are 400 at most, and of which no two overlap.
+/// The contents with a workstation of theirs open in these intervals, which are no more than it may have, and of which no
+/// two overlap.
 pub fn with_intervals(
     alloc: Global,
     contents: &PlanContents,

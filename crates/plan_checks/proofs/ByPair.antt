@@ -1,6 +1,7 @@
 -- What stands in the way of a dependency that is to be added.
 use Rattle.std.proofs.Common.{◌≡◌, ◌≢◌, ◌⊎◌, inl, inr, refl, sym, subst, ℕ, ◌<◌, length, slice_get, Some, Result, Ok, Err, IfErr}
 use Rattle.std.specs.Result.{IsErrAnd}
+use Rattle.plan_basics.specs.declared.limits.TheConstants.{MOST_PAIRS}
 use Rattle.operation_graph.specs.Graphs.{MayTakeEdge}
 use Rattle.plan_basics.specs.declared.Refusal.{Refusal}
 use Rattle.plan_basics.specs.declared.Refusal.TheVariants as refusal
@@ -155,10 +156,10 @@ module _ {h : LoadedPlan} {i j : ℕ} {p s : OpKey} {x y : Reported} (found : Ar
       new pair = may.0 (edge_by_pair at h held i j p s a.0 b.0 a.1 b.1 pair)
 
       -- by the room
-      pub barred_by_room : ¬ (length h.contents.pairs.items < 100000) → IsBarredPair h p s refusal.Limit
+      pub barred_by_room : ¬ (length h.contents.pairs.items < MOST_PAIRS) → IsBarredPair h p s refusal.Limit
       barred_by_room full = inr (λ clock.
           one_too_many (plan_of clock h.contents) p s (known clock) (joined clock) new (acyclic_with at h held i j p s a.0 b.0 a.1 b.1 may.1) (has_no_room at h held p s new clock full))
 
-      pub may_be_paired : length h.contents.pairs.items < 100000 → (clock : ℕ) → NoneRefuses (MayBePaired (plan_of clock h.contents) p s)
+      pub may_be_paired : length h.contents.pairs.items < MOST_PAIRS → (clock : ℕ) → NoneRefuses (MayBePaired (plan_of clock h.contents) p s)
       may_be_paired room clock =
           paired (plan_of clock h.contents) p s (known clock) (joined clock) new (acyclic_with at h held i j p s a.0 b.0 a.1 b.1 may.1) (has_room at h held p s new clock room)

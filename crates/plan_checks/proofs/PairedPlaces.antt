@@ -3,6 +3,7 @@ use Rattle.std.proofs.Common.{◌≡◌, ◌↔◌, inl, inr, refl, sym, ap, sub
 use Rattle.std.proofs.lemmas.Option.{slice_get_within}
 use Rattle.std.specs.FinSet as set
 use Rattle.std.specs.Map.{keys_of}
+use Rattle.plan_basics.specs.declared.limits.TheConstants.{MOST_PAIRS}
 use Rattle.operation_graph.specs.Graphs.{Closes, HasEdge}
 use Rattle.operation_graph.specs.Paths.{LeadsBy}
 use Rattle.plan_basics.specs.Keys.{operation_cmp, operation_cmp_total, operation_cmp-IsAntisymmetric}
@@ -46,7 +47,7 @@ module _ (at : ℕ) (h : LoadedPlan) (held : AreHeld at h) where
     pairs_more : set.len (set.insert pairs (p, s)) ≡ length h.contents.pairs.items + 1
     pairs_more = set.len-insert pair_cmp_total pairs (p, s) ∙ one_more (set.contains pairs (p, s)) (set.len pairs) new ∙ ap (λ n. n + 1) (pairs_counted h.contents held.in_order)
 
-    pub has_room : length h.contents.pairs.items < 100000 → IsWithinLimits (with_pair (plan_of clock h.contents) p s)
+    pub has_room : length h.contents.pairs.items < MOST_PAIRS → IsWithinLimits (with_pair (plan_of clock h.contents) p s)
     has_room room =
         let limits = held.sound.valid.limits in
         record {
@@ -57,7 +58,7 @@ module _ (at : ℕ) (h : LoadedPlan) (held : AreHeld at h) where
           pairs = omega (arith, pairs_more, room);
         }
 
-    pub has_no_room : ¬ (length h.contents.pairs.items < 100000) → ¬ IsWithinLimits (with_pair (plan_of clock h.contents) p s)
+    pub has_no_room : ¬ (length h.contents.pairs.items < MOST_PAIRS) → ¬ IsWithinLimits (with_pair (plan_of clock h.contents) p s)
     has_no_room full limits = full (let most = limits.pairs in omega (arith, pairs_more, most))
 
   module _ (i j : ℕ) (p s : OpKey) (a b : Operation) (first : slice_get h.contents.operations.items i ≡ Some (p, a)) (second : slice_get h.contents.operations.items j ≡ Some (s, b)) where

@@ -14,6 +14,9 @@ use super::known::{
     are_ends_known, are_resources_known, are_workstations_known, is_new_occurrence,
 };
 use super::loaded::LoadedPlan;
+use plan_basics::limits::{
+    MOST_OCCURRENCES, MOST_OPERATIONS, MOST_PAIRS, MOST_RESOURCES, MOST_WORKSTATIONS,
+};
 use plan_basics::{OpKey, Refusal};
 use plan_changes::with_addition;
 use plan_records::{Addition, AdditionParts, PlanContents, is_acyclic, row_place};
@@ -80,11 +83,11 @@ fn is_within_limits(contents: &PlanContents) -> bool
     requires { AreContents contents.now }
     ensures { Decides result (IsWithinLimits (plan_of 0 contents.now)) }
 {
-    contents.workstations.len() <= 99
-        && contents.resources.len() <= 999
-        && contents.occurrences.len() <= 5_000
-        && contents.operations.len() <= 20_000
-        && contents.pairs.len() <= 100_000
+    contents.workstations.len() <= MOST_WORKSTATIONS
+        && contents.resources.len() <= MOST_RESOURCES
+        && contents.occurrences.len() <= MOST_OCCURRENCES
+        && contents.operations.len() <= MOST_OPERATIONS
+        && contents.pairs.len() <= MOST_PAIRS
 }
 
 // With what is added, no path of pairs returns to its start, and the plan holds no more than it may.

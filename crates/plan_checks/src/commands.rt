@@ -111,7 +111,7 @@ pub fn check_available(contents: &PlanContents, name: &ResName) -> Result<(), Re
     }
 }
 
-/// The open intervals may be replaced of a workstation in the plan: by 400 at most, of which no two overlap.
+/// The open intervals may be replaced of a workstation in the plan: by no more than it may have, of which no two overlap.
 pub fn check_open_by(
     alloc: Global,
     contents: &PlanContents,

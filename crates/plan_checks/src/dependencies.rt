@@ -14,6 +14,7 @@ use super::checks::{Reported, reported_at};
 use super::commands::check_flagged;
 use super::loaded::LoadedPlan;
 use operation_graph::EdgeFault;
+use plan_basics::limits::MOST_PAIRS;
 use plan_basics::{OpKey, Refusal};
 use plan_records::row_place;
 use status_rules::Status;
@@ -62,7 +63,7 @@ pub fn check_paired(
     let after = row_place(rows, successor).ok_or(Refusal::UnknownOperation)?;
     check_ends(&reported_at(loaded, before), &reported_at(loaded, after))?;
     check_edge(loaded, before, after)?;
-    if loaded.contents.pairs.len() < 100_000 {
+    if loaded.contents.pairs.len() < MOST_PAIRS {
         Ok(())
     } else {
         Err(Refusal::Limit)

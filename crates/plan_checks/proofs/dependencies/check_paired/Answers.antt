@@ -1,4 +1,5 @@
 use Rattle.std.proofs.Common.{◌<◌, length, rules}
+use Rattle.plan_basics.specs.declared.limits.TheConstants.{MOST_PAIRS}
 use Rattle.plan_checks.proofs.ByPair.{AreFound, IsBarredPair, IsToldAt, after_within, barred_by_edge, barred_by_ends, barred_by_room, before_within, handed_on, may_be_paired}
 use Rattle.plan_checks.proofs.HeldRows.{found_at}
 use Rattle.plan_checks.specs.declared.checks.Reported.{Reported}
@@ -34,14 +35,14 @@ returns-in_err-check_edge-clause-refused c =
     handed_on (IsBarredPair c.args.loaded.now c.args.predecessor.now c.args.successor.now) c.from_residual-in_err-check_edge.result c.in_err-check_edge.field-0.0 c.from_residual-in_err-check_edge.ensures.1
     (barred_by_edge at c.in_ok-check_ends.ensures.ok.0 c.in_ok-check_ends.ensures.ok.1 c.in_err-check_edge.field-0.0 c.in_err-check_edge.ensures.refused)
 
-pub returns-then-len-lt100000-clause-ok : goal.returns-then-len-lt100000-clause-ok
-returns-then-len-lt100000-clause-ok c =
-    let at = found (goal.at.returns-then-len-lt100000-clause-ok c).In_ok-after c.reported_at.result c.reported_at-2.result c.reported_at.ensures c.reported_at-2.ensures in
-    let room : length c.args.loaded.now.contents.pairs.items < 100000 = search rules in
+pub returns-then-len-lt-MOST_PAIRS-clause-ok : goal.returns-then-len-lt-MOST_PAIRS-clause-ok
+returns-then-len-lt-MOST_PAIRS-clause-ok c =
+    let at = found (goal.at.returns-then-len-lt-MOST_PAIRS-clause-ok c).In_ok-after c.reported_at.result c.reported_at-2.result c.reported_at.ensures c.reported_at-2.ensures in
+    let room : length c.args.loaded.now.contents.pairs.items < MOST_PAIRS = search rules in
     may_be_paired at c.in_ok-check_ends.ensures.ok.0 c.in_ok-check_ends.ensures.ok.1 c.in_ok-check_edge.ensures.ok room
 
-pub returns-else-len-lt100000-clause-refused : goal.returns-else-len-lt100000-clause-refused
-returns-else-len-lt100000-clause-refused c =
-    let at = found (goal.at.returns-else-len-lt100000-clause-refused c).In_ok-after c.reported_at.result c.reported_at-2.result c.reported_at.ensures c.reported_at-2.ensures in
-    let full : length c.args.loaded.now.contents.pairs.items < 100000 → ⊥ = search rules in
+pub returns-else-len-lt-MOST_PAIRS-clause-refused : goal.returns-else-len-lt-MOST_PAIRS-clause-refused
+returns-else-len-lt-MOST_PAIRS-clause-refused c =
+    let at = found (goal.at.returns-else-len-lt-MOST_PAIRS-clause-refused c).In_ok-after c.reported_at.result c.reported_at-2.result c.reported_at.ensures c.reported_at-2.ensures in
+    let full : length c.args.loaded.now.contents.pairs.items < MOST_PAIRS → ⊥ = search rules in
     barred_by_room at c.in_ok-check_ends.ensures.ok.0 c.in_ok-check_ends.ensures.ok.1 c.in_ok-check_edge.ensures.ok full
