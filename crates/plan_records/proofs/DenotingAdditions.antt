@@ -7,7 +7,7 @@ use Rattle.plan_items.specs.Items.{Fields, Says}
 use Rattle.plan_records.specs.declared.contents.AdditionParts.{AdditionParts}
 use Rattle.plan_records.specs.Contents.{added_of, AreAdditionParts}
 use Rattle.plan_records.specs.AdditionItems.{CanComeIn, ArePartsOf}
-use Rattle.plan_records.specs.Records.{StandsInSupplement, IsItemOf, AreItems, DenotesAddition}
+use Rattle.plan_records.specs.Records.{StandsInAdded, IsItemOf, AreItems, DenotesAddition}
 use Rattle.plan_records.proofs.Denoting.{same_items, items_legal}
 use Rattle.plan_records.proofs.MadeAdditions as made_of
 use Rattle.plan_records.proofs.NeededAdditions.{needed_addition}
@@ -24,4 +24,4 @@ module _ (records : List Fields) (items : List Item) (said : AllZip Says records
   pub no_addition_denoted : ¬ CanComeIn items → (s : AddedParts) → ¬ DenotesAddition records s
   no_addition_denoted none s d =
       let same = same_items records d.described.items items d.described.said said in
-      none (needed_addition s d.addition items (subst (AreItems (StandsInSupplement s) (IsItemOf s)) same d.described.are))
+      none (needed_addition s d.addition items (subst (AreItems (StandsInAdded s) (IsItemOf s)) same d.described.are))

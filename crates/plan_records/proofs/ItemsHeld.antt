@@ -19,7 +19,7 @@ use Rattle.plan_items.specs.declared.OperationItem.{OperationItem}
 use Rattle.plan_records.specs.declared.RowKey.{RowKey}
 use Rattle.plan_records.specs.declared.RowKey.TheVariants as key
 use Rattle.plan_records.specs.Drafts.{IsDraft, IsAddition}
-use Rattle.plan_records.specs.Records.{key_of, entered, StandsInSupplement, StandsIn, IsItemOf, IsItemOfPlan, AreItems, IsAsSaid}
+use Rattle.plan_records.specs.Records.{key_of, entered, StandsInAdded, StandsIn, IsItemOf, IsItemOfPlan, AreItems, IsAsSaid}
 use Rattle.plan_records.specs.PlanItems.{keys_said, needs_of}
 use Rattle.plan_records.specs.AdditionItems.{MayComeIn}
 use Rattle.plan_records.proofs.Lists.{contains_head}
@@ -30,7 +30,7 @@ use Rattle.plan_records.proofs.ItemKinds.{needs_in, occurrences_in, operations_i
 
 -- an item that may be added is there
 abbrev pub Stands : AddedParts → Item → Type 0
-Stands s i = MayComeIn i → StandsInSupplement s i
+Stands s i = MayComeIn i → StandsInAdded s i
 
 -- occurrences with their operations and pairs, of which nothing is reported yet: the items that may be added are all that they hold
 pub record Holds (items : List Item) (s : AddedParts) : Type 0 where
@@ -41,10 +41,10 @@ pub record Holds (items : List Item) (s : AddedParts) : Type 0 where
   pub untouched : AreUntouched s.operations
 
 -- those of an addition
-pub held_by_addition : (s : AddedParts) → IsAddition s → (items : List Item) → AreItems (StandsInSupplement s) (IsItemOf s) items → Holds items s
+pub held_by_addition : (s : AddedParts) → IsAddition s → (items : List Item) → AreItems (StandsInAdded s) (IsItemOf s) items → Holds items s
 held_by_addition s addition items are = record {
   distinct = are.distinct;
-  stand = All-weaker (StandsInSupplement s) (Stands s) (λ i h may. h) items are.stand;
+  stand = All-weaker (StandsInAdded s) (Stands s) (λ i h may. h) items are.stand;
   all = are.all;
   occurrences = addition.occurrences;
   untouched = addition.untouched;

@@ -15,7 +15,7 @@ use Rattle.plan_items.specs.Items as items_of
 use Rattle.plan_records.specs.declared.contents.AdditionParts.{AdditionParts}
 use Rattle.plan_records.specs.Contents.{added_of, AreAdditionParts}
 use Rattle.plan_records.specs.Drafts.{IsOwn, IsEnd, IsAddition}
-use Rattle.plan_records.specs.Records.{key_of, StandsInSupplement, IsItemOf, AreItems}
+use Rattle.plan_records.specs.Records.{key_of, StandsInAdded, IsItemOf, AreItems}
 use Rattle.plan_records.specs.PlanItems.{keys_said, occurrence_of}
 use Rattle.plan_records.specs.AdditionItems.{MayComeIn, ComesWith, IsEndAmong, IsNewPair, ArePartsOf}
 use Rattle.plan_basics.proofs.Members.{tied_is}
@@ -98,10 +98,10 @@ module _ (items : List Item) (n : AdditionParts) (legal : All items_of.IsItem it
     pairs = made.pairs;
   }
 
-  pub come_as_items : AreItems (StandsInSupplement S) (IsItemOf S) items
+  pub come_as_items : AreItems (StandsInAdded S) (IsItemOf S) items
   come_as_items = record {
     distinct = distinct;
-    stand = all_by_members (StandsInSupplement S) items (λ i has. made_parts.stands parts i has (All-contains MayComeIn items i made.come_in.may has));
+    stand = all_by_members (StandsInAdded S) items (λ i has. made_parts.stands parts i has (All-contains MayComeIn items i made.come_in.may has));
     all = made_parts.described parts;
   }
 

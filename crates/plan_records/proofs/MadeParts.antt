@@ -26,7 +26,7 @@ use Rattle.plan_items.specs.declared.OperationItem.{OperationItem}
 use Rattle.plan_items.specs.Items as items_of
 use Rattle.plan_records.specs.declared.RowKey.{RowKey}
 use Rattle.plan_records.specs.declared.RowKey.TheVariants as key
-use Rattle.plan_records.specs.Records.{key_of, StandsInSupplement, IsItemOf}
+use Rattle.plan_records.specs.Records.{key_of, StandsInAdded, IsItemOf}
 use Rattle.plan_records.specs.PlanItems.{EachHasOperation, as_occurrence, as_operation, as_pair, as_need, keys_said, need_key, needs_of, occurrence_of}
 use Rattle.plan_records.specs.AdditionItems.{MayComeIn, AreNewNeeds, IsNeedOf}
 use Rattle.plan_records.proofs.Lists.{differ_from_pairs, in_map, from_map, in_filter, length_map}
@@ -110,7 +110,7 @@ module _ {items : List Item} {terms : OperationItem → Occurrence} {occurrences
       let r = from_map (λ (said : OperationItem). said.key) (operations_in items) o (All-contains (IsNeedOf (keys_said (operations_in items))) (needs_in items) (o, need) parts.needs.within has) in
       ((row r.0).1, ap (get S.operations) (sym r.2) ∙ row_at r.0 r.1, ap (λ k. get (usages_of (needs_of k (needs_in items))) need.name) r.2 ∙ usage_got (needs_in items) needs_apart o need has)
 
-  pub stands : (i : Item) → Contains items i → MayComeIn i → StandsInSupplement S i
+  pub stands : (i : Item) → Contains items i → MayComeIn i → StandsInAdded S i
   stands (item.Occurrence k q d) has may = let x : Occurrence = record { priority = q; deadline = d } in parts.occurrence_at (k, x) (in_filter as_occurrence items (item.Occurrence k q d) (k, x) has refl)
   stands (item.Operation said) has may =
       let in_said = in_filter as_operation items (item.Operation said) said has refl in

@@ -9,7 +9,7 @@ use Rattle.plan_items.specs.declared.Item.{Item}
 use Rattle.plan_items.specs.declared.Item.TheVariants as item
 use Rattle.plan_items.specs.declared.OperationItem.{OperationItem}
 use Rattle.plan_records.specs.Drafts.{IsOwn, IsEnd, IsAddition}
-use Rattle.plan_records.specs.Records.{StandsInSupplement, IsItemOf, AreItems}
+use Rattle.plan_records.specs.Records.{StandsInAdded, IsItemOf, AreItems}
 use Rattle.plan_records.specs.PlanItems.{keys_said}
 use Rattle.plan_records.specs.AdditionItems.{MayComeIn, ComesWith, AreNewOperations, IsNeedOf, AreNewNeeds, IsEndAmong, IsNewPair, AreNewPairs, CanComeIn}
 use Rattle.plan_records.proofs.Lists.{from_map, all_by_members, sole_member, sole_there}
@@ -25,11 +25,11 @@ sole_of [] one = absurd (omega (arith, one))
 sole_of (x ∷ []) one = (x, refl)
 sole_of (x ∷ y ∷ ys) one = absurd (omega (arith, one))
 
-module _ (s : AddedParts) (addition : IsAddition s) (items : List Item) (are : AreItems (StandsInSupplement s) (IsItemOf s) items) where
+module _ (s : AddedParts) (addition : IsAddition s) (items : List Item) (are : AreItems (StandsInAdded s) (IsItemOf s) items) where
   held : Holds items s
   held = held_by_addition s addition items are
 
-  may : (i : Item) → StandsInSupplement s i → MayComeIn i
+  may : (i : Item) → StandsInAdded s i → MayComeIn i
   may (item.Workstation w t) h = h
   may (item.Interval w x) h = h
   may (item.Resource r a) h = h
@@ -90,7 +90,7 @@ module _ (s : AddedParts) (addition : IsAddition s) (items : List Item) (are : A
         row.0.0,
         row.0.1,
         record {
-          may = all_by_members MayComeIn items (λ i has. may i (All-contains (StandsInSupplement s) items i are.stand has));
+          may = all_by_members MayComeIn items (λ i has. may i (All-contains (StandsInAdded s) items i are.stand has));
           one = row.1;
           operations = are_operations row.0.0 row.0.1 row.1;
           needs = are_needs;

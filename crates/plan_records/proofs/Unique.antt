@@ -14,7 +14,7 @@ use Rattle.plan_model.specs.Plan.{Plan, Operation, AddedParts}
 use Rattle.plan_model.specs.declared.Occurrence.{Occurrence}
 use Rattle.plan_items.specs.declared.Item.{Item}
 use Rattle.plan_records.specs.declared.RowKey.TheVariants as key
-use Rattle.plan_records.specs.Records.{entered, StandsInSupplement, StandsIn, IsItemOf, IsItemOfPlan, AreItems, OnePlan, OneAddition}
+use Rattle.plan_records.specs.Records.{entered, StandsInAdded, StandsIn, IsItemOf, IsItemOfPlan, AreItems, OnePlan, OneAddition}
 use Rattle.plan_records.proofs.Tables.{some_is, same_some, same_entries}
 use Rattle.plan_records.proofs.Needed.{mapped}
 use Rattle.plan_records.proofs.Pairs.{pair_cmp_total, pair_cmp-IsAntisymmetric}
@@ -133,5 +133,5 @@ one_plan records P Q d e =
 pub one_addition : OneAddition
 one_addition records s t d e =
     let items = d.described.items in
-    let b : AreItems (StandsInSupplement t) (IsItemOf t) items = subst (AreItems (StandsInSupplement t) (IsItemOf t)) (same_items records e.described.items items e.described.said d.described.said) e.described.are in
+    let b : AreItems (StandsInAdded t) (IsItemOf t) items = subst (AreItems (StandsInAdded t) (IsItemOf t)) (same_items records e.described.items items e.described.said d.described.said) e.described.are in
     same_added (held_by_addition s d.addition items d.described.are) (held_by_addition t e.addition items b)

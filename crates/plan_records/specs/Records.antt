@@ -37,12 +37,12 @@ pub record IsAsSaid (said : OperationItem) (c : Occurrence) (op : Operation) : T
   pub deadline : op.deadline ≡ unwrap_or said.deadline c.deadline
 
 -- what is added holds just what an item of an occurrence, an operation, a pair or a need says
-abbrev pub StandsInSupplement : AddedParts → Item → Type 0
-StandsInSupplement s (item.Occurrence c priority deadline) = get s.occurrences c ≡ Some (record { priority = priority; deadline = deadline })
-StandsInSupplement s (item.Operation said) = (op : Operation) × (c : Occurrence) × (get s.operations said.key ≡ Some op) × (get s.occurrences said.key.occurrence ≡ Some c) × IsAsSaid said c op
-StandsInSupplement s (item.Dependency p o) = IsPairOf s.pairs p o
-StandsInSupplement s (item.Need o need) = (op : Operation) × (get s.operations o ≡ Some op) × (get op.needs need.name ≡ Some (record { mode = need.mode; keep = need.keep }))
-StandsInSupplement s _ = ⊥
+abbrev pub StandsInAdded : AddedParts → Item → Type 0
+StandsInAdded s (item.Occurrence c priority deadline) = get s.occurrences c ≡ Some (record { priority = priority; deadline = deadline })
+StandsInAdded s (item.Operation said) = (op : Operation) × (c : Occurrence) × (get s.operations said.key ≡ Some op) × (get s.occurrences said.key.occurrence ≡ Some c) × IsAsSaid said c op
+StandsInAdded s (item.Dependency p o) = IsPairOf s.pairs p o
+StandsInAdded s (item.Need o need) = (op : Operation) × (get s.operations o ≡ Some op) × (get op.needs need.name ≡ Some (record { mode = need.mode; keep = need.keep }))
+StandsInAdded s _ = ⊥
 
 -- the occurrences of a plan, with their operations and pairs
 abbrev pub entered : Plan → AddedParts
@@ -53,7 +53,7 @@ abbrev pub StandsIn : Plan → Item → Type 0
 StandsIn P (item.Workstation name attribute) = HasAttribute P name attribute
 StandsIn P (item.Interval name interval) = (w : Workstation) × (get P.workstations name ≡ Some w) × (get w.intervals interval.from ≡ Some interval)
 StandsIn P (item.Resource name available) = get P.resources name ≡ Some available
-StandsIn P other = StandsInSupplement (entered P) other
+StandsIn P other = StandsInAdded (entered P) other
 
 -- what an addition holds
 abbrev pub IsItemOf : AddedParts → RowKey → Type 0
@@ -93,7 +93,7 @@ pub record Denotes (records : List Fields) (P : Plan) : Type 0 where
 -- the records denote the addition
 pub record DenotesAddition (records : List Fields) (s : AddedParts) : Type 0 where
   pub addition : IsAddition s
-  pub described : AreDescriptions (StandsInSupplement s) (IsItemOf s) records
+  pub described : AreDescriptions (StandsInAdded s) (IsItemOf s) records
 
 -- records denote one plan at most
 abbrev pub OnePlan : Type 0
