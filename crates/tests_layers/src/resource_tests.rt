@@ -4,6 +4,7 @@ ghost use Rattle.std.specs.Ordering.{is_lt};
 ghost use Rattle.plan_basics.specs.Keys.{name_cmp};
 
 use super::named::{operation, resource};
+use plan_basics::limits::MOST_NEEDS;
 use plan_basics::{OpKey, Refusal, ResName};
 use special_resources::{Holdings, Mode, Need, Needs};
 use std::alloc::Global;
@@ -240,10 +241,10 @@ fn seventeenth_need_is_refused(rt: HostRuntime) {
         assert!(rt; push(&rt, &mut needs, &one));
         assert_eq!(rt; needs.as_slice().last(), Some(&one));
     }
-    assert_eq!(rt; needs.as_slice().len(), Needs::MOST);
+    assert_eq!(rt; needs.as_slice().len(), MOST_NEEDS);
     let one_more = need(&rt, b"Q", Mode::Shared);
     assert!(rt; !push(&rt, &mut needs, &one_more));
-    assert_eq!(rt; needs.as_slice().len(), Needs::MOST);
+    assert_eq!(rt; needs.as_slice().len(), MOST_NEEDS);
     let last = need(&rt, b"P", Mode::Shared);
     assert_eq!(rt; needs.as_slice().last(), Some(&last));
 }
