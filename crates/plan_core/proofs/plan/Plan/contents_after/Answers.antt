@@ -1,4 +1,5 @@
 use Rattle.std.proofs.Common.{rules, ◌≡◌, sym, ap, subst, ◌∙◌, Some, option_copied}
+use Rattle.plan_basics.specs.Refusals.{NoneRefuses}
 use Rattle.plan_model.specs.Plan.{Plan}
 use Rattle.plan_records.specs.Acceptance.{NeedsPlan}
 use Rattle.plan_records.specs.Contents.{plan_of}
