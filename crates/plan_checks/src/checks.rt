@@ -15,8 +15,8 @@ use super::additions::check_added;
 use super::commands::{
     check_available, check_completed, check_deleted, check_flagged, check_open_by, check_rerun,
 };
-use super::loaded::LoadedPlan;
 use super::dependencies::check_paired;
+use super::loaded::LoadedPlan;
 use plan_basics::{Attr, Moment, OpKey, Refusal};
 use plan_choice::{check_start, given_out_of, holdings_of};
 use plan_model::OperationRecord;

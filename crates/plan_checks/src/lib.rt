@@ -4,9 +4,9 @@
 mod additions;
 mod checks;
 mod commands;
+mod dependencies;
 mod known;
 mod loaded;
-mod dependencies;
 mod reach;
 mod under_way;
 

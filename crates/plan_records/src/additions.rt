@@ -10,8 +10,8 @@ ghost use Rattle.plan_records.specs.AdditionItems.{MayComeIn, ComesWith, AreNewO
 use super::builder::{needs, occurrences, operations, pairs};
 use super::contents::AdditionParts;
 use super::in_order::{is_among, rows};
-use super::needs::needs_in_order;
 use super::key_order::{in_key_order, keys};
+use super::needs::needs_in_order;
 use plan_basics::{OccKey, OpKey};
 use plan_items::{Item, OperationItem};
 use plan_model::{Occurrence, OperationRecord};

@@ -8,9 +8,9 @@ ghost use Rattle.plan_records.specs.PlanItems.{as_workstation, as_interval, as_o
 
 use super::contents::PlanContents;
 use super::in_order::{occurrences_in_order, operations_in_order, pairs_in_order};
-use super::needs::{are_needs_in, needs_in_order, resources_in_order};
 use super::intervals::workstations_in_order;
 use super::key_order::keys;
+use super::needs::{are_needs_in, needs_in_order, resources_in_order};
 use plan_basics::{Attr, Interval, OccKey, OpKey, ResName, WsName};
 use plan_items::{Item, OperationItem, read_item};
 use plan_model::Occurrence;

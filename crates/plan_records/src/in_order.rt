@@ -12,10 +12,10 @@ ghost use Rattle.plan_graph.specs.PlanGraphs.{AreAmong};
 ghost use Rattle.plan_records.specs.AdditionItems.{new_row};
 ghost use Rattle.plan_records.specs.PlanItems.{row_of, occurrence_of, need_cmp, need_key, needs_of, IsOneOf, BelongsTo, AreOccurrenceRows, AreOccurrencesInOrder, AreOperations, EachHasOperation, AreRowsOf, IsPairIn, ArePairs, ArePairsInOrder};
 
-use super::needs::own_needs;
 use super::intervals::is_named;
-use super::places::row_place;
 use super::key_order::{in_key_order, keys};
+use super::needs::own_needs;
+use super::places::row_place;
 use plan_basics::limits::{MOST_OCCURRENCES, MOST_OPERATIONS, MOST_PAIRS};
 use plan_basics::{OccKey, OpKey};
 use plan_graph::graph_of;

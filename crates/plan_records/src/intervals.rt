@@ -5,8 +5,8 @@ ghost use Rattle.std.specs.Map.{keys_of};
 ghost use Rattle.plan_basics.specs.Keys.{name_cmp};
 ghost use Rattle.plan_records.specs.PlanItems.{intervals_of, CanOpen, opened_in, AreOfThese, AreWorkstations, AreWorkstationsInOrder};
 
-use super::places::workstation_place;
 use super::key_order::in_key_order;
+use super::places::workstation_place;
 use plan_basics::limits::MOST_WORKSTATIONS;
 use plan_basics::{Attr, Interval, WsName};
 use std::alloc::{AllocError, Global};

@@ -9,18 +9,18 @@ mod contents;
 mod drafts;
 mod graphs;
 mod in_order;
-mod needs;
 mod intervals;
-mod places;
 mod key_order;
+mod needs;
+mod places;
 
 pub use builder::Record;
 pub use contents::{AdditionParts, PlanContents};
 pub use drafts::{Addition, PlanDraft};
 pub use graphs::{graph_for, is_acyclic};
+pub use key_order::ExactKey;
 pub use places::{known_row, known_workstation, row_place, workstation_place};
 use plan_basics::{Attr, ErrCode, Interval, Moment, OccKey, OpKey, Refusal, ResName, WsName};
-pub use key_order::ExactKey;
 use special_resources::Need;
 use status_rules::{Mark, OccStatus, Status};
 

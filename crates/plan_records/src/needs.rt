@@ -9,8 +9,8 @@ ghost use Rattle.special_resources.specs.Needs.{AreInNameOrder, usages_of};
 ghost use Rattle.plan_records.specs.PlanItems.{AreResources, AreResourcesInOrder, AreNeedsInOrder, IsNeedIn, need_cmp, need_key, needs_of};
 
 use super::in_order::is_among;
-use super::places::row_place;
 use super::key_order::in_key_order;
+use super::places::row_place;
 use plan_basics::limits::MOST_RESOURCES;
 use plan_basics::{OpKey, ResName};
 use special_resources::{Need, Needs};

@@ -127,13 +127,7 @@ fn has_live_successor(graph: &Graph, items: &[Item], node: usize, successor: usi
 }
 
 // Whether a node has its live successors in the other graph too.
-fn has_them_too(
-    graph: &Graph,
-    items: &[Item],
-    other: &Graph,
-    others: &[Item],
-    node: usize,
-) -> bool
+fn has_them_too(graph: &Graph, items: &[Item], other: &Graph, others: &[Item], node: usize) -> bool
     requires node { node < graph.now.nodes }
     requires items { length items.now ≡ graph.now.nodes }
     requires other { node < other.now.nodes }
@@ -207,8 +201,7 @@ fn change(
     let items = items(rt, alloc, to.1).expect(rt, "memory");
     assert!(rt; items_before.len() <= items.len());
     let graph = graph_of(rt, alloc, items.len(), to.0);
-    let changed =
-        changed_nodes(alloc, &before, &items_before, &graph, &items).expect(rt, "memory");
+    let changed = changed_nodes(alloc, &before, &items_before, &graph, &items).expect(rt, "memory");
     let values = latest
         .after_change(&graph, &items, &changed)
         .expect(rt, "values");
