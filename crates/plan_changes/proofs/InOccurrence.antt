@@ -1,7 +1,7 @@
 -- The operations of an occurrence.
 use Rattle.std.proofs.Common.{◌≡◌, refl, sym, ap, ap₂, subst, ◌∙◌, true≢false, append-nil, ℕ, ◌<◌, ◌+◌, Bool, true, false, ◌||◌, ◌&&◌, eqb, Ordering, Less, Equal, Greater, cond, List, [], ◌∷◌, ◌++◌, length, take, get_or, Option, Some, None, option_map}
 use Rattle.std.specs.List.{filter}
-use Rattle.std.specs.FinMap.{find, from_entries, get, get-from_entries, nat_cmp-IsAntisymmetric, same_map}
+use Rattle.std.specs.FinMap.{entries, find, get, get-entries, nat_cmp-IsAntisymmetric, same_map}
 use Rattle.std.specs.Map.{keys_of}
 use Rattle.std.specs.Ordering.{eq_by_cmp, is_eq, nat_cmp, ordering_then}
 use Rattle.std.specs.Cmp.{nat_cmp_total, eq_by_cmp_equiv}
@@ -15,9 +15,9 @@ use Rattle.plan_basics.specs.Keys.{occurrence_cmp, operation_cmp, operation_cmp_
 use Rattle.plan_basics.specs.declared.keys.OccKey.{OccKey}
 use Rattle.plan_basics.specs.declared.keys.OpKey.{OpKey}
 use Rattle.ready_list.specs.Choice.{is_among}
-use Rattle.plan_model.specs.Plan.{IsInPlan, Operation, Plan}
+use Rattle.plan_model.specs.Contents.{Contents, IsInPlan, Operation, Operations}
 use Rattle.plan_model.specs.Revise.{get-revise, revise}
-use Rattle.plan_records.proofs.MadeEntries.{key_of}
+use Rattle.plan_drafts.proofs.MadeEntries.{key_of}
 use Rattle.plan_records.specs.Changes.{revised}
 
 abbrev Rows : Type 0
@@ -100,8 +100,8 @@ module _ (p : OpKey → Bool) (o : OpKey) where
   found_passed [] v found = cc
   found_passed (row ∷ rows) v found = by_row row rows v (eq_by_cmp operation_cmp o row.0) refl found (found_passed rows v)
 
-  pub passed : (rows : Rows) (v : Operation) → get {R = operation_cmp} (from_entries rows) o ≡ Some v → is_among (filter p (keys_of rows)) o ≡ p o
-  passed rows v is = found_passed rows v (sym (get-from_entries operation_cmp_total rows o) ∙ is)
+  pub passed : (m : Operations) (v : Operation) → get m o ≡ Some v → is_among (filter p (keys_of (entries m))) o ≡ p o
+  passed m v is = found_passed (entries m) v (sym (get-entries m o) ∙ is)
 
 -- ---- two tests that are alike for the operations of a plan
 
@@ -110,7 +110,7 @@ alike_at f a b None h = refl
 alike_at f a b (Some v) h = ap (λ z. Some (cond z (f v) v)) (h v refl)
 
 -- make the same operations anew
-pub revised_alike : (s t : OpKey → Bool) (f : Operation → Operation) (P : Plan) → ((o : OpKey) → IsInPlan P o → s o ≡ t o) → revised s f P ≡ revised t f P
+pub revised_alike : (s t : OpKey → Bool) (f : Operation → Operation) (P : Contents) → ((o : OpKey) → IsInPlan P o → s o ≡ t o) → revised s f P ≡ revised t f P
 revised_alike s t f P alike = ap (λ m. record P { operations = m }) (same_map operation_cmp_total operation_cmp-IsAntisymmetric
     (revise (λ o op. cond (s o) (f op) op) P.operations) (revise (λ o op. cond (t o) (f op) op) P.operations) (λ q.
     get-revise operation_cmp-IsAntisymmetric (λ o op. cond (s o) (f op) op) P.operations q

@@ -9,13 +9,14 @@ use Rattle.std.specs.Map.{keys_of}
 use Rattle.std.proofs.lemmas.Bool.{or_cases, or_left, or_right}
 use Rattle.std.proofs.lemmas.List.Elements.{All-contains, Contains-append_left, Contains-append_right, Contains-append_cases}
 use Rattle.std.proofs.lemmas.List.Sorted.{Contains-permutation, IsPermutation-sym}
-use Rattle.plan_laws.proofs.Single.{same_bool}
+use Rattle.std.specs.Cmp.{both_ways as same_bool}
 use Rattle.plan_model.specs.Revise.{get-joined, joined, or_else}
-use Rattle.plan_records.proofs.Keyed.{ascend_by}
-use Rattle.plan_records.proofs.Lists.{Differ, all_by_members, contains_head, contains_later, pairs_from_differ}
-use Rattle.plan_records.proofs.Orders.{map_same}
-use Rattle.plan_records.proofs.Tables.{from_set, get_row, in_set, is_none, no_some, row_found, rows_apart, same_entries, some_is, sorted_apart}
+use Rattle.plan_drafts.proofs.Keyed.{ascend_by}
+use Rattle.plan_drafts.proofs.Lists.{Differ, all_by_members, contains_head, contains_later, pairs_from_differ}
+use Rattle.plan_drafts.proofs.Orders.{map_same}
+use Rattle.plan_drafts.proofs.Tables.{from_set, get_row, in_set, is_none, row_found, rows_apart, same_entries, some_is, sorted_apart}
 use Rattle.plan_changes.specs.Additions.{ShareNoKey, ShareNoMember}
+use Rattle.std.proofs.lemmas.Option.{none-some}
 
 -- one key is in order
 pub single_up : {K : Type 0} (R : K → K → Ordering) (k : K) → IsStrictlySortedBy R (k ∷ [])
@@ -45,7 +46,7 @@ module _ {K X : Type 0} {R : K → K → Ordering} (total : IsTotalOrder R) (exa
   not_new k x has = is_none (get {R = R} (from_entries new) k) (apart k (some_is (get {R = R} (from_entries old) k) x (in_old k x has)))
 
   across : (a b : K × X) → Contains old a → Contains new b → a.0 ≢ b.0
-  across a b in_a in_b e = no_some b.1 (sym (not_new a.0 a.1 in_a) ∙ ap (get {R = R} (from_entries new)) e ∙ in_new b.0 b.1 in_b)
+  across a b in_a in_b e = none-some b.1 (sym (not_new a.0 a.1 in_a) ∙ ap (get {R = R} (from_entries new)) e ∙ in_new b.0 b.1 in_b)
 
   -- by key, with no key twice
   pub merged_up : IsSortedByKey (λ row. row.0) R made → IsStrictlySortedBy R (keys_of made)

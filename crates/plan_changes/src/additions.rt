@@ -1,18 +1,17 @@
 // What is added: an occurrence with its operations and pairs, or a pair alone.
-ghost use Rattle.std.specs.Prelude.{◌≡◌, ℕ, IfOk, OnOk};
+ghost use Rattle.std.specs.Prelude.{◌≡◌, IfOk, OnOk};
 ghost use Rattle.std.specs.FinMap.{IsAntisymmetric, from_entries};
 ghost use Rattle.std.specs.FinSet as set;
 ghost use Rattle.std.specs.List.Sorted.{IsStrictlySortedBy};
 ghost use Rattle.std.specs.Map.{keys_of};
 ghost use Rattle.plan_basics.specs.Keys.{occurrence_cmp, operation_cmp};
-ghost use Rattle.plan_model.specs.Plan.{pair_cmp};
+ghost use Rattle.plan_model.specs.Contents.{pair_cmp};
 ghost use Rattle.plan_model.specs.Revise.{joined};
 ghost use Rattle.plan_records.specs.Changes.{with_pair as with_pair_of, with_added};
-ghost use Rattle.plan_records.specs.Contents.{plan_of, AreContents};
 ghost use Rattle.plan_changes.specs.Additions.{HasNothingOf, ShareNoKey, ShareNoMember};
 
-use super::mark_rows::copy_of;
 use plan_basics::{OccKey, OpKey};
+use plan_drafts::copies_of;
 use plan_model::{Occurrence, OperationRecord};
 use plan_records::{Addition, PlanContents};
 use std::alloc::{AllocError, Global};
@@ -53,18 +52,20 @@ pub fn with_addition(
     contents: &PlanContents,
     addition: &Addition,
 ) -> Result<PlanContents, AllocError>
-    requires in_order { AreContents contents.now }
-    requires apart { HasNothingOf (plan_of 0 contents.now) addition.now }
-    ensures plan { IfOk result (λ new. (clock : ℕ) → plan_of clock new ≡ with_added (plan_of clock contents.now) addition.now) }
-    ensures in_order { IfOk result (λ new. AreContents new) }
+    requires { HasNothingOf contents.now addition.now }
+    ensures { IfOk result (λ new. new ≡ with_added contents.now addition.now) }
 {
     let parts = addition.parts();
     let occurrence = [(parts.key, parts.terms)];
-    let mut new = copy_of(alloc, contents)?;
-    add_rows(&mut new.occurrences, &occurrence)?;
-    add_rows(&mut new.operations, &parts.operations)?;
-    add_pairs(&mut new.pairs, &parts.pairs)?;
-    Ok(new)
+    let mut occurrences = Vec::from_slice(alloc, contents.occurrences())?;
+    add_rows(&mut occurrences, &occurrence)?;
+    let mut operations = Vec::from_slice(alloc, contents.operations())?;
+    add_rows(&mut operations, &parts.operations)?;
+    let mut pairs = Vec::from_slice(alloc, contents.pairs())?;
+    add_pairs(&mut pairs, &parts.pairs)?;
+    let workstations = copies_of(alloc, contents.workstations())?;
+    let resources = Vec::from_slice(alloc, contents.resources())?;
+    Ok(PlanContents::of_rows(workstations, resources, occurrences, operations, pairs))
 }
 
 /// The contents with one more pair. One that is there already stays.
@@ -74,14 +75,9 @@ pub fn with_pair(
     predecessor: &OpKey,
     successor: &OpKey,
 ) -> Result<PlanContents, AllocError>
-    requires { AreContents contents.now }
-    ensures plan { IfOk result (λ new. (clock : ℕ) → plan_of clock new ≡ with_pair_of (plan_of clock contents.now) predecessor.now successor.now) }
-    ensures in_order { IfOk result (λ new. AreContents new) }
+    ensures { IfOk result (λ new. new ≡ with_pair_of contents.now predecessor.now successor.now) }
 {
-    let mut new = copy_of(alloc, contents)?;
-    let pair = (*predecessor, *successor);
-    if let Err(place) = new.pairs.binary_search(&pair) {
-        new.pairs.insert(place, pair)?;
-    }
+    let mut new = contents.try_clone(alloc)?;
+    new.add_pair(predecessor, successor)?;
     Ok(new)
 }

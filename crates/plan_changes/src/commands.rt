@@ -1,23 +1,22 @@
 // What operators' commands change of what the plan holds.
-ghost use Rattle.std.specs.Prelude.{◌≡◌, ℕ, IfOk, true};
+ghost use Rattle.std.specs.Prelude.{◌≡◌, IfOk, true};
 ghost use Rattle.std.specs.FinMap.{insert, contains_key};
 ghost use Rattle.std.specs.Fn.{FnReturnsAt};
 ghost use Rattle.std.specs.Ordering.{eq_by_cmp};
 ghost use Rattle.plan_basics.specs.Keys.{occurrence_cmp};
 ghost use Rattle.plan_basics.specs.Refusals.{NoneRefuses};
 ghost use Rattle.plan_basics.specs.declared.keys.OpKey.{OpKey as OpKeyValue};
-ghost use Rattle.plan_model.specs.Plan.{IsInPlan, Operation};
+ghost use Rattle.plan_model.specs.Contents.{IsInPlan, Operation};
 ghost use Rattle.ready_list.specs.Choice.{is_among};
 ghost use Rattle.plan_records.specs.Acceptance.{MayBeOpenBy};
 ghost use Rattle.plan_records.specs.Changes.{Changes, is_at, revised};
-ghost use Rattle.plan_records.specs.Contents.{plan_of, AreContents};
 ghost use Rattle.plan_records.specs.declared.What.TheVariants as what;
 ghost use Rattle.plan_changes.specs.Intervals.{opened};
 
-use super::mark_rows::{copy_of, with_marks};
+use super::mark_rows::with_marks;
 use plan_basics::{Interval, OccKey, OpKey, ResName, WsName};
 use plan_model::OperationRecord;
-use plan_records::{PlanContents, row_place, workstation_place};
+use plan_records::PlanContents;
 use status_rules::Mark;
 use std::alloc::{AllocError, Global};
 
@@ -29,15 +28,12 @@ fn with_changed<F: Fn(&OperationRecord) -> OperationRecord + Drop>(
     key: &OpKey,
     change: F,
 ) -> Result<PlanContents, AllocError>
-    requires in_order { AreContents contents.now }
-    requires change { F.IsAlwaysCallable change }
-    ensures plan { (f : Operation → Operation) → ((op changed : Operation) → FnReturnsAt F.Fn change op changed → changed ≡ f op) → IfOk result (λ new. (clock : ℕ) → plan_of clock new ≡ revised (is_at key.now) f (plan_of clock contents.now)) }
-    ensures in_order { IfOk result (λ new. AreContents new) }
+    requires { F.IsAlwaysCallable change }
+    ensures { (f : Operation → Operation) → ((op changed : Operation) → FnReturnsAt F.Fn change op changed → changed ≡ f op) → IfOk result (λ new. new ≡ revised (is_at key.now) f contents.now) }
 {
-    let mut new = copy_of(alloc, contents)?;
-    if let Some(place) = row_place(&new.operations, key) {
-        let operation = change(&new.operations[place].1);
-        new.operations[place] = (*key, operation);
+    let mut new = contents.try_clone(alloc)?;
+    if let Some(operation) = contents.operation(key) {
+        new.set_operation(key, change(operation));
     }
     Ok(new)
 }
@@ -49,9 +45,7 @@ pub fn with_held(
     key: &OpKey,
     held: bool,
 ) -> Result<PlanContents, AllocError>
-    requires { AreContents contents.now }
-    ensures plan { IfOk result (λ new. (clock : ℕ) → plan_of clock new ≡ revised (is_at key.now) (λ op. record op { held = held }) (plan_of clock contents.now)) }
-    ensures in_order { IfOk result (λ new. AreContents new) }
+    ensures { IfOk result (λ new. new ≡ revised (is_at key.now) (λ op. record op { held = held }) contents.now) }
 {
     with_changed(
         alloc,
@@ -68,9 +62,7 @@ pub fn with_nop(
     key: &OpKey,
     nop: bool,
 ) -> Result<PlanContents, AllocError>
-    requires { AreContents contents.now }
-    ensures plan { IfOk result (λ new. (clock : ℕ) → plan_of clock new ≡ revised (is_at key.now) (λ op. record op { nop = nop }) (plan_of clock contents.now)) }
-    ensures in_order { IfOk result (λ new. AreContents new) }
+    ensures { IfOk result (λ new. new ≡ revised (is_at key.now) (λ op. record op { nop = nop }) contents.now) }
 {
     with_changed(
         alloc,
@@ -87,15 +79,11 @@ pub fn with_available(
     name: &ResName,
     available: bool,
 ) -> Result<PlanContents, AllocError>
-    requires in_order { AreContents contents.now }
-    requires known { contains_key (plan_of 0 contents.now).resources name.now ≡ true }
-    ensures plan { IfOk result (λ new. (clock : ℕ) → plan_of clock new ≡ record (plan_of clock contents.now) { resources = insert (plan_of clock contents.now).resources name.now available }) }
-    ensures in_order { IfOk result (λ new. AreContents new) }
+    requires { contains_key contents.now.resources name.now ≡ true }
+    ensures { IfOk result (λ new. new ≡ record contents.now { resources = insert contents.now.resources name.now available }) }
 {
-    let mut new = copy_of(alloc, contents)?;
-    if let Some(place) = row_place(&new.resources, name) {
-        new.resources[place] = (*name, available);
-    }
+    let mut new = contents.try_clone(alloc)?;
+    new.set_available(name, available);
     Ok(new)
 }
 
@@ -107,15 +95,15 @@ pub fn with_intervals(
     name: &WsName,
     intervals: &[Interval],
 ) -> Result<PlanContents, AllocError>
-    requires in_order { AreContents contents.now }
-    requires open { NoneRefuses (MayBeOpenBy (plan_of 0 contents.now) name.now intervals.now) }
-    ensures plan { IfOk result (λ new. (clock : ℕ) → plan_of clock new ≡ opened name.now intervals.now (plan_of clock contents.now)) }
-    ensures in_order { IfOk result (λ new. AreContents new) }
+    requires { NoneRefuses (MayBeOpenBy contents.now name.now intervals.now) }
+    ensures { IfOk result (λ new. new ≡ opened name.now intervals.now contents.now) }
 {
-    let mut new = copy_of(alloc, contents)?;
-    if let Some(place) = workstation_place(&new.workstations, name) {
+    let mut new = contents.try_clone(alloc)?;
+    if let Some(workstation) = contents.workstation(name) {
+        let mut workstation = workstation.try_clone()?;
         let own = Vec::from_slice(alloc, intervals)?;
-        new.workstations[place].replace_intervals(own).unwrap();
+        workstation.replace_intervals(own).unwrap();
+        new.set_workstation(workstation);
     }
     Ok(new)
 }
@@ -126,10 +114,10 @@ fn operations_of(
     contents: &PlanContents,
     occurrence: &OccKey,
 ) -> Result<Vec<OpKey>, AllocError>
-    ensures { IfOk result (λ keys. (o : OpKeyValue) → IsInPlan (plan_of 0 contents.now) o → is_among keys.items o ≡ eq_by_cmp occurrence_cmp o.occurrence occurrence.now) }
+    ensures { IfOk result (λ keys. (o : OpKeyValue) → IsInPlan contents.now o → is_among keys.items o ≡ eq_by_cmp occurrence_cmp o.occurrence occurrence.now) }
 {
     let mut keys = Vec::new(alloc);
-    for row in &contents.operations {
+    for row in contents.operations() {
         if row.0.occurrence == *occurrence {
             keys.push(row.0)?;
         }
@@ -143,9 +131,7 @@ pub fn deleted(
     contents: &PlanContents,
     occurrence: &OccKey,
 ) -> Result<PlanContents, AllocError>
-    requires { AreContents contents.now }
-    ensures plan { IfOk result (λ new. (clock : ℕ) → Changes (plan_of clock contents.now) (what.DeleteOccurrence occurrence.now) (plan_of clock new)) }
-    ensures in_order { IfOk result (λ new. AreContents new) }
+    ensures { IfOk result (λ new. Changes contents.now (what.DeleteOccurrence occurrence.now) new) }
 {
     let keys = operations_of(alloc, contents, occurrence)?;
     with_marks(alloc, contents, &keys, Mark::Deleted)

@@ -1,4 +1,5 @@
-//! What requests change in a plan: marks and flags of operations, open intervals, availability, and what is added.
+//! What requests change of what a plan holds: marks and flags of operations, open intervals, availability, and what is
+//! added.
 #![tactic(auto)]
 
 mod additions;
@@ -7,4 +8,4 @@ mod mark_rows;
 
 pub use additions::{with_addition, with_pair};
 pub use commands::{deleted, with_available, with_held, with_intervals, with_nop};
-pub use mark_rows::{copy_of, with_marks};
+pub use mark_rows::with_marks;

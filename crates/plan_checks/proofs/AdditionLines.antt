@@ -6,16 +6,13 @@ use Rattle.plan_basics.proofs.LeastRefusals.{least_of_all, none_of_all}
 use Rattle.plan_basics.specs.Refusals.{number_of, IsLeastRefusal, NoneRefuses, from_on}
 use Rattle.plan_basics.specs.declared.Refusal.{Refusal}
 use Rattle.plan_basics.specs.declared.Refusal.TheVariants as refusal
-use Rattle.plan_model.specs.Plan.{AddedParts}
+use Rattle.plan_model.specs.Contents.{Contents, AddedParts}
 use Rattle.plan_records.specs.Acceptance.{MayBeAdded}
-use Rattle.plan_records.specs.Contents.{plan_of}
-use Rattle.plan_records.specs.declared.contents.PlanContents.{PlanContents}
-use Rattle.plan_checks.proofs.AtClock.{added_at, fails_added_at}
 use Rattle.plan_checks.proofs.Searching.{if_err, if_ok}
 
 -- why an addition may not be made
-abbrev pub IsBarredAddition : PlanContents → AddedParts → Refusal → Type 0
-IsBarredAddition c s r = (r ≡ refusal.Memory) ⊎ ((clock : ℕ) → IsLeastRefusal (MayBeAdded (plan_of clock c) s) r)
+abbrev pub IsBarredAddition : Contents → AddedParts → Refusal → Type 0
+IsBarredAddition c s r = (r ≡ refusal.Memory) ⊎ (IsLeastRefusal (MayBeAdded c s) r)
 
 -- what is decided not to be so isn't
 refuted : {A : Type 0} → Decides false A → ¬ A
@@ -29,9 +26,9 @@ Below r lower = number_of lower < number_of r
 pub past : {A : Type 0} {m n : ℕ} → ltb m n ≡ false → m < n → A
 past {A} {m} {n} e less = let least = ltb-false m n e in absurd (omega (arith, less, least))
 
-module _ (c : PlanContents) (s : AddedParts) where
+module _ (c : Contents) (s : AddedParts) where
   abbrev line : Refusal → Type 0
-  line = MayBeAdded (plan_of 0 c) s
+  line = MayBeAdded c s
 
   -- what is so of the lines that ask something is so of all
   line_by_line : (Q : Refusal → Type 0)
@@ -77,7 +74,7 @@ module _ (c : PlanContents) (s : AddedParts) where
   -- ---- the least of all lines
 
   barred : (r : Refusal) → ¬ line r → ((lower : Refusal) → Below r lower → line lower) → IsBarredAddition c s r
-  barred r never before = inr (λ clock. fails_added_at c s clock r (never, before))
+  barred r never before = inr (never, before)
 
   pub barred_by_ends : Decides false (line refusal.UnknownOperation) → IsBarredAddition c s refusal.UnknownOperation
   barred_by_ends never =
@@ -115,11 +112,11 @@ module _ (c : PlanContents) (s : AddedParts) where
 
             barred_by_growth : (r : Refusal) → (r ≡ refusal.Memory) ⊎ IsLeastRefusal (from_on refusal.Cycle line) r → IsBarredAddition c s r
             barred_by_growth r (inl memory) = inl memory
-            barred_by_growth r (inr least) = inr (λ clock. fails_added_at c s clock r (least_of_all refusal.Cycle line before_growth r least))
+            barred_by_growth r (inr least) = inr (least_of_all refusal.Cycle line before_growth r least)
 
-            may_be_added : NoneRefuses (from_on refusal.Cycle line) → (clock : ℕ) → NoneRefuses (MayBeAdded (plan_of clock c) s)
-            may_be_added grown clock r = added_at c s 0 clock r (none_of_all refusal.Cycle line before_growth grown r)
+            may_be_added : NoneRefuses (from_on refusal.Cycle line) → NoneRefuses (MayBeAdded c s)
+            may_be_added = none_of_all refusal.Cycle line before_growth
 
             pub told_by_growth : {T : Type 0} (answer : Result T Refusal) → OnOk answer (NoneRefuses (from_on refusal.Cycle line)) → IfErr answer (λ r. (r ≡ refusal.Memory) ⊎ IsLeastRefusal (from_on refusal.Cycle line) r)
-                → OnOk answer ((clock : ℕ) → NoneRefuses (MayBeAdded (plan_of clock c) s)) × IfErr answer (IsBarredAddition c s)
+                → OnOk answer (NoneRefuses (MayBeAdded c s)) × IfErr answer (IsBarredAddition c s)
             told_by_growth answer grown refused = (if_ok answer grown may_be_added, if_err answer refused barred_by_growth)

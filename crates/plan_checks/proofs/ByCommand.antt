@@ -1,6 +1,7 @@
 -- What the status of an operation says of the commands that it is open to.
 use Rattle.std.proofs.Common.{◌≡◌, ◌≢◌, ◌⊎◌, inl, inr, refl, sym, subst, ◌∙◌, arith, ◌<◌, true, false, true≢false, List}
 use Rattle.std.specs.FinMap.{contains_key}
+use Rattle.plan_model.specs.Contents.{Contents}
 use Rattle.plan_basics.specs.declared.Refusal.{Refusal}
 use Rattle.plan_basics.specs.declared.Refusal.TheVariants as refusal
 use Rattle.plan_basics.specs.declared.keys.OccKey.{OccKey}
@@ -8,7 +9,6 @@ use Rattle.plan_basics.specs.declared.keys.OpKey.{OpKey}
 use Rattle.plan_basics.specs.Intervals.{OpenInterval}
 use Rattle.plan_basics.specs.Keys.{Name}
 use Rattle.plan_basics.specs.Refusals.{number_of, IsLeastRefusal, NoneRefuses}
-use Rattle.plan_model.specs.Plan.{Plan}
 use Rattle.plan_model.specs.Starts.{Reaches}
 use Rattle.plan_model.specs.Status.{EachOperation, HasOccurrenceStatus, HasStatus, IsReady, IsUnderWay, IsWaitingOrReady}
 use Rattle.plan_records.specs.Acceptance.{MayBeCompleted, MayBeDeleted, MayBeFlagged, MayBeOpenBy, MayBeRerun, MayBeSetAvailable}
@@ -19,11 +19,12 @@ use Rattle.status_rules.specs.declared.Status.TheVariants as status
 use Rattle.status_rules.specs.Classes.{is_completable, is_rerunnable, is_waiting_or_ready}
 use Rattle.plan_laws.proofs.Classes.{passes, waits_by, waits_told}
 use Rattle.plan_checks.specs.Commands.{IsItsUnderWay}
-use Rattle.plan_checks.specs.Bars.{FailsAt, IsReported, MeetsAll}
-use Rattle.plan_checks.specs.declared.checks.Reported.{Reported}
+use Rattle.plan_checks.specs.Bars.{FailsAt, MeetsAll}
+use Rattle.plan_state.specs.Reports.{IsReported}
+use Rattle.plan_state.specs.declared.loaded.Reported.{Reported}
 use Rattle.workstations.specs.Timetables.{MayBeTaken}
 
-module _ (P : Plan) (o : OpKey) where
+module _ (P : Contents) (o : OpKey) where
   -- an operation may be completed in these statuses
   abbrev pub IsCompletable : Type 0
   IsCompletable = IsReady P o ⊎ IsUnderWay P o ⊎ HasStatus P o status.Error
@@ -89,7 +90,7 @@ module _ (x : Reported) where
   flagged waits P o is refusal.WrongStatus = waits_by P o x.status is.status waits
   flagged waits P o is r = tt
 
-  before_flagged : (P : Plan) (o : OpKey) (lower : Refusal) → number_of lower < 9 → MayBeFlagged P o lower
+  before_flagged : (P : Contents) (o : OpKey) (lower : Refusal) → number_of lower < 9 → MayBeFlagged P o lower
   before_flagged P o refusal.WrongStatus less = absurd (omega (arith, less))
   before_flagged P o r less = tt
 
@@ -97,10 +98,10 @@ module _ (x : Reported) where
   not_flagged other P o is = (not_waiting_or_ready P o x.status is.alone other, before_flagged P o)
 
   -- what a completion asks of it
-  abbrev Completes : Plan → OpKey → Refusal → Type 0
+  abbrev Completes : Contents → OpKey → Refusal → Type 0
   Completes P o = MayBeCompleted P o x.operation
 
-  before_completed : (P : Plan) (o : OpKey) (lower : Refusal) → number_of lower < 9 → Completes P o lower
+  before_completed : (P : Contents) (o : OpKey) (lower : Refusal) → number_of lower < 9 → Completes P o lower
   before_completed P o refusal.WrongStatus less = absurd (omega (arith, less))
   before_completed P o refusal.Held less = absurd (omega (arith, less))
   before_completed P o r less = tt
@@ -114,7 +115,7 @@ module _ (x : Reported) where
     completed free P o is refusal.Held = free
     completed free P o is r = tt
 
-    before_held : (P : Plan) (o : OpKey) → IsReported P o x → (lower : Refusal) → number_of lower < 11 → Completes P o lower
+    before_held : (P : Contents) (o : OpKey) → IsReported P o x → (lower : Refusal) → number_of lower < 11 → Completes P o lower
     before_held P o is refusal.WrongStatus less = completable_by P o x.status is.status may
     before_held P o is refusal.Held less = absurd (omega (arith, less))
     before_held P o is r less = tt
@@ -125,11 +126,11 @@ module _ (x : Reported) where
 -- ---- the deletion of an occurrence
 
 -- an occurrence whose status is another isn't deleted
-not_all_deleted : (P : Plan) (c : OccKey) (s : OccStatus) → HasOccurrenceStatus P c s → s ≢ occurrence.Deleted → ¬ EachOperation P c status.Deleted
+not_all_deleted : (P : Contents) (c : OccKey) (s : OccStatus) → HasOccurrenceStatus P c s → s ≢ occurrence.Deleted → ¬ EachOperation P c status.Deleted
 not_all_deleted P c occurrence.Deleted h other = absurd (other refl)
 not_all_deleted P c s h other = h.1 occurrence.Deleted (omega arith)
 
-module _ (P : Plan) (c : OccKey) (known : contains_key P.occurrences c ≡ true) (s : OccStatus) (has : HasOccurrenceStatus P c s) where
+module _ (P : Contents) (c : OccKey) (known : contains_key P.occurrences c ≡ true) (s : OccStatus) (has : HasOccurrenceStatus P c s) where
   pub deleted_twice : s ≡ occurrence.Deleted → IsLeastRefusal (MayBeDeleted P c) refusal.WrongStatus
   deleted_twice is = (λ never. never (subst (HasOccurrenceStatus P c) is has).0, before)
     where
@@ -157,7 +158,7 @@ module _ (P : Plan) (c : OccKey) (known : contains_key P.occurrences c ≡ true)
 
 -- ---- special resources and open intervals
 
-module _ (P : Plan) (n : Name) where
+module _ (P : Contents) (n : Name) where
   pub available : contains_key P.resources n ≡ true → NoneRefuses (MayBeSetAvailable P n)
   available known refusal.UnknownResource = known
   available known r = tt

@@ -1,28 +1,29 @@
 -- What stands in the way of a dependency that is to be added.
-use Rattle.std.proofs.Common.{◌≡◌, ◌≢◌, ◌⊎◌, inl, inr, refl, sym, subst, ℕ, ◌<◌, length, slice_get, Some, Result, Ok, Err, IfErr}
+use Rattle.std.proofs.Common.{◌≡◌, ◌≢◌, ◌⊎◌, inl, inr, refl, sym, subst, ℕ, ◌<◌, slice_get, Some, Result, Ok, Err, IfErr}
 use Rattle.std.specs.Result.{IsErrAnd}
 use Rattle.plan_basics.specs.declared.limits.TheConstants.{MOST_PAIRS}
-use Rattle.operation_graph.specs.Graphs.{MayTakeEdge}
+use Rattle.std.specs.FinMap.{entries}
+use Rattle.std.specs.FinSet as set
+use Rattle.operation_graph.specs.Graphs.{Digraph, MayTakeEdge}
+use Rattle.plan_drafts.specs.PlanGraphs.{IsGraphFor}
 use Rattle.plan_basics.specs.declared.Refusal.{Refusal}
 use Rattle.plan_basics.specs.declared.Refusal.TheVariants as refusal
 use Rattle.plan_basics.specs.declared.keys.OpKey.{OpKey}
 use Rattle.plan_basics.specs.Refusals.{IsLeastRefusal, NoneRefuses}
-use Rattle.plan_model.specs.Plan.{IsInPlan, Operation, Plan, Precedes}
+use Rattle.plan_model.specs.Contents.{Contents, IsInPlan, Operation, Precedes}
 use Rattle.plan_model.specs.Status.{HasStatus, IsWaitingOrReady}
-use Rattle.plan_model.specs.Valid.{IsAcyclic, IsWithinLimits}
+use Rattle.plan_model.specs.Valid.{IsAcyclic, IsValid, IsWithinLimits}
 use Rattle.plan_records.specs.Acceptance.{MayBeFlagged, MayBePaired}
 use Rattle.plan_records.specs.Changes.{with_pair}
-use Rattle.plan_records.specs.Contents.{plan_of}
 use Rattle.status_rules.specs.declared.Status.TheVariants as status
 use Rattle.plan_checks.proofs.AdditionLines.{Below, past}
 use Rattle.plan_checks.proofs.PairedPlaces.{acyclic_with, both_known, edge_by_pair, has_no_room, has_room, node_within, pair_by_edge, returning_with}
-use Rattle.plan_checks.specs.Held.{AreHeld, IsHeldAtSome}
 use Rattle.plan_checks.specs.Dependencies.{IsFaultAs}
-use Rattle.plan_checks.specs.Bars.{FailsAt, IsReported, MeetsAll}
-use Rattle.plan_checks.specs.declared.checks.Reported.{Reported}
-use Rattle.plan_checks.specs.declared.loaded.LoadedPlan.{LoadedPlan}
+use Rattle.plan_checks.specs.Bars.{FailsAt, MeetsAll}
+use Rattle.plan_state.specs.Reports.{IsReported}
+use Rattle.plan_state.specs.declared.loaded.Reported.{Reported}
 
-module _ (P : Plan) (p s : OpKey) where
+module _ (P : Contents) (p s : OpKey) where
   -- both ends are operations of the plan
   abbrev pub AreKnown : Type 0
   AreKnown = IsInPlan P p × IsInPlan P s
@@ -70,96 +71,82 @@ pub handed_on : {T E : Type 0} (A : E → Type 0) (r : Result T E) (e : E) → I
 handed_on A (Ok x) e same a = tt
 handed_on A (Err y) e same a = subst A (sym same) a
 
--- ---- in the plan that is held
+-- ---- in a plan with its graph
 
 -- the row at this index is of o
-abbrev pub HasRow : LoadedPlan → ℕ → OpKey → Type 0
-HasRow h i o = (op : Operation) × (slice_get h.contents.operations.items i ≡ Some (o, op))
-
--- x is what is reported of o, at each clock
-abbrev pub IsTold : LoadedPlan → OpKey → Reported → Type 0
-IsTold h o x = (clock : ℕ) → IsReported (plan_of clock h.contents) o x
+abbrev pub HasRow : Contents → ℕ → OpKey → Type 0
+HasRow P i o = (op : Operation) × (slice_get (entries P.operations) i ≡ Some (o, op))
 
 -- x is what is reported of the operation whose row is at this index
-abbrev pub IsToldAt : LoadedPlan → ℕ → Reported → Type 0
-IsToldAt h i x = (o : OpKey) (op : Operation) → slice_get h.contents.operations.items i ≡ Some (o, op) → IsTold h o x
+abbrev pub IsToldAt : Contents → ℕ → Reported → Type 0
+IsToldAt P i x = (o : OpKey) (op : Operation) → slice_get (entries P.operations) i ≡ Some (o, op) → IsReported P o x
 
--- of what a dependency of s on p asks of the plan, r is the least refusal at each clock; or no memory was found to decide it
-abbrev pub IsBarredPair : LoadedPlan → OpKey → OpKey → Refusal → Type 0
-IsBarredPair h p s r = (r ≡ refusal.Memory) ⊎ ((clock : ℕ) → IsLeastRefusal (MayBePaired (plan_of clock h.contents) p s) r)
+-- of what a dependency of s on p asks of the plan, r is the least refusal; or no memory was found to decide it
+abbrev pub IsBarredPair : Contents → OpKey → OpKey → Refusal → Type 0
+IsBarredPair P p s r = (r ≡ refusal.Memory) ⊎ IsLeastRefusal (MayBePaired P p s) r
 
-not_flagged : (P : Plan) (o : OpKey) (r : Refusal) → ¬ MayBeFlagged P o r → (r ≡ refusal.WrongStatus) × ¬ IsWaitingOrReady P o
+not_flagged : (P : Contents) (o : OpKey) (r : Refusal) → ¬ MayBeFlagged P o r → (r ≡ refusal.WrongStatus) × ¬ IsWaitingOrReady P o
 not_flagged P o refusal.WrongStatus never = (refl, never)
 not_flagged P o r never = absurd (never tt)
 
--- the operations p and s are in the rows i and j of the plan that is held, and x and y are reported of them
-pub record AreFound (h : LoadedPlan) (i j : ℕ) (p s : OpKey) (x y : Reported) : Type 0 where
-  pub held : IsHeldAtSome h
-  pub before : HasRow h i p
-  pub after : HasRow h j s
-  pub first : IsTold h p x
-  pub second : IsTold h s y
+-- the operations p and s are in the rows i and j of a valid plan with this graph, and x and y are reported of them
+pub record AreFound (P : Contents) (g : Digraph) (i j : ℕ) (p s : OpKey) (x y : Reported) : Type 0 where
+  pub valid : IsValid P
+  pub graph : IsGraphFor P g
+  pub before : HasRow P i p
+  pub after : HasRow P j s
+  pub first : IsReported P p x
+  pub second : IsReported P s y
 
-module _ {h : LoadedPlan} {i j : ℕ} {p s : OpKey} {x y : Reported} (found : AreFound h i j p s x y) where
-  abbrev at : ℕ
-  at = found.held.0
-
-  abbrev held : AreHeld at h
-  held = found.held.1
-
-  abbrev a : HasRow h i p
+module _ {P : Contents} {g : Digraph} {i j : ℕ} {p s : OpKey} {x y : Reported} (found : AreFound P g i j p s x y) where
+  abbrev a : HasRow P i p
   a = found.before
 
-  abbrev b : HasRow h j s
+  abbrev b : HasRow P j s
   b = found.after
 
   -- both have nodes
-  pub before_within : i < h.graph.nodes
-  before_within = node_within at h held i p a.0 a.1
+  pub before_within : i < g.nodes
+  before_within = node_within P found.valid g found.graph i p a.0 a.1
 
-  pub after_within : j < h.graph.nodes
-  after_within = node_within at h held j s b.0 b.1
+  pub after_within : j < g.nodes
+  after_within = node_within P found.valid g found.graph j s b.0 b.1
 
-  known : (clock : ℕ) → AreKnown (plan_of clock h.contents) p s
-  known = both_known at h held i j p s a.0 b.0 a.1 b.1
+  known : AreKnown P p s
+  known = both_known P found.valid g found.graph i j p s a.0 b.0 a.1 b.1
 
-  barred_by_status : (clock : ℕ) (r : Refusal) → r ≡ refusal.WrongStatus → ¬ MayBeJoined (plan_of clock h.contents) p s → IsLeastRefusal (MayBePaired (plan_of clock h.contents) p s) r
-  barred_by_status clock r is never = subst (IsLeastRefusal (MayBePaired (plan_of clock h.contents) p s)) (sym is) (not_joined (plan_of clock h.contents) p s (known clock) never)
+  barred_by_status : (r : Refusal) → r ≡ refusal.WrongStatus → ¬ MayBeJoined P p s → IsLeastRefusal (MayBePaired P p s) r
+  barred_by_status r is never = subst (IsLeastRefusal (MayBePaired P p s)) (sym is) (not_joined P p s known never)
 
   -- by the statuses
-  pub barred_by_ends : (r : Refusal) → ((r ≡ refusal.WrongStatus) × (x.status ≡ status.Deleted)) ⊎ FailsAt y MayBeFlagged r → IsBarredPair h p s r
-  barred_by_ends r (inl deleted) = inr (λ clock.
-      barred_by_status clock r deleted.0 (λ may. may.0 (subst (HasStatus (plan_of clock h.contents) p) deleted.1 (found.first clock).status)))
-  barred_by_ends r (inr fails) = inr (λ clock.
-      let told = not_flagged (plan_of clock h.contents) s r (fails (plan_of clock h.contents) s (found.second clock)).0 in
-      barred_by_status clock r told.0 (λ may. told.1 may.1))
+  pub barred_by_ends : (r : Refusal) → ((r ≡ refusal.WrongStatus) × (x.status ≡ status.Deleted)) ⊎ FailsAt y MayBeFlagged r → IsBarredPair P p s r
+  barred_by_ends r (inl deleted) = inr (barred_by_status r deleted.0 (λ may. may.0 (subst (HasStatus P p) deleted.1 found.first.status)))
+  barred_by_ends r (inr fails) =
+      let told = not_flagged P s r (fails P s found.second).0 in
+      inr (barred_by_status r told.0 (λ may. told.1 may.1))
 
   module _ (live : x.status ≢ status.Deleted) (clear : MeetsAll y MayBeFlagged) where
-    joined : (clock : ℕ) → MayBeJoined (plan_of clock h.contents) p s
-    joined clock = (
-      λ deleted. live (sym ((found.first clock).alone status.Deleted deleted)),
-      clear (plan_of clock h.contents) s (found.second clock) refusal.WrongStatus,
-    )
+    joined : MayBeJoined P p s
+    joined = (λ deleted. live (sym (found.first.alone status.Deleted deleted)), clear P s found.second refusal.WrongStatus)
 
     -- by the graph
-    pub barred_by_edge : (r : Refusal) → IsFaultAs h.graph i j r → IsBarredPair h p s r
-    barred_by_edge refusal.Duplicate there = inr (λ clock.
-        paired_twice (plan_of clock h.contents) p s (known clock) (joined clock) (pair_by_edge at h held i j p s a.0 b.0 a.1 b.1 there))
-    barred_by_edge refusal.Cycle closes = inr (λ clock.
-        closing (plan_of clock h.contents) p s (known clock) (joined clock) (λ pair. closes.0 (edge_by_pair at h held i j p s a.0 b.0 a.1 b.1 pair))
-        (returning_with at h held i j p s a.0 b.0 a.1 b.1 closes.1))
+    pub barred_by_edge : (r : Refusal) → IsFaultAs g i j r → IsBarredPair P p s r
+    barred_by_edge refusal.Duplicate there = inr (paired_twice P p s known joined (pair_by_edge P found.valid g found.graph i j p s a.0 b.0 a.1 b.1 there))
+    barred_by_edge refusal.Cycle closes = inr (closing P p s known joined (λ pair. closes.0 (edge_by_pair P found.valid g found.graph i j p s a.0 b.0 a.1 b.1 pair))
+        (returning_with P found.valid g found.graph i j p s a.0 b.0 a.1 b.1 closes.1))
     barred_by_edge refusal.Memory none = inl refl
     barred_by_edge r never = absurd never
 
-    module _ (may : MayTakeEdge h.graph i j) where
-      new : ¬ Precedes (plan_of 0 h.contents) p s
-      new pair = may.0 (edge_by_pair at h held i j p s a.0 b.0 a.1 b.1 pair)
+    module _ (may : MayTakeEdge g i j) where
+      new : ¬ Precedes P p s
+      new pair = may.0 (edge_by_pair P found.valid g found.graph i j p s a.0 b.0 a.1 b.1 pair)
+
+      open_with : IsAcyclic (with_pair P p s).pairs
+      open_with = acyclic_with P found.valid g found.graph i j p s a.0 b.0 a.1 b.1 may.1
 
       -- by the room
-      pub barred_by_room : ¬ (length h.contents.pairs.items < MOST_PAIRS) → IsBarredPair h p s refusal.Limit
-      barred_by_room full = inr (λ clock.
-          one_too_many (plan_of clock h.contents) p s (known clock) (joined clock) new (acyclic_with at h held i j p s a.0 b.0 a.1 b.1 may.1) (has_no_room at h held p s new clock full))
+      pub barred_by_room : ¬ (set.len P.pairs < MOST_PAIRS) → IsBarredPair P p s refusal.Limit
+      barred_by_room full = inr (one_too_many P p s known joined new open_with (has_no_room P found.valid g found.graph p s new full))
 
-      pub may_be_paired : length h.contents.pairs.items < MOST_PAIRS → (clock : ℕ) → NoneRefuses (MayBePaired (plan_of clock h.contents) p s)
-      may_be_paired room clock =
-          paired (plan_of clock h.contents) p s (known clock) (joined clock) new (acyclic_with at h held i j p s a.0 b.0 a.1 b.1 may.1) (has_room at h held p s new clock room)
+      pub may_be_paired : set.len P.pairs < MOST_PAIRS → NoneRefuses (MayBePaired P p s)
+      may_be_paired room = paired P p s known joined new open_with (has_room P found.valid g found.graph p s new room)

@@ -13,20 +13,20 @@ use Rattle.std.proofs.lemmas.List.Elements.{All-contains}
 use Rattle.plan_basics.specs.Keys.{occurrence_cmp, operation_cmp_total, operation_cmp-IsAntisymmetric}
 use Rattle.plan_basics.specs.declared.keys.OccKey.{OccKey}
 use Rattle.plan_basics.specs.declared.keys.OpKey.{OpKey}
-use Rattle.plan_model.specs.Plan.{IsPairOf, Occurrences, Operation, Plan}
+use Rattle.plan_model.specs.Contents.{Contents, IsPairOf, Occurrences, Operation}
 use Rattle.plan_model.specs.declared.Occurrence.{Occurrence}
 use Rattle.plan_records.specs.Acceptance.{IsNew}
-use Rattle.plan_records.specs.Contents.{AreAdditionParts, added_of}
-use Rattle.plan_records.specs.Drafts.{IsOwn}
-use Rattle.plan_records.specs.declared.contents.AdditionParts.{AdditionParts}
+use Rattle.plan_drafts.specs.Contents.{AreAdditionParts, added_of}
+use Rattle.plan_drafts.specs.Drafts.{IsOwn}
+use Rattle.plan_drafts.specs.declared.contents.AdditionParts.{AdditionParts}
 use Rattle.special_resources.specs.Holdings.{usage_of}
 use Rattle.special_resources.specs.Needs.{AreInNameOrder, usages_of}
 use Rattle.special_resources.specs.declared.Need.{Need}
 use Rattle.special_resources.proofs.MoreNeeds.{need_by_usage, usage_by_need}
 use Rattle.plan_laws.proofs.Pairs.{pair_cmp_total, pair_cmp-IsAntisymmetric}
-use Rattle.plan_records.proofs.Lists.{all_by_members, all_told}
-use Rattle.plan_records.proofs.MadeAdditions.{sole_got, sole_key}
-use Rattle.plan_records.proofs.Tables.{from_set, get_row, in_set, is_found, row_found, rows_apart, some_is}
+use Rattle.plan_drafts.proofs.Lists.{all_by_members, all_told}
+use Rattle.plan_drafts.proofs.MadeAdditions.{sole_got, sole_key}
+use Rattle.plan_drafts.proofs.Tables.{from_set, get_row, in_set, is_found, row_found, rows_apart, some_is}
 use Rattle.plan_checks.proofs.Searching.{row_known}
 use Rattle.plan_checks.specs.Additions.{HasResources, IsKnown}
 
@@ -47,6 +47,11 @@ module _ {K X : Type 0} {R : K → K → Ordering} (total : IsTotalOrder R) (exa
         (place_in_rows place
         (subst (λ (xs : List (K × X)). IfSome place (λ i. (x : X) × (slice_get xs i ≡ Some (k, x)))) same found)
         (subst (λ (xs : List (K × X)). IsNone place → get {R = R} (from_entries xs) k ≡ None) same absent))
+
+-- what is found of a key shows whether it is there
+pub found_told : {A X : Type 0} (there : Option X) (found : Option A) (F : A → Type 0) → IfSome found F → (IsNone found → there ≡ None) → ((a : A) → F a → is_some there ≡ true) → (b : Bool) → b ≡ is_some found → Decides b (is_some there ≡ true)
+found_told there (Some a) F f absent shows b is = subst (λ t. Decides t (is_some there ≡ true)) (sym is) (λ _. shows a f, λ _. refl)
+found_told there None F f absent shows b is = subst (λ t. Decides t (is_some there ≡ true)) (sym is) (λ e. absurd (true≢false (sym e)), λ h. absurd (true≢false (sym h ∙ ap is_some (absent refl))))
 
 -- where this shows whether there is one, its opposite shows whether there is none
 pub missing_told : (b has : Bool) → Decides (not b) (has ≡ true) → Decides b (has ≡ false)
@@ -74,7 +79,7 @@ new_told key terms there b told = (
 
 -- ---- an end of a pair
 
-module _ (parts : AdditionParts) (are : AreAdditionParts parts) (P : Plan) (o : OpKey) where
+module _ (parts : AdditionParts) (are : AreAdditionParts parts) (P : Contents) (o : OpKey) where
   own : o.occurrence ≡ parts.key → IsOwn (added_of parts) o
   own same = own_key parts.key o.occurrence parts.terms same
 
@@ -142,7 +147,7 @@ operations_told parts are same Q b test =
     )
 
 -- the special resources of an operation are in the plan where that of each need in the list is
-pub resources_told : (P : Plan) (op : Operation) (needs : List Need) → op.needs ≡ usages_of needs → AreInNameOrder needs → (b : Bool)
+pub resources_told : (P : Contents) (op : Operation) (needs : List Need) → op.needs ≡ usages_of needs → AreInNameOrder needs → (b : Bool)
     → IsTestOfEach (λ need. contains_key P.resources need.name ≡ true) needs b → Decides b (HasResources P op)
 resources_told P op needs same sorted b test =
     let told = each_told refl (λ (need : Need). contains_key P.resources need.name ≡ true) b test in (

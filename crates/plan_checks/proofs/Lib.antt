@@ -1,10 +1,8 @@
 pub mod AdditionLines
-pub mod AtClock
 pub mod ByCommand
 pub mod ByPair
 pub mod ComingIn
 pub mod Grown
-pub mod HeldRows
 pub mod Limits
 pub mod OpenEnds
 pub mod PairedPlaces
@@ -12,3 +10,4 @@ pub mod Permitting
 pub mod ReachedKeys
 pub mod Reporting
 pub mod Searching
+pub mod ComingApart

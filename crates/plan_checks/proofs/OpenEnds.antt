@@ -2,7 +2,7 @@
 use Rattle.std.proofs.Common.{◌≡◌, ◌≢◌, sym, subst, Decides}
 use Rattle.std.proofs.lemmas.Bool.{true_from_ne_false}
 use Rattle.plan_basics.specs.declared.keys.OpKey.{OpKey}
-use Rattle.plan_model.specs.Plan.{Plan, AddedParts}
+use Rattle.plan_model.specs.Contents.{Contents, AddedParts}
 use Rattle.plan_model.specs.Status.{HasStatus}
 use Rattle.status_rules.specs.Classes.{is_waiting_or_ready}
 use Rattle.status_rules.specs.declared.Status.{Status}
@@ -11,7 +11,7 @@ use Rattle.plan_laws.proofs.Classes.{waits_by}
 use Rattle.plan_checks.proofs.ByCommand.{not_waiting_or_ready}
 use Rattle.plan_checks.specs.Additions.{IsOldWith, MayPrecede, MaySucceed}
 
-module _ (P : Plan) (s : AddedParts) (o : OpKey) (x : Status) (is : IsOldWith P s o x) where
+module _ (P : Contents) (s : AddedParts) (o : OpKey) (x : Status) (is : IsOldWith P s o x) where
   pub succeeds_told : Decides (is_waiting_or_ready x) (MaySucceed P s o)
   succeeds_told = (
     λ yes old. waits_by P o x is.1 yes,

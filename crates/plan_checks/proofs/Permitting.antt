@@ -8,23 +8,22 @@ use Rattle.plan_basics.specs.declared.keys.OpKey.{OpKey}
 use Rattle.plan_basics.specs.Refusals.{number_of}
 use Rattle.plan_model.specs.Holdings.{given_out, holds_server, takes}
 use Rattle.plan_laws.proofs.Classes.{passes, ready_by}
-use Rattle.plan_laws.proofs.Looks.{same_some}
-use Rattle.plan_model.specs.Plan.{Operation, Plan}
+use Rattle.std.proofs.lemmas.Option.{same_Some}
+use Rattle.plan_model.specs.Contents.{Contents, Operation}
 use Rattle.plan_model.specs.Starts.{MayStart}
 use Rattle.plan_model.specs.Status.{HasStatus, IsReady}
 use Rattle.plan_records.specs.Acceptance.{MayBeEnded, MayBeInterrupted, MayBeUndecided}
-use Rattle.plan_records.specs.Contents.{plan_of}
-use Rattle.plan_records.specs.declared.contents.PlanContents.{PlanContents}
 use Rattle.special_resources.specs.Holdings.{Held}
 use Rattle.status_rules.specs.Classes.{is_ready, is_startable}
 use Rattle.status_rules.specs.declared.Status.{Status}
 use Rattle.status_rules.specs.declared.Status.TheVariants as status
 use Rattle.workstations.specs.declared.Capacity.{Capacity}
 use Rattle.plan_choice.specs.Choices.{AreHeldIn, HasTaken, IsStartLine}
-use Rattle.plan_checks.specs.Bars.{FailsAt, IsReported, MeetsAll}
-use Rattle.plan_checks.specs.declared.checks.Reported.{Reported}
+use Rattle.plan_checks.specs.Bars.{FailsAt, MeetsAll}
+use Rattle.plan_state.specs.Reports.{IsReported}
+use Rattle.plan_state.specs.declared.loaded.Reported.{Reported}
 
-module _ (P : Plan) (o : OpKey) where
+module _ (P : Contents) (o : OpKey) where
   running_by : (s : Status) → HasStatus P o s → holds_server (Some s) ≡ true → HasStatus P o status.Started ⊎ HasStatus P o status.Undecided
   running_by status.Started h e = inl h
   running_by status.Undecided h e = inr h
@@ -52,7 +51,7 @@ module _ (P : Plan) (o : OpKey) where
 
 module _ (x : Reported) where
   -- what an end or an error asks of it on a workstation of this attribute
-  abbrev EndsOn : Attr → Plan → OpKey → Refusal → Type 0
+  abbrev EndsOn : Attr → Contents → OpKey → Refusal → Type 0
   EndsOn a P o = MayBeEnded P o x.operation (Some a)
 
   module _ (run : holds_server (Some x.status) ≡ true) where
@@ -75,7 +74,7 @@ module _ (x : Reported) where
     pub ended_without_start : x.operation.held ≡ false → MeetsAll x (EndsOn x.attribute)
     ended_without_start free = subst (λ a. MeetsAll x (EndsOn a)) (sym on) (free_at_end free)
 
-    before_held : (P : Plan) (o : OpKey) → IsReported P o x → (lower : Refusal) → number_of lower < 11 → EndsOn attribute.CompletionOnly P o lower
+    before_held : (P : Contents) (o : OpKey) → IsReported P o x → (lower : Refusal) → number_of lower < 11 → EndsOn attribute.CompletionOnly P o lower
     before_held P o is refusal.WrongStatus less = ready_by P o x.status is.status ready
     before_held P o is refusal.Held less = absurd (omega (arith, less))
     before_held P o is r less = tt
@@ -84,7 +83,7 @@ module _ (x : Reported) where
     held_at_end held = subst (λ a. FailsAt x (EndsOn a) refusal.Held) (sym on) (λ P o is. (λ free. true≢false (sym held ∙ free), before_held P o is))
 
   module _ (started : x.status ≡ status.Started) where
-    its_start : (P : Plan) (o : OpKey) → IsReported P o x → HasStatus P o status.Started
+    its_start : (P : Contents) (o : OpKey) → IsReported P o x → HasStatus P o status.Started
     its_start P o is = subst (HasStatus P o) started is.status
 
     pub undecided : MeetsAll x MayBeUndecided
@@ -96,27 +95,26 @@ module _ (x : Reported) where
     interrupted on P o is refusal.WrongWorkstation = is.attribute ∙ ap Some on
     interrupted on P o is r = tt
 
-    before_workstation : (P : Plan) (o : OpKey) → IsReported P o x → (lower : Refusal) → number_of lower < 10 → MayBeInterrupted P o x.operation lower
+    before_workstation : (P : Contents) (o : OpKey) → IsReported P o x → (lower : Refusal) → number_of lower < 10 → MayBeInterrupted P o x.operation lower
     before_workstation P o is refusal.WrongStatus less = its_start P o is
     before_workstation P o is refusal.WrongWorkstation less = absurd (omega (arith, less))
     before_workstation P o is r less = tt
 
     pub not_interrupted : x.attribute ≢ attribute.StartAndCompletion → FailsAt x (λ P o. MayBeInterrupted P o x.operation) refusal.WrongWorkstation
-    not_interrupted other P o is = (λ on. other (same_some x.attribute attribute.StartAndCompletion (sym is.attribute ∙ on)), before_workstation P o is)
+    not_interrupted other P o is = (λ on. other (same_Some x.attribute attribute.StartAndCompletion (sym is.attribute ∙ on)), before_workstation P o is)
 
--- what is given out at its workstation, and what is held, by its plan
-pub has_taken : (c : PlanContents) (clock : ℕ) (op : Operation) (taken : Capacity) (held : Held) → given_out (plan_of clock c) op.workstation ≡ taken → AreHeldIn (plan_of clock c) held
-    → HasTaken (plan_of clock c) c op taken held
-has_taken c clock op taken held given holders = record { workstations = refl; resources = refl; given = given; holders = holders }
+-- what is given out at its workstation, and what is held, in its own plan
+pub has_taken : (P : Contents) (op : Operation) (taken : Capacity) (held : Held) → given_out P op.workstation ≡ taken → AreHeldIn P held → HasTaken P P op taken held
+has_taken P op taken held given holders = record { workstations = refl; resources = refl; given = given; holders = holders }
 
 -- what its status allows, and all other lines
-pub line_by_line : (P : Plan) (o : OpKey) (op : Operation) (m : ℕ) (Q : Refusal → Type 0) → MayStart P o op m refusal.WrongStatus → ((r : Refusal) → IsStartLine r → Q r → MayStart P o op m r)
+pub line_by_line : (P : Contents) (o : OpKey) (op : Operation) (m : ℕ) (Q : Refusal → Type 0) → MayStart P o op m refusal.WrongStatus → ((r : Refusal) → IsStartLine r → Q r → MayStart P o op m r)
     → (r : Refusal) → Q r → MayStart P o op m r
 line_by_line P o op m Q may lines refusal.WrongStatus q = may
 line_by_line P o op m Q may lines r q = lines r tt q
 
 -- before its workstation is looked at
-pub before_line : (P : Plan) (o : OpKey) (op : Operation) (m : ℕ) (lower : Refusal) → number_of lower < 9 → MayStart P o op m lower
+pub before_line : (P : Contents) (o : OpKey) (op : Operation) (m : ℕ) (lower : Refusal) → number_of lower < 9 → MayStart P o op m lower
 before_line P o op m refusal.WrongStatus less = absurd (omega (arith, less))
 before_line P o op m refusal.Held less = absurd (omega (arith, less))
 before_line P o op m refusal.TooEarly less = absurd (omega (arith, less))
@@ -125,7 +123,3 @@ before_line P o op m refusal.NoServer less = absurd (omega (arith, less))
 before_line P o op m refusal.NoFixed less = absurd (omega (arith, less))
 before_line P o op m refusal.ResourceBusy less = absurd (omega (arith, less))
 before_line P o op m r less = tt
-
--- what is reported of an operation at one clock is so at each
-pub reported_at : (c : PlanContents) (o : OpKey) (x : Reported) → IsReported (plan_of 0 c) o x → (clock : ℕ) → IsReported (plan_of clock c) o x
-reported_at c o x is clock = record { operation = is.operation; attribute = is.attribute; status = is.status; alone = is.alone }

@@ -1,5 +1,5 @@
 -- Rows of which none has been found so far, and what rows say of the keys that are in them.
-use Rattle.std.proofs.Common.{◌≡◌, ◌⊎◌, inl, inr, sym, ap, ◌∙◌, arith, ℕ, ◌+◌, ◌<◌, true, List, slice_get, Some, Result, Ok, Err, IfErr, OnOk}
+use Rattle.std.proofs.Common.{◌≡◌, ◌⊎◌, inl, inr, sym, ap, subst, ◌∙◌, arith, ℕ, ◌+◌, ◌<◌, true, List, slice_get, Option, Some, IfSome, Result, Ok, Err, IfErr, OnOk}
 use Rattle.std.proofs.lemmas.Bool.{cases_eq}
 use Rattle.std.specs.Cmp.{IsTotalOrder}
 use Rattle.std.specs.FinMap.{IsAntisymmetric, contains_key, from_entries, get}
@@ -9,10 +9,10 @@ use Rattle.std.specs.declared.cmp.Ordering.{Ordering}
 use Rattle.plan_basics.specs.declared.Refusal.{Refusal}
 use Rattle.plan_basics.specs.declared.Refusal.TheVariants as refusal
 use Rattle.plan_basics.specs.declared.keys.OpKey.{OpKey}
-use Rattle.plan_model.specs.Plan.{Operation, Plan}
+use Rattle.plan_model.specs.Contents.{Contents, Operation}
 use Rattle.plan_model.specs.Status.{IsUnderWay}
-use Rattle.plan_records.proofs.RowPlaces.{get_at}
-use Rattle.plan_records.proofs.Tables.{some_is}
+use Rattle.plan_drafts.proofs.RowPlaces.{get_at}
+use Rattle.plan_drafts.proofs.Tables.{some_is}
 
 -- this is so of no element before an index
 abbrev pub NoneBefore : {X : Type 0} → List X → (X → Type 0) → ℕ → Type 0
@@ -30,7 +30,7 @@ pub row_known : {K X : Type 0} {R : K → K → Ordering} → IsTotalOrder R →
 row_known {R} total same rows sorted i k v at = some_is (get (from_entries {R = R} rows) k) v (get_at R total same rows sorted i k v at)
 
 -- what is under way is in the plan
-pub under_way_in_plan : (P : Plan) (o : OpKey) → IsUnderWay P o → (op : Operation) × (get P.operations o ≡ Some op)
+pub under_way_in_plan : (P : Contents) (o : OpKey) → IsUnderWay P o → (op : Operation) × (get P.operations o ≡ Some op)
 under_way_in_plan P o (inl h) = (h.0, h.1)
 under_way_in_plan P o (inr (inl h)) = (h.0, h.1)
 under_way_in_plan P o (inr (inr h)) = (h.0, h.1)
@@ -49,3 +49,7 @@ pub if_refused : {T : Type 0} {A B : Refusal → Type 0} (r : Result T Refusal) 
 if_refused (Ok t) a f = tt
 if_refused (Err e) (inl memory) f = inl memory
 if_refused (Err e) (inr a) f = inr (f e a)
+
+-- what is so of what is found
+pub found_in : {A : Type 0} (x : Option A) (F : A → Type 0) (a : A) → x ≡ Some a → IfSome x F → F a
+found_in x F a is found = subst (λ y. IfSome y F) is found

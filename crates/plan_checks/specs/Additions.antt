@@ -3,7 +3,7 @@ use Rattle.std.specs.Prelude.{◌≡◌, ◌⊎◌, true, Some}
 use Rattle.std.specs.FinMap.{contains_key, get}
 use Rattle.plan_basics.specs.Keys.{Name}
 use Rattle.plan_basics.specs.declared.keys.OpKey.{OpKey}
-use Rattle.plan_model.specs.Plan.{Plan, Operation, AddedParts}
+use Rattle.plan_model.specs.Contents.{Contents, Operation, AddedParts}
 use Rattle.plan_model.specs.Status.{HasStatus, IsWaitingOrReady}
 use Rattle.plan_records.specs.Acceptance.{IsNew, IsOld}
 use Rattle.special_resources.specs.Holders.{Usage}
@@ -11,33 +11,33 @@ use Rattle.status_rules.specs.declared.Status.{Status}
 use Rattle.status_rules.specs.declared.Status.TheVariants as status
 
 -- o is added, or is an operation of another occurrence of the plan
-abbrev pub IsKnown : Plan → AddedParts → OpKey → Type 0
+abbrev pub IsKnown : Contents → AddedParts → OpKey → Type 0
 IsKnown P s o = IsNew s o ⊎ IsOld P s o
 
 -- both ends of the pair are added, or are operations of other occurrences of the plan
-abbrev pub IsKnownPair : Plan → AddedParts → OpKey × OpKey → Type 0
+abbrev pub IsKnownPair : Contents → AddedParts → OpKey × OpKey → Type 0
 IsKnownPair P s pair = IsKnown P s pair.0 × IsKnown P s pair.1
 
 -- o is an operation of another occurrence of the plan, and has this status alone
-abbrev pub IsOldWith : Plan → AddedParts → OpKey → Status → Type 0
+abbrev pub IsOldWith : Contents → AddedParts → OpKey → Status → Type 0
 IsOldWith P s o x = IsOld P s o × HasStatus P o x × ((t : Status) → HasStatus P o t → t ≡ x)
 
 -- a pair that is added may lead to o: where o is there, it waits or is ready
-abbrev pub MaySucceed : Plan → AddedParts → OpKey → Type 0
+abbrev pub MaySucceed : Contents → AddedParts → OpKey → Type 0
 MaySucceed P s o = IsOld P s o → IsWaitingOrReady P o
 
 -- a pair that is added may lead from o: where o is there, it isn't deleted
-abbrev pub MayPrecede : Plan → AddedParts → OpKey → Type 0
+abbrev pub MayPrecede : Contents → AddedParts → OpKey → Type 0
 MayPrecede P s o = IsOld P s o → ¬ HasStatus P o status.Deleted
 
 -- the pair's ends are open to it
-abbrev pub IsOpenPair : Plan → AddedParts → OpKey × OpKey → Type 0
+abbrev pub IsOpenPair : Contents → AddedParts → OpKey × OpKey → Type 0
 IsOpenPair P s pair = MaySucceed P s pair.1 × MayPrecede P s pair.0
 
 -- the operation's workstation is in the plan
-abbrev pub HasWorkstation : Plan → Operation → Type 0
+abbrev pub HasWorkstation : Contents → Operation → Type 0
 HasWorkstation P op = contains_key P.workstations op.workstation ≡ true
 
 -- the special resources that the operation needs are in the plan
-abbrev pub HasResources : Plan → Operation → Type 0
+abbrev pub HasResources : Contents → Operation → Type 0
 HasResources P op = (r : Name) (usage : Usage) → get op.needs r ≡ Some usage → contains_key P.resources r ≡ true

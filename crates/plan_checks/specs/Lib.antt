@@ -1,4 +1,4 @@
-pub mod Held
+pub mod Loads
 pub mod Bars
 pub mod Reach
 pub mod Commands

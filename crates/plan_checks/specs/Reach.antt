@@ -1,7 +1,7 @@
 -- Which operations are live, row by row.
 use Rattle.std.specs.Prelude.{Bool}
 use Rattle.plan_basics.specs.declared.keys.OpKey.{OpKey}
-use Rattle.plan_model.specs.Plan.{Operation}
+use Rattle.plan_model.specs.Contents.{Operation}
 use Rattle.status_rules.specs.Classes.{is_live}
 
 -- whether the operation of a row isn't deleted

@@ -1,44 +1,39 @@
 // What stands in the way of an occurrence that is to be added.
-ghost use Rattle.std.specs.Prelude.{◌≡◌, ◌<◌, ◌⊎◌, ℕ, Decides, IfErr, MatchOption, OnOk};
+ghost use Rattle.std.specs.Prelude.{◌≡◌, ◌<◌, ◌⊎◌, Decides, IfErr, MatchOption, OnOk};
 ghost use Rattle.plan_basics.specs.Refusals.{from_on, IsLeastRefusal, NoneRefuses};
 ghost use Rattle.plan_basics.specs.declared.Refusal.{Refusal};
 ghost use Rattle.plan_model.specs.Valid.{IsWithinLimits};
 ghost use Rattle.plan_records.specs.Acceptance.{IsOld, MayBeAdded};
-ghost use Rattle.plan_records.specs.Contents.{plan_of, added_of, AreContents, AreValidContents};
-ghost use Rattle.plan_records.specs.Drafts.{IsAddition};
+ghost use Rattle.plan_drafts.specs.Contents.{added_of};
+ghost use Rattle.plan_drafts.specs.Drafts.{IsAddition};
 ghost use Rattle.plan_checks.specs.Additions.{IsOldWith, IsOpenPair, MayPrecede, MaySucceed};
-ghost use Rattle.plan_checks.specs.Held.{IsHeldAtSome};
 
-use super::checks::reported_at;
 use super::known::{
     are_ends_known, are_resources_known, are_workstations_known, is_new_occurrence,
 };
-use super::loaded::LoadedPlan;
 use plan_basics::limits::{
     MOST_OCCURRENCES, MOST_OPERATIONS, MOST_PAIRS, MOST_RESOURCES, MOST_WORKSTATIONS,
 };
 use plan_basics::{OpKey, Refusal};
 use plan_changes::with_addition;
-use plan_records::{Addition, AdditionParts, PlanContents, is_acyclic, row_place};
+use plan_records::{Addition, AdditionParts, PlanContents, is_acyclic};
+use plan_state::LoadedPlan;
 use status_rules::Status;
 use std::alloc::Global;
 
 // The status of an operation of the plan's other occurrences.
 fn old_status(loaded: &LoadedPlan, parts: &AdditionParts, key: &OpKey) -> Option<Status>
-    requires { IsHeldAtSome loaded.now }
-    ensures { MatchOption result (¬ IsOld (plan_of 0 loaded.now.contents) (added_of parts.now) key.now) (IsOldWith (plan_of 0 loaded.now.contents) (added_of parts.now) key.now) }
+    ensures { MatchOption result (¬ IsOld loaded.now (added_of parts.now) key.now) (IsOldWith loaded.now (added_of parts.now) key.now) }
 {
     if key.occurrence == parts.key {
         return None;
     }
-    let place = row_place(&loaded.contents.operations, key)?;
-    Some(reported_at(loaded, place).status)
+    Some(loaded.reported(key)?.status)
 }
 
 // Whether a pair that is added may lead to this operation: where it is there, it waits or is ready.
 fn may_succeed(loaded: &LoadedPlan, parts: &AdditionParts, key: &OpKey) -> bool
-    requires { IsHeldAtSome loaded.now }
-    ensures { Decides result (MaySucceed (plan_of 0 loaded.now.contents) (added_of parts.now) key.now) }
+    ensures { Decides result (MaySucceed loaded.now (added_of parts.now) key.now) }
 {
     match old_status(loaded, parts, key) {
         Some(status) => status.is_waiting_or_ready(),
@@ -48,8 +43,7 @@ fn may_succeed(loaded: &LoadedPlan, parts: &AdditionParts, key: &OpKey) -> bool
 
 // Whether a pair that is added may lead from this operation: where it is there, it isn't deleted.
 fn may_precede(loaded: &LoadedPlan, parts: &AdditionParts, key: &OpKey) -> bool
-    requires { IsHeldAtSome loaded.now }
-    ensures { Decides result (MayPrecede (plan_of 0 loaded.now.contents) (added_of parts.now) key.now) }
+    ensures { Decides result (MayPrecede loaded.now (added_of parts.now) key.now) }
 {
     match old_status(loaded, parts, key) {
         Some(status) => status != Status::Deleted,
@@ -59,16 +53,14 @@ fn may_precede(loaded: &LoadedPlan, parts: &AdditionParts, key: &OpKey) -> bool
 
 // Whether a pair's ends are open to it.
 fn is_open_pair(loaded: &LoadedPlan, parts: &AdditionParts, pair: &(OpKey, OpKey)) -> bool
-    requires { IsHeldAtSome loaded.now }
-    ensures { Decides result (IsOpenPair (plan_of 0 loaded.now.contents) (added_of parts.now) pair.now) }
+    ensures { Decides result (IsOpenPair loaded.now (added_of parts.now) pair.now) }
 {
     may_succeed(loaded, parts, &pair.1) && may_precede(loaded, parts, &pair.0)
 }
 
 // Whether the ends of all pairs that are added are open to them.
 fn are_pairs_open(loaded: &LoadedPlan, parts: &AdditionParts) -> bool
-    requires { IsHeldAtSome loaded.now }
-    ensures { Decides result (MayBeAdded (plan_of 0 loaded.now.contents) (added_of parts.now) Refusal.WrongStatus) }
+    ensures { Decides result (MayBeAdded loaded.now (added_of parts.now) Refusal.WrongStatus) }
 {
     for pair in &parts.pairs {
         if !is_open_pair(loaded, parts, pair) {
@@ -80,26 +72,29 @@ fn are_pairs_open(loaded: &LoadedPlan, parts: &AdditionParts) -> bool
 
 // Whether the contents are no more than a plan may hold.
 fn is_within_limits(contents: &PlanContents) -> bool
-    requires { AreContents contents.now }
-    ensures { Decides result (IsWithinLimits (plan_of 0 contents.now)) }
+    ensures { Decides result (IsWithinLimits contents.now) }
 {
-    contents.workstations.len() <= MOST_WORKSTATIONS
-        && contents.resources.len() <= MOST_RESOURCES
-        && contents.occurrences.len() <= MOST_OCCURRENCES
-        && contents.operations.len() <= MOST_OPERATIONS
-        && contents.pairs.len() <= MOST_PAIRS
+    let workstations = contents.workstations().len();
+    let resources = contents.resources().len();
+    let occurrences = contents.occurrences().len();
+    let operations = contents.operations().len();
+    let pairs = contents.pairs().len();
+    workstations <= MOST_WORKSTATIONS
+        && resources <= MOST_RESOURCES
+        && occurrences <= MOST_OCCURRENCES
+        && operations <= MOST_OPERATIONS
+        && pairs <= MOST_PAIRS
 }
 
 // With what is added, no path of pairs returns to its start, and the plan holds no more than it may.
-fn check_grown(alloc: Global, contents: &PlanContents, addition: &Addition) -> Result<(), Refusal>
-    requires contents { AreValidContents contents.now }
+fn check_grown(alloc: Global, loaded: &LoadedPlan, addition: &Addition) -> Result<(), Refusal>
     requires addition { IsAddition addition.now }
-    requires known { MayBeAdded (plan_of 0 contents.now) addition.now Refusal.UnknownOperation }
-    requires new { MayBeAdded (plan_of 0 contents.now) addition.now Refusal.Duplicate }
-    ensures ok { OnOk result (NoneRefuses (from_on Refusal.Cycle (MayBeAdded (plan_of 0 contents.now) addition.now))) }
-    ensures refused { IfErr result (λ r. (r ≡ Refusal.Memory) ⊎ IsLeastRefusal (from_on Refusal.Cycle (MayBeAdded (plan_of 0 contents.now) addition.now)) r) }
+    requires known { MayBeAdded loaded.now addition.now Refusal.UnknownOperation }
+    requires new { MayBeAdded loaded.now addition.now Refusal.Duplicate }
+    ensures ok { OnOk result (NoneRefuses (from_on Refusal.Cycle (MayBeAdded loaded.now addition.now))) }
+    ensures refused { IfErr result (λ r. (r ≡ Refusal.Memory) ⊎ IsLeastRefusal (from_on Refusal.Cycle (MayBeAdded loaded.now addition.now)) r) }
 {
-    let grown = with_addition(alloc, contents, addition)?;
+    let grown = with_addition(alloc, loaded.contents().rows(), addition)?;
     if !is_acyclic(alloc, &grown)? {
         Err(Refusal::Cycle)
     } else if !is_within_limits(&grown) {
@@ -112,23 +107,21 @@ fn check_grown(alloc: Global, contents: &PlanContents, addition: &Addition) -> R
 /// An occurrence may be added that isn't in the plan, whose operations find all that they name, precede only what waits or is
 /// ready, and close no path, where there is room. The error is the first that applies, by number, or `Memory`.
 pub fn check_added(alloc: Global, loaded: &LoadedPlan, addition: &Addition) -> Result<(), Refusal>
-    requires { IsHeldAtSome loaded.now }
-    ensures ok { OnOk result ((clock : ℕ) → NoneRefuses (MayBeAdded (plan_of clock loaded.now.contents) addition.now)) }
-    ensures refused { IfErr result (λ r. (r ≡ Refusal.Memory) ⊎ ((clock : ℕ) → IsLeastRefusal (MayBeAdded (plan_of clock loaded.now.contents) addition.now) r)) }
+    ensures ok { OnOk result (NoneRefuses (MayBeAdded loaded.now addition.now)) }
+    ensures refused { IfErr result (λ r. (r ≡ Refusal.Memory) ⊎ IsLeastRefusal (MayBeAdded loaded.now addition.now) r) }
 {
-    let contents = &loaded.contents;
     let parts = addition.parts();
-    if !are_ends_known(contents, parts) {
+    if !are_ends_known(loaded, parts) {
         Err(Refusal::UnknownOperation)
-    } else if !are_workstations_known(contents, parts) {
+    } else if !are_workstations_known(loaded, parts) {
         Err(Refusal::UnknownWorkstation)
-    } else if !are_resources_known(contents, parts) {
+    } else if !are_resources_known(loaded, parts) {
         Err(Refusal::UnknownResource)
     } else if !are_pairs_open(loaded, parts) {
         Err(Refusal::WrongStatus)
-    } else if !is_new_occurrence(contents, parts) {
+    } else if !is_new_occurrence(loaded, parts) {
         Err(Refusal::Duplicate)
     } else {
-        check_grown(alloc, contents, addition)
+        check_grown(alloc, loaded, addition)
     }
 }

@@ -1,14 +1,13 @@
 // What stands in the way of a request.
-ghost use Rattle.std.specs.Prelude.{◌≡◌, ◌⊎◌, ◌<◌, ℕ, true, Some, None, length, slice_get, IfOk, IfErr, OnOk};
+ghost use Rattle.std.specs.Prelude.{◌≡◌, ◌⊎◌, ℕ, true, Some, None, IfOk, IfErr, OnOk};
 ghost use Rattle.std.specs.FinMap.{get};
 ghost use Rattle.plan_basics.specs.Refusals.{IsLeastRefusal, NoneRefuses};
 ghost use Rattle.plan_basics.specs.declared.keys.OpKey.{OpKey};
 ghost use Rattle.plan_records.specs.Acceptance.{MayBeDone, MayBeEnded, MayBeInterrupted, MayBeUndecided, NeedsPlan};
-ghost use Rattle.plan_checks.specs.Bars.{FailsAt, IsReported, MayBeStartedAt, MeetsAll};
-ghost use Rattle.plan_checks.specs.Held.{IsHeldAtSome};
+ghost use Rattle.plan_checks.specs.Bars.{FailsAt, MayBeStartedAt, MeetsAll};
+ghost use Rattle.plan_state.specs.Reports.{IsReported};
+ghost use Rattle.plan_checks.specs.Loads.{MayBeLoadedWhere};
 ghost use Rattle.plan_model.specs.Holdings.{given_out, takes};
-ghost use Rattle.plan_model.specs.Plan.{Operation, Plan};
-ghost use Rattle.plan_records.specs.Contents.{plan_of, AreValidContents};
 ghost use Rattle.plan_records.specs.declared.What.{What};
 
 use super::additions::check_added;
@@ -16,63 +15,35 @@ use super::commands::{
     check_available, check_completed, check_deleted, check_flagged, check_open_by, check_rerun,
 };
 use super::dependencies::check_paired;
-use super::loaded::LoadedPlan;
 use plan_basics::{Attr, Moment, OpKey, Refusal};
 use plan_choice::{check_start, given_out_of, holdings_of};
 use plan_model::OperationRecord;
-use plan_records::{PlanContents, PlanDraft, What, known_workstation, row_place};
-use plan_status::{attribute_of, status_with};
+use plan_records::{PlanDraft, What};
+use plan_state::{LoadedPlan, Reported};
 use status_rules::{Mark, Status};
 use std::alloc::{AllocError, Global};
 use workstations::Capacity;
 
-/// An operation of which something is reported, with what is read off the plan for it.
-#[derive(Clone, Copy)]
-pub struct Reported {
-    pub operation: OperationRecord,
-    /// How its workstation reports.
-    pub attribute: Attr,
-    pub status: Status,
-}
-
-/// The operation at an index, with what is read off the plan for it.
-pub fn reported_at(loaded: &LoadedPlan, place: usize) -> Reported
-    requires held { IsHeldAtSome loaded.now }
-    requires within { place < length loaded.now.contents.operations.items }
-    ensures { (o : OpKey) → (op : Operation) → slice_get loaded.now.contents.operations.items place ≡ Some (o, op) → (clock : ℕ) → IsReported (plan_of clock loaded.now.contents) o result }
-{
-    let operation = loaded.contents.operations[place].1;
-    let attribute = attribute_of(&loaded.contents, &operation);
-    let status = status_with(&operation, attribute, &loaded.standings[place]);
-    Reported {
-        operation,
-        attribute,
-        status,
-    }
-}
-
 // The operation of a key, if it is in the plan.
 fn reported_of(loaded: &LoadedPlan, key: &OpKey) -> Result<Reported, Refusal>
-    requires { IsHeldAtSome loaded.now }
-    ensures found { IfOk result (λ x. (clock : ℕ) → IsReported (plan_of clock loaded.now.contents) key.now x) }
-    ensures unknown { IfErr result (λ r. (r ≡ Refusal.UnknownOperation) × (get (plan_of 0 loaded.now.contents).operations key.now ≡ None)) }
+    ensures found { IfOk result (IsReported loaded.now key.now) }
+    ensures unknown { IfErr result (λ r. (r ≡ Refusal.UnknownOperation) × (get loaded.now.operations key.now ≡ None)) }
 {
-    let place = row_place(&loaded.contents.operations, key).ok_or(Refusal::UnknownOperation)?;
-    Ok(reported_at(loaded, place))
+    loaded.reported(key).ok_or(Refusal::UnknownOperation)
 }
 
 // What a workstation has given out.
 fn given_out_at(
     alloc: Global,
-    contents: &PlanContents,
+    loaded: &LoadedPlan,
     operation: &OperationRecord,
 ) -> Result<Capacity, AllocError>
-    requires contents { AreValidContents contents.now }
-    requires operation { (o : OpKey) × (get (plan_of 0 contents.now).operations o ≡ Some operation.now) }
-    ensures { IfOk result (λ taken. (clock : ℕ) → given_out (plan_of clock contents.now) operation.now.workstation ≡ taken) }
+    requires { (o : OpKey) × (get loaded.now.operations o ≡ Some operation.now) }
+    ensures { IfOk result (λ taken. given_out loaded.now operation.now.workstation ≡ taken) }
 {
+    let contents = loaded.contents();
     let given_out = given_out_of(alloc, contents)?;
-    let place = known_workstation(&contents.workstations, &operation.workstation);
+    let place = contents.workstation_place_of(operation);
     Ok(given_out[place])
 }
 
@@ -93,21 +64,21 @@ fn check_started_on_automatic(reported: &Reported) -> Result<(), Refusal>
 // reported, of what is ready or interrupted, where its workstation and the special resources that it needs are free for it.
 fn check_started(
     alloc: Global,
-    contents: &PlanContents,
+    loaded: &LoadedPlan,
     key: &OpKey,
     reported: &Reported,
     at: Moment,
 ) -> Result<(), Refusal>
-    requires contents { AreValidContents contents.now }
-    requires operation { IsReported (plan_of 0 contents.now) key.now reported.now }
-    ensures ok { OnOk result ((clock : ℕ) → NoneRefuses (MayBeStartedAt reported.now at (plan_of clock contents.now) key.now)) }
-    ensures refused { IfErr result (λ r. (r ≡ Refusal.Memory) ⊎ ((clock : ℕ) → IsLeastRefusal (MayBeStartedAt reported.now at (plan_of clock contents.now) key.now) r)) }
+    requires { IsReported loaded.now key.now reported.now }
+    ensures ok { OnOk result (NoneRefuses (MayBeStartedAt reported.now at loaded.now key.now)) }
+    ensures refused { IfErr result (λ r. (r ≡ Refusal.Memory) ⊎ IsLeastRefusal (MayBeStartedAt reported.now at loaded.now key.now) r) }
 {
     match reported.attribute {
         Attr::Automatic => check_started_on_automatic(reported),
         Attr::StartAndCompletion if !reported.status.is_startable() => Err(Refusal::WrongStatus),
         Attr::StartAndCompletion => {
-            let taken = given_out_at(alloc, contents, &reported.operation)?;
+            let taken = given_out_at(alloc, loaded, &reported.operation)?;
+            let contents = loaded.contents();
             let holdings = holdings_of(alloc, contents)?;
             check_start(contents, key, &reported.operation, &taken, &holdings, at)
         }
@@ -190,16 +161,12 @@ pub fn check_request(
     at: Moment,
 ) -> Result<(), Refusal>
     requires needs { NeedsPlan what.now }
-    requires held { IsHeldAtSome loaded.now }
-    ensures ok { OnOk result ((clock : ℕ) → NoneRefuses (MayBeDone (plan_of clock loaded.now.contents) at what.now)) }
-    ensures refused { IfErr result (λ r. (r ≡ Refusal.Memory) ⊎ ((clock : ℕ) → IsLeastRefusal (MayBeDone (plan_of clock loaded.now.contents) at what.now) r)) }
+    ensures ok { OnOk result (NoneRefuses (MayBeDone loaded.now at what.now)) }
+    ensures refused { IfErr result (λ r. (r ≡ Refusal.Memory) ⊎ IsLeastRefusal (MayBeDone loaded.now at what.now) r) }
 {
-    let contents = &loaded.contents;
     match what {
         What::Tick => Ok(()),
-        What::Started(key) => {
-            check_started(alloc, contents, key, &reported_of(loaded, key)?, at)
-        }
+        What::Started(key) => check_started(alloc, loaded, key, &reported_of(loaded, key)?, at),
         What::Ended(key) | What::Error(key, _) => check_ended(&reported_of(loaded, key)?),
         What::Interrupted(key) => check_interrupted(&reported_of(loaded, key)?),
         What::Unknown(key) => check_undecided(&reported_of(loaded, key)?),
@@ -212,19 +179,17 @@ pub fn check_request(
         What::AddOccurrence(addition) => {
             check_added(alloc, loaded, addition.as_ref().ok_or(Refusal::BadPlan)?)
         }
-        What::AddDependency(predecessor, successor) => {
-            check_paired(loaded, predecessor, successor)
-        }
-        What::SetAvailable(name, _) => check_available(contents, name),
-        What::ReplaceIntervals(name, intervals) => check_open_by(alloc, contents, name, intervals),
+        What::AddDependency(predecessor, successor) => check_paired(loaded, predecessor, successor),
+        What::SetAvailable(name, _) => check_available(loaded, name),
+        What::ReplaceIntervals(name, intervals) => check_open_by(alloc, loaded, name, intervals),
         What::Load(_) => unreachable!(),
     }
 }
 
 /// What stands in the way of a load, but for its moment: a plan that is loaded, or a text that denotes none.
 pub fn check_load(loaded: bool, draft: &Option<PlanDraft>) -> Result<(), Refusal>
-    ensures ok { OnOk result ((P : Plan) → P.loaded ≡ loaded → (m : ℕ) → NoneRefuses (MayBeDone P m (What.Load draft.now))) }
-    ensures refused { IfErr result (λ r. (P : Plan) → P.loaded ≡ loaded → (m : ℕ) → IsLeastRefusal (MayBeDone P m (What.Load draft.now)) r) }
+    ensures ok { OnOk result (NoneRefuses (MayBeLoadedWhere loaded draft.now)) }
+    ensures refused { IfErr result (IsLeastRefusal (MayBeLoadedWhere loaded draft.now)) }
 {
     if loaded {
         Err(Refusal::Loaded)

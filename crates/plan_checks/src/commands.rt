@@ -1,21 +1,17 @@
 // What stands in the way of an operator's command.
-ghost use Rattle.std.specs.Prelude.{◌≡◌, ◌⊎◌, ℕ, true, None, OnOk, IfOk, IfErr};
+ghost use Rattle.std.specs.Prelude.{◌≡◌, ◌⊎◌, true, None, OnOk, IfOk, IfErr};
 ghost use Rattle.std.specs.FinMap.{contains_key, get};
 ghost use Rattle.plan_basics.specs.Refusals.{IsLeastRefusal, NoneRefuses};
 ghost use Rattle.plan_basics.specs.declared.Refusal.{Refusal};
 ghost use Rattle.plan_model.specs.Status.{HasOccurrenceStatus};
 ghost use Rattle.plan_records.specs.Acceptance.{MayBeCompleted, MayBeDeleted, MayBeFlagged, MayBeOpenBy, MayBeRerun, MayBeSetAvailable};
-ghost use Rattle.plan_records.specs.Contents.{plan_of, AreValidContents};
-ghost use Rattle.plan_checks.specs.Bars.{FailsAt, IsReported, MeetsAll};
-ghost use Rattle.plan_checks.specs.Held.{IsHeldAtSome};
+ghost use Rattle.plan_checks.specs.Bars.{FailsAt, MeetsAll};
+ghost use Rattle.plan_state.specs.Reports.{IsReported};
 
-use super::checks::Reported;
-use super::loaded::LoadedPlan;
 use super::reach::reached_keys;
 use super::under_way::{is_another_under_way, is_occurrence_under_way};
 use plan_basics::{Interval, OccKey, OpKey, Refusal, ResName, WsName};
-use plan_records::{PlanContents, row_place, workstation_place};
-use plan_status::occurrence_status_with;
+use plan_state::{LoadedPlan, Reported};
 use status_rules::OccStatus;
 use std::alloc::Global;
 
@@ -53,10 +49,9 @@ pub fn check_rerun(
     key: &OpKey,
     reported: &Reported,
 ) -> Result<(), Refusal>
-    requires held { IsHeldAtSome loaded.now }
-    requires operation { IsReported (plan_of 0 loaded.now.contents) key.now reported.now }
-    ensures ok { OnOk result ((clock : ℕ) → NoneRefuses (MayBeRerun (plan_of clock loaded.now.contents) key.now)) }
-    ensures refused { IfErr result (λ r. (r ≡ Refusal.Memory) ⊎ ((clock : ℕ) → IsLeastRefusal (MayBeRerun (plan_of clock loaded.now.contents) key.now) r)) }
+    requires { IsReported loaded.now key.now reported.now }
+    ensures ok { OnOk result (NoneRefuses (MayBeRerun loaded.now key.now)) }
+    ensures refused { IfErr result (λ r. (r ≡ Refusal.Memory) ⊎ IsLeastRefusal (MayBeRerun loaded.now key.now) r) }
 {
     if !reported.status.is_rerunnable() {
         return Err(Refusal::WrongStatus);
@@ -71,22 +66,19 @@ pub fn check_rerun(
 
 // The status of the occurrence of a key, if it is in the plan.
 fn occurrence_status_of(loaded: &LoadedPlan, occurrence: &OccKey) -> Result<OccStatus, Refusal>
-    requires { IsHeldAtSome loaded.now }
-    ensures known { OnOk result ((clock : ℕ) → contains_key (plan_of clock loaded.now.contents).occurrences occurrence.now ≡ true) }
-    ensures found { IfOk result (λ status. (clock : ℕ) → HasOccurrenceStatus (plan_of clock loaded.now.contents) occurrence.now status) }
-    ensures unknown { IfErr result (λ r. (r ≡ Refusal.UnknownOccurrence) × (get (plan_of 0 loaded.now.contents).occurrences occurrence.now ≡ None)) }
+    ensures known { OnOk result (contains_key loaded.now.occurrences occurrence.now ≡ true) }
+    ensures found { IfOk result (HasOccurrenceStatus loaded.now occurrence.now) }
+    ensures unknown { IfErr result (λ r. (r ≡ Refusal.UnknownOccurrence) × (get loaded.now.occurrences occurrence.now ≡ None)) }
 {
-    let place = row_place(&loaded.contents.occurrences, occurrence).ok_or(
-        Refusal::UnknownOccurrence,
-    )?;
-    Ok(occurrence_status_with(loaded.tallies[place]))
+    loaded
+        .occurrence_status(occurrence)
+        .ok_or(Refusal::UnknownOccurrence)
 }
 
 /// The deletion of an occurrence may be commanded where it isn't deleted, and none of its operations is under way.
 pub fn check_deleted(loaded: &LoadedPlan, occurrence: &OccKey) -> Result<(), Refusal>
-    requires { IsHeldAtSome loaded.now }
-    ensures ok { OnOk result ((clock : ℕ) → NoneRefuses (MayBeDeleted (plan_of clock loaded.now.contents) occurrence.now)) }
-    ensures refused { IfErr result (λ r. (clock : ℕ) → IsLeastRefusal (MayBeDeleted (plan_of clock loaded.now.contents) occurrence.now) r) }
+    ensures ok { OnOk result (NoneRefuses (MayBeDeleted loaded.now occurrence.now)) }
+    ensures refused { IfErr result (IsLeastRefusal (MayBeDeleted loaded.now occurrence.now)) }
 {
     let status = occurrence_status_of(loaded, occurrence)?;
     if status == OccStatus::Deleted {
@@ -100,12 +92,11 @@ pub fn check_deleted(loaded: &LoadedPlan, occurrence: &OccKey) -> Result<(), Ref
 }
 
 /// Whether a special resource is available may be set for one in the plan.
-pub fn check_available(contents: &PlanContents, name: &ResName) -> Result<(), Refusal>
-    requires { AreValidContents contents.now }
-    ensures ok { OnOk result ((clock : ℕ) → NoneRefuses (MayBeSetAvailable (plan_of clock contents.now) name.now)) }
-    ensures refused { IfErr result (λ r. (clock : ℕ) → IsLeastRefusal (MayBeSetAvailable (plan_of clock contents.now) name.now) r) }
+pub fn check_available(loaded: &LoadedPlan, name: &ResName) -> Result<(), Refusal>
+    ensures ok { OnOk result (NoneRefuses (MayBeSetAvailable loaded.now name.now)) }
+    ensures refused { IfErr result (IsLeastRefusal (MayBeSetAvailable loaded.now name.now)) }
 {
-    match row_place(&contents.resources, name) {
+    match loaded.contents().resource(name) {
         Some(_) => Ok(()),
         None => Err(Refusal::UnknownResource),
     }
@@ -114,15 +105,17 @@ pub fn check_available(contents: &PlanContents, name: &ResName) -> Result<(), Re
 /// The open intervals may be replaced of a workstation in the plan: by no more than it may have, of which no two overlap.
 pub fn check_open_by(
     alloc: Global,
-    contents: &PlanContents,
+    loaded: &LoadedPlan,
     name: &WsName,
     intervals: &[Interval],
 ) -> Result<(), Refusal>
-    requires { AreValidContents contents.now }
-    ensures ok { OnOk result ((clock : ℕ) → NoneRefuses (MayBeOpenBy (plan_of clock contents.now) name.now intervals.now)) }
-    ensures refused { IfErr result (λ r. (r ≡ Refusal.Memory) ⊎ ((clock : ℕ) → IsLeastRefusal (MayBeOpenBy (plan_of clock contents.now) name.now intervals.now) r)) }
+    ensures ok { OnOk result (NoneRefuses (MayBeOpenBy loaded.now name.now intervals.now)) }
+    ensures refused { IfErr result (λ r. (r ≡ Refusal.Memory) ⊎ IsLeastRefusal (MayBeOpenBy loaded.now name.now intervals.now) r) }
 {
-    let place = workstation_place(&contents.workstations, name).ok_or(Refusal::UnknownWorkstation)?;
-    let mut workstation = contents.workstations[place].try_clone()?;
+    let workstation = loaded
+        .contents()
+        .workstation(name)
+        .ok_or(Refusal::UnknownWorkstation)?;
+    let mut workstation = workstation.try_clone()?;
     workstation.replace_intervals(Vec::from_slice(alloc, intervals)?)
 }

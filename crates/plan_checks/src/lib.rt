@@ -6,10 +6,8 @@ mod checks;
 mod commands;
 mod dependencies;
 mod known;
-mod loaded;
 mod reach;
 mod under_way;
 
 pub use checks::{check_load, check_request};
-pub use loaded::LoadedPlan;
 pub use reach::reached_keys;

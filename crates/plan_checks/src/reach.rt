@@ -1,20 +1,17 @@
 // What an operation reaches.
-ghost use Rattle.std.specs.Prelude.{◌≡◌, ◌↔◌, ◌<◌, ℕ, true, All, Some, length, map, slice_get, IfOk, IfErr};
+ghost use Rattle.std.specs.Prelude.{◌≡◌, ◌↔◌, ◌<◌, true, All, Some, length, map, slice_get, IfOk, IfErr};
 ghost use Rattle.std.specs.Map.{keys_of};
 ghost use Rattle.plan_basics.specs.declared.Refusal.{Refusal};
 ghost use Rattle.plan_basics.specs.declared.keys.OpKey.{OpKey as OpKeyValue};
-ghost use Rattle.plan_graph.specs.PlanGraphs.{StandAt};
-ghost use Rattle.plan_model.specs.Plan.{IsInPlan};
+ghost use Rattle.plan_drafts.specs.PlanGraphs.{StandAt};
+ghost use Rattle.plan_model.specs.Contents.{IsInPlan};
 ghost use Rattle.plan_model.specs.Starts.{Reaches};
-ghost use Rattle.plan_records.specs.Contents.{plan_of};
 ghost use Rattle.ready_list.specs.Choice.{is_among};
 ghost use Rattle.plan_checks.specs.Reach.{is_live_row};
-ghost use Rattle.plan_checks.specs.Held.{IsHeldAtSome};
 
-use super::loaded::LoadedPlan;
 use plan_basics::{OpKey, Refusal};
 use plan_model::OperationRecord;
-use plan_records::known_row;
+use plan_state::LoadedPlan;
 use std::alloc::{AllocError, Global};
 
 // Which operations aren't deleted, row by row.
@@ -56,14 +53,14 @@ fn keys_at(
 /// An operation of the plan, and all that some path from it reaches that enters no deleted operation. The error is always
 /// `Memory`.
 pub fn reached_keys(alloc: Global, loaded: &LoadedPlan, key: &OpKey) -> Result<Vec<OpKey>, Refusal>
-    requires held { IsHeldAtSome loaded.now }
-    requires known { IsInPlan (plan_of 0 loaded.now.contents) key.now }
-    ensures reached { IfOk result (λ keys. (clock : ℕ) → (o : OpKeyValue) → (is_among keys.items o ≡ true) ↔ Reaches (plan_of clock loaded.now.contents) key.now o) }
+    requires { IsInPlan loaded.now key.now }
+    ensures reached { IfOk result (λ keys. (o : OpKeyValue) → (is_among keys.items o ≡ true) ↔ Reaches loaded.now key.now o) }
     ensures refused { IfErr result (λ r. r ≡ Refusal.Memory) }
 {
-    let rows = &loaded.contents.operations;
-    let place = known_row(rows, key);
+    let contents = loaded.contents();
+    let rows = contents.operations();
+    let place = contents.known_operation_place(key);
     let live = live_of(alloc, rows)?;
-    let places = loaded.graph.reach(place, &live)?;
+    let places = loaded.graph().reach(place, &live)?;
     Ok(keys_at(alloc, rows, &places)?)
 }

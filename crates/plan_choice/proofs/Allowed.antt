@@ -5,15 +5,15 @@ use Rattle.plan_basics.specs.declared.Refusal.{Refusal}
 use Rattle.plan_basics.specs.declared.Refusal.TheVariants as refusal
 use Rattle.plan_basics.specs.declared.keys.OpKey.{OpKey}
 use Rattle.ready_list.specs.Choice.{is_among}
-use Rattle.plan_model.specs.Plan.{Plan, Operation}
+use Rattle.plan_model.specs.Contents.{Contents, Operation}
 use Rattle.plan_model.specs.Ready.{named}
 use Rattle.plan_model.specs.Starts.{IsAllowedToStart, MayStart}
 use Rattle.plan_model.specs.Status.{IsReady}
-use Rattle.plan_laws.proofs.Looks.{same_some}
+use Rattle.std.proofs.lemmas.Option.{same_Some}
 use Rattle.plan_choice.specs.Takings.{CanStart}
 use Rattle.plan_choice.proofs.Naming.{ready_still, still}
 
-module _ (P : Plan) (m : ℕ) (os : List OpKey) (ready : (o : OpKey) → is_among os o ≡ true → IsReady P o)
+module _ (P : Contents) (m : ℕ) (os : List OpKey) (ready : (o : OpKey) → is_among os o ≡ true → IsReady P o)
     (o : OpKey) (op : Operation) (is : get P.operations o ≡ Some op) (out : is_among os o ≡ false) where
   lines : IsReady P o → CanStart (named os P) o op m → (line : Refusal) → MayStart (named os P) o op m line
   lines first can refusal.WrongStatus = inl (ready_still os P ready o out first)
@@ -26,4 +26,4 @@ module _ (P : Plan) (m : ℕ) (os : List OpKey) (ready : (o : OpKey) → is_amon
   -- what is allowed to start can
   pub can_start : IsAllowedToStart (named os P) o m → CanStart (named os P) o op m
   can_start allowed r line =
-      subst (λ z. MayStart (named os P) o z m r) (same_some allowed.0 op (sym allowed.1 ∙ still os P o op out is)) (allowed.2 r)
+      subst (λ z. MayStart (named os P) o z m r) (same_Some allowed.0 op (sym allowed.1 ∙ still os P o op out is)) (allowed.2 r)

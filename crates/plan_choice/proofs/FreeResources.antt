@@ -10,7 +10,7 @@ use Rattle.special_resources.specs.Needs.{AreInNameOrder, usages_of}
 use Rattle.special_resources.specs.declared.Need.{Need}
 use Rattle.special_resources.proofs.MoreNeeds.{need_by_usage, usage_by_need}
 use Rattle.plan_model.specs.Holdings.{Holds}
-use Rattle.plan_model.specs.Plan.{Operation, Plan, Resources}
+use Rattle.plan_model.specs.Contents.{Contents, Operation, Resources}
 use Rattle.plan_model.specs.Starts.{MayStart}
 use Rattle.plan_choice.specs.Choices.{AreHeldIn}
 use Rattle.plan_choice.specs.Takings.{CanMeetNeeds, CanUse, CanMeetNeed}
@@ -28,7 +28,7 @@ module _ (resources : Resources) (held : Held) (o : OpKey) (needs : List Need) (
   one_busy n has busy free = busy (free n.name (usage_of n) (usage_by_need needs sorted n has))
 
 -- by the holders, and by what is held
-module _ (P : Plan) (held : Held) (holders : AreHeldIn P held) (o : OpKey) where
+module _ (P : Contents) (held : Held) (holders : AreHeldIn P held) (o : OpKey) where
   pub shared_by_holders : (r : Name) (usage : Usage) → CanUse P.resources held o r usage → (get P.resources r ≡ Some true) × SharesWithHolders (Holds P) o r usage
   shared_by_holders r usage can = (can.0, λ other u differs holds. can.1 other u differs ((holders other r u.mode).1 (u.keep, holds)))
 

@@ -5,8 +5,8 @@ use Rattle.std.proofs.lemmas.Option.{slice_get_read, some_pair_parts}
 use Rattle.std.specs.List.Sorted.{IsStrictlySortedBy}
 use Rattle.std.specs.Map.{keys_of}
 use Rattle.plan_basics.specs.Keys.{Name, name_cmp, name_cmp_total}
-use Rattle.plan_model.specs.Plan.{Operation}
-use Rattle.plan_records.specs.Places.{AreByPlace}
+use Rattle.plan_model.specs.Contents.{Operation}
+use Rattle.plan_drafts.specs.Places.{AreByPlace}
 use Rattle.plan_status.proofs.Ascending.{one_place, set_cases}
 use Rattle.workstations.specs.Timetables.{NamedWorkstation}
 use Rattle.workstations.specs.Workstations.{Workstation}
@@ -19,11 +19,6 @@ AreAt rows given at = AreByPlace rows given (λ w capacity. capacity ≡ at w)
 
 pub same_at : (rows : List NamedWorkstation) (given : List Capacity) (old new : Name → Capacity) → ((w : Name) → new w ≡ old w) → AreAt rows given old → AreAt rows given new
 same_at rows given old new same are = record { size = are.size; each = λ i w ws x row found. are.each i w ws x row found ∙ sym (same w) }
-
--- the index of a name, in the same rows and under the same name
-pub own_place : (xs ys : List NamedWorkstation) → xs ≡ ys → (place : ℕ) (a b : Name) → a ≡ b → (ws : Workstation) × (slice_get xs place ≡ Some (a, ws))
-    → (ws : Workstation) × (slice_get ys place ≡ Some (b, ws))
-own_place xs ys same place a b e at = (at.0, ap (λ rows. slice_get rows place) (sym same) ∙ at.1 ∙ ap (λ n. Some (n, at.0)) e)
 
 -- what is given out at an index of theirs
 pub read_at : (rows : List NamedWorkstation) (given : List Capacity) (f : Name → Capacity) → AreAt rows given f → (place : ℕ) (read : Capacity) → place < length rows

@@ -1,63 +1,62 @@
 -- Who holds what of special resources, as one row of loaded contents after another is gone through.
 use Rattle.std.proofs.Common.{◌≡◌, ◌≢◌, ◌⊎◌, ◌↔◌, inl, inr, refl, sym, ap, subst, ◌∙◌, true≢false, arith, ℕ, ◌+◌, ◌<◌, ◌≤◌, Bool, true, false, length, slice_get, Option, Some, None}
-use Rattle.std.specs.FinMap.{empty, get, get-empty}
+use Rattle.std.specs.FinMap.{entries, empty, get, get-empty}
 use Rattle.std.proofs.lemmas.Bool.{cases_lt}
-use Rattle.std.proofs.lemmas.Option.{slice_get_within}
+use Rattle.std.proofs.lemmas.Option.{slice_get_within, none-some, same_Some}
 use Rattle.plan_basics.specs.Keys.{Name, operation_cmp, operation_cmp_total, operation_cmp-IsAntisymmetric}
 use Rattle.plan_basics.specs.declared.keys.OpKey.{OpKey}
 use Rattle.special_resources.specs.Holdings.{Held, holding_cmp}
 use Rattle.special_resources.specs.declared.Mode.{Mode}
 use Rattle.status_rules.specs.Table.{marked_status}
+use Rattle.plan_model.proofs.Entries.{entries_in_order}
 use Rattle.plan_model.specs.Holdings.{holds_resource, takes}
-use Rattle.plan_model.specs.Plan.{Operation, Plan, attribute_at}
-use Rattle.plan_laws.proofs.Looks.{none_is_not_some, same_some}
-use Rattle.plan_records.proofs.RowPlaces.{get_at, place_of_found}
-use Rattle.plan_records.specs.Contents.{AreValidContents, plan_of}
-use Rattle.plan_records.specs.declared.contents.PlanContents.{PlanContents}
+use Rattle.plan_model.specs.Contents.{Contents, Operation, attribute_at}
+use Rattle.plan_model.specs.Valid.{IsValid}
 use Rattle.plan_status.proofs.Ascending.{one_place}
+use Rattle.plan_status.proofs.LoadedRows.{row_found, row_of}
 use Rattle.plan_choice.specs.Choices.{AreHeldIn}
 use Rattle.plan_choice.specs.Takings.{HaveTaken}
 use Rattle.plan_choice.proofs.NeedsTaken.{one_or_two}
 
 -- the operation holds the resource in this mode
-pub record IsHeldBy (P : Plan) (op : Operation) (r : Name) (mode : Mode) : Type 0 where
+pub record IsHeldBy (P : Contents) (op : Operation) (r : Name) (mode : Mode) : Type 0 where
   pub keep : Bool
   pub needs : get op.needs r ≡ Some (record { mode = mode; keep = keep })
   pub known : takes (attribute_at P op.workstation) ≡ true
   pub holds : holds_resource keep (marked_status op.mark) ≡ true
 
 -- o is among the first rows, and does
-pub record IsHeldAmong (c : PlanContents) (i : ℕ) (o : OpKey) (r : Name) (mode : Mode) : Type 0 where
+pub record IsHeldAmong (c : Contents) (i : ℕ) (o : OpKey) (r : Name) (mode : Mode) : Type 0 where
   pub place : ℕ
   pub operation : Operation
   pub before : place < i
-  pub stands : slice_get c.operations.items place ≡ Some (o, operation)
-  pub by : IsHeldBy (plan_of 0 c) operation r mode
+  pub stands : slice_get (entries c.operations) place ≡ Some (o, operation)
+  pub by : IsHeldBy c operation r mode
 
 -- these are the holders among the first rows
-abbrev pub AreHeldAmong : PlanContents → ℕ → Held → Type 0
+abbrev pub AreHeldAmong : Contents → ℕ → Held → Type 0
 AreHeldAmong c i held = (o : OpKey) (r : Name) (mode : Mode) → (get held (r, o) ≡ Some mode) ↔ IsHeldAmong c i o r mode
 
-pub none_held : (c : PlanContents) → AreHeldAmong c 0 empty
-none_held c o r mode = (λ is. absurd (none_is_not_some mode (sym (get-empty holding_cmp (r, o)) ∙ is)), λ t. absurd (omega (arith, t.before)))
+pub none_held : (c : Contents) → AreHeldAmong c 0 empty
+none_held c o r mode = (λ is. absurd (none-some mode (sym (get-empty holding_cmp (r, o)) ∙ is)), λ t. absurd (omega (arith, t.before)))
 
-module _ (c : PlanContents) (h : AreValidContents c) where
-  module _ (i : ℕ) (o : OpKey) (op : Operation) (row : slice_get c.operations.items i ≡ Some (o, op)) (held : Held) (so_far : AreHeldAmong c i held) where
+module _ (c : Contents) (h : IsValid c) where
+  module _ (i : ℕ) (o : OpKey) (op : Operation) (row : slice_get (entries c.operations) i ≡ Some (o, op)) (held : Held) (so_far : AreHeldAmong c i held) where
     later : (p : OpKey) (r : Name) (mode : Mode) → IsHeldAmong c i p r mode → IsHeldAmong c (i + 1) p r mode
     later p r mode t = record { place = t.place; operation = t.operation; before = omega (arith, t.before); stands = t.stands; by = t.by }
 
     -- an earlier row's operation, or this one's
-    which : (p : OpKey) (r : Name) (mode : Mode) → IsHeldAmong c (i + 1) p r mode → IsHeldAmong c i p r mode ⊎ ((p ≡ o) × IsHeldBy (plan_of 0 c) op r mode)
+    which : (p : OpKey) (r : Name) (mode : Mode) → IsHeldAmong c (i + 1) p r mode → IsHeldAmong c i p r mode ⊎ ((p ≡ o) × IsHeldBy c op r mode)
     which p r mode t = elim (cases_lt t.place i) [
       | inl less ↦ inl (record { place = t.place; operation = t.operation; before = less; stands = t.stands; by = t.by })
       | inr more ↦
           let here : t.place ≡ i = omega (arith, more, t.before) in
-          let same : ◌≡◌ {A = OpKey × Operation} (p, t.operation) (o, op) = same_some (p, t.operation) (o, op) (sym t.stands ∙ ap (slice_get c.operations.items) here ∙ row) in
-          inr (ap (λ (z : OpKey × Operation). z.0) same, subst (λ (z : OpKey × Operation). IsHeldBy (plan_of 0 c) z.1 r mode) same t.by)
+          let same : ◌≡◌ {A = OpKey × Operation} (p, t.operation) (o, op) = same_Some (p, t.operation) (o, op) (sym t.stands ∙ ap (slice_get (entries c.operations)) here ∙ row) in
+          inr (ap (λ (z : OpKey × Operation). z.0) same, subst (λ (z : OpKey × Operation). IsHeldBy c z.1 r mode) same t.by)
     ]
 
     -- on its workstation nothing is held
-    pub row_holds_none : takes (attribute_at (plan_of 0 c) op.workstation) ≡ false → AreHeldAmong c (i + 1) held
+    pub row_holds_none : takes (attribute_at c op.workstation) ≡ false → AreHeldAmong c (i + 1) held
     row_holds_none none p r mode = (
       λ is. later p r mode ((so_far p r mode).0 is),
       λ t. elim (which p r mode t) [ inl early ↦ (so_far p r mode).1 early | inr here ↦ absurd (true≢false (sym here.1.known ∙ none)) ],
@@ -70,11 +69,11 @@ module _ (c : PlanContents) (h : AreValidContents c) where
         at None e = e
         at (Some mode) e =
             let t = (so_far o r mode).0 e in
-            let here : t.place ≡ i = one_place operation_cmp_total c.operations.items h.in_order.operations t.place i o t.operation op t.stands row in
+            let here : t.place ≡ i = one_place operation_cmp_total (entries c.operations) (entries_in_order operation_cmp c.operations) t.place i o t.operation op t.stands row in
             absurd (omega (arith, t.before, here))
 
     -- the operation has taken what it holds
-    module _ (known : takes (attribute_at (plan_of 0 c) op.workstation) ≡ true) (now : Held) (taken : HaveTaken held o op.needs op.mark now) where
+    module _ (known : takes (attribute_at c op.workstation) ≡ true) (now : Held) (taken : HaveTaken held o op.needs op.mark now) where
       its_own : (p : OpKey) (r : Name) (mode : Mode) → p ≡ o → (get now (r, p) ≡ Some mode) ↔ IsHeldAmong c (i + 1) p r mode
       its_own p r mode same =
           let moved : get now (r, p) ≡ get now (r, o) = ap (λ z. get now (r, z)) same in (
@@ -87,7 +86,7 @@ module _ (c : PlanContents) (h : AreValidContents c) where
                   by = record { keep = t.0; needs = t.1; known = known; holds = t.2 };
                 },
             λ t. elim (which p r mode t) [
-              | inl early ↦ absurd (none_is_not_some mode (sym (nothing_yet r) ∙ ap (λ z. get held (r, z)) (sym same) ∙ (so_far p r mode).1 early))
+              | inl early ↦ absurd (none-some mode (sym (nothing_yet r) ∙ ap (λ z. get held (r, z)) (sym same) ∙ (so_far p r mode).1 early))
               | inr here ↦ moved ∙ (taken.own r (nothing_yet r) mode).1 (here.1.keep, here.1.needs, here.1.holds)
             ],
           )
@@ -106,17 +105,17 @@ module _ (c : PlanContents) (h : AreValidContents c) where
       ]
 
   -- past the last row
-  pub rows_held : (clock i : ℕ) (held : Held) → length c.operations.items ≤ i → AreHeldAmong c i held → AreHeldIn (plan_of clock c) held
-  rows_held clock i held past so_far o r mode = (
+  pub rows_held : (i : ℕ) (held : Held) → length (entries c.operations) ≤ i → AreHeldAmong c i held → AreHeldIn c held
+  rows_held i held past so_far o r mode = (
     λ is. let t = (so_far o r mode).0 is in
-        let found = get_at operation_cmp operation_cmp_total operation_cmp-IsAntisymmetric c.operations.items h.in_order.operations t.place o t.operation t.stands in
+        let found = row_found c t.place o t.operation t.stands in
         (t.by.keep, (t.operation, found, (t.by.needs, t.by.known, t.by.holds))),
     λ (keep, (op, found, (needs, known, holds))).
-        let at = place_of_found operation_cmp operation_cmp_total operation_cmp-IsAntisymmetric c.operations.items o op found in
+        let at = row_of c o op found in
         (so_far o r mode).1 (record {
           place = at.0;
           operation = op;
-          before = omega (arith, past, slice_get_within c.operations.items at.0 (o, op) at.1);
+          before = omega (arith, past, slice_get_within (entries c.operations) at.0 (o, op) at.1);
           stands = at.1;
           by = record { keep = keep; needs = needs; known = known; holds = holds };
         }),

@@ -1,45 +1,42 @@
 -- Latest starts by the items of rows are those of their operations.
 use Rattle.std.proofs.Common.{◌≡◌, ◌≢◌, sym, ap, subst, ◌∙◌, ℕ, ℤ, List, map, slice_get, Some, option_map}
 use Rattle.std.specs.Map.{keys_of}
-use Rattle.std.specs.FinMap.{get}
+use Rattle.std.specs.FinMap.{entries, get}
 use Rattle.std.proofs.lemmas.List.{length-map}
-use Rattle.std.proofs.lemmas.Option.{get_or_from_slice_get, slice_get-map}
+use Rattle.std.proofs.lemmas.Option.{get_or_from_slice_get, slice_get-map, same_Some}
 use Rattle.operation_graph.specs.Graphs.{Digraph}
 use Rattle.latest_start.specs.declared.Item.{Item}
 use Rattle.latest_start.specs.NodeStarts.{AreLatestStartsOf, IsLiveBy, deadline_by, duration_by, item_of, no_item}
-use Rattle.plan_basics.specs.Keys.{operation_cmp, operation_cmp_total, operation_cmp-IsAntisymmetric}
 use Rattle.plan_basics.specs.declared.keys.OpKey.{OpKey}
 use Rattle.status_rules.proofs.Live.{live_mark, mark_live}
 use Rattle.status_rules.specs.declared.Mark.TheVariants as mark
 use Rattle.plan_model.specs.Starts.{amount_of}
-use Rattle.plan_model.specs.Plan.{IsLive, Operation, Plan}
-use Rattle.plan_graph.specs.PlanGraphs.{CountsAlike, HoldsAlike, JoinsAmong}
-use Rattle.plan_graph.proofs.PlacePaths.{least_starts_alike}
-use Rattle.plan_records.specs.Contents.{AreValidContents, IsGraphFor, plan_of}
-use Rattle.plan_records.specs.declared.contents.PlanContents.{PlanContents}
-use Rattle.plan_records.proofs.RowPlaces.{get_at}
-use Rattle.plan_records.proofs.Tables.{key_found}
-use Rattle.plan_laws.proofs.Looks.{same_some}
+use Rattle.plan_model.specs.Contents.{Contents, IsLive, Operation}
+use Rattle.plan_drafts.specs.PlanGraphs.{CountsAlike, HoldsAlike, JoinsAmong}
+use Rattle.plan_drafts.proofs.PlacePaths.{least_starts_alike}
+use Rattle.plan_model.specs.Valid.{IsValid}
+use Rattle.plan_drafts.specs.PlanGraphs.{IsGraphFor}
+use Rattle.plan_status.proofs.LoadedRows.{known_among, row_found}
 use Rattle.plan_choice.specs.Choices.{AreLatestStarts}
 use Rattle.plan_status.proofs.RowKeys.{key_of_row, row_of_key}
 use Rattle.plan_choice.specs.StartItems.{start_item}
 
-abbrev pub duration_in : Plan → OpKey → ℕ
+abbrev pub duration_in : Contents → OpKey → ℕ
 duration_in P o = amount_of (get P.operations o) (λ op. op.duration)
 
-abbrev pub deadline_in : Plan → OpKey → ℕ
+abbrev pub deadline_in : Contents → OpKey → ℕ
 deadline_in P o = amount_of (get P.operations o) (λ op. op.deadline)
 
 -- what latest starts go by, row by row
 abbrev pub items_by : List (OpKey × Operation) → List Item
 items_by rows = map (λ (row : OpKey × Operation). start_item row.1) rows
 
-module _ (c : PlanContents) (h : AreValidContents c) (clock : ℕ) where
-  abbrev P : Plan
-  P = plan_of clock c
+module _ (c : Contents) (h : IsValid c) where
+  abbrev P : Contents
+  P = c
 
   abbrev rows : List (OpKey × Operation)
-  rows = c.operations.items
+  rows = (entries c.operations)
 
   abbrev keys : List OpKey
   keys = keys_of rows
@@ -49,7 +46,7 @@ module _ (c : PlanContents) (h : AreValidContents c) (clock : ℕ) where
   standing i o at =
       let row = row_of_key rows i o at in (
         row.0,
-        get_at operation_cmp operation_cmp_total operation_cmp-IsAntisymmetric rows h.in_order.operations i o row.0 row.1,
+        row_found c i o row.0 row.1,
         get_or_from_slice_get (items_by rows) i (start_item row.0) no_item (slice_get-map (λ (r : OpKey × Operation). start_item r.1) rows i ∙ ap (option_map (λ (r : OpKey × Operation). start_item r.1)) row.1),
       )
 
@@ -62,7 +59,7 @@ module _ (c : PlanContents) (h : AreValidContents c) (clock : ℕ) where
       back : IsLive P o → IsLiveBy (items_by rows) i
       back (op, is, not_deleted) =
           let s = standing i o at in
-          ap (λ (z : Item). z.live) s.2 ∙ mark_live s.0.mark (subst (λ (z : Operation). z.mark ≢ mark.Deleted) (same_some op s.0 (sym is ∙ s.1)) not_deleted)
+          ap (λ (z : Item). z.live) s.2 ∙ mark_live s.0.mark (subst (λ (z : Operation). z.mark ≢ mark.Deleted) (same_Some op s.0 (sym is ∙ s.1)) not_deleted)
 
   durations_alike : CountsAlike keys (duration_by (items_by rows)) (duration_in P)
   durations_alike i o at = let s = standing i o at in ap (λ (z : Item). z.duration) s.2 ∙ sym (ap (λ x. amount_of x (λ op. op.duration)) s.1)
@@ -72,11 +69,11 @@ module _ (c : PlanContents) (h : AreValidContents c) (clock : ℕ) where
 
   joins : JoinsAmong keys P.pairs
   joins p o pair =
-      let ends = h.valid.pairs p o pair in
-      (key_found operation_cmp_total operation_cmp-IsAntisymmetric rows p ends.0, key_found operation_cmp_total operation_cmp-IsAntisymmetric rows o ends.1)
+      let ends = h.pairs p o pair in
+      (known_among c p ends.0, known_among c o ends.1)
 
   -- the latest starts of the graph's nodes are those of the rows' operations
-  pub starts_of_rows : (g : Digraph) → IsGraphFor c g → (starts : List ℤ) → AreLatestStartsOf g (items_by rows) starts → AreLatestStarts P rows starts
+  pub starts_of_rows : (g : Digraph) → IsGraphFor c g → (starts : List ℤ) → AreLatestStartsOf g (items_by rows) starts → AreLatestStarts P starts
   starts_of_rows g graph starts are = record {
     size = are.size ∙ graph.nodes ∙ length-map rows (λ (row : OpKey × Operation). row.0);
     each = λ i o op v at is.

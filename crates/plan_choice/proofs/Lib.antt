@@ -1,7 +1,6 @@
 pub mod StartLines
 pub mod Allowed
 pub mod ChoiceSteps
-pub mod Entries
 pub mod FreeResources
 pub mod GateSteps
 pub mod GivenSums

@@ -13,11 +13,11 @@ use Rattle.status_rules.specs.declared.Mark.TheVariants as mark
 use Rattle.status_rules.specs.Table.{marked_status}
 use Rattle.ready_list.specs.Choice.{is_among}
 use Rattle.plan_model.specs.Holdings.{given_out, holds_server, is_serving, sum_given_out, takes}
-use Rattle.plan_model.specs.Plan.{Plan, Operation, HasAttribute, attribute_at}
+use Rattle.plan_model.specs.Contents.{Contents, Operation, HasAttribute, attribute_at}
 use Rattle.plan_model.specs.Ready.{named, with_mark}
 use Rattle.plan_model.specs.Revise.{len-revise}
-use Rattle.plan_laws.proofs.Looks.{as_named}
-use Rattle.plan_records.proofs.MadeEntries.{bits_and, each_made, entries-revise, key_of, less_of, not_equal}
+use Rattle.plan_model.proofs.Looks.{as_named}
+use Rattle.plan_drafts.proofs.MadeEntries.{bits_and, each_made, entries-revise, key_of, less_of, not_equal}
 use Rattle.plan_choice.specs.Takings.{IsAtMost, most_given_out, takes_server, with_one_more}
 use Rattle.plan_choice.proofs.GivenSums.{at_another, at_its_own, given_at_most, same_capacity}
 use Rattle.plan_laws.proofs.Kept.{is_among-append}
@@ -80,12 +80,12 @@ module _ (os : List OpKey) (k : OpKey) where
   it_is_named : (op : Operation) → as_named (os ++ k ∷ []) k op ≡ with_mark mark.Named op
   it_is_named op = ap (λ b. cond b (with_mark mark.Named op) op) (among_more k ∙ or_right (is_among os k) (eq_by_cmp operation_cmp k k) ((eq_by_cmp_equiv operation_cmp_total).refl k))
 
-sum_named : (P : Plan) (os : List OpKey) (w : Name) (number : Operation → ℕ)
+sum_named : (P : Contents) (os : List OpKey) (w : Name) (number : Operation → ℕ)
     → sum_given_out (named os P) w number ≡ sum_made (λ op. cond (is_serving P w op) (number op) 0) (as_named os) (entries P.operations)
 sum_named P os w number =
     ap (λ es. sum_by (λ op. cond (is_serving P w op) (number op) 0) (map (λ e. e.1) es)) (entries-revise operation_cmp operation_cmp_total operation_cmp-IsAntisymmetric (as_named os) P.operations)
 
-module _ (P : Plan) (os : List OpKey) where
+module _ (P : Contents) (os : List OpKey) where
   module _ (k : OpKey) (op : Operation) (is : get P.operations k ≡ Some op) (out : is_among os k ≡ false) (unmarked : op.mark ≡ mark.Unmarked)
       (automatic : HasAttribute P op.workstation Automatic) where
     -- named, it takes a server

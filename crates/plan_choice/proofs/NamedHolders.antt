@@ -13,9 +13,10 @@ use Rattle.status_rules.specs.Table.{marked_status}
 use Rattle.status_rules.specs.declared.Mark.TheVariants as mark
 use Rattle.ready_list.specs.Choice.{is_among}
 use Rattle.plan_model.specs.Holdings.{Holds, holds_resource, takes}
-use Rattle.plan_model.specs.Plan.{HasAttribute, Operation, Plan}
+use Rattle.plan_model.specs.Contents.{Contents, HasAttribute, Operation}
 use Rattle.plan_model.specs.Ready.{named, with_mark}
-use Rattle.plan_laws.proofs.Looks.{get-named, same_key, same_some}
+use Rattle.plan_model.proofs.Looks.{get-named, same_key}
+use Rattle.std.proofs.lemmas.Option.{same_Some}
 use Rattle.plan_choice.specs.Choices.{AreHeldIn}
 use Rattle.plan_choice.specs.Takings.{HaveTaken}
 use Rattle.plan_choice.proofs.NamedGiven.{among_more}
@@ -24,7 +25,7 @@ use Rattle.plan_status.proofs.Naming.{row_after}
 use Rattle.std.proofs.Math.Bool.{or-false, or-true}
 
 -- two plans with the same workstations, whose operations are alike at a key
-module _ (P Q : Plan) (stations : Q.workstations ≡ P.workstations) (o : OpKey) (same : get Q.operations o ≡ get P.operations o) where
+module _ (P Q : Contents) (stations : Q.workstations ≡ P.workstations) (o : OpKey) (same : get Q.operations o ≡ get P.operations o) where
   held_alike : (r : Name) (usage : Usage) → Holds P o r usage → Holds Q o r usage
   held_alike r usage (op, is, (needs, known, holds)) =
       (op, same ∙ is, (needs, ap (λ all. takes (option_map (λ ws. ws.attribute) (get all op.workstation))) stations ∙ known, holds))
@@ -33,12 +34,12 @@ none_of : {A : Type 0} (x : Option A) → ((a : A) → ¬ (x ≡ Some a)) → x 
 none_of None none = refl
 none_of (Some a) none = absurd (none a refl)
 
-module _ (P : Plan) (os : List OpKey) (k : OpKey) (op : Operation) (is : get P.operations k ≡ Some op) (out : is_among os k ≡ false) (unmarked : op.mark ≡ mark.Unmarked)
+module _ (P : Contents) (os : List OpKey) (k : OpKey) (op : Operation) (is : get P.operations k ≡ Some op) (out : is_among os k ≡ false) (unmarked : op.mark ≡ mark.Unmarked)
     (automatic : HasAttribute P op.workstation Automatic) where
-  abbrev before : Plan
+  abbrev before : Contents
   before = named os P
 
-  abbrev after : Plan
+  abbrev after : Contents
   after = named (os ++ k ∷ []) P
 
   -- whether o holds r in this mode is decided by what is held
@@ -60,7 +61,7 @@ module _ (P : Plan) (os : List OpKey) (k : OpKey) (op : Operation) (is : get P.o
   -- what is unmarked holds nothing
   holds_nothing : (r : Name) (usage : Usage) → ¬ Holds before k r usage
   holds_nothing r usage (x, found, (needs, known, holds)) =
-      let same : x ≡ op = same_some x op (sym found ∙ still os P k op out is) in
+      let same : x ≡ op = same_Some x op (sym found ∙ still os P k op out is) in
       true≢false (sym holds ∙ ap (λ (z : Operation). holds_resource usage.keep (marked_status z.mark)) same ∙ ap (λ m. holds_resource usage.keep (marked_status m)) unmarked)
 
   -- named, it holds what it needs
@@ -68,7 +69,7 @@ module _ (P : Plan) (os : List OpKey) (k : OpKey) (op : Operation) (is : get P.o
   holds_needs r usage needs = (with_mark mark.Named op, named_row, (needs, ap takes automatic, refl))
 
   needs_held : (r : Name) (usage : Usage) → Holds after k r usage → get op.needs r ≡ Some usage
-  needs_held r usage (x, found, (needs, known, holds)) = subst (λ (z : Operation). get z.needs r ≡ Some usage) (same_some x (with_mark mark.Named op) (sym found ∙ named_row)) needs
+  needs_held r usage (x, found, (needs, known, holds)) = subst (λ (z : Operation). get z.needs r ≡ Some usage) (same_Some x (with_mark mark.Named op) (sym found ∙ named_row)) needs
 
   module _ (old new : Held) (held : AreHeldIn before old) (taken : HaveTaken old k op.needs mark.Named new) where
     none_yet : (r : Name) → get old (r, k) ≡ None

@@ -5,10 +5,10 @@ use Rattle.std.specs.Ordering.{eq_by_cmp}
 use Rattle.std.specs.declared.cmp.Ordering.{Ordering}
 use Rattle.std.specs.declared.cmp.Ordering.TheVariants.{Less}
 use Rattle.std.specs.FinMap.{IsAntisymmetric, get, get-insert, insert}
-use Rattle.std.proofs.lemmas.Bool.{cases_lt}
+use Rattle.std.proofs.lemmas.Bool.{cases_lt, false_from_ne_true}
 use Rattle.std.proofs.lemmas.List.{get_or-map, length-map}
 use Rattle.std.proofs.lemmas.Map.Keys.{Less-from_sorted}
-use Rattle.std.proofs.lemmas.Option.{get_or_from_slice_get, slice_get-get_or, slice_get_within}
+use Rattle.std.proofs.lemmas.Option.{get_or_from_slice_get, slice_get-get_or, slice_get_within, none-some, same_Some}
 use Rattle.plan_basics.specs.Keys.{Name, name_cmp, name_cmp_total, name_cmp-IsAntisymmetric}
 use Rattle.plan_basics.specs.declared.keys.OpKey.{OpKey}
 use Rattle.special_resources.specs.Holders.{Usage}
@@ -21,7 +21,7 @@ use Rattle.special_resources.proofs.Orders.{holding_cmp_total, holding_cmp-IsAnt
 use Rattle.status_rules.specs.Table.{marked_status}
 use Rattle.status_rules.specs.declared.Mark.{Mark}
 use Rattle.plan_model.specs.Holdings.{holds_resource}
-use Rattle.plan_laws.proofs.Looks.{found_key, none_is_not_some, same_some, told_flag}
+use Rattle.plan_drafts.proofs.Tables.{is_found}
 use Rattle.plan_laws.proofs.Sorted.{not_itself}
 use Rattle.plan_choice.specs.Takings.{HaveTaken}
 
@@ -33,7 +33,7 @@ got_taken held k mode = get-insert holding_cmp_total held k mode k ∙ ap (λ b.
 pub got_besides : (held : Held) (k : Holding) (mode : Mode) (q : Holding) → q ≢ k → get (insert held k mode) q ≡ get held q
 got_besides held k mode q differs =
     get-insert holding_cmp_total held k mode q
-    ∙ ap (λ b. cond b (Some mode) (get held q)) (told_flag (eq_by_cmp holding_cmp q k) (λ e. differs (holding_cmp-IsAntisymmetric q k ((Equal-is (holding_cmp q k)).0 e))))
+    ∙ ap (λ b. cond b (Some mode) (get held q)) (false_from_ne_true (eq_by_cmp holding_cmp q k) (λ e. differs (holding_cmp-IsAntisymmetric q k ((Equal-is (holding_cmp q k)).0 e))))
 
 -- two keys are one, or differ
 pub one_or_two : {K : Type 0} {R : K → K → Ordering} → IsTotalOrder R → IsAntisymmetric R → (a b : K) → (a ≡ b) ⊎ (a ≢ b)
@@ -81,7 +81,7 @@ module _ (before : Held) (o : OpKey) (needs : List Need) (mark : Mark) where
   none_taken = record {
     others = λ p r differs. refl;
     kept = λ r mode is. is;
-    own = λ r none mode. (λ is. absurd (none_is_not_some mode (sym none ∙ is)), λ t. absurd (omega (arith, t.before)));
+    own = λ r none mode. (λ is. absurd (none-some mode (sym none ∙ is)), λ t. absurd (omega (arith, t.before)));
   }
 
   module _ (i : ℕ) (n : Need) (at : slice_get needs i ≡ Some n) (now : Held) (so_far : AreTakenSoFar before o needs mark i now) where
@@ -94,7 +94,7 @@ module _ (before : Held) (o : OpKey) (needs : List Need) (mark : Mark) where
       | inl less ↦ inl (record { place = t.place; need = t.need; before = less; stands = t.stands; takes = t.takes })
       | inr more ↦
           let here : t.place ≡ i = omega (arith, more, t.before) in
-          inr (subst (Takes mark r mode) (same_some t.need n (sym t.stands ∙ ap (slice_get needs) here ∙ at)) t.takes)
+          inr (subst (Takes mark r mode) (same_Some t.need n (sym t.stands ∙ ap (slice_get needs) here ∙ at)) t.takes)
     ]
 
     passed : ((r : Name) → get before (r, o) ≡ None → (mode : Mode) → Takes mark r mode n → ⊥) → AreTakenSoFar before o needs mark (i + 1) now
@@ -114,7 +114,7 @@ module _ (before : Held) (o : OpKey) (needs : List Need) (mark : Mark) where
     -- it is held already, from before
     pub held_already : AreInNameOrder needs → is_some (get now (n.name, o)) ≡ true → AreTakenSoFar before o needs mark (i + 1) now
     held_already sorted some = passed (λ r none mode here.
-        let found = found_key (get now (n.name, o)) some in
+        let found = is_found (get now (n.name, o)) some in
         let t = (so_far.own r none found.0).0 (ap (λ z. get now (z, o)) (sym here.resource) ∙ found.1) in
         apart needs sorted t.place i t.need n t.stands at t.before (t.takes.resource ∙ sym here.resource))
 
@@ -129,9 +129,9 @@ module _ (before : Held) (o : OpKey) (needs : List Need) (mark : Mark) where
       own_here : (r : Name) → r ≡ n.name → get before (r, o) ≡ None → (mode : Mode) → (get after (r, o) ≡ Some mode) ↔ IsTakenAmong needs mark (i + 1) r mode
       own_here r same none mode =
           let got : get after (r, o) ≡ Some n.mode = ap (λ z. get after (z, o)) same ∙ got_taken now (n.name, o) n.mode in (
-            λ is. record { place = i; need = n; before = omega arith; stands = at; takes = record { resource = sym same; its_mode = same_some n.mode mode (sym got ∙ is); holds = holds } },
+            λ is. record { place = i; need = n; before = omega arith; stands = at; takes = record { resource = sym same; its_mode = same_Some n.mode mode (sym got ∙ is); holds = holds } },
             λ t. elim (which r mode t) [
-              | inl early ↦ absurd (none_is_not_some mode (sym free ∙ ap (λ z. get now (z, o)) (sym same) ∙ (so_far.own r none mode).1 early))
+              | inl early ↦ absurd (none-some mode (sym free ∙ ap (λ z. get now (z, o)) (sym same) ∙ (so_far.own r none mode).1 early))
               | inr here ↦ got ∙ ap Some here.its_mode
             ],
           )
@@ -148,7 +148,7 @@ module _ (before : Held) (o : OpKey) (needs : List Need) (mark : Mark) where
         others = λ p r differs. still r p (λ e. differs (ap (λ (z : Holding). z.1) e)) ∙ so_far.others p r differs;
         kept = λ r mode is.
             let there = so_far.kept r mode is in
-            still r o (λ e. none_is_not_some mode (sym free ∙ ap (get now) (sym e) ∙ there)) ∙ there;
+            still r o (λ e. none-some mode (sym free ∙ ap (get now) (sym e) ∙ there)) ∙ there;
         own = λ r none mode. elim (one_or_two name_cmp_total name_cmp-IsAntisymmetric r n.name) [
           | inl same ↦ own_here r same none mode
           | inr differs ↦ own_besides r differs none mode

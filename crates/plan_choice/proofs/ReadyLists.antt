@@ -1,4 +1,5 @@
 -- Ready lists: no operation is repeated in one, and how one is made.
+use Rattle.std.specs.FinMap.{entries}
 use Rattle.std.proofs.Common.{◌≡◌, ◌≢◌, ◌⊎◌, inl, inr, sym, ap, subst, ◌∙◌, arith, ℕ, ◌+◌, ◌<◌, false, List, [], ◌∷◌, ◌++◌, get_or, slice_get, Contains, Some, IsPermutation}
 use Rattle.std.specs.List.{AllByRecursion, AllPairs, IsDistinct}
 use Rattle.std.specs.List.Sorted.{IsStrictlySortedBy}
@@ -8,7 +9,7 @@ use Rattle.std.specs.declared.cmp.Ordering.TheVariants.{Less}
 use Rattle.std.proofs.lemmas.List.Elements.{Contains-append_left, Contains-get_or, Contains-push, Contains-push_cases}
 use Rattle.std.proofs.lemmas.List.Quantifiers.{all_pairs_push}
 use Rattle.std.proofs.lemmas.List.Sorted.{Contains-permutation, IsPermutation-sym}
-use Rattle.std.proofs.lemmas.Bool.{cases_lt}
+use Rattle.std.proofs.lemmas.Bool.{cases_lt, false_from_ne_true}
 use Rattle.plan_basics.specs.Keys.{operation_cmp, operation_cmp_total, operation_cmp-IsAntisymmetric}
 use Rattle.plan_basics.specs.declared.keys.OpKey.{OpKey}
 use Rattle.ready_list.specs.Choice.{operations_of}
@@ -17,29 +18,27 @@ use Rattle.ready_list.specs.Order.{ready_cmp, ready_cmp_total}
 use Rattle.ready_list.specs.declared.ReadyKey.{ReadyKey}
 use Rattle.ready_list.specs.declared.entry.ReadyEntry.{ReadyEntry}
 use Rattle.ready_list.proofs.Steps.{AreDistinctKeys}
-use Rattle.plan_model.specs.Plan.{Plan, Operation}
+use Rattle.plan_model.specs.Contents.{Contents, Operation}
 use Rattle.plan_model.specs.Ready.{IsEntry, IsReadyList}
 use Rattle.plan_model.specs.Status.{IsReady}
-use Rattle.plan_model.specs.Valid.{IsValid}
-use Rattle.plan_graph.proofs.KeyPlaces.{one_place}
-use Rattle.plan_records.specs.Contents.{plan_of}
-use Rattle.plan_records.specs.declared.contents.PlanContents.{PlanContents}
-use Rattle.plan_records.proofs.Lists.{from_map, in_map}
-use Rattle.plan_records.proofs.MadeEntries.{key_of}
-use Rattle.plan_laws.proofs.Looks.{same_some, told_flag}
+use Rattle.plan_drafts.proofs.KeyPlaces.{one_place}
+use Rattle.plan_drafts.proofs.Lists.{from_map, in_map}
+use Rattle.plan_drafts.proofs.MadeEntries.{key_of}
+use Rattle.std.proofs.lemmas.Option.{same_Some}
+use Rattle.plan_basics.proofs.Members.{contains_head, contains_later}
 use Rattle.plan_laws.proofs.Readying.{one_entry}
-use Rattle.plan_laws.proofs.Sorted.{contains_head, contains_later, not_itself}
+use Rattle.plan_laws.proofs.Sorted.{not_itself}
 use Rattle.plan_choice.specs.Choices.{AreReadyEntries}
 use Rattle.plan_choice.specs.ReadyItems.{AreAllReady, IsReadyEntry}
 use Rattle.plan_status.proofs.RowKeys.{key_of_row}
 
-module _ (P : Plan) (valid : IsValid P) where
+module _ (P : Contents) where
   apart_from : (x : ReadyKey) → IsEntry P x → (xs : List ReadyKey) → ((k : ReadyKey) → Contains xs k → IsEntry P k)
       → AllByRecursion (λ y. ready_cmp x y ≡ Less) xs → AllByRecursion (λ o. eq_by_cmp operation_cmp x.op o ≡ false) (operations_of xs)
   apart_from x e [] entries less = tt
   apart_from x e (y ∷ xs) entries less = (
-    told_flag (eq_by_cmp operation_cmp x.op y.op) (λ is.
-        let same : x ≡ y = one_entry P valid x y e (entries y (contains_head y xs)) (key_of operation_cmp-IsAntisymmetric x.op y.op is) in
+    false_from_ne_true (eq_by_cmp operation_cmp x.op y.op) (λ is.
+        let same : x ≡ y = one_entry P x y e (entries y (contains_head y xs)) (key_of operation_cmp-IsAntisymmetric x.op y.op is) in
         not_itself ready_cmp_total x (subst (λ z. ready_cmp x z ≡ Less) (sym same) less.0)),
     apart_from x e xs (λ k has. entries k (contains_later y xs k has)) less.1,
   )
@@ -59,15 +58,15 @@ module _ (P : Plan) (valid : IsValid P) where
 -- ---- in order
 
 -- what is ready, put in order, is the ready list
-pub list_in_order : (P : Plan) → IsValid P → (entries new : List ReadyEntry) → AreAllReady P entries → IsPermutation entries new → IsInOrder new → AreReadyEntries P new
-list_in_order P valid entries new all moved in_order = record {
+pub list_in_order : (P : Contents) (entries new : List ReadyEntry) → AreAllReady P entries → IsPermutation entries new → IsInOrder new → AreReadyEntries P new
+list_in_order P entries new all moved in_order = record {
   list = record {
     ascends = in_order;
     has_all = λ k. (
       λ has. let one = from_map (λ (e : ReadyEntry). e.key) new k has in subst (IsEntry P) one.2 (all.each one.0 (was one.0 one.1)).0,
       λ entry.
           let one = all.every k.op entry.0 in
-          let same : one.0.key ≡ k = one_entry P valid one.0.key k (all.each one.0 one.1).0 entry one.2 in
+          let same : one.0.key ≡ k = one_entry P one.0.key k (all.each one.0 one.1).0 entry one.2 in
           subst (Contains (keys_of new)) same (in_map (λ (e : ReadyEntry). e.key) new one.0 (Contains-permutation entries new one.0 moved one.1)),
     );
   };
@@ -77,17 +76,10 @@ list_in_order P valid entries new all moved in_order = record {
     was : (e : ReadyEntry) → Contains new e → Contains entries e
     was e has = Contains-permutation new entries e (IsPermutation-sym entries new moved) has
 
--- the clock makes no ready list another
-pub list_at : (c : PlanContents) (clock : ℕ) (entries : List ReadyEntry) → AreReadyEntries (plan_of 0 c) entries → AreReadyEntries (plan_of clock c) entries
-list_at c clock entries are = record {
-  list = record { ascends = are.list.ascends; has_all = are.list.has_all };
-  workstations = are.workstations;
-}
-
 -- ---- row by row
 
 -- what is ready among the first n rows
-pub record AreReadyBelow (P : Plan) (rows : List (OpKey × Operation)) (n : ℕ) (entries : List ReadyEntry) : Type 0 where
+pub record AreReadyBelow (P : Contents) (rows : List (OpKey × Operation)) (n : ℕ) (entries : List ReadyEntry) : Type 0 where
   pub each : (e : ReadyEntry) → Contains entries e → IsReadyEntry P e
   pub places : (e : ReadyEntry) → Contains entries e → (j : ℕ) × (op : Operation) × (j < n) × (slice_get rows j ≡ Some (e.key.op, op))
   pub every : (j : ℕ) (o : OpKey) (op : Operation) → j < n → slice_get rows j ≡ Some (o, op) → IsReady P o → (e : ReadyEntry) × Contains entries e × (e.key.op ≡ o)
@@ -96,11 +88,11 @@ pub record AreReadyBelow (P : Plan) (rows : List (OpKey × Operation)) (n : ℕ)
 below_cases : (j n : ℕ) → j < n + 1 → (j < n) ⊎ (j ≡ n)
 below_cases j n h = elim (cases_lt j n) [ inl l ↦ inl l | inr g ↦ inr (omega (arith, h, g)) ]
 
-module _ (P : Plan) (rows : List (OpKey × Operation)) (sorted : IsStrictlySortedBy operation_cmp (keys_of_rows rows))
+module _ (P : Contents) (rows : List (OpKey × Operation)) (sorted : IsStrictlySortedBy operation_cmp (keys_of_rows rows))
     (n : ℕ) (entries : List ReadyEntry) (so_far : AreReadyBelow P rows n entries) (o : OpKey) (op : Operation) (at : slice_get rows n ≡ Some (o, op)) where
   -- the n-th row is that of o
   same_key_at : (j : ℕ) (q : OpKey) (oq : Operation) → j ≡ n → slice_get rows j ≡ Some (q, oq) → o ≡ q
-  same_key_at j q oq e is = ap (λ (z : OpKey × Operation). z.0) (same_some (o, op) (q, oq) (sym at ∙ ap (slice_get rows) (sym e) ∙ is))
+  same_key_at j q oq e is = ap (λ (z : OpKey × Operation). z.0) (same_Some (o, op) (q, oq) (sym at ∙ ap (slice_get rows) (sym e) ∙ is))
 
   -- one more that isn't ready
   pub ready_pass : ¬ IsReady P o → AreReadyBelow P rows (n + 1) entries
@@ -137,7 +129,7 @@ module _ (P : Plan) (rows : List (OpKey × Operation)) (sorted : IsStrictlySorte
           let lt = p.2 in omega (arith, is, lt)
 
 -- past the last row
-pub ready_rows : (P : Plan) (rows : List (OpKey × Operation)) (n : ℕ) (entries : List ReadyEntry)
+pub ready_rows : (P : Contents) (rows : List (OpKey × Operation)) (n : ℕ) (entries : List ReadyEntry)
     → ((o : OpKey) → IsReady P o → (j : ℕ) × (op : Operation) × (j < n) × (slice_get rows j ≡ Some (o, op))) → AreReadyBelow P rows n entries → AreAllReady P entries
 ready_rows P rows n entries placed all = record {
   each = all.each;

@@ -6,12 +6,10 @@ use Rattle.plan_basics.specs.declared.Refusal.{Refusal}
 use Rattle.plan_basics.specs.declared.Refusal.TheVariants as refusal
 use Rattle.plan_basics.specs.declared.keys.OpKey.{OpKey}
 use Rattle.special_resources.specs.Holdings.{Held}
-use Rattle.plan_laws.proofs.Looks.{same_some}
+use Rattle.std.proofs.lemmas.Option.{same_Some}
 use Rattle.plan_model.specs.Holdings.{given_out}
-use Rattle.plan_model.specs.Plan.{Operation, Plan}
+use Rattle.plan_model.specs.Contents.{Contents, Operation}
 use Rattle.plan_model.specs.Starts.{FitsAt, MayStart}
-use Rattle.plan_records.specs.Contents.{plan_of}
-use Rattle.plan_records.specs.declared.contents.PlanContents.{PlanContents}
 use Rattle.workstations.specs.Workstations.{HasRoom, Workstation}
 use Rattle.workstations.specs.declared.Capacity.{Capacity}
 use Rattle.plan_choice.specs.Choices.{HasTaken, IsStartLine}
@@ -25,8 +23,8 @@ before_busy ws m taken a b refusal.NoServer lower none less is = omega (arith, l
 before_busy ws m taken a b refusal.NoFixed lower none less is = omega (arith, less, ap number_of is)
 before_busy ws m taken a b r lower none less is = none tt
 
-module _ (c : PlanContents) (op : Operation) (ws : Workstation) (found : get (plan_of 0 c).workstations op.workstation ≡ Some ws) (m : ℕ) (taken : Capacity) (held : Held)
-    (P : Plan) (has : HasTaken P c op taken held) where
+module _ (c : Contents) (op : Operation) (ws : Workstation) (found : get c.workstations op.workstation ≡ Some ws) (m : ℕ) (taken : Capacity) (held : Held)
+    (P : Contents) (has : HasTaken P c op taken held) where
   its : get P.workstations op.workstation ≡ Some ws
   its = ap (λ all. get all op.workstation) has.workstations ∙ found
 
@@ -36,7 +34,7 @@ module _ (c : PlanContents) (op : Operation) (ws : Workstation) (found : get (pl
   room_at : (line : Refusal) → FitsAt P op m line → HasRoom ws m taken op.r1 op.r2 line
   room_at line fit =
       subst (λ t. HasRoom ws m t op.r1 op.r2 line) has.given
-      (subst (λ w. HasRoom w m (given_out P op.workstation) op.r1 op.r2 line) (same_some fit.0 ws (sym fit.1 ∙ its)) fit.2)
+      (subst (λ w. HasRoom w m (given_out P op.workstation) op.r1 op.r2 line) (same_Some fit.0 ws (sym fit.1 ∙ its)) fit.2)
 
   -- what has no room may not start
   pub no_room : (o : OpKey) (r : Refusal) → ¬ HasRoom ws m taken op.r1 op.r2 r → ¬ MayStart P o op m r
@@ -46,10 +44,10 @@ module _ (c : PlanContents) (op : Operation) (ws : Workstation) (found : get (pl
   no_room o r none may = none tt
 
   -- nor may what can't use all that it needs
-  pub not_free : (o : OpKey) → ¬ CanMeetNeeds (plan_of 0 c).resources held o op.needs → ¬ MayStart P o op m refusal.ResourceBusy
+  pub not_free : (o : OpKey) → ¬ CanMeetNeeds c.resources held o op.needs → ¬ MayStart P o op m refusal.ResourceBusy
   not_free o busy may = busy (subst (λ all. CanMeetNeeds all held o op.needs) has.resources ((may_start_by_free P held has.holders o op m).1 may))
 
-  free_at : (o : OpKey) → CanMeetNeeds (plan_of 0 c).resources held o op.needs → MayStart P o op m refusal.ResourceBusy
+  free_at : (o : OpKey) → CanMeetNeeds c.resources held o op.needs → MayStart P o op m refusal.ResourceBusy
   free_at o free = (may_start_by_free P held has.holders o op m).0 (subst (λ all. CanMeetNeeds all held o op.needs) (sym has.resources) free)
 
   module _ (free : op.held ≡ false) (after : op.not_before ≤ m) where
@@ -65,6 +63,6 @@ module _ (c : PlanContents) (op : Operation) (ws : Workstation) (found : get (pl
     lower_met o r line lower room = tt
 
     -- each line is met by what is left and by what is held
-    pub line_met : (o : OpKey) (r : Refusal) → IsStartLine r → HasRoom ws m taken op.r1 op.r2 r → CanMeetNeeds (plan_of 0 c).resources held o op.needs → MayStart P o op m r
+    pub line_met : (o : OpKey) (r : Refusal) → IsStartLine r → HasRoom ws m taken op.r1 op.r2 r → CanMeetNeeds c.resources held o op.needs → MayStart P o op m r
     line_met o refusal.ResourceBusy line room usable = free_at o usable
     line_met o r line room usable = lower_met o r line (λ e. cc) room

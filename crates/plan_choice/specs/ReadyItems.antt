@@ -3,17 +3,17 @@ use Rattle.std.specs.Prelude.{◌≡◌, ◌≢◌, List, Contains}
 use Rattle.std.specs.List.{AllPairs}
 use Rattle.plan_basics.specs.declared.keys.OpKey.{OpKey}
 use Rattle.ready_list.specs.declared.entry.ReadyEntry.{ReadyEntry}
-use Rattle.plan_model.specs.Plan.{Plan}
+use Rattle.plan_model.specs.Contents.{Contents}
 use Rattle.plan_model.specs.Ready.{IsEntry}
 use Rattle.plan_model.specs.Status.{IsReady}
 use Rattle.plan_choice.specs.Choices.{HasItsWorkstation}
 
 -- an operation that is ready, with what its place goes by, its workstation and how that reports
-abbrev pub IsReadyEntry : Plan → ReadyEntry → Type 0
+abbrev pub IsReadyEntry : Contents → ReadyEntry → Type 0
 IsReadyEntry P e = IsEntry P e.key × HasItsWorkstation P e
 
 -- what is ready, each once, in any order
-pub record AreAllReady (P : Plan) (entries : List ReadyEntry) : Type 0 where
+pub record AreAllReady (P : Contents) (entries : List ReadyEntry) : Type 0 where
   pub each : (e : ReadyEntry) → Contains entries e → IsReadyEntry P e
   pub every : (o : OpKey) → IsReady P o → (e : ReadyEntry) × Contains entries e × (e.key.op ≡ o)
   pub once : AllPairs (λ a b. a.key ≢ b.key) entries

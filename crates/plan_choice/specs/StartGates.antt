@@ -1,17 +1,16 @@
 -- The gate that allows operations of a plan to start, one after the other.
 use Rattle.std.specs.Prelude.{◌≡◌, ℕ, Bool, true, false, List, Some, length, set, slice_get, refl}
 use Rattle.std.specs.Coded.{Coded, code_by, coded×, coded_ℕ, coded_list}
-use Rattle.std.specs.FinMap.{get}
+use Rattle.std.specs.FinMap.{entries, get}
 use Rattle.std.specs.FinMap as map
 use Rattle.plan_basics.specs.contracts.keys.OpKey as operation_key
 use Rattle.plan_basics.specs.declared.keys.OpKey.{OpKey}
 use Rattle.special_resources.specs.Holdings.{Held}
 use Rattle.special_resources.specs.contracts.Mode as mode
 use Rattle.status_rules.specs.declared.Mark.TheVariants.{Named}
-use Rattle.plan_model.specs.Plan.{Plan, Operation}
-use Rattle.plan_records.specs.Contents.{plan_of, AreValidContents}
-use Rattle.plan_records.specs.contracts.contents.PlanContents as plan_contents
-use Rattle.plan_records.specs.declared.contents.PlanContents.{PlanContents}
+use Rattle.plan_model.specs.Contents.{Contents, Operation}
+use Rattle.plan_model.specs.Valid.{IsValid}
+use Rattle.plan_model.specs.Code.{contents_code}
 use Rattle.workstations.specs.Workstations.{Workstation}
 use Rattle.workstations.specs.contracts.Capacity as capacity
 use Rattle.workstations.specs.declared.Capacity.{Capacity}
@@ -20,41 +19,41 @@ use Rattle.plan_choice.specs.Takings.{CanStart, HaveTaken, IsAtMost, most_given_
 
 -- the plan that is gone through and the moment, and what is given out at each workstation's index and what is held so far
 pub record Counted : Type 0 where
-  pub contents : PlanContents
+  pub contents : Contents
   pub at : ℕ
   pub given : List Capacity
   pub held : Held
 
--- the contents are valid, and each workstation has its index
-pub record CountsValidly (c : PlanContents) (given : List Capacity) : Type 0 where
-  pub contents : AreValidContents c
-  pub by_place : length given ≡ length c.workstations.items
+-- each workstation has its index
+abbrev pub HasEachIndex : Contents → List Capacity → Type 0
+HasEachIndex c given = length given ≡ length (entries c.workstations)
 
 -- the plan has these workstations and special resources, and in it this is given out and held
-pub record IsCountedIn (g : Counted) (P : Plan) : Type 0 where
-  pub workstations : P.workstations ≡ (plan_of 0 g.contents).workstations
-  pub resources : P.resources ≡ (plan_of 0 g.contents).resources
-  pub given : AreGivenOut P g.contents.workstations.items g.given
+pub record IsCountedIn (g : Counted) (P : Contents) : Type 0 where
+  pub workstations : P.workstations ≡ g.contents.workstations
+  pub resources : P.resources ≡ g.contents.resources
+  pub given : AreGivenOut P (entries g.contents.workstations) g.given
   pub holders : AreHeldIn P g.held
 
 -- its workstation has given out a server more, and its R1 and R2, where no more is given out than a plan can
 pub record GivesOneMore (g : Counted) (op : Operation) (given : List Capacity) : Type 0 where
-  pub place : (i : ℕ) × (ws : Workstation) × (slice_get g.contents.workstations.items i ≡ Some (op.workstation, ws))
+  pub place : (i : ℕ) × (ws : Workstation) × (slice_get (entries g.contents.workstations) i ≡ Some (op.workstation, ws))
   pub before : (taken : Capacity) × (slice_get g.given place.0 ≡ Some taken)
   pub after : IsAtMost most_given_out before.0 → given ≡ set g.given place.0 (with_one_more before.0 op)
 
--- o is in the plan and can start, and counts as started then
+-- o is in the plan, which is valid, and can start, and counts as started then
 pub record Allows (g : Counted) (o : OpKey) (h : Counted) : Type 0 where
+  pub valid : IsValid g.contents
   pub row : Operation
-  pub in_plan : get (plan_of 0 g.contents).operations o ≡ Some row
-  pub can : (P : Plan) → IsCountedIn g P → CanStart P o row g.at
+  pub in_plan : get g.contents.operations o ≡ Some row
+  pub can : (P : Contents) → IsCountedIn g P → CanStart P o row g.at
   pub same : (h.contents ≡ g.contents) × (h.at ≡ g.at)
   pub given : GivesOneMore g row h.given
   pub held : HaveTaken g.held o row.needs Named h.held
 
 -- o isn't in the plan or can't start, and nothing more counts then
 pub record PassesOver (g : Counted) (o : OpKey) (h : Counted) : Type 0 where
-  pub cannot : (row : Operation) → get (plan_of 0 g.contents).operations o ≡ Some row → (P : Plan) → IsCountedIn g P → ¬ CanStart P o row g.at
+  pub cannot : (row : Operation) → get g.contents.operations o ≡ Some row → (P : Contents) → IsCountedIn g P → ¬ CanStart P o row g.at
   pub same : h ≡ g
 
 -- what the gate answers of an operation, and what it counts then
@@ -69,8 +68,8 @@ held_code = map.code (coded× (coded_list coded_ℕ) (operation_key.the_row).cod
 -- what counts is stored as its four parts
 abbrev pub counted_code : Coded Counted
 counted_code = code_by
-    (PlanContents × (ℕ × (List Capacity × Held)))
-    (coded× (plan_contents.the_row).coded (coded× coded_ℕ (coded× (coded_list (capacity.the_row).coded) held_code)))
+    (Contents × (ℕ × (List Capacity × Held)))
+    (coded× contents_code (coded× coded_ℕ (coded× (coded_list (capacity.the_row).coded) held_code)))
     (λ g. (g.contents, (g.at, (g.given, g.held))))
     (λ p. record { contents = p.0; at = p.1.0; given = p.1.1.0; held = p.1.1.1 })
     (λ _. refl)

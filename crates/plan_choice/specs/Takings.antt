@@ -14,13 +14,13 @@ use Rattle.special_resources.specs.declared.Need.{Need}
 use Rattle.status_rules.specs.Table.{marked_status}
 use Rattle.status_rules.specs.declared.Mark.{Mark}
 use Rattle.plan_model.specs.Holdings.{holds_resource, holds_server, takes}
-use Rattle.plan_model.specs.Plan.{Plan, Operation, Resources, attribute_at}
+use Rattle.plan_model.specs.Contents.{Contents, Operation, Resources, attribute_at}
 use Rattle.plan_model.specs.Starts.{MayStart}
 use Rattle.workstations.specs.declared.Capacity.{Capacity}
 use Rattle.plan_choice.specs.Choices.{IsStartLine}
 
 -- whether the operation holds a server of its workstation
-abbrev pub takes_server : Plan → Operation → Bool
+abbrev pub takes_server : Contents → Operation → Bool
 takes_server P op = takes (attribute_at P op.workstation) && holds_server (marked_status op.mark)
 
 -- a server more, and the operation's R1 and R2
@@ -38,11 +38,11 @@ pub record IsAtMost (limit : ℕ) (taken : Capacity) : Type 0 where
   pub r2 : taken.r2 ≤ limit
 
 -- what o needs to start at m, but for its status
-abbrev pub CanStart : Plan → OpKey → Operation → ℕ → Type 0
+abbrev pub CanStart : Contents → OpKey → Operation → ℕ → Type 0
 CanStart P o op m = (r : Refusal) → IsStartLine r → MayStart P o op m r
 
 -- of these lines o meets each whose number is below that of r
-abbrev pub MeetsLinesBelow : Plan → OpKey → Operation → ℕ → Refusal → Type 0
+abbrev pub MeetsLinesBelow : Contents → OpKey → Operation → ℕ → Refusal → Type 0
 MeetsLinesBelow P o op m r = (lower : Refusal) → IsStartLine lower → number_of lower < number_of r → MayStart P o op m lower
 
 -- ---- special resources

@@ -1,14 +1,13 @@
 // What is named to start.
-ghost use Rattle.std.specs.Prelude.{◌≡◌, ℕ, IfOk, IfErr};
+ghost use Rattle.std.specs.Prelude.{◌≡◌, IfOk, IfErr};
 ghost use Rattle.plan_basics.specs.declared.Refusal.{Refusal};
 ghost use Rattle.plan_model.specs.Ready.{IsChosen};
-ghost use Rattle.plan_records.specs.Contents.{plan_of, AreValidContents};
 ghost use Rattle.plan_choice.specs.Choices.{AreReadyEntries};
 
 use super::holders::{holdings_of, take_needs};
 use super::taken::{check_start, given_out_of, with_operation};
 use plan_basics::{Moment, OpKey, Refusal};
-use plan_records::{PlanContents, known_workstation, row_place};
+use plan_status::SoundContents;
 use ready_list::{Gate, ReadyList};
 use special_resources::Holdings;
 use std::alloc::Global;
@@ -18,7 +17,7 @@ use workstations::Capacity;
 /// Allows operations of a plan to start at a moment, one after the other, and counts those as started that it allowed.
 #[derive(Drop)]
 struct StartGate<'a> {
-    contents: &'a PlanContents,
+    contents: &'a SoundContents,
     at: Moment,
     /// What each workstation has given out, at its row's index.
     given: Vec<Capacity>,
@@ -26,7 +25,7 @@ struct StartGate<'a> {
 }
 
 impl<'a> Model for StartGate<'a> {
-    ghost use Rattle.plan_choice.specs.StartGates.{Counted, CountsValidly, counted_code};
+    ghost use Rattle.plan_choice.specs.StartGates.{Counted, HasEachIndex, counted_code};
 
     ghost Value = { Counted };
 
@@ -34,7 +33,7 @@ impl<'a> Model for StartGate<'a> {
 
     ghost view = { λ a. record { contents = a.contents.now; at = a.at; given = a.given.items; held = a.holdings.held } };
 
-    ghost invariant = { λ a. CountsValidly a.contents.now a.given.items };
+    ghost invariant = { λ a. HasEachIndex a.contents.now a.given.items };
 }
 
 impl<'a> Gate for StartGate<'a> {
@@ -48,11 +47,10 @@ impl<'a> Gate for StartGate<'a> {
 
     fn name(&mut self, op: &OpKey) -> Result<bool, Refusal> {
         let contents = self.contents;
-        let Some(place) = row_place(&contents.operations, op) else {
+        let Some(operation) = contents.operation(op) else {
             return Ok(false);
         };
-        let operation = &contents.operations[place].1;
-        let place = known_workstation(&contents.workstations, &operation.workstation);
+        let place = contents.workstation_place_of(operation);
         let taken = self.given[place];
         if check_start(contents, op, operation, &taken, &self.holdings, self.at).is_err() {
             return Ok(false);
@@ -68,13 +66,12 @@ impl<'a> Gate for StartGate<'a> {
 /// and Scheduling the Workload). The error is always `Memory`.
 pub fn chosen(
     alloc: Global,
-    contents: &PlanContents,
+    contents: &SoundContents,
     ready: &ReadyList,
     at: Moment,
 ) -> Result<Vec<OpKey>, Refusal>
-    requires contents { AreValidContents contents.now }
-    requires ready { (clock : ℕ) → AreReadyEntries (plan_of clock contents.now) ready.now.entries }
-    ensures chosen { IfOk result (λ named. IsChosen (plan_of at contents.now) at named.items) }
+    requires { AreReadyEntries contents.now ready.now.entries }
+    ensures chosen { IfOk result (λ named. IsChosen contents.now at named.items) }
     ensures refused { IfErr result (λ r. r ≡ Refusal.Memory) }
 {
     let mut gate = StartGate {

@@ -1,7 +1,6 @@
 // Who holds special resources.
-ghost use Rattle.std.specs.Prelude.{◌≡◌, ℕ, IfOk, IfErr, OnOk};
+ghost use Rattle.std.specs.Prelude.{◌≡◌, IfOk, IfErr, OnOk};
 ghost use Rattle.plan_basics.specs.declared.Refusal.{Refusal};
-ghost use Rattle.plan_records.specs.Contents.{plan_of, AreValidContents};
 ghost use Rattle.status_rules.specs.declared.Mark.{Mark};
 ghost use Rattle.plan_choice.specs.Choices.{AreHeldIn};
 ghost use Rattle.plan_choice.specs.Takings.{HaveTaken};
@@ -9,7 +8,7 @@ ghost use Rattle.plan_choice.specs.Takings.{HaveTaken};
 use super::taken::starts_are_known;
 use plan_basics::{OpKey, Refusal};
 use plan_model::OperationRecord;
-use plan_records::PlanContents;
+use plan_status::SoundContents;
 use special_resources::Holdings;
 use status_rules::Mark;
 use std::alloc::Global;
@@ -49,13 +48,12 @@ pub fn take_needs(
 
 /// Who holds what of special resources: an operation on a workstation where starts are known that is started, undecided or
 /// interrupted holds what it needs; one that ended in error holds what an error keeps. The error is always `Memory`.
-pub fn holdings_of(alloc: Global, contents: &PlanContents) -> Result<Holdings, Refusal>
-    requires { AreValidContents contents.now }
-    ensures held { IfOk result (λ found. (clock : ℕ) → AreHeldIn (plan_of clock contents.now) found.held) }
+pub fn holdings_of(alloc: Global, contents: &SoundContents) -> Result<Holdings, Refusal>
+    ensures held { IfOk result (λ found. AreHeldIn contents.now found.held) }
     ensures refused { IfErr result (λ r. r ≡ Refusal.Memory) }
 {
     let mut holdings = Holdings::new(alloc);
-    for row in &contents.operations {
+    for row in contents.operations() {
         let operation = &row.1;
         if starts_are_known(contents, operation) {
             take_marked(&mut holdings, &row.0, operation, &operation.mark)?;

@@ -1,7 +1,7 @@
 // Latest starts of a plan's operations.
-ghost use Rattle.std.specs.Prelude.{◌≡◌, ℕ, IfOk, IfErr, map};
+ghost use Rattle.std.specs.Prelude.{◌≡◌, IfOk, IfErr, map};
 ghost use Rattle.plan_basics.specs.declared.Refusal.{Refusal};
-ghost use Rattle.plan_records.specs.Contents.{plan_of, AreValidContents, IsGraphFor};
+ghost use Rattle.plan_drafts.specs.PlanGraphs.{IsGraphFor};
 ghost use Rattle.plan_choice.specs.Choices.{AreLatestStarts};
 ghost use Rattle.plan_choice.specs.StartItems.{start_item};
 
@@ -9,7 +9,7 @@ use latest_start::{Item, Latest};
 use operation_graph::Graph;
 use plan_basics::{OpKey, Refusal};
 use plan_model::OperationRecord;
-use plan_records::PlanContents;
+use plan_status::SoundContents;
 use std::alloc::{AllocError, Global};
 
 // What the latest start of an operation goes by.
@@ -34,14 +34,13 @@ fn items_of(alloc: Global, rows: &[(OpKey, OperationRecord)]) -> Result<Vec<Item
     Ok(items)
 }
 
-/// The latest start of each operation, at its row's index: the least, over all paths from it that enter no deleted
+/// The latest start of each operation, in key order: the least, over all paths from it that enter no deleted
 /// operation, of the deadline of the last operation less the durations of all. The error is always `Memory`.
-pub fn latest_of(alloc: Global, contents: &PlanContents, graph: &Graph) -> Result<Latest, Refusal>
-    requires contents { AreValidContents contents.now }
-    requires graph { IsGraphFor contents.now graph.now }
-    ensures starts { IfOk result (λ latest. (clock : ℕ) → AreLatestStarts (plan_of clock contents.now) contents.now.operations.items latest.starts) }
+pub fn latest_of(alloc: Global, contents: &SoundContents, graph: &Graph) -> Result<Latest, Refusal>
+    requires { IsGraphFor contents.now graph.now }
+    ensures starts { IfOk result (λ latest. AreLatestStarts contents.now latest.starts) }
     ensures refused { IfErr result (λ r. r ≡ Refusal.Memory) }
 {
-    let items = items_of(alloc, &contents.operations)?;
+    let items = items_of(alloc, contents.operations())?;
     Latest::build(alloc, graph, &items)
 }

@@ -1,19 +1,17 @@
 // What workstations have given out, and whether one more operation fits.
-ghost use Rattle.std.specs.Prelude.{◌≡◌, ◌↔◌, ◌+◌, ◌≤◌, ℕ, true, Some, IfOk, IfErr, OnOk, IsTrue};
-ghost use Rattle.std.specs.FinMap.{get};
+ghost use Rattle.std.specs.Prelude.{◌≡◌, ◌↔◌, ◌+◌, ◌≤◌, true, Some, IfOk, IfErr, OnOk, IsTrue};
+ghost use Rattle.std.specs.FinMap.{entries, get};
 ghost use Rattle.plan_basics.specs.declared.Refusal.{Refusal};
 ghost use Rattle.plan_basics.specs.declared.keys.OpKey.{OpKey};
-ghost use Rattle.plan_model.specs.Plan.{Plan, attribute_at};
+ghost use Rattle.plan_model.specs.Contents.{Contents, attribute_at};
 ghost use Rattle.plan_model.specs.Starts.{MayStart};
-ghost use Rattle.plan_records.specs.Contents.{plan_of, AreValidContents};
 ghost use Rattle.plan_model.specs.Holdings.{takes};
 ghost use Rattle.plan_choice.specs.Choices.{AreGivenOut, HasTaken, IsStartLine};
 ghost use Rattle.plan_choice.specs.Takings.{CanMeetNeed, CanMeetNeeds, CanStart, IsAtMost, MeetsLinesBelow, most_given_out, takes_server, with_one_more};
 
 use plan_basics::{Attr, Moment, OpKey, Refusal, ResName};
 use plan_model::OperationRecord;
-use plan_records::{PlanContents, known_workstation, row_place};
-use plan_status::attribute_of;
+use plan_status::{SoundContents, attribute_of};
 use special_resources::{Holdings, Need};
 use std::alloc::{AllocError, Global};
 use workstations::Capacity;
@@ -26,10 +24,9 @@ const NOTHING: Capacity = Capacity {
 };
 
 /// Whether starts are known on the workstation of an operation of the plan: there it takes servers and special resources.
-pub fn starts_are_known(contents: &PlanContents, operation: &OperationRecord) -> bool
-    requires contents { AreValidContents contents.now }
-    requires operation { (o : OpKey) × (get (plan_of 0 contents.now).operations o ≡ Some operation.now) }
-    ensures { result ≡ takes (attribute_at (plan_of 0 contents.now) operation.now.workstation) }
+pub fn starts_are_known(contents: &SoundContents, operation: &OperationRecord) -> bool
+    requires { (o : OpKey) × (get contents.now.operations o ≡ Some operation.now) }
+    ensures { result ≡ takes (attribute_at contents.now operation.now.workstation) }
 {
     match attribute_of(contents, operation) {
         Attr::Automatic | Attr::StartAndCompletion => true,
@@ -38,10 +35,9 @@ pub fn starts_are_known(contents: &PlanContents, operation: &OperationRecord) ->
 }
 
 // Whether an operation of the plan holds a server of its workstation.
-fn holds_a_server(contents: &PlanContents, operation: &OperationRecord) -> bool
-    requires contents { AreValidContents contents.now }
-    requires operation { (o : OpKey) × (get (plan_of 0 contents.now).operations o ≡ Some operation.now) }
-    ensures { result ≡ takes_server (plan_of 0 contents.now) operation.now }
+fn holds_a_server(contents: &SoundContents, operation: &OperationRecord) -> bool
+    requires { (o : OpKey) × (get contents.now.operations o ≡ Some operation.now) }
+    ensures { result ≡ takes_server contents.now operation.now }
 {
     starts_are_known(contents, operation) && operation.mark.holds_server()
 }
@@ -65,16 +61,16 @@ pub fn with_operation(taken: &Capacity, operation: &OperationRecord) -> Capacity
     }
 }
 
-/// What each workstation has given out, at its row's index.
-pub fn given_out_of(alloc: Global, contents: &PlanContents) -> Result<Vec<Capacity>, AllocError>
-    requires { AreValidContents contents.now }
-    ensures { IfOk result (λ found. (clock : ℕ) → AreGivenOut (plan_of clock contents.now) contents.now.workstations.items found.items) }
+/// What each workstation has given out, by name.
+pub fn given_out_of(alloc: Global, contents: &SoundContents) -> Result<Vec<Capacity>, AllocError>
+    ensures { IfOk result (λ found. AreGivenOut contents.now (entries contents.now.workstations) found.items) }
 {
-    let mut given = vec![in alloc; NOTHING; contents.workstations.len()]?;
-    for row in &contents.operations {
+    let stations = contents.workstations().len();
+    let mut given = vec![in alloc; NOTHING; stations]?;
+    for row in contents.operations() {
         let operation = &row.1;
         if holds_a_server(contents, operation) {
-            let place = known_workstation(&contents.workstations, &operation.workstation);
+            let place = contents.workstation_place_of(operation);
             given[place] = with_operation(&given[place], operation);
         }
     }
@@ -82,33 +78,27 @@ pub fn given_out_of(alloc: Global, contents: &PlanContents) -> Result<Vec<Capaci
 }
 
 // Whether a special resource is available.
-fn is_available(contents: &PlanContents, name: &ResName) -> bool
-    requires { AreValidContents contents.now }
-    ensures { IsTrue result ↔ (get (plan_of 0 contents.now).resources name.now ≡ Some true) }
+fn is_available(contents: &SoundContents, name: &ResName) -> bool
+    ensures { IsTrue result ↔ (get contents.now.resources name.now ≡ Some true) }
 {
-    match row_place(&contents.resources, name) {
-        Some(place) => contents.resources[place].1,
-        None => false,
-    }
+    contents.resource(name).unwrap_or(false)
 }
 
 // Whether the resource of a need is available, and no holding of another operation stands in the way.
-fn has_resource(contents: &PlanContents, key: &OpKey, need: &Need, holdings: &Holdings) -> bool
-    requires { AreValidContents contents.now }
-    ensures { IsTrue result ↔ CanMeetNeed (plan_of 0 contents.now).resources holdings.now.held key.now need.now }
+fn has_resource(contents: &SoundContents, key: &OpKey, need: &Need, holdings: &Holdings) -> bool
+    ensures { IsTrue result ↔ CanMeetNeed contents.now.resources holdings.now.held key.now need.now }
 {
     is_available(contents, &need.name) && holdings.fits(need, *key)
 }
 
 // Whether each special resource that an operation needs is available, and no holding of another operation stands in the way.
 fn has_resources(
-    contents: &PlanContents,
+    contents: &SoundContents,
     key: &OpKey,
     operation: &OperationRecord,
     holdings: &Holdings,
 ) -> bool
-    requires { AreValidContents contents.now }
-    ensures { IsTrue result ↔ CanMeetNeeds (plan_of 0 contents.now).resources holdings.now.held key.now operation.now.needs }
+    ensures { IsTrue result ↔ CanMeetNeeds contents.now.resources holdings.now.held key.now operation.now.needs }
 {
     for need in operation.needs.as_slice() {
         if !has_resource(contents, key, need, holdings) {
@@ -124,19 +114,18 @@ fn has_resources(
 /// `ResourceBusy` (a special resource isn't available, another operation holds it exclusively, or another holds it at all
 /// and the need is exclusive).
 pub fn check_start(
-    contents: &PlanContents,
+    contents: &SoundContents,
     key: &OpKey,
     operation: &OperationRecord,
     taken: &Capacity,
     holdings: &Holdings,
     at: Moment,
 ) -> Result<(), Refusal>
-    requires contents { AreValidContents contents.now }
-    requires operation { get (plan_of 0 contents.now).operations key.now ≡ Some operation.now }
-    ensures ok { OnOk result ((P : Plan) → HasTaken P contents.now operation.now taken.now holdings.now.held → CanStart P key.now operation.now at) }
+    requires { get contents.now.operations key.now ≡ Some operation.now }
+    ensures ok { OnOk result ((P : Contents) → HasTaken P contents.now operation.now taken.now holdings.now.held → CanStart P key.now operation.now at) }
     ensures line { IfErr result IsStartLine }
-    ensures refused { IfErr result (λ r. (P : Plan) → HasTaken P contents.now operation.now taken.now holdings.now.held → ¬ MayStart P key.now operation.now at r) }
-    ensures least { IfErr result (λ r. (P : Plan) → HasTaken P contents.now operation.now taken.now holdings.now.held → MeetsLinesBelow P key.now operation.now at r) }
+    ensures refused { IfErr result (λ r. (P : Contents) → HasTaken P contents.now operation.now taken.now holdings.now.held → ¬ MayStart P key.now operation.now at r) }
+    ensures least { IfErr result (λ r. (P : Contents) → HasTaken P contents.now operation.now taken.now holdings.now.held → MeetsLinesBelow P key.now operation.now at r) }
 {
     if operation.held {
         return Err(Refusal::Held);
@@ -144,8 +133,7 @@ pub fn check_start(
     if at.minute() < operation.not_before.minute() {
         return Err(Refusal::TooEarly);
     }
-    let place = known_workstation(&contents.workstations, &operation.workstation);
-    let workstation = &contents.workstations[place];
+    let workstation = contents.workstation(&operation.workstation).unwrap();
     workstation.fits(at, taken, u32::from(operation.r1), u32::from(operation.r2))?;
     if has_resources(contents, key, operation, holdings) {
         Ok(())

@@ -1,68 +1,59 @@
 -- What is left to be listed from an index on.
-use Rattle.std.proofs.Common.{◌≡◌, sym, ap, subst, ◌∙◌, ◌↔◌, IsSome, arith, ℕ, ◌+◌, ◌<◌, ◌≤◌, true, true≢false, List, [], ◌∷◌, drop, length, slice_get, Option, Some, None, Bor}
+use Rattle.std.proofs.Common.{◌≡◌, refl, sym, ap, subst, ◌∙◌, ◌↔◌, IsSome, IsNone, arith, ℕ, ◌+◌, ◌<◌, ◌≤◌, true, true≢false, List, [], ◌∷◌, drop, length, slice_get, Option, Some, None, IfSome}
 use Rattle.std.proofs.Math.Numerals.{add-one}
 use Rattle.std.proofs.lemmas.List.{drop_all}
-use Rattle.std.specs.FinMap.{contains_key, get-empty}
-use Rattle.std.specs.Option.{is_some, option_copied}
+use Rattle.std.specs.FinMap.{contains_key, entries, get-empty}
+use Rattle.std.specs.Option.{is_some}
 use Rattle.plan_basics.specs.Keys.{occurrence_cmp, operation_cmp}
 use Rattle.plan_basics.specs.declared.keys.OccKey.{OccKey}
 use Rattle.plan_basics.specs.declared.keys.OpKey.{OpKey}
-use Rattle.plan_model.specs.Plan.{IsInPlan, Plan}
-use Rattle.plan_laws.proofs.Looks.{none_is_not_some}
-use Rattle.plan_records.proofs.Lists.{contains_none}
+use Rattle.plan_model.specs.Contents.{Contents, nothing, IsInPlan}
+use Rattle.std.proofs.lemmas.Option.{none-some}
+use Rattle.plan_drafts.proofs.Lists.{contains_none}
 use Rattle.special_resources.proofs.Splits.{none_in_order}
-use Rattle.plan_records.specs.Contents.{plan_of}
-use Rattle.plan_core.proofs.SideBySide.{left_from, length_viewed, length_zipped}
-use Rattle.plan_checks.specs.Held.{AreHeld, IsHeld, plan_held, IsHeldAtSome}
-use Rattle.plan_core.specs.State.{PlanState}
-use Rattle.plan_core.specs.Views.{AreOccViews, AreOpViews, IsHeldIfLoaded, known_of, occ_view_of, occ_views, op_view_of, op_views, views_from}
-use Rattle.plan_checks.specs.declared.loaded.LoadedPlan.{LoadedPlan}
+use Rattle.plan_core.proofs.OpViews.{size}
+use Rattle.plan_core.proofs.SideBySide.{left_from, length_viewed}
+use Rattle.plan_core.specs.Shown.{IsShown, IsShownIfAny}
+use Rattle.plan_core.specs.Views.{AreOccViews, AreOpViews, known_of, occ_view_of, occ_views, op_view_of, op_views, views_from}
+use Rattle.plan_core.specs.declared.shown.Shown.{Shown}
 
 -- ---- where nothing is loaded
 
-pub no_operation : (clock : ℕ) (o : OpKey) → IsInPlan (plan_held clock None) o → ⊥
-no_operation clock o there = none_is_not_some there.0 (sym (get-empty operation_cmp o) ∙ there.1)
+pub no_operation : (o : OpKey) → IsInPlan nothing o → ⊥
+no_operation o there = none-some there.0 (sym (get-empty operation_cmp o) ∙ there.1)
 
-pub no_occurrence : (clock : ℕ) (c : OccKey) → contains_key (plan_held clock None).occurrences c ≡ true → ⊥
-no_occurrence clock c known = true≢false (sym known ∙ ap is_some (get-empty occurrence_cmp c))
+pub no_occurrence : (c : OccKey) → contains_key nothing.occurrences c ≡ true → ⊥
+no_occurrence c known = true≢false (sym known ∙ ap is_some (get-empty occurrence_cmp c))
 
-pub no_ops : (clock : ℕ) → AreOpViews (plan_held clock None) []
-no_ops clock = record {
+pub no_ops : AreOpViews nothing []
+no_ops = record {
   in_order = none_in_order operation_cmp;
-  every = λ o. (λ has. absurd (contains_none o has), λ there. absurd (no_operation clock o there));
+  every = λ o. (λ has. absurd (contains_none o has), λ there. absurd (no_operation o there));
   each = λ v has. absurd (contains_none v has);
 }
 
-pub no_occs : (clock : ℕ) → AreOccViews (plan_held clock None) []
-no_occs clock = record {
+pub no_occs : AreOccViews nothing []
+no_occs = record {
   in_order = none_in_order occurrence_cmp;
-  every = λ c. (λ has. absurd (contains_none c has), λ known. absurd (no_occurrence clock c known));
+  every = λ c. (λ has. absurd (contains_none c has), λ known. absurd (no_occurrence c known));
   each = λ v has. absurd (contains_none v has);
 }
 
--- no answer is given of what isn't known
-pub none_known : {V : Type 0} (answer : Option V) → answer ≡ None → (IsKnown : Plan → Type 0) (clock : ℕ) (P : Plan) → plan_held clock None ≡ P → ¬ IsKnown (plan_held clock None) → IsSome answer ↔ IsKnown P
-none_known answer none IsKnown clock P is unknown = (λ some. absurd (true≢false (sym (subst IsSome none some))), λ known. absurd (unknown (subst IsKnown (sym is) known)))
+-- no answer is given of what isn't so
+pub none_told : {V B : Type 0} (answer : Option V) → answer ≡ None → ¬ B → IsSome answer ↔ B
+none_told answer none never = (λ some. absurd (true≢false (sym (subst IsSome none some))), λ b. absurd (never b))
 
--- what is borrowed is held
-pub held_if_loaded : (clock : ℕ) (borrowed : Option (Bor LoadedPlan)) (loaded : Option LoadedPlan) → option_copied borrowed ≡ loaded → IsHeld clock loaded → IsHeldIfLoaded borrowed
-held_if_loaded clock None loaded e held = tt
-held_if_loaded clock (Some h) loaded e held = (clock, subst (IsHeld clock) (sym e) held)
-
--- what callers see of a plan that is held is that plan
-pub seen_held : (clock : ℕ) (h : LoadedPlan) (loaded : Option LoadedPlan) {s : PlanState} → Some h ≡ loaded → IsHeld clock loaded → record { plan = plan_held clock loaded } ≡ s
-    → AreHeld clock h × (plan_of clock h.contents ≡ s.plan)
-seen_held clock h loaded is held seen = (subst (IsHeld clock) (sym is) held, ap (plan_held clock) is ∙ ap (λ (s : PlanState). s.plan) seen)
+-- nor of what isn't known
+pub none_known : {V : Type 0} (answer : Option V) → answer ≡ None → (IsKnown : Contents → Type 0) (P : Contents) → P ≡ nothing → ¬ IsKnown nothing → IsSome answer ↔ IsKnown P
+none_known answer none IsKnown P is unknown = none_told answer none (λ known. unknown (subst IsKnown is known))
 
 -- as many views as rows
-module _ (h : LoadedPlan) (held : IsHeldAtSome h) where
-  pub length_ops : length (op_views h) ≡ length h.contents.operations.items
-  length_ops =
-      let size = length_zipped h.standings.items h.latest.starts (held.1.latest.size ∙ sym held.1.standings.size) ∙ held.1.standings.size in
-      length_viewed (op_view_of (plan_of 0 h.contents)) h.contents.operations.items (known_of h) size
+module _ (s : Shown) (shown : IsShown s) where
+  pub length_ops : length (op_views s) ≡ length (entries s.contents.now.operations)
+  length_ops = length_viewed (op_view_of s.contents.now) (entries s.contents.now.operations) (known_of s) (size s shown)
 
-  pub length_occs : length (occ_views h) ≡ length h.contents.occurrences.items
-  length_occs = length_viewed occ_view_of h.contents.occurrences.items h.tallies.items held.1.tallies.size
+  pub length_occs : length (occ_views s) ≡ length (entries s.contents.now.occurrences)
+  length_occs = length_viewed occ_view_of (entries s.contents.now.occurrences) s.tallies.now shown.tallies.size
 
 -- the one at the index, and those from the next one on
 pub one_left : {X : Type 0} (xs : List X) (i : ℕ) (x : X) → slice_get xs i ≡ Some x → drop i xs ≡ x ∷ drop (i + 1) xs
@@ -73,27 +64,31 @@ fewer e = let n = ap length e in omega (arith, n)
 
 -- ---- views of any kind
 
-module _ {V : Type 0} (views : LoadedPlan → List V) where
-  views_held : (Are : Plan → List V → Type 0) → ((clock : ℕ) → Are (plan_held clock None) []) → ((clock : ℕ) (h : LoadedPlan) → AreHeld clock h → Are (plan_of clock h.contents) (views h))
-      → (clock : ℕ) (borrowed : Option (Bor LoadedPlan)) (loaded : Option LoadedPlan) → option_copied borrowed ≡ loaded → IsHeld clock loaded → Are (plan_held clock loaded) (views_from views borrowed 0)
-  views_held Are none some clock None loaded e held = subst (λ l. Are (plan_held clock l) []) e (none clock)
-  views_held Are none some clock (Some h) loaded e held = subst (λ l. Are (plan_held clock l) (views h.now)) e (some clock h.now (subst (IsHeld clock) (sym e) held))
+-- what is shown, if a plan is loaded, is of these contents
+pub record IsOf (P : Contents) (shown : Option Shown) : Type 0 where
+  pub none : IsNone shown → P ≡ nothing
+  pub contents : IfSome shown (λ s. s.contents.now ≡ P)
+  pub is_shown : IfSome shown IsShown
 
-  -- from the first index on: all of them, of the plan that callers see
-  pub all_from : (Are : Plan → List V → Type 0) → ((clock : ℕ) → Are (plan_held clock None) []) → ((clock : ℕ) (h : LoadedPlan) → AreHeld clock h → Are (plan_of clock h.contents) (views h))
-      → (clock : ℕ) (borrowed : Option (Bor LoadedPlan)) (loaded : Option LoadedPlan) → option_copied borrowed ≡ loaded → IsHeld clock loaded
-      → {s : PlanState} → record { plan = plan_held clock loaded } ≡ s → {listed : List V} → listed ≡ views_from views borrowed 0 → Are s.plan listed
-  all_from Are none some clock borrowed loaded e held {s} seen {listed} all =
-      subst (λ (state : PlanState). Are state.plan listed) seen (subst (Are (plan_held clock loaded)) (sym all) (views_held Are none some clock borrowed loaded e held))
+pub shown_if_any : (P : Contents) (shown : Option Shown) → IsOf P shown → IsShownIfAny shown
+shown_if_any P None of = tt
+shown_if_any P (Some s) of = of.is_shown
 
-  module _ {left : List V} {borrowed : Option (Bor LoadedPlan)} (i : ℕ) {h : Bor LoadedPlan} (is : views_from views borrowed i ≡ left) (was : borrowed ≡ Some h) where
-    here : drop i (views h.now) ≡ left
+module _ {V : Type 0} (views : Shown → List V) where
+  -- from the first index on: all of them
+  pub all_from : (Are : Contents → List V → Type 0) → Are nothing [] → ((s : Shown) → IsShown s → Are s.contents.now (views s))
+      → (P : Contents) (shown : Option Shown) → IsOf P shown → {listed : List V} → listed ≡ views_from views shown 0 → Are P listed
+  all_from Are none some P None of all = subst (Are P) (sym all) (subst (λ Q. Are Q []) (sym (of.none refl)) none)
+  all_from Are none some P (Some s) of all = subst (Are P) (sym all) (subst (λ Q. Are Q (views s)) of.contents (some s of.is_shown))
+
+  module _ {left : List V} {shown : Option Shown} (i : ℕ) {s : Shown} (is : views_from views shown i ≡ left) (was : shown ≡ Some s) where
+    here : drop i (views s) ≡ left
     here = sym (ap (λ l. views_from views l i) was) ∙ is
 
     -- past the last index none is left
-    pub none_from : length (views h.now) ≤ i → left ≡ []
-    none_from past = sym here ∙ drop_all i (views h.now) past
+    pub none_from : length (views s) ≤ i → left ≡ []
+    none_from past = sym here ∙ drop_all i (views s) past
 
     -- before it one, and those from the next index on
-    pub rest_from : (v : V) → slice_get (views h.now) i ≡ Some v → left ≡ v ∷ views_from views borrowed (i + 1)
-    rest_from v at = sym here ∙ one_left (views h.now) i v at ∙ ap (λ l. v ∷ views_from views l (i + 1)) (sym was)
+    pub rest_from : (v : V) → slice_get (views s) i ≡ Some v → left ≡ v ∷ views_from views shown (i + 1)
+    rest_from v at = sym here ∙ one_left (views s) i v at ∙ ap (λ l. v ∷ views_from views l (i + 1)) (sym was)

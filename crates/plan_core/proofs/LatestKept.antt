@@ -6,11 +6,11 @@ use Rattle.latest_start.specs.LeastStart.{IsLeastStart}
 use Rattle.plan_basics.specs.declared.keys.OpKey.{OpKey}
 use Rattle.status_rules.specs.declared.Mark.TheVariants as mark
 use Rattle.ready_list.specs.Choice.{is_among}
-use Rattle.plan_model.specs.Plan.{IsLive, Operation, Plan, Precedes}
+use Rattle.plan_model.specs.Contents.{Contents, IsLive, Operation, Precedes}
 use Rattle.plan_model.specs.Ready.{named, with_mark}
 use Rattle.plan_model.specs.Starts.{IsLatestStart, amount_of}
 use Rattle.plan_model.specs.Status.{IsReady}
-use Rattle.plan_laws.proofs.Looks.{get-named}
+use Rattle.plan_model.proofs.Looks.{get-named}
 use Rattle.plan_status.proofs.Naming.{live_after, live_before, named_if}
 use Rattle.plan_choice.proofs.ItemStarts.{deadline_in, duration_in}
 
@@ -36,7 +36,7 @@ number_kept f same b None = refl
 number_kept f same true (Some op) = same op
 number_kept f same false (Some op) = refl
 
-module _ (P : Plan) (os : List OpKey) (ready : (k : OpKey) → is_among os k ≡ true → IsReady P k) where
+module _ (P : Contents) (os : List OpKey) (ready : (k : OpKey) → is_among os k ≡ true → IsReady P k) where
   number_after : (f : Operation → ℕ) → ((op : Operation) → f (with_mark mark.Named op) ≡ f op) → (o : OpKey) → amount_of (get P.operations o) f ≡ amount_of (get (named os P).operations o) f
   number_after f same o = sym (number_kept f same (is_among os o) (get P.operations o)) ∙ ap (λ x. amount_of x f) (sym (get-named os P o))
 

@@ -3,8 +3,7 @@ use Rattle.std.proofs.Common.{refl, subst, List, [], ◌∷◌, ◌++◌}
 use Rattle.std.specs.FinMap as finmap
 use Rattle.plan_laws.proofs.Every.{every_step_keeps_sound, reached_starts_are_provided_for, run_keeps_sound}
 use Rattle.plan_laws.proofs.Starts.{starts_are_provided_for}
-use Rattle.plan_model.specs.Plan.{Plan}
-use Rattle.plan_model.specs.Valid.{IsSound}
+use Rattle.plan_model.specs.Plan.{Plan, IsSoundPlan}
 use Rattle.plan_records.specs.Answer.{Answer}
 use Rattle.plan_records.specs.Run.{State, plain, usable}
 use Rattle.plan_records.specs.Step.{Step}
@@ -13,8 +12,8 @@ use Rattle.plan_core.specs.Requested.{IsAnswered}
 use Rattle.plan_core.specs.Provided.{RunStartsAreProvided, StartsAreProvided}
 
 -- after one step
-module _ (P after : Plan) (q : Request) (reply : Answer) (sound : IsSound P) (step : Step P q reply after) where
-  pub step_sound : IsSound after
+module _ (P after : Plan) (q : Request) (reply : Answer) (sound : IsSoundPlan P) (step : Step P q reply after) where
+  pub step_sound : IsSoundPlan after
   step_sound = every_step_keeps_sound P after q reply sound step
 
   pub step_starts : StartsAreProvided P q reply after
@@ -25,8 +24,8 @@ alone : Plan → State
 alone P = record { plan = P; receipts = finmap.empty }
 
 -- after one answer, that may be want of memory
-module _ (P after : Plan) (q : Request) (reply : Answer) (sound : IsSound P) (answered : IsAnswered P q reply after) where
-  pub answered_sound : IsSound after
+module _ (P after : Plan) (q : Request) (reply : Answer) (sound : IsSoundPlan P) (answered : IsAnswered P q reply after) where
+  pub answered_sound : IsSoundPlan after
   unfolding alone
   answered_sound = run_keeps_sound (alone P) (alone after) usable usable (plain q ∷ []) (reply ∷ []) sound (alone after, usable, answered finmap.empty, (refl, refl))
 
@@ -35,7 +34,7 @@ module _ (P after : Plan) (q : Request) (reply : Answer) (sound : IsSound P) (an
   answered_starts = reached_starts_are_provided_for (alone P) [] [] (alone P) (alone after) usable usable (plain q) reply sound (refl, refl) (answered finmap.empty)
 
 -- after several, and one more
-pub provided_more : (P mid after : Plan) (requests : List Request) (answers : List Answer) (q : Request) (reply : Answer) → IsSound mid → RunStartsAreProvided P requests answers mid → IsAnswered mid q reply after
+pub provided_more : (P mid after : Plan) (requests : List Request) (answers : List Answer) (q : Request) (reply : Answer) → IsSoundPlan mid → RunStartsAreProvided P requests answers mid → IsAnswered mid q reply after
     → RunStartsAreProvided P (requests ++ q ∷ []) (answers ++ reply ∷ []) after
 provided_more P mid after [] [] q reply sound run last =
     subst (λ (z : Plan). RunStartsAreProvided z (q ∷ []) (reply ∷ []) after) run (after, last, answered_sound mid after q reply sound last, answered_starts mid after q reply sound last, refl)

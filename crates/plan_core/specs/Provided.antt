@@ -1,8 +1,7 @@
 -- What is promised of all that becomes started.
 use Rattle.std.specs.Prelude.{◌≡◌, List, [], ◌∷◌}
 use Rattle.plan_basics.specs.declared.keys.OpKey.{OpKey}
-use Rattle.plan_model.specs.Plan.{Plan}
-use Rattle.plan_model.specs.Valid.{IsSound}
+use Rattle.plan_model.specs.Plan.{Plan, IsSoundPlan}
 use Rattle.plan_records.specs.Answer.{Answer}
 use Rattle.plan_records.specs.Laws.{BecomesStarted, WasProvidedFor}
 use Rattle.plan_records.specs.declared.Request.{Request}
@@ -16,6 +15,6 @@ StartsAreProvided P q reply after = (o : OpKey) → BecomesStarted P after o →
 abbrev pub RunStartsAreProvided : Plan → List Request → List Answer → Plan → Type 0
 RunStartsAreProvided P [] [] after = after ≡ P
 RunStartsAreProvided P (q ∷ requests) (reply ∷ answers) after =
-    (mid : Plan) × IsAnswered P q reply mid × IsSound mid × StartsAreProvided P q reply mid × RunStartsAreProvided mid requests answers after
+    (mid : Plan) × IsAnswered P q reply mid × IsSoundPlan mid × StartsAreProvided P q reply mid × RunStartsAreProvided mid requests answers after
 RunStartsAreProvided P [] (reply ∷ answers) after = ⊥
 RunStartsAreProvided P (q ∷ requests) [] after = ⊥

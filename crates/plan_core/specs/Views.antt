@@ -1,36 +1,33 @@
 -- What is read off the plan for one operation or one occurrence, and for all of them.
 use Rattle.std.specs.Prelude.{◌≡◌, ◌↔◌, ℕ, ℤ, Bool, true, false, filter, List, [], map, drop, All, Contains, Option, Some, None}
-use Rattle.std.specs.Borrow.{Bor}
 use Rattle.std.specs.List.{zip, filter_map}
-use Rattle.std.specs.FinMap.{get, contains_key, from_entries}
+use Rattle.std.specs.FinMap.{get, contains_key, entries, from_entries}
 use Rattle.std.specs.List.Sorted.{IsStrictlySortedBy}
-use Rattle.plan_basics.specs.Keys.{Name, name_cmp, occurrence_cmp, operation_cmp}
 use Rattle.std.specs.Ordering.{eq_by_cmp}
+use Rattle.plan_basics.specs.Keys.{Name, name_cmp, occurrence_cmp, operation_cmp}
+use Rattle.plan_basics.specs.declared.keys.OccKey.{OccKey}
+use Rattle.plan_basics.specs.declared.keys.OpKey.{OpKey}
 use Rattle.ready_list.specs.Choice.{operations_of}
 use Rattle.ready_list.specs.declared.ReadyKey.{ReadyKey}
 use Rattle.ready_list.specs.declared.entry.ReadyEntry.{ReadyEntry}
+use Rattle.plan_model.specs.Contents.{Contents, Operation, IsInPlan}
 use Rattle.plan_model.specs.Ready.{IsReadyList}
 use Rattle.plan_model.specs.Starts.{IsLatestStart}
-use Rattle.plan_basics.specs.declared.Attr.{Attr}
-use Rattle.plan_basics.specs.declared.Attr.TheVariants.{Automatic}
-use Rattle.plan_basics.specs.declared.keys.OccKey.{OccKey}
-use Rattle.plan_basics.specs.declared.keys.OpKey.{OpKey}
-use Rattle.plan_model.specs.Plan.{Plan, Operation, IsInPlan, attribute_at}
 use Rattle.plan_model.specs.Status.{HasStatus, HasOccurrenceStatus}
 use Rattle.plan_model.specs.declared.Occurrence.{Occurrence}
-use Rattle.plan_records.specs.Contents.{plan_of}
 use Rattle.plan_records.specs.Rows.{IsCount, IsWaitingFor}
 use Rattle.plan_status.specs.declared.standings.Standing.{Standing}
-use Rattle.status_rules.specs.Table.{status_by, occurrence_by}
+use Rattle.status_rules.specs.Table.{occurrence_by}
 use Rattle.status_rules.specs.declared.Counts.{Counts}
+use Rattle.status_rules.specs.declared.Status.{Status}
 use Rattle.status_rules.specs.declared.Status.TheVariants.{Complete}
-use Rattle.plan_checks.specs.Held.{IsHeldAtSome}
-use Rattle.plan_checks.specs.declared.loaded.LoadedPlan.{LoadedPlan}
+use Rattle.plan_core.specs.Shown.{IsShown}
+use Rattle.plan_core.specs.declared.shown.Shown.{Shown}
 use Rattle.plan_core.specs.declared.views.OccView.{OccView}
 use Rattle.plan_core.specs.declared.views.OpView.{OpView}
 
 -- the operation's own columns, its occurrence's priority, and what is read off the plan for it
-pub record IsOpView (P : Plan) (v : OpView) : Type 0 where
+pub record IsOpView (P : Contents) (v : OpView) : Type 0 where
   pub op : Operation
   pub is_in_plan : get P.operations v.key ≡ Some op
   pub work : (v.workstation ≡ op.workstation) × (v.duration ≡ op.duration) × (v.r1 ≡ op.r1) × (v.r2 ≡ op.r2)
@@ -42,14 +39,14 @@ pub record IsOpView (P : Plan) (v : OpView) : Type 0 where
   pub waiting : IsWaitingFor P v.key v.waiting
 
 -- the occurrence's own columns, its status, and the numbers of its operations and of those complete
-pub record IsOccView (P : Plan) (v : OccView) : Type 0 where
+pub record IsOccView (P : Contents) (v : OccView) : Type 0 where
   pub is_in_plan : get P.occurrences v.key ≡ Some (record { priority = v.priority; deadline = v.deadline })
   pub status : HasOccurrenceStatus P v.key v.status
   pub operations : IsCount (λ o. (o.occurrence ≡ v.key) × IsInPlan P o) v.operations
   pub complete : IsCount (λ o. (o.occurrence ≡ v.key) × HasStatus P o Complete) v.complete
 
 -- all operations of the plan, in key order
-pub record AreOpViews (P : Plan) (views : List OpView) : Type 0 where
+pub record AreOpViews (P : Contents) (views : List OpView) : Type 0 where
   pub in_order : IsStrictlySortedBy operation_cmp (map (λ v. v.key) views)
   pub every : (o : OpKey) → Contains (map (λ v. v.key) views) o ↔ IsInPlan P o
   pub each : (v : OpView) → Contains views v → IsOpView P v
@@ -60,18 +57,18 @@ is_at_workstation w None = false
 is_at_workstation w (Some op) = eq_by_cmp name_cmp op.workstation w
 
 -- whether o is an operation on this workstation
-abbrev pub is_on : Plan → Name → OpKey → Bool
+abbrev pub is_on : Contents → Name → OpKey → Bool
 is_on P w o = is_at_workstation w (get P.operations o)
 
 -- what is ready on this workstation, in the order of the ready list
-pub record AreReadyViews (P : Plan) (w : Name) (views : List OpView) : Type 0 where
+pub record AreReadyViews (P : Contents) (w : Name) (views : List OpView) : Type 0 where
   pub keys : List ReadyKey
   pub is_ready_list : IsReadyList P keys
   pub in_order : map (λ v. v.key) views ≡ filter (is_on P w) (operations_of keys)
   pub each : (v : OpView) → Contains views v → IsOpView P v
 
 -- all occurrences of the plan, in key order
-pub record AreOccViews (P : Plan) (views : List OccView) : Type 0 where
+pub record AreOccViews (P : Contents) (views : List OccView) : Type 0 where
   pub in_order : IsStrictlySortedBy occurrence_cmp (map (λ v. v.key) views)
   pub every : (c : OccKey) → Contains (map (λ v. v.key) views) c ↔ (contains_key P.occurrences c ≡ true)
   pub each : (v : OccView) → Contains views v → IsOccView P v
@@ -81,13 +78,12 @@ abbrev pub priority_of : Option Occurrence → ℕ
 priority_of None = 0
 priority_of (Some c) = c.priority
 
--- how a workstation reports, automatic where there is none
-abbrev pub attribute_or_automatic : Option Attr → Attr
-attribute_or_automatic None = Automatic
-attribute_or_automatic (Some a) = a
+-- what is known of an operation: its standing, its status, its latest start
+abbrev pub Known : Type 0
+Known = Standing × (Status × ℤ)
 
--- the view of an operation of a plan, by its row, its standing and its latest start
-abbrev pub op_view_of : Plan → (OpKey × Operation) × (Standing × ℤ) → OpView
+-- the view of an operation of a plan, by its row and what is known of it
+abbrev pub op_view_of : Contents → (OpKey × Operation) × Known → OpView
 op_view_of P x = record {
   key = x.0.0;
   workstation = x.0.1.workstation;
@@ -100,8 +96,8 @@ op_view_of P x = record {
   held = x.0.1.held;
   nop = x.0.1.nop;
   priority = priority_of (get P.occurrences x.0.0.occurrence);
-  status = status_by x.0.1.mark x.0.1.held x.0.1.nop (attribute_or_automatic (attribute_at P x.0.1.workstation)) x.1.0.preds;
-  latest = x.1.1;
+  status = x.1.1.0;
+  latest = x.1.1.1;
   waiting = x.1.0.waiting;
 }
 
@@ -116,40 +112,35 @@ occ_view_of x = record {
   complete = x.1.complete;
 }
 
--- the standing and the latest start of each operation
-abbrev pub known_of : LoadedPlan → List (Standing × ℤ)
-known_of h = zip h.standings.items h.latest.starts
+-- what is known of each operation
+abbrev pub known_of : Shown → List Known
+known_of s = zip s.standings.now (zip s.statuses.now s.latest.now.starts)
 
--- the views of all operations of the plan that is held, in the order of their rows
-abbrev pub op_views : LoadedPlan → List OpView
-op_views h = map (op_view_of (plan_of 0 h.contents)) (zip h.contents.operations.items (known_of h))
+-- the views of all operations of the plan that is shown, in the order of their rows
+abbrev pub op_views : Shown → List OpView
+op_views s = map (op_view_of s.contents.now) (zip (entries s.contents.now.operations) (known_of s))
 
 -- so of all occurrences
-abbrev pub occ_views : LoadedPlan → List OccView
-occ_views h = map occ_view_of (zip h.contents.occurrences.items h.tallies.items)
+abbrev pub occ_views : Shown → List OccView
+occ_views s = map occ_view_of (zip (entries s.contents.now.occurrences) s.tallies.now)
 
--- the views of a plan, of operations or of occurrences, from an index on; none where nothing is loaded
-abbrev pub views_from : {V : Type 0} → (LoadedPlan → List V) → Option (Bor LoadedPlan) → ℕ → List V
+-- the views of a plan, of operations or of occurrences, from an index on; none where none is shown
+abbrev pub views_from : {V : Type 0} → (Shown → List V) → Option Shown → ℕ → List V
 views_from views None place = []
-views_from views (Some h) place = drop place (views h.now)
+views_from views (Some s) place = drop place (views s)
 
--- the view of an operation, if the plan that is held has it
-abbrev pub view_at : LoadedPlan → OpKey → Option OpView
-view_at h o = get {R = operation_cmp} (from_entries (map (λ v. (v.key, v)) (op_views h))) o
+-- the view of an operation, if the plan that is shown has it
+abbrev pub view_at : Shown → OpKey → Option OpView
+view_at s o = get {R = operation_cmp} (from_entries (map (λ v. (v.key, v)) (op_views s))) o
 
 -- the views of these entries' operations, in their order
-abbrev pub ready_views : LoadedPlan → List ReadyEntry → List OpView
-ready_views h es = filter_map (λ e. view_at h e.key.op) es
+abbrev pub ready_views : Shown → List ReadyEntry → List OpView
+ready_views s es = filter_map (λ e. view_at s e.key.op) es
 
 -- those from an index on
-abbrev pub ready_from : LoadedPlan → List ReadyEntry → ℕ → List OpView
-ready_from h es place = ready_views h (drop place es)
+abbrev pub ready_from : Shown → List ReadyEntry → ℕ → List OpView
+ready_from s es place = ready_views s (drop place es)
 
--- a plan is held, and has the operations of these entries
-abbrev pub AreEntriesOf : LoadedPlan → List ReadyEntry → Type 0
-AreEntriesOf h es = IsHeldAtSome h × All (λ e. IsInPlan (plan_of 0 h.contents) e.key.op) es
-
--- where a plan is borrowed, it is held
-abbrev pub IsHeldIfLoaded : Option (Bor LoadedPlan) → Type 0
-IsHeldIfLoaded None = Unit {0}
-IsHeldIfLoaded (Some h) = IsHeldAtSome h.now
+-- a plan is shown, and has the operations of these entries
+abbrev pub AreEntriesOf : Shown → List ReadyEntry → Type 0
+AreEntriesOf s es = IsShown s × All (λ e. IsInPlan s.contents.now e.key.op) es

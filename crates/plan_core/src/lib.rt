@@ -8,6 +8,7 @@ mod reads;
 mod ready_views;
 mod requests;
 mod settle;
+mod shown;
 mod views;
 
 pub use lists::{Occs, Ops};

@@ -1,38 +1,40 @@
 // All operations or all occurrences of the plan, one after the other.
 ghost use Rattle.std.specs.Prelude.{◌≡◌};
 ghost use Rattle.std.specs.Iterator.{YieldsFirst, item_count};
-ghost use Rattle.plan_core.specs.Views.{op_views, occ_views, views_from, IsHeldIfLoaded};
+ghost use Rattle.plan_core.specs.Shown.{IsShownIfAny};
+ghost use Rattle.plan_core.specs.Views.{op_views, occ_views, views_from};
 
+use super::shown::Shown;
 use super::views::{OccView, OpView, occ_view, op_view};
-use plan_checks::LoadedPlan;
 use std::marker::Model;
 
 /// The operations of the plan from an index on, in key order. Contracts see the list of those that are left.
 #[derive(Drop)]
 pub struct Ops<'a> {
-    loaded: Option<&'a LoadedPlan>,
+    shown: Option<Shown<'a>>,
     place: usize,
 }
 
 impl<'a> Model for Ops<'a> {
     ghost use Rattle.std.specs.Prelude.{List};
     ghost use Rattle.plan_core.specs.declared.views.OpView.{OpView};
-    ghost use Rattle.plan_core.specs.Views.{op_views, views_from, IsHeldIfLoaded};
+    ghost use Rattle.plan_core.specs.Views.{op_views, views_from};
+    ghost use Rattle.plan_core.specs.Shown.{IsShownIfAny};
 
     ghost Value = { List OpView };
 
-    ghost view = { λ a. views_from op_views a.loaded a.place };
+    ghost view = { λ a. views_from op_views a.shown a.place };
 
-    ghost invariant = { λ a. IsHeldIfLoaded a.loaded };
+    ghost invariant = { λ a. IsShownIfAny a.shown };
 }
 
 impl<'a> Ops<'a> {
-    /// All operations of the plan that is held; none where nothing is loaded.
-    pub(crate) fn new(loaded: Option<&'a LoadedPlan>) -> Ops<'a>
-        requires { IsHeldIfLoaded loaded }
-        ensures { result ≡ views_from op_views loaded.entry 0 }
+    /// All operations of the plan that is shown; none where there is none.
+    pub(crate) fn new(shown: Option<Shown<'a>>) -> Ops<'a>
+        requires { IsShownIfAny shown }
+        ensures { result ≡ views_from op_views shown.entry 0 }
     {
-        Ops { loaded, place: 0 }
+        Ops { shown, place: 0 }
     }
 }
 
@@ -44,42 +46,43 @@ impl<'a> Iterator for Ops<'a> {
     ghost remaining = { item_count (λ left. left) };
 
     fn next(&mut self) -> Option<OpView> {
-        let loaded = self.loaded?;
+        let shown = self.shown?;
         let place = self.place;
-        if place >= loaded.contents.operations.len() {
+        if place >= shown.contents.operations().len() {
             return None;
         }
         self.place = place + 1;
-        Some(op_view(loaded, place))
+        Some(op_view(shown, place))
     }
 }
 
 /// The occurrences of the plan from an index on, in key order. Contracts see the list of those that are left.
 #[derive(Drop)]
 pub struct Occs<'a> {
-    loaded: Option<&'a LoadedPlan>,
+    shown: Option<Shown<'a>>,
     place: usize,
 }
 
 impl<'a> Model for Occs<'a> {
     ghost use Rattle.std.specs.Prelude.{List};
     ghost use Rattle.plan_core.specs.declared.views.OccView.{OccView};
-    ghost use Rattle.plan_core.specs.Views.{occ_views, views_from, IsHeldIfLoaded};
+    ghost use Rattle.plan_core.specs.Views.{occ_views, views_from};
+    ghost use Rattle.plan_core.specs.Shown.{IsShownIfAny};
 
     ghost Value = { List OccView };
 
-    ghost view = { λ a. views_from occ_views a.loaded a.place };
+    ghost view = { λ a. views_from occ_views a.shown a.place };
 
-    ghost invariant = { λ a. IsHeldIfLoaded a.loaded };
+    ghost invariant = { λ a. IsShownIfAny a.shown };
 }
 
 impl<'a> Occs<'a> {
-    /// All occurrences of the plan that is held; none where nothing is loaded.
-    pub(crate) fn new(loaded: Option<&'a LoadedPlan>) -> Occs<'a>
-        requires { IsHeldIfLoaded loaded }
-        ensures { result ≡ views_from occ_views loaded.entry 0 }
+    /// All occurrences of the plan that is shown; none where there is none.
+    pub(crate) fn new(shown: Option<Shown<'a>>) -> Occs<'a>
+        requires { IsShownIfAny shown }
+        ensures { result ≡ views_from occ_views shown.entry 0 }
     {
-        Occs { loaded, place: 0 }
+        Occs { shown, place: 0 }
     }
 }
 
@@ -91,12 +94,12 @@ impl<'a> Iterator for Occs<'a> {
     ghost remaining = { item_count (λ left. left) };
 
     fn next(&mut self) -> Option<OccView> {
-        let loaded = self.loaded?;
+        let shown = self.shown?;
         let place = self.place;
-        if place >= loaded.contents.occurrences.len() {
+        if place >= shown.contents.occurrences().len() {
             return None;
         }
         self.place = place + 1;
-        Some(occ_view(loaded, place))
+        Some(occ_view(shown, place))
     }
 }

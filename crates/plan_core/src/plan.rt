@@ -1,8 +1,7 @@
 // The plan in memory, and the steps that requests take in it.
 ghost use Rattle.std.specs.Prelude.{◌≡◌, ◌⊎◌, ℕ, pos, map, Some, None, IfOk, IfErr, OnOk};
 ghost use Rattle.plan_basics.specs.Refusals.{IsLeastRefusal, NoneRefuses};
-ghost use Rattle.plan_model.specs.Plan.{no_plan};
-ghost use Rattle.plan_model.specs.Valid.{IsSound};
+ghost use Rattle.plan_model.specs.Plan.{no_plan, IsSoundPlan};
 ghost use Rattle.plan_records.specs.declared.What.{What};
 ghost use Rattle.plan_records.specs.declared.Request.{Request};
 ghost use Rattle.plan_records.specs.Answer.{accepted, refused, answer_of};
@@ -16,8 +15,10 @@ use super::prepared::Prepared;
 use super::requests::{changed, drafted};
 use super::settle::settle;
 use plan_basics::{Moment, OpKey, Refusal};
-use plan_checks::{LoadedPlan, check_load, check_request};
+use plan_checks::{check_load, check_request};
 use plan_records::{PlanContents, Reply, Request, What};
+use plan_state::LoadedPlan;
+use plan_status::SoundContents;
 use std::alloc::Global;
 use std::marker::Model;
 
@@ -31,7 +32,8 @@ pub struct Plan {
 
 impl Model for Plan {
     ghost use Rattle.plan_core.specs.State.{PlanState, state_code};
-    ghost use Rattle.plan_checks.specs.Held.{plan_held, IsHeld};
+    ghost use Rattle.plan_model.specs.Plan.{IsSoundPlan};
+    ghost use Rattle.plan_core.specs.Held.{plan_held};
 
     ghost Value = { PlanState };
 
@@ -39,7 +41,7 @@ impl Model for Plan {
 
     ghost view = { λ p. record { plan = plan_held p.clock p.loaded } };
 
-    ghost invariant = { λ p. IsHeld p.clock p.loaded };
+    ghost invariant = { λ p. IsSoundPlan (plan_held p.clock p.loaded) };
 }
 
 impl Plan {
@@ -57,7 +59,7 @@ impl Plan {
     /// The moment of the last accepted request. Its second clause says that whatever plan a caller holds is sound.
     pub fn clock(&self) -> Moment
         ensures value { result ≡ self.now.plan.clock }
-        ensures sound { IsSound self.now.plan }
+        ensures sound { IsSoundPlan self.now.plan }
     {
         self.clock
     }
@@ -90,15 +92,15 @@ impl Plan {
     }
 
     // What a request that may be accepted makes of what the plan holds. The error is always `Memory`.
-    fn contents_after(&self, what: &What) -> Result<PlanContents, Refusal>
-        requires { (at : ℕ) × NoneRefuses (MayBeMadeAt self.now.plan at what.now) }
-        ensures made { IfOk result (AreMadeBy self.now.plan what.now) }
+    fn contents_after(&self, request: &Request) -> Result<PlanContents, Refusal>
+        requires { NoneRefuses (MayBeAccepted self.now.plan request.now) }
+        ensures made { IfOk result (AreMadeBy self.now.plan.contents request.now.what) }
         ensures refused { IfErr result (λ r. r ≡ Refusal.Memory) }
     {
-        if let What::Load(draft) = what {
+        if let What::Load(draft) = &request.what {
             Ok(drafted(self.alloc, draft.as_ref().unwrap())?)
         } else {
-            changed(self.alloc, self.loaded.as_ref().unwrap(), what)
+            changed(self.alloc, self.loaded.as_ref().unwrap(), &request.what)
         }
     }
 
@@ -109,12 +111,12 @@ impl Plan {
         ensures unchanged { self.new ≡ self.old }
         ensures prepared { IfOk result (IsPreparedFor self.new) }
         ensures step { IfOk result (λ p. Step self.old.plan request.now (accepted p.named) (plan_after self.old p)) }
-        ensures sound { IfOk result (λ p. IsSound (plan_after self.old p)) }
+        ensures sound { IfOk result (λ p. IsSoundPlan (plan_after self.old p)) }
         ensures starts { IfOk result (λ p. StartsAreProvided self.old.plan request.now (accepted p.named) (plan_after self.old p)) }
         ensures refused { IfErr result (λ r. (r ≡ Refusal.Memory) ⊎ Step self.old.plan request.now (refused r) self.old.plan) }
     {
         let at = self.check(request)?;
-        let contents = self.contents_after(&request.what)?;
+        let contents = SoundContents::of(self.contents_after(request)?);
         settle(self.alloc, &contents, at)
     }
 
@@ -125,7 +127,7 @@ impl Plan {
         requires { IsPreparedFor self.old prepared }
         ensures plan { self.new.plan ≡ plan_after self.old prepared }
         ensures named { result.items ≡ prepared.named }
-        ensures sound { IsSound self.new.plan }
+        ensures sound { IsSoundPlan self.new.plan }
         ensures starts { (q : Request) × Step self.old.plan q (accepted result.items) self.new.plan × StartsAreProvided self.old.plan q (accepted result.items) self.new.plan }
     {
         self.clock = prepared.clock;
@@ -153,7 +155,7 @@ impl Plan {
         ensures answers { IfOk result (λ replies. AnswersAll self.old.plan requests.now (map answer_of replies.items) self.new.plan) }
         ensures alone { IfOk result (λ replies. AcceptedAnswerAll self.old.plan requests.now (map answer_of replies.items) self.new.plan) }
         ensures memory { IfErr result (λ r. (r ≡ Refusal.Memory) × (self.new ≡ self.old)) }
-        ensures sound { IsSound self.new.plan }
+        ensures sound { IsSoundPlan self.new.plan }
         ensures starts { IfOk result (λ replies. RunStartsAreProvided self.old.plan requests.now (map answer_of replies.items) self.new.plan) }
     {
         let mut replies = Vec::with_capacity(self.alloc, requests.len())?;

@@ -2,7 +2,7 @@
 ghost use Rattle.std.specs.Prelude.{◌≡◌};
 
 use plan_basics::{Moment, OpKey};
-use plan_checks::LoadedPlan;
+use plan_state::LoadedPlan;
 use std::marker::Model;
 
 /// A request that is accepted, with all that it takes: the plan that it leads to, and the operations that are named to
@@ -15,17 +15,18 @@ pub struct Prepared {
 }
 
 impl Model for Prepared {
-    ghost use Rattle.plan_records.specs.Contents.{plan_of};
+    ghost use Rattle.std.specs.Prelude.{Some};
+    ghost use Rattle.plan_model.specs.Plan.{IsSoundPlan};
+    ghost use Rattle.plan_core.specs.Held.{plan_held};
     ghost use Rattle.plan_core.specs.State.{PreparedState, prepared_code};
-    ghost use Rattle.plan_checks.specs.Held.{AreHeld};
 
     ghost Value = { PreparedState };
 
     ghost coded = { prepared_code };
 
-    ghost view = { λ p. record { plan = plan_of p.clock p.loaded.contents; named = p.named.items } };
+    ghost view = { λ p. record { plan = plan_held p.clock (Some p.loaded); named = p.named.items } };
 
-    ghost invariant = { λ p. AreHeld p.clock p.loaded };
+    ghost invariant = { λ p. IsSoundPlan (plan_held p.clock (Some p.loaded)) };
 }
 
 impl Prepared {

@@ -1,15 +1,16 @@
 // What is read off the plan.
-ghost use Rattle.std.specs.Prelude.{◌≡◌, ◌↔◌, true, IfSome, IsSome};
+ghost use Rattle.std.specs.Prelude.{◌≡◌, ◌↔◌, true, IfSome, IsNone, IsSome};
 ghost use Rattle.std.specs.FinMap.{contains_key};
-ghost use Rattle.plan_model.specs.Plan.{IsInPlan};
+ghost use Rattle.plan_model.specs.Contents.{nothing, IsInPlan};
+ghost use Rattle.plan_core.specs.Shown.{IsShown};
 ghost use Rattle.plan_core.specs.Views.{AreReadyViews, IsOpView, IsOccView, AreOpViews, AreOccViews};
 
 use super::lists::{Occs, Ops};
 use super::plan::Plan;
 use super::ready_views::Ready;
+use super::shown::Shown;
 use super::views::{OccView, OpView, occ_view, op_view};
 use plan_basics::{OccKey, OpKey, WsName};
-use plan_records::{row_place, workstation_place};
 
 impl Plan {
     /// Whether a plan is loaded.
@@ -19,48 +20,61 @@ impl Plan {
         self.loaded.is_some()
     }
 
+    // What is kept of the plan, if one is loaded.
+    fn shown(&self) -> Option<Shown<'_>>
+        ensures none { IsNone result → self.now.plan.contents ≡ nothing }
+        ensures contents { IfSome result (λ s. s.contents.now ≡ self.now.plan.contents) }
+        ensures shown { IfSome result IsShown }
+    {
+        match &self.loaded {
+            Some(loaded) => Some(Shown::of(loaded)),
+            None => None,
+        }
+    }
+
     /// An operation of the plan, if it is there.
     pub fn view_op(&self, key: &OpKey) -> Option<OpView>
-        ensures some { IsSome result ↔ IsInPlan self.now.plan key.now }
-        ensures view { IfSome result (λ v. (v.key ≡ key.now) × IsOpView self.now.plan v) }
+        ensures some { IsSome result ↔ IsInPlan self.now.plan.contents key.now }
+        ensures view { IfSome result (λ v. (v.key ≡ key.now) × IsOpView self.now.plan.contents v) }
     {
-        let loaded = self.loaded.as_ref()?;
-        let place = row_place(&loaded.contents.operations, key)?;
-        Some(op_view(loaded, place))
+        let shown = self.shown()?;
+        let place = shown.contents.operation_place(key)?;
+        Some(op_view(shown, place))
     }
 
     /// An occurrence of the plan, if it is there.
     pub fn view_occ(&self, key: &OccKey) -> Option<OccView>
-        ensures some { IsSome result ↔ (contains_key self.now.plan.occurrences key.now ≡ true) }
-        ensures view { IfSome result (λ v. (v.key ≡ key.now) × IsOccView self.now.plan v) }
+        ensures some { IsSome result ↔ (contains_key self.now.plan.contents.occurrences key.now ≡ true) }
+        ensures view { IfSome result (λ v. (v.key ≡ key.now) × IsOccView self.now.plan.contents v) }
     {
-        let loaded = self.loaded.as_ref()?;
-        let place = row_place(&loaded.contents.occurrences, key)?;
-        Some(occ_view(loaded, place))
+        let shown = self.shown()?;
+        let place = shown.contents.occurrence_place(key)?;
+        Some(occ_view(shown, place))
     }
 
     /// All operations of the plan, in key order.
     pub fn ops(&self) -> Ops<'_>
-        ensures { AreOpViews self.now.plan result }
+        ensures { AreOpViews self.now.plan.contents result }
     {
-        Ops::new(self.loaded.as_ref())
+        Ops::new(self.shown())
     }
 
     /// All occurrences of the plan, in key order.
     pub fn occs(&self) -> Occs<'_>
-        ensures { AreOccViews self.now.plan result }
+        ensures { AreOccViews self.now.plan.contents result }
     {
-        Occs::new(self.loaded.as_ref())
+        Occs::new(self.shown())
     }
 
     /// What is ready on a workstation, in the order of the ready list, held operations too; `None` where the workstation
     /// isn't in the plan.
     pub fn ready(&self, workstation: &WsName) -> Option<Ready<'_>>
-        ensures some { IsSome result ↔ (contains_key self.now.plan.workstations workstation.now ≡ true) }
-        ensures views { IfSome result (AreReadyViews self.now.plan workstation.now) }
+        ensures some { IsSome result ↔ (contains_key self.now.plan.contents.workstations workstation.now ≡ true) }
+        ensures views { IfSome result (AreReadyViews self.now.plan.contents workstation.now) }
     {
         let loaded = self.loaded.as_ref()?;
-        workstation_place(&loaded.contents.workstations, workstation)?;
-        Some(Ready::new(loaded, loaded.ready.of_ws(workstation)))
+        loaded.contents().workstation(workstation)?;
+        let entries = loaded.ready().of_ws(workstation);
+        Some(Ready::new(Shown::of(loaded), entries))
     }
 }

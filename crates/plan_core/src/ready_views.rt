@@ -3,9 +3,8 @@ ghost use Rattle.std.specs.Prelude.{◌≡◌};
 ghost use Rattle.std.specs.Iterator.{YieldsFirst, item_count};
 ghost use Rattle.plan_core.specs.Views.{ready_from, AreEntriesOf};
 
+use super::shown::Shown;
 use super::views::{OpView, op_view};
-use plan_checks::LoadedPlan;
-use plan_records::known_row;
 use ready_list::ReadyEntry;
 use std::marker::Model;
 
@@ -13,7 +12,7 @@ use std::marker::Model;
 /// list of those that are left.
 #[derive(Drop)]
 pub struct Ready<'a> {
-    loaded: &'a LoadedPlan,
+    shown: Shown<'a>,
     entries: &'a [ReadyEntry],
     place: usize,
 }
@@ -25,19 +24,19 @@ impl<'a> Model for Ready<'a> {
 
     ghost Value = { List OpView };
 
-    ghost view = { λ a. ready_from a.loaded.now a.entries.now a.place };
+    ghost view = { λ a. ready_from a.shown a.entries.now a.place };
 
-    ghost invariant = { λ a. AreEntriesOf a.loaded.now a.entries.now };
+    ghost invariant = { λ a. AreEntriesOf a.shown a.entries.now };
 }
 
 impl<'a> Ready<'a> {
-    /// The operations of these entries, which the plan that is held has.
-    pub(crate) fn new(loaded: &'a LoadedPlan, entries: &'a [ReadyEntry]) -> Ready<'a>
-        requires { AreEntriesOf loaded.now entries.now }
-        ensures { result ≡ ready_from loaded.now entries.now 0 }
+    /// The operations of these entries, which the plan that is shown has.
+    pub(crate) fn new(shown: Shown<'a>, entries: &'a [ReadyEntry]) -> Ready<'a>
+        requires { AreEntriesOf shown entries.now }
+        ensures { result ≡ ready_from shown.entry entries.now 0 }
     {
         Ready {
-            loaded,
+            shown,
             entries,
             place: 0,
         }
@@ -58,7 +57,7 @@ impl<'a> Iterator for Ready<'a> {
         }
         let key = self.entries[place].key.op;
         self.place = place + 1;
-        let row = known_row(&self.loaded.contents.operations, &key);
-        Some(op_view(self.loaded, row))
+        let row = self.shown.contents.known_operation_place(&key);
+        Some(op_view(self.shown, row))
     }
 }

@@ -2,25 +2,24 @@
 ghost use Rattle.std.specs.Prelude.{◌≡◌, ℕ, All, Some, IfOk, IfErr};
 ghost use Rattle.plan_basics.specs.Intervals.{IsInterval};
 ghost use Rattle.plan_basics.specs.Names.{IsName};
-ghost use Rattle.plan_model.specs.Plan.{IsInPlan, Plan};
 ghost use Rattle.plan_basics.specs.Refusals.{NoneRefuses};
+ghost use Rattle.plan_basics.specs.declared.Refusal.{Refusal};
+ghost use Rattle.plan_drafts.specs.Drafts.{IsAddition};
+ghost use Rattle.plan_model.specs.Contents.{Contents, IsInPlan};
 ghost use Rattle.plan_records.specs.Acceptance.{MayBeAdded, MayBeDone, NeedsPlan};
 ghost use Rattle.plan_records.specs.Changes.{Changes, with_added};
-ghost use Rattle.plan_records.specs.Contents.{plan_of, AreContents};
-ghost use Rattle.plan_records.specs.Drafts.{IsAddition};
 ghost use Rattle.plan_records.specs.declared.What.{What};
 ghost use Rattle.plan_records.specs.declared.What.TheVariants as what;
 ghost use Rattle.plan_core.specs.Requested.{AreMadeBy};
-ghost use Rattle.plan_checks.specs.Held.{IsHeldAtSome};
-ghost use Rattle.plan_basics.specs.declared.Refusal.{Refusal};
 
 use plan_basics::{ErrCode, Interval, OpKey, Refusal};
 use plan_changes::{
-    copy_of, deleted, with_addition, with_available, with_held, with_intervals, with_marks,
-    with_nop, with_pair,
+    deleted, with_addition, with_available, with_held, with_intervals, with_marks, with_nop,
+    with_pair,
 };
-use plan_checks::{LoadedPlan, reached_keys};
+use plan_checks::reached_keys;
 use plan_records::{Addition, PlanContents, PlanDraft, What};
+use plan_state::LoadedPlan;
 use status_rules::Mark;
 use std::alloc::{AllocError, Global};
 
@@ -44,14 +43,12 @@ fn look_at(intervals: &[Interval])
 
 // The contents with the mark of an operation and of all that it reaches taken away. The error is always `Memory`.
 fn rerun(alloc: Global, loaded: &LoadedPlan, key: &OpKey) -> Result<PlanContents, Refusal>
-    requires held { IsHeldAtSome loaded.now }
-    requires known { IsInPlan (plan_of 0 loaded.now.contents) key.now }
-    ensures plan { IfOk result (λ new. (clock : ℕ) → Changes (plan_of clock loaded.now.contents) (what.Rerun key.now) (plan_of clock new)) }
-    ensures in_order { IfOk result (λ new. AreContents new) }
+    requires { IsInPlan loaded.now key.now }
+    ensures plan { IfOk result (Changes loaded.now (what.Rerun key.now)) }
     ensures refused { IfErr result (λ r. r ≡ Refusal.Memory) }
 {
     let reached = reached_keys(alloc, loaded, key)?;
-    Ok(with_marks(alloc, &loaded.contents, &reached, Mark::Unmarked)?)
+    Ok(with_marks(alloc, loaded.contents().rows(), &reached, Mark::Unmarked)?)
 }
 
 // The contents with what is added, of whose occurrence there is nothing yet. Its parts are looked at for the proof
@@ -62,27 +59,24 @@ fn added(
     loaded: &LoadedPlan,
     addition: &Addition,
 ) -> Result<PlanContents, AllocError>
-    requires held { IsHeldAtSome loaded.now }
-    requires new { MayBeAdded (plan_of 0 loaded.now.contents) addition.now Refusal.Duplicate }
+    requires { MayBeAdded loaded.now addition.now Refusal.Duplicate }
     ensures legal { IsAddition addition.now }
-    ensures plan { IfOk result (λ new. (clock : ℕ) → plan_of clock new ≡ with_added (plan_of clock loaded.now.contents) addition.now) }
-    ensures in_order { IfOk result (λ new. AreContents new) }
+    ensures plan { IfOk result (λ new. new ≡ with_added loaded.now addition.now) }
 {
     let _ = addition.parts();
-    with_addition(alloc, &loaded.contents, addition)
+    with_addition(alloc, loaded.contents().rows(), addition)
 }
 
 /// What a request other than a load, in whose way nothing stands, makes of the contents. The error is always `Memory`.
 pub fn changed(alloc: Global, loaded: &LoadedPlan, what: &What) -> Result<PlanContents, Refusal>
     requires needs { NeedsPlan what.now }
-    requires held { IsHeldAtSome loaded.now }
-    requires clear { (at : ℕ) × ((clock : ℕ) → NoneRefuses (MayBeDone (plan_of clock loaded.now.contents) at what.now)) }
-    ensures made { IfOk result (λ new. (clock : ℕ) → AreMadeBy (plan_of clock loaded.now.contents) what.now new) }
+    requires clear { (at : ℕ) × NoneRefuses (MayBeDone loaded.now at what.now) }
+    ensures made { IfOk result (AreMadeBy loaded.now what.now) }
     ensures refused { IfErr result (λ r. r ≡ Refusal.Memory) }
 {
-    let contents = &loaded.contents;
+    let contents = loaded.contents().rows();
     let new = match what {
-        What::Tick => copy_of(alloc, contents),
+        What::Tick => contents.try_clone(alloc),
         What::Started(key) => with_marks(alloc, contents, &[*key], Mark::Running),
         What::Ended(key) | What::Complete(key) => with_marks(alloc, contents, &[*key], Mark::Done),
         What::Error(key, code) => with_marks(alloc, contents, &[*key], error_mark(code)),
@@ -110,7 +104,7 @@ pub fn changed(alloc: Global, loaded: &LoadedPlan, what: &What) -> Result<PlanCo
 
 /// The contents of a draft, which a load makes.
 pub fn drafted(alloc: Global, draft: &PlanDraft) -> Result<PlanContents, AllocError>
-    ensures { IfOk result (λ new. (P : Plan) → AreMadeBy P (What.Load (Some draft.now)) new) }
+    ensures { IfOk result (λ new. (P : Contents) → AreMadeBy P (What.Load (Some draft.now)) new) }
 {
-    copy_of(alloc, draft.contents())
+    draft.contents().try_clone(alloc)
 }

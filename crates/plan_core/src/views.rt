@@ -1,12 +1,12 @@
 // What is read off the plan for one operation or one occurrence.
 ghost use Rattle.std.specs.Prelude.{◌≡◌, ◌<◌, Some, length, slice_get};
-ghost use Rattle.plan_checks.specs.Held.{IsHeldAtSome};
+ghost use Rattle.std.specs.FinMap.{entries};
+ghost use Rattle.plan_core.specs.Shown.{IsShown};
 ghost use Rattle.plan_core.specs.Views.{op_views, occ_views};
 
+use super::shown::Shown;
 use plan_basics::{Moment, OccKey, OpKey, WsName};
-use plan_checks::LoadedPlan;
-use plan_records::known_row;
-use plan_status::{attribute_of, occurrence_status_with, status_with};
+use plan_status::occurrence_status_with;
 use status_rules::{Mark, OccStatus, Status};
 
 /// An operation of the plan, with what is read off the plan for it.
@@ -53,16 +53,13 @@ pub struct OccView {
 }
 
 /// The view of the operation at an index.
-pub(crate) fn op_view(loaded: &LoadedPlan, place: usize) -> OpView
-    requires held { IsHeldAtSome loaded.now }
-    requires within { place < length loaded.now.contents.operations.items }
-    ensures { slice_get (op_views loaded.now) place ≡ Some result }
+pub(crate) fn op_view(shown: Shown<'_>, place: usize) -> OpView
+    requires shown { IsShown shown }
+    requires within { place < length (entries shown.contents.now.operations) }
+    ensures { slice_get (op_views shown.entry) place ≡ Some result }
 {
-    let (key, operation) = loaded.contents.operations[place];
-    let standing = loaded.standings[place];
-    let occurrence = known_row(&loaded.contents.occurrences, &key.occurrence);
-    let attribute = attribute_of(&loaded.contents, &operation);
-    let latest = loaded.latest.of(place);
+    let (key, operation) = shown.contents.operations()[place];
+    let occurrence = shown.contents.occurrence(&key.occurrence).unwrap();
     OpView {
         key,
         workstation: operation.workstation,
@@ -74,21 +71,21 @@ pub(crate) fn op_view(loaded: &LoadedPlan, place: usize) -> OpView
         mark: operation.mark,
         held: operation.held,
         nop: operation.nop,
-        priority: loaded.contents.occurrences[occurrence].1.priority,
-        status: status_with(&operation, attribute, &standing),
-        latest,
-        waiting: standing.waiting,
+        priority: occurrence.priority,
+        status: shown.statuses[place],
+        latest: shown.latest.of(place),
+        waiting: shown.standings[place].waiting,
     }
 }
 
 /// The view of the occurrence at an index.
-pub(crate) fn occ_view(loaded: &LoadedPlan, place: usize) -> OccView
-    requires held { IsHeldAtSome loaded.now }
-    requires within { place < length loaded.now.contents.occurrences.items }
-    ensures { slice_get (occ_views loaded.now) place ≡ Some result }
+pub(crate) fn occ_view(shown: Shown<'_>, place: usize) -> OccView
+    requires shown { IsShown shown }
+    requires within { place < length (entries shown.contents.now.occurrences) }
+    ensures { slice_get (occ_views shown.entry) place ≡ Some result }
 {
-    let (key, terms) = loaded.contents.occurrences[place];
-    let counts = loaded.tallies[place];
+    let (key, terms) = shown.contents.occurrences()[place];
+    let counts = shown.tallies[place];
     OccView {
         key,
         priority: terms.priority,

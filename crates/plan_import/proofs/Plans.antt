@@ -2,9 +2,9 @@
 use Rattle.std.proofs.Common.{◌≡◌, ℕ, List, Option, Some, None, IfSome, MatchOption}
 use Rattle.csv.specs.Reading.{strip_bom, default_config}
 use Rattle.csv.specs.declared.parser.State.TheVariants as st
-use Rattle.plan_model.specs.Plan.{Plan, AddedParts}
+use Rattle.plan_model.specs.Contents.{Contents, AddedParts}
 use Rattle.plan_items.specs.Items.{Fields}
-use Rattle.plan_records.specs.Records.{Denotes, DenotesAddition}
+use Rattle.plan_drafts.specs.Records.{Denotes, DenotesAddition}
 use Rattle.plan_import.specs.Records.{IsReadingOf}
 use Rattle.plan_import.specs.Texts.{TextDenotes, TextDenotesAddition, ReadsAs}
 use Rattle.plan_import.proofs.Rows.{one_reading}
@@ -20,10 +20,10 @@ denoted_by D (Some text) records None reads denoted = λ x (other, reads_other, 
     denoted x (rw (← same) denotes)
 denoted_by D (Some text) records (Some x) reads denoted = (records, reads, denoted)
 
-pub denoted_by_text : (o : Option (List ℕ)) (records : List Fields) (found : Option Plan)
+pub denoted_by_text : (o : Option (List ℕ)) (records : List Fields) (found : Option Contents)
     → IfSome o (λ text. IsReadingOf (strip_bom text) (Some records))
-    → MatchOption found ((P : Plan) → ¬ Denotes records P) (λ draft. Denotes records draft)
-    → IfSome o (λ text. MatchOption found ((P : Plan) → ¬ TextDenotes text P) (λ draft. TextDenotes text draft))
+    → MatchOption found ((P : Contents) → ¬ Denotes records P) (λ draft. Denotes records draft)
+    → IfSome o (λ text. MatchOption found ((P : Contents) → ¬ TextDenotes text P) (λ draft. TextDenotes text draft))
 denoted_by_text o records found reads denoted = denoted_by Denotes o records found reads denoted
 
 pub addition_by_text : (o : Option (List ℕ)) (records : List Fields) (found : Option AddedParts)

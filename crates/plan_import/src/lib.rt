@@ -5,9 +5,9 @@ ghost use Rattle.std.specs.Prelude.{◌≡◌, ◌↔◌, IfOk, IfSome, MatchOpt
 ghost use Rattle.csv.specs.Records.{fields_of as row_fields};
 ghost use Rattle.csv.specs.Reading.{strip_bom, source_of, reader_state, stops_reader, error_kind};
 ghost use Rattle.csv.specs.declared.parser.State.TheVariants as st;
-ghost use Rattle.plan_model.specs.Plan.{Plan, AddedParts};
+ghost use Rattle.plan_model.specs.Contents.{Contents, AddedParts};
 ghost use Rattle.plan_items.specs.Items.{fields_of};
-ghost use Rattle.plan_records.specs.Records.{records_of};
+ghost use Rattle.plan_drafts.specs.Records.{records_of};
 ghost use Rattle.plan_import.specs.Records.{IsReadingOf, IsPlain, TurnsTo};
 ghost use Rattle.plan_import.specs.Texts.{TextDenotes, TextDenotesAddition};
 ghost use Rattle.plan_basics.specs.Watched.{inner_of, failed_of};
@@ -183,7 +183,7 @@ pub fn read_plan<R: Read>(
     reader: &mut Watched<R>,
 ) -> Result<Option<PlanDraft>, ImportFault>
     ensures plan { IfOk result (λ found. IfSome (R.remaining (inner_of reader.old)) (λ text.
-        MatchOption found ((P : Plan) → ¬ TextDenotes text P) (λ draft. TextDenotes text draft))) }
+        MatchOption found ((P : Contents) → ¬ TextDenotes text P) (λ draft. TextDenotes text draft))) }
     ensures reader_fault { (result ≡ Err ImportFault.Reader) ↔ (failed_of reader.new ≡ true) }
 {
     let Some(records) = read_records(alloc, reader)? else {

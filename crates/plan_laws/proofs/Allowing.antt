@@ -17,14 +17,14 @@ use Rattle.status_rules.specs.declared.Status.TheVariants as status
 use Rattle.workstations.specs.Workstations.{HasCapacity, HasRoom, Workstation, capacity_of}
 use Rattle.workstations.specs.declared.Capacity.{Capacity}
 use Rattle.plan_laws.proofs.Entries.{same_operation, told_at, told_each_at, told_entries, told_entry, told_has, told_operations}
-use Rattle.plan_laws.proofs.Looks.{none_is_not_some, same_some}
+use Rattle.std.proofs.lemmas.Option.{none-some, same_Some}
 use Rattle.plan_laws.proofs.Numbers.{told_refusals}
 use Rattle.plan_laws.proofs.Readying.{ready_told}
 use Rattle.plan_laws.proofs.Standing.{status_told}
 use Rattle.plan_laws.proofs.Decide.{told_attribute}
 use Rattle.operation_graph.proofs.Telling.{Told, told_alike, told_and, told_if_then, told_none, told_or, told_true}
 use Rattle.plan_model.specs.Holdings.{Holds, given_out, holds_resource, takes}
-use Rattle.plan_model.specs.Plan.{HasAttribute, Operation, Plan, attribute_at}
+use Rattle.plan_model.specs.Contents.{Contents, HasAttribute, Operation, attribute_at}
 use Rattle.plan_model.specs.Starts.{FitsAt, IsAllowedToStart, MayStart}
 use Rattle.plan_model.specs.Status.{HasStatus, IsReady}
 use Rattle.plan_model.specs.Valid.{IsAcyclic}
@@ -33,8 +33,8 @@ pub told_le : (a b : ℕ) → Told (a ≤ b)
 told_le a b = elim (cases_lt b a) [ inl less ↦ inr (λ h. omega (arith, less, h)) | inr le ↦ inl le ]
 
 pub told_available : (x : Option Bool) (b : Bool) → Told (x ≡ Some b)
-told_available None b = inr (λ e. none_is_not_some b e)
-told_available (Some a) b = told_alike (λ e. ap Some e) (λ e. same_some a b e) (told_true a b)
+told_available None b = inr (λ e. none-some b e)
+told_available (Some a) b = told_alike (λ e. ap Some e) (λ e. same_Some a b e) (told_true a b)
 
 told_shared : (m : Mode) → Told (m ≡ mode.Shared)
 told_shared mode.Shared = inl refl
@@ -64,7 +64,7 @@ module _ (w : Workstation) (m : ℕ) where
   room_told taken r1 r2 refusal.NoFixed = each_capacity (λ c. (taken.r1 + r1 ≤ c.r1) × (taken.r2 + r2 ≤ c.r2)) (λ c. told_and (told_le _ _) (λ _. told_le _ _))
   room_told taken r1 r2 line = inl tt
 
-module _ (P : Plan) where
+module _ (P : Contents) where
   fits_told : (op : Operation) (m : ℕ) (line : Refusal) → Told (FitsAt P op m line)
   fits_told op m line = told_at P.workstations op.workstation (λ ws. HasRoom ws m (given_out P op.workstation) op.r1 op.r2 line) (λ ws e. room_told ws m (given_out P op.workstation) op.r1 op.r2 line)
 

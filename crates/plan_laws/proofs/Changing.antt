@@ -2,7 +2,7 @@
 use Rattle.std.proofs.Common.{◌≡◌, ◌⊎◌, inl, inr, refl, sym, ◌∙◌, ap, subst, true≢false, ◌+◌, ◌≤◌, Bool, true, false, cond, List, Option, Some, None, option_map, is_some}
 use Rattle.std.specs.Ordering.{eq_by_cmp}
 use Rattle.std.specs.Cmp.{Equal-is}
-use Rattle.std.specs.FinMap.{get, insert, get-insert, len, len-insert, contains_key, get-empty}
+use Rattle.std.specs.FinMap.{get, insert, get-insert, len, len-insert, contains_key}
 use Rattle.std.proofs.lemmas.Bool.{cond_both}
 use Rattle.plan_basics.specs.declared.limits.TheConstants.{MOST_RESOURCES, MOST_WORKSTATIONS}
 use Rattle.plan_basics.specs.declared.Refusal.TheVariants as refusal
@@ -14,13 +14,15 @@ use Rattle.plan_basics.specs.Intervals.{OpenInterval}
 use Rattle.plan_basics.specs.Keys.{Name, name_cmp, name_cmp-IsAntisymmetric, name_cmp_total}
 use Rattle.plan_basics.specs.Names.{IsName}
 use Rattle.plan_basics.specs.declared.keys.OpKey.{OpKey}
-use Rattle.plan_laws.proofs.Looks.{found_key, mapped, same_some}
+use Rattle.plan_drafts.proofs.Tables.{is_found}
+use Rattle.plan_drafts.proofs.Needed.{mapped}
+use Rattle.std.proofs.lemmas.Option.{same_Some}
 use Rattle.plan_model.specs.Holdings.{Holds, holds_resource, takes}
-use Rattle.plan_model.specs.Plan.{Operation, Plan, attribute_at, no_plan}
+use Rattle.plan_model.specs.Contents.{Contents, Operation, attribute_at}
 use Rattle.plan_model.specs.Revise.{get-revise, len-revise, revise}
 use Rattle.plan_model.specs.Status.{IsSatisfied, NeedsNoReport}
 use Rattle.plan_model.specs.Valid.{IsSound, MayBear}
-use Rattle.plan_records.specs.Drafts.{IsDraft}
+use Rattle.plan_drafts.specs.Drafts.{IsDraft}
 use Rattle.plan_records.specs.Laws.{ChangeKeepsSound}
 use Rattle.special_resources.specs.Holders.{Usage}
 use Rattle.status_rules.specs.LeastSet.{LeastSet, by_all_before, by_given}
@@ -30,7 +32,7 @@ use Rattle.workstations.specs.Workstations.{IsWorkstation, Workstation, with_int
 
 -- ---- a load
 
-pub draft_is_sound : (P : Plan) → IsDraft P → IsSound P
+pub draft_is_sound : (P : Contents) → IsDraft P → IsSound P
 draft_is_sound P d = record {
   valid = d.valid;
   in_order = λ o h. absurd (h.2.0 (d.untouched o h.0 h.1).0);
@@ -38,11 +40,10 @@ draft_is_sound P d = record {
   held = λ o op e h. inl (d.untouched o op e).0;
   marks = λ o op a e w. subst (MayBear a) (sym (d.untouched o op e).0) tt;
   deleted = λ a b e ha op hb. absurd (let k : mark.Unmarked ≡ mark.Deleted = sym (d.untouched a ha.0 ha.1).0 ∙ ha.2 in cc);
-  before_load = λ h. absurd (true≢false (sym d.loaded ∙ h));
 }
 
-pub load_keeps_sound : (d : Plan) → ChangeKeepsSound (what.Load (Some d))
-load_keeps_sound d P Q at sound may request c = subst IsSound (same_some d Q c) (draft_is_sound d request)
+pub load_keeps_sound : (d : Contents) → ChangeKeepsSound (what.Load (Some d))
+load_keeps_sound d P Q at sound may request c = subst IsSound (same_Some d Q c) (draft_is_sound d request)
 
 -- ---- availability
 
@@ -54,8 +55,8 @@ or_found : {X : Type 0} (b : Bool) (v : X) (x : Option X) → is_some x ≡ true
 or_found true v x e = refl
 or_found false v x e = e
 
-module _ (P : Plan) (sound : IsSound P) (r : Name) (available : Bool) (known : contains_key P.resources r ≡ true) where
-  abbrev after : Plan
+module _ (P : Contents) (sound : IsSound P) (r : Name) (available : Bool) (known : contains_key P.resources r ≡ true) where
+  abbrev after : Contents
   after = record P { resources = insert P.resources r available }
 
   still_there : (n : Name) → contains_key P.resources n ≡ true → contains_key after.resources n ≡ true
@@ -73,7 +74,6 @@ module _ (P : Plan) (sound : IsSound P) (r : Name) (available : Bool) (known : c
   pub availability_is_sound : IsSound after
   availability_is_sound = let v = sound.valid in record {
     valid = record {
-      clock = v.clock;
       workstations = v.workstations;
       resources = λ n h. v.resources n (was_there n h);
       occurrences = v.occurrences;
@@ -88,14 +88,10 @@ module _ (P : Plan) (sound : IsSound P) (r : Name) (available : Bool) (known : c
     held = sound.held;
     marks = sound.marks;
     deleted = sound.deleted;
-    before_load = λ h. absurd (none_is_known (ap (λ X. contains_key X.resources r) (sym (sound.before_load h)) ∙ known));
   }
-    where
-      none_is_known : contains_key no_plan.resources r ≡ true → ⊥
-      none_is_known e = true≢false (sym e ∙ ap is_some (get-empty name_cmp r))
 
 pub availability_keeps_sound : (r : Name) (available : Bool) → ChangeKeepsSound (what.SetAvailable r available)
-availability_keeps_sound r available P Q at sound may request c = subst IsSound (sym c) (availability_is_sound P sound r available (may refusal.UnknownResource))
+availability_keeps_sound r available P Q at sound may request c = subst IsSound (sym c) (availability_is_sound P.contents sound.contents r available (may refusal.UnknownResource))
 
 -- ---- intervals
 
@@ -104,8 +100,8 @@ pub widened : {K : Type 0} {g p : K → Type 0} {b : K → K → Type 0} {h q : 
 widened f k d (by_given a) = by_given (f _ a)
 widened f k d (by_all_before a all) = by_all_before (k _ a) (λ y e. widened f k d (all y (d y _ e)))
 
-module _ (P : Plan) (sound : IsSound P) (w : Name) (known : contains_key P.workstations w ≡ true) (items : List OpenInterval) (fine : (ws : Workstation) → IsWorkstation (with_intervals items ws)) where
-  abbrev reopened : Plan
+module _ (P : Contents) (sound : IsSound P) (w : Name) (known : contains_key P.workstations w ≡ true) (items : List OpenInterval) (fine : (ws : Workstation) → IsWorkstation (with_intervals items ws)) where
+  abbrev reopened : Contents
   reopened = record P { workstations = revise (λ v ws. cond (eq_by_cmp name_cmp v w) (with_intervals items ws) ws) P.workstations }
 
   found_at : (v : Name) → get reopened.workstations v ≡ option_map (λ ws. cond (eq_by_cmp name_cmp v w) (with_intervals items ws) ws) (get P.workstations v)
@@ -130,7 +126,7 @@ module _ (P : Plan) (sound : IsSound P) (w : Name) (known : contains_key P.works
   held_before q r x h = (h.0, h.1, (h.2.0, ap takes (sym (same_attribute h.0.workstation)) ∙ h.2.1, h.2.2))
 
   still_known : (v : Name) → contains_key P.workstations v ≡ true → contains_key reopened.workstations v ≡ true
-  still_known v h = let one = found_key (get P.workstations v) h in ap is_some (found_at v ∙ ap (option_map (λ ws. cond (eq_by_cmp name_cmp v w) (with_intervals items ws) ws)) one.1)
+  still_known v h = let one = is_found (get P.workstations v) h in ap is_some (found_at v ∙ ap (option_map (λ ws. cond (eq_by_cmp name_cmp v w) (with_intervals items ws) ws)) one.1)
 
   each_workstation : (v : Name) (ws : Workstation) → get reopened.workstations v ≡ Some ws → IsName 4 v × IsWorkstation ws
   each_workstation v ws e =
@@ -141,7 +137,6 @@ module _ (P : Plan) (sound : IsSound P) (w : Name) (known : contains_key P.works
   pub intervals_are_sound : IsSound reopened
   intervals_are_sound = let v = sound.valid in record {
     valid = record {
-      clock = v.clock;
       workstations = each_workstation;
       resources = v.resources;
       occurrences = v.occurrences;
@@ -156,12 +151,8 @@ module _ (P : Plan) (sound : IsSound P) (w : Name) (known : contains_key P.works
     held = sound.held;
     marks = λ o op a e on. sound.marks o op a e (sym (same_attribute op.workstation) ∙ on);
     deleted = sound.deleted;
-    before_load = λ h. absurd (none_is_known (ap (λ X. contains_key X.workstations w) (sym (sound.before_load h)) ∙ known));
   }
-    where
-      none_is_known : contains_key no_plan.workstations w ≡ true → ⊥
-      none_is_known e = true≢false (sym e ∙ ap is_some (get-empty name_cmp w))
 
 pub intervals_keep_sound : (w : Name) (items : Vec Interval Global) → ChangeKeepsSound (what.ReplaceIntervals w items)
 intervals_keep_sound w items P Q at sound may request c =
-    subst IsSound (sym c) (intervals_are_sound P sound w (may refusal.UnknownWorkstation) items.items (opened_is items.items request (may refusal.BadPlan) (may refusal.Limit)))
+    subst IsSound (sym c) (intervals_are_sound P.contents sound.contents w (may refusal.UnknownWorkstation) items.items (opened_is items.items request (may refusal.BadPlan) (may refusal.Limit)))

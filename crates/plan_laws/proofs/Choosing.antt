@@ -10,7 +10,7 @@ use Rattle.plan_laws.proofs.Readying.{once, one_entry, ready_list}
 use Rattle.plan_laws.proofs.Decide.{told_attribute}
 use Rattle.operation_graph.proofs.Telling.{Told}
 use Rattle.plan_laws.specs.Derived.{SomeChoice}
-use Rattle.plan_model.specs.Plan.{HasAttribute}
+use Rattle.plan_model.specs.Contents.{HasAttribute}
 use Rattle.plan_model.specs.Ready.{IsOnAutomatic, named}
 use Rattle.plan_model.specs.Starts.{IsAllowedToStart}
 
@@ -41,5 +41,5 @@ some_choice P m valid =
     (λ o. told_has P o (λ op. HasAttribute P op.workstation Automatic) (λ op e. told_attribute P op.workstation Automatic))
     (λ os o. allowed_told (named os P) valid.acyclic o m)
     (operations_of keys.0)
-    (once keys.0 keys.1.ascends (λ k l hk hl. one_entry P valid k l ((keys.1.has_all k).0 hk) ((keys.1.has_all l).0 hl))) in
+    (once keys.0 keys.1.ascends (λ k l hk hl. one_entry P k l ((keys.1.has_all k).0 hk) ((keys.1.has_all l).0 hl))) in
     (c.0, record { ready = keys.0; is_ready_list = keys.1; choice = c.1 })

@@ -9,15 +9,15 @@ use Rattle.status_rules.specs.declared.Mark.{Mark}
 use Rattle.status_rules.specs.declared.Mark.TheVariants as mark
 use Rattle.status_rules.specs.declared.Status.{Status}
 use Rattle.status_rules.specs.declared.Status.TheVariants as status
-use Rattle.plan_model.specs.Plan.{Operation, Plan}
+use Rattle.plan_model.specs.Contents.{Contents, Operation}
 use Rattle.plan_model.specs.Status.{HasStatus, IsReady, IsSatisfied, IsUnderWay, IsWaitingOrReady, UnmarkedStatus}
 use Rattle.plan_laws.proofs.Decide.{invert}
-use Rattle.plan_laws.proofs.Looks.{same_some}
+use Rattle.std.proofs.lemmas.Option.{same_Some}
 use Rattle.plan_laws.proofs.Standing.{one_status}
 use Rattle.plan_laws.proofs.Tables.{by_mark_of}
 use Rattle.plan_laws.specs.Derived.{ClassesOfStatus, SatisfiedByStatus}
 
-module _ (P : Plan) (o : OpKey) where
+module _ (P : Contents) (o : OpKey) where
   pub ready_by : (s : Status) → HasStatus P o s → is_ready s ≡ true → IsReady P o
   ready_by status.Arriving h e = inl h
   ready_by status.ReadyAfterNonreporting h e = inr (inl h)
@@ -69,7 +69,7 @@ module _ (P : Plan) (o : OpKey) where
     its_mark : IsSatisfied P o → (op.mark ≡ mark.Done) ⊎ (op.mark ≡ mark.Deleted) ⊎ (op.mark ≡ mark.Unmarked)
     its_mark h =
         let c = invert P h in
-        subst (λ (x : Operation). (x.mark ≡ mark.Done) ⊎ (x.mark ≡ mark.Deleted) ⊎ (x.mark ≡ mark.Unmarked)) (same_some c.0 op (sym c.1 ∙ is))
+        subst (λ (x : Operation). (x.mark ≡ mark.Done) ⊎ (x.mark ≡ mark.Deleted) ⊎ (x.mark ≡ mark.Unmarked)) (same_Some c.0 op (sym c.1 ∙ is))
         (elim c.2 [ inl done ↦ inl done | inr (inl deleted) ↦ inr (inl deleted) | inr (inr u) ↦ inr (inr u.0) ])
 
     satisfied_by : (m : Mark) → op.mark ≡ m → (s : Status) → Says m s → is_satisfied s ≡ true → IsSatisfied P o

@@ -14,27 +14,27 @@ use Rattle.plan_basics.specs.declared.Refusal.{Refusal}
 use Rattle.plan_basics.specs.declared.keys.OpKey.{OpKey}
 use Rattle.plan_laws.proofs.Pairs.{pair_cmp_total, pair_same}
 use Rattle.plan_laws.proofs.Flags.{waiting_not_satisfied, waiting_unmarked}
-use Rattle.plan_laws.proofs.Looks.{found_key, same_some}
+use Rattle.plan_drafts.proofs.Tables.{is_found}
+use Rattle.std.proofs.lemmas.Option.{same_Some}
 use Rattle.plan_model.specs.Holdings.{Holds, holds_resource}
-use Rattle.plan_model.specs.Plan.{IsInPlan, IsLive, IsPairOf, LivePredecessor, Occurrences, Operation, Operations, Pairs, Plan, AddedParts, pair_cmp}
+use Rattle.plan_model.specs.Contents.{Contents, IsInPlan, IsLive, IsPairOf, LivePredecessor, Occurrences, Operation, Operations, Pairs, AddedParts, pair_cmp}
 use Rattle.plan_model.specs.Revise.{get-joined, joined, or_else}
 use Rattle.plan_model.specs.Status.{AllPredecessorsSatisfied, IsSatisfied, IsWaitingOrReady}
 use Rattle.plan_model.specs.Valid.{AreOccurrences, IsSound, IsUntouched, IsValid, MayBear}
 use Rattle.plan_records.specs.Acceptance.{IsNew, IsOld, MayBeAdded}
 use Rattle.plan_records.specs.Changes.{with_added}
-use Rattle.plan_records.specs.Drafts.{IsAddition, IsOwn}
+use Rattle.plan_drafts.specs.Drafts.{IsAddition, IsOwn}
 use Rattle.plan_records.specs.Laws.{ChangeKeepsSound}
 use Rattle.special_resources.specs.Holders.{Usage}
 use Rattle.status_rules.specs.LeastSet.{by_all_before, by_given}
 use Rattle.status_rules.specs.Table.{marked_status}
 
-module _ (P : Plan) (sound : IsSound P) (occurrences : Occurrences) (operations : Operations) (pairs : Pairs) where
-  abbrev grown : Plan
+module _ (P : Contents) (sound : IsSound P) (occurrences : Occurrences) (operations : Operations) (pairs : Pairs) where
+  abbrev grown : Contents
   grown = record P { occurrences = occurrences; operations = operations; pairs = pairs }
 
   -- what was there stays; what is new is untouched, and of new occurrences; new pairs lead to nothing that is under way
   pub record Grows : Type 0 where
-    pub loaded : P.loaded ≡ true
     pub valid : IsValid grown
     pub old : (o : OpKey) (x : Operation) → get P.operations o ≡ Some x → get operations o ≡ Some x
     pub from : (o : OpKey) (x : Operation) → get operations o ≡ Some x → (get P.operations o ≡ Some x) ⊎ (IsUntouched x × (contains_key P.occurrences o.occurrence ≡ false))
@@ -43,8 +43,8 @@ module _ (P : Plan) (sound : IsSound P) (occurrences : Occurrences) (operations 
   module _ (g : Grows) where
     was_live : (p q : OpKey) → IsPairOf P.pairs p q → IsLive grown p → LivePredecessor P p q
     was_live p q e live =
-        let known = found_key (get P.operations p) (sound.valid.pairs p q e).0 in
-        (e, (known.0, known.1, subst (λ z. z.mark ≢ mark.Deleted) (same_some live.0 known.0 (sym live.1 ∙ g.old p known.0 known.1)) live.2))
+        let known = is_found (get P.operations p) (sound.valid.pairs p q e).0 in
+        (e, (known.0, known.1, subst (λ z. z.mark ≢ mark.Deleted) (same_Some live.0 known.0 (sym live.1 ∙ g.old p known.0 known.1)) live.2))
 
     still : {q : OpKey} → IsSatisfied P q → IsSatisfied grown q
     still {q} (by_given h) = by_given (h.0, g.old q h.0 h.1, h.2)
@@ -84,15 +84,14 @@ module _ (P : Plan) (sound : IsSound P) (occurrences : Occurrences) (operations 
         ]
         | inr a_new ↦ absurd (let k : mark.Unmarked ≡ mark.Deleted = sym a_new.0.0 ∙ ha.2 in cc)
       ];
-      before_load = λ h. absurd (true≢false (sym g.loaded ∙ h));
     }
 
 -- ---- one more pair
 
-known_in : (P : Plan) (o : OpKey) → IsInPlan P o → contains_key P.operations o ≡ true
+known_in : (P : Contents) (o : OpKey) → IsInPlan P o → contains_key P.operations o ≡ true
 known_in P o h = ap is_some h.1
 
-new_pair : (P : Plan) (p s a b : OpKey) → IsPairOf (set.insert P.pairs (p, s)) a b → ((a ≡ p) × (b ≡ s)) ⊎ IsPairOf P.pairs a b
+new_pair : (P : Contents) (p s a b : OpKey) → IsPairOf (set.insert P.pairs (p, s)) a b → ((a ≡ p) × (b ≡ s)) ⊎ IsPairOf P.pairs a b
 new_pair P p s a b h = elim (or_cases (eq_by_cmp pair_cmp (a, b) (p, s)) (set.contains P.pairs (a, b)) (sym (set.contains-insert pair_cmp_total P.pairs (p, s) (a, b)) ∙ h)) [
   | inl e ↦ inl (pair_same a b p s e)
   | inr old ↦ inr old
@@ -101,18 +100,16 @@ new_pair P p s a b h = elim (or_cases (eq_by_cmp pair_cmp (a, b) (p, s)) (set.co
 pub pair_keeps_sound : (p s : OpKey) → ChangeKeepsSound (what.AddDependency p s)
 pair_keeps_sound p s P Q at sound may request c =
     let known = may refusal.UnknownOperation in
-    let v = sound.valid in
-    subst IsSound (sym c) (growth_is_sound P sound P.occurrences P.operations (set.insert P.pairs (p, s)) (record {
-      loaded = may refusal.NotLoaded tt;
+    let v = sound.contents.valid in
+    subst IsSound (sym c) (growth_is_sound P.contents sound.contents P.contents.occurrences P.contents.operations (set.insert P.contents.pairs (p, s)) (record {
       valid = record {
-        clock = v.clock;
         workstations = v.workstations;
         resources = v.resources;
         occurrences = v.occurrences;
         have_workstations = v.have_workstations;
         have_resources = v.have_resources;
-        pairs = λ a b h. elim (new_pair P p s a b h) [
-          | inl e ↦ (subst (λ z. contains_key P.operations z ≡ true) (sym e.0) (known_in P p known.0), subst (λ z. contains_key P.operations z ≡ true) (sym e.1) (known_in P s known.1))
+        pairs = λ a b h. elim (new_pair P.contents p s a b h) [
+          | inl e ↦ (subst (λ z. contains_key P.contents.operations z ≡ true) (sym e.0) (known_in P.contents p known.0), subst (λ z. contains_key P.contents.operations z ≡ true) (sym e.1) (known_in P.contents s known.1))
           | inr old ↦ v.pairs a b old
         ];
         acyclic = may refusal.Cycle;
@@ -120,8 +117,8 @@ pair_keeps_sound p s P Q at sound may request c =
       };
       old = λ o x e. e;
       from = λ o x e. inl e;
-      onto = λ a b h. elim (new_pair P p s a b h) [
-        | inl e ↦ inr (λ k. subst (IsWaitingOrReady P) (sym e.1) (may refusal.WrongStatus).1)
+      onto = λ a b h. elim (new_pair P.contents p s a b h) [
+        | inl e ↦ inr (λ k. subst (IsWaitingOrReady P.contents) (sym e.1) (may refusal.WrongStatus).1)
         | inr old ↦ inl old
       ];
     }))
@@ -151,13 +148,13 @@ joined_first : {K X : Type 0} {R : K → K → Ordering} → IsTotalOrder R → 
 joined_first o m n q e = ap is_some (get-joined o m n q) ∙ in_first (get n q) (get m q) e
 
 joined_known : {K X : Type 0} {R : K → K → Ordering} → IsTotalOrder R → (m n : FinMap R X) (q : K) → contains_key (joined m n) q ≡ true → (contains_key n q ≡ true) ⊎ (contains_key m q ≡ true)
-joined_known o m n q e = let one = found_key (get (joined m n) q) e in elim (joined_cases o m n q one.0 one.1) [ inl a ↦ inl (ap is_some a) | inr b ↦ inr (ap is_some b) ]
+joined_known o m n q e = let one = is_found (get (joined m n) q) e in elim (joined_cases o m n q one.0 one.1) [ inl a ↦ inl (ap is_some a) | inr b ↦ inr (ap is_some b) ]
 
 only_first : {X : Type 0} (a b : Option X) (x : X) → (is_some a ≡ true → ⊥) → b ≡ Some x → or_else a b ≡ Some x
 only_first (Some y) b x never e = absurd (never refl)
 only_first None b x never e = e
 
-module _ (P : Plan) (s : AddedParts) where
+module _ (P : Contents) (s : AddedParts) where
   -- a pair of both together is of the plan, or is added
   pub pair_cases : (p o : OpKey) → IsPairOf (with_added P s).pairs p o → IsPairOf P.pairs p o ⊎ IsPairOf s.pairs p o
   pair_cases p o h = or_cases (set.contains P.pairs (p, o)) (set.contains s.pairs (p, o)) (sym (set.contains-union pair_cmp_total P.pairs s.pairs (p, o)) ∙ h)
@@ -175,12 +172,12 @@ module _ (P : Plan) (s : AddedParts) where
   an_end o (inr old) = from_first o (known_in P o old.0)
 
 -- what is in the plan is of none of the occurrences that are added
-pub not_own : (P : Plan) (s : AddedParts) → IsValid P → MayBeAdded P s refusal.Duplicate → (o : OpKey) → contains_key P.operations o ≡ true → ¬ IsOwn s o
+pub not_own : (P : Contents) (s : AddedParts) → IsValid P → MayBeAdded P s refusal.Duplicate → (o : OpKey) → contains_key P.operations o ≡ true → ¬ IsOwn s o
 not_own P s valid new o h own =
-    let known = found_key (get P.operations o) h in
+    let known = is_found (get P.operations o) h in
     true≢false (sym (valid.occurrences.each_operation o known.0 known.1).1 ∙ new o.occurrence own)
 
-module _ (P : Plan) (sound : IsSound P) (s : AddedParts) (addition : IsAddition s) (may : (r : Refusal) → MayBeAdded P s r) (loaded : P.loaded ≡ true) where
+module _ (P : Contents) (sound : IsSound P) (s : AddedParts) (addition : IsAddition s) (may : (r : Refusal) → MayBeAdded P s r) where
   own : (o : OpKey) (x : Operation) → get s.operations o ≡ Some x → IsOwn s o
   own o x e = (addition.occurrences.each_operation o x e).1
 
@@ -205,9 +202,7 @@ module _ (P : Plan) (sound : IsSound P) (s : AddedParts) (addition : IsAddition 
 
   pub addition_is_sound : IsSound (with_added P s)
   addition_is_sound = growth_is_sound P sound (with_added P s).occurrences (with_added P s).operations (with_added P s).pairs (record {
-    loaded = loaded;
     valid = record {
-      clock = sound.valid.clock;
       workstations = sound.valid.workstations;
       resources = sound.valid.resources;
       occurrences = occurrences_of_both;
@@ -220,7 +215,7 @@ module _ (P : Plan) (sound : IsSound P) (s : AddedParts) (addition : IsAddition 
       acyclic = may refusal.Cycle;
       limits = may refusal.Limit;
     };
-    old = λ o x e. get-joined operation_cmp_total P.operations s.operations o ∙ only_first (get s.operations o) (get P.operations o) x (λ h. let one = found_key (get s.operations o) h in not_own P s sound.valid (may refusal.Duplicate) o (ap is_some e) (own o one.0 one.1)) e;
+    old = λ o x e. get-joined operation_cmp_total P.operations s.operations o ∙ only_first (get s.operations o) (get P.operations o) x (λ h. let one = is_found (get s.operations o) h in not_own P s sound.valid (may refusal.Duplicate) o (ap is_some e) (own o one.0 one.1)) e;
     from = λ o x e. elim (cases o x e) [
       | inl new ↦ inr (addition.untouched o x new, may refusal.Duplicate o.occurrence (own o x new))
       | inr old ↦ inl old
@@ -233,10 +228,10 @@ module _ (P : Plan) (sound : IsSound P) (s : AddedParts) (addition : IsAddition 
 
 pub addition_keeps_sound : (s : AddedParts) → ChangeKeepsSound (what.AddOccurrence (Some s))
 addition_keeps_sound s P Q at sound may request c =
-    let same : s ≡ c.0 = same_some s c.0 c.1 in
-    subst IsSound (ap (with_added P) same ∙ sym c.2) (addition_is_sound P sound s request lines (may refusal.NotLoaded tt))
+    let same : s ≡ c.0 = same_Some s c.0 c.1 in
+    subst IsSound (ap (with_added P.contents) same ∙ sym c.2) (addition_is_sound P.contents sound.contents s request lines)
   where
-    lines : (r : Refusal) → MayBeAdded P s r
+    lines : (r : Refusal) → MayBeAdded P.contents s r
     lines refusal.UnknownOperation = may refusal.UnknownOperation
     lines refusal.UnknownWorkstation = may refusal.UnknownWorkstation
     lines refusal.UnknownResource = may refusal.UnknownResource

@@ -11,26 +11,26 @@ use Rattle.status_rules.specs.LeastSet.{by_all_before, by_given}
 use Rattle.status_rules.specs.declared.Mark.{Mark}
 use Rattle.status_rules.specs.declared.Mark.TheVariants as mark
 use Rattle.plan_laws.proofs.Entries.{told_has, told_operations}
-use Rattle.plan_laws.proofs.Looks.{none_is_not_some, same_some}
+use Rattle.std.proofs.lemmas.Option.{none-some, same_Some}
 use Rattle.operation_graph.proofs.Telling.{Told, if_told, is_told, told_alike, told_and, told_if, told_if_then, told_none, told_or, told_true}
-use Rattle.plan_model.specs.Plan.{Has, HasAttribute, IsLive, LivePredecessor, Operation, Plan, Precedes, attribute_at}
+use Rattle.plan_model.specs.Contents.{Contents, Has, HasAttribute, IsLive, LivePredecessor, Operation, Precedes, attribute_at}
 use Rattle.plan_model.specs.Status.{AllPredecessorsSatisfied, IsInEachClosedSet, IsSatisfied, NeedsNoReport}
 pub use Rattle.plan_laws.proofs.Pairs.{pair_cmp_total, pair_same}
 
 -- why it is satisfied
-abbrev pub SatisfiedCase : Plan → OpKey → Type 0
+abbrev pub SatisfiedCase : Contents → OpKey → Type 0
 SatisfiedCase P o = Has P o (λ op. (op.mark ≡ mark.Done) ⊎ (op.mark ≡ mark.Deleted) ⊎ ((op.mark ≡ mark.Unmarked) × (op.held ≡ false) × NeedsNoReport P op × AllPredecessorsSatisfied P o))
 
-pub invert : (P : Plan) {o : OpKey} → IsSatisfied P o → SatisfiedCase P o
+pub invert : (P : Contents) {o : OpKey} → IsSatisfied P o → SatisfiedCase P o
 invert P (by_given h) = (h.0, h.1, elim h.2 [ inl done ↦ inl done | inr deleted ↦ inr (inl deleted) ])
 invert P (by_all_before h before) = (h.0, h.1, inr (inr (h.2.0, h.2.1, h.2.2, before)))
 
-pub in_each : (P : Plan) {o : OpKey} → IsSatisfied P o → IsInEachClosedSet P o
+pub in_each : (P : Contents) {o : OpKey} → IsSatisfied P o → IsInEachClosedSet P o
 in_each P (by_given h) test closed = closed.by_given _ h
 in_each P (by_all_before h before) test closed = closed.by_all_before _ h (λ p live. in_each P (before p live) test closed)
 
 -- the least set is the least among the tests, where it is one
-pub from_each : (P : Plan) → ((o : OpKey) → Told (IsSatisfied P o)) → (o : OpKey) → IsInEachClosedSet P o → IsSatisfied P o
+pub from_each : (P : Contents) → ((o : OpKey) → Told (IsSatisfied P o)) → (o : OpKey) → IsInEachClosedSet P o → IsSatisfied P o
 from_each P told o h =
     if_told (told o) (h (λ p. is_told (told p)) (record {
       by_given = λ p m. told_if (told p) (by_given m);
@@ -47,29 +47,29 @@ same_attribute attribute.Nonreporting attribute.Nonreporting = inl refl
 same_attribute a b = inr (λ e. cc)
 
 attribute_is : (x : Option Attr) (a : Attr) → Told (x ≡ Some a)
-attribute_is None a = inr (λ e. none_is_not_some a e)
-attribute_is (Some b) a = told_alike (λ e. ap Some e) (λ e. same_some b a e) (same_attribute b a)
+attribute_is None a = inr (λ e. none-some a e)
+attribute_is (Some b) a = told_alike (λ e. ap Some e) (λ e. same_Some b a e) (same_attribute b a)
 
-pub told_attribute : (P : Plan) (w : Name) (a : Attr) → Told (HasAttribute P w a)
+pub told_attribute : (P : Contents) (w : Name) (a : Attr) → Told (HasAttribute P w a)
 told_attribute P w a = attribute_is (attribute_at P w) a
 
 told_deleted : (m : Mark) → Told (m ≡ mark.Deleted)
 told_deleted mark.Deleted = inl refl
 told_deleted m = inr (λ e. cc)
 
-pub told_live : (P : Plan) (p : OpKey) → Told (IsLive P p)
+pub told_live : (P : Contents) (p : OpKey) → Told (IsLive P p)
 told_live P p = told_has P p (λ op. ¬ (op.mark ≡ mark.Deleted)) (λ op e. told_none (told_deleted op.mark))
 
-pub told_live_predecessor : (P : Plan) (p o : OpKey) → Told (LivePredecessor P p o)
+pub told_live_predecessor : (P : Contents) (p o : OpKey) → Told (LivePredecessor P p o)
 told_live_predecessor P p o = told_and (told_true (set.contains P.pairs (p, o)) true) (λ _. told_live P p)
 
 -- ---- one operation
 
-module _ (P : Plan) (o : OpKey) (op : Operation) (is : get P.operations o ≡ Some op) (before : Told (AllPredecessorsSatisfied P o)) where
+module _ (P : Contents) (o : OpKey) (op : Operation) (is : get P.operations o ≡ Some op) (before : Told (AllPredecessorsSatisfied P o)) where
   the_case : {A : Type 0} → ((op.mark ≡ mark.Done) → A) → ((op.mark ≡ mark.Deleted) → A) → ((op.mark ≡ mark.Unmarked) → (op.held ≡ false) → NeedsNoReport P op → AllPredecessorsSatisfied P o → A) → IsSatisfied P o → A
   the_case f g k s =
       let c = invert P s in
-      let e : c.0 ≡ op = same_some c.0 op (sym c.1 ∙ is) in
+      let e : c.0 ≡ op = same_Some c.0 op (sym c.1 ∙ is) in
       let at : ((op.mark ≡ mark.Done) ⊎ (op.mark ≡ mark.Deleted) ⊎ ((op.mark ≡ mark.Unmarked) × (op.held ≡ false) × NeedsNoReport P op × AllPredecessorsSatisfied P o)) = subst (λ x. (x.mark ≡ mark.Done) ⊎ (x.mark ≡ mark.Deleted) ⊎ ((x.mark ≡ mark.Unmarked) × (x.held ≡ false) × NeedsNoReport P x × AllPredecessorsSatisfied P o)) e c.2 in
       elim at [ inl done ↦ f done | inr (inl deleted) ↦ g deleted | inr (inr u) ↦ k u.0 u.1 u.2 u.3 ]
 
@@ -85,11 +85,11 @@ module _ (P : Plan) (o : OpKey) (op : Operation) (is : get P.operations o ≡ So
   by_its_mark mark.Deleted e = inl (by_given (op, is, inr e))
   by_its_mark m e = inr (the_case (λ d. cc) (λ d. cc) (λ u x y z. cc))
 
-told_one : (P : Plan) (o : OpKey) (x : Option Operation) → get P.operations o ≡ x → Told (AllPredecessorsSatisfied P o) → Told (IsSatisfied P o)
-told_one P o None e before = inr (λ s. let c = invert P s in none_is_not_some c.0 (sym e ∙ c.1))
+told_one : (P : Contents) (o : OpKey) (x : Option Operation) → get P.operations o ≡ x → Told (AllPredecessorsSatisfied P o) → Told (IsSatisfied P o)
+told_one P o None e before = inr (λ s. let c = invert P s in none-some c.0 (sym e ∙ c.1))
 told_one P o (Some op) e before = by_its_mark P o op e before op.mark refl
 
-module _ (P : Plan) (rank : OpKey → ℕ) (is_rank : IsRankBy (Precedes P) rank) where
+module _ (P : Contents) (rank : OpKey → ℕ) (is_rank : IsRankBy (Precedes P) rank) where
   told_up_to : (n : ℕ) (o : OpKey) → rank o < n → Told (IsSatisfied P o)
   told_up_to zero o h = absurd (omega arith)
   told_up_to (suc n) o h =

@@ -26,9 +26,10 @@ use Rattle.plan_laws.proofs.Readying.{ready_told}
 use Rattle.plan_laws.proofs.Standing.{status_told}
 use Rattle.plan_laws.proofs.Decide.{told_attribute}
 use Rattle.operation_graph.proofs.Telling.{Told, told_alike, told_and, told_if_then, told_none, told_or, told_true}
-use Rattle.plan_model.specs.Plan.{Operation, Plan, AddedParts, attribute_at}
+use Rattle.plan_model.specs.Plan.{Plan}
+use Rattle.plan_model.specs.Contents.{Contents, Operation, AddedParts, attribute_at}
 use Rattle.plan_model.specs.Valid.{HaveResources, HaveWorkstations, IsAcyclic}
-use Rattle.plan_records.specs.Acceptance.{IsBadText, IsNew, IsOld, MayBeAccepted, MayBeAdded, MayBeCompleted, MayBeDeleted, MayBeDone, MayBeEnded, MayBeFlagged, MayBeInterrupted, MayBeLoaded, MayBeOpenBy, MayBePaired, MayBeRerun, MayBeSetAvailable, MayBeStarted, MayBeUndecided, NeedsPlan, OfOperation, minute_of}
+use Rattle.plan_records.specs.Acceptance.{IsBadText, IsLoad, IsNew, IsOld, MayBeAccepted, MayBeAdded, MayBeCompleted, MayBeDeleted, MayBeDone, MayBeEnded, MayBeFlagged, MayBeInterrupted, MayBeLoaded, MayBeOpenBy, MayBePaired, MayBeRerun, MayBeSetAvailable, MayBeStarted, MayBeUndecided, NeedsPlan, OfOperation, minute_of}
 use Rattle.plan_records.specs.Changes.{with_pair, with_added}
 use Rattle.plan_records.specs.declared.Request.{Request}
 use Rattle.plan_records.specs.declared.What.{What}
@@ -44,7 +45,7 @@ told_apart a b = told_or (told_le a.end b.from) (told_le b.end a.from)
 told_has_key : (b : Bool) → Told (b ≡ true)
 told_has_key b = told_true b true
 
-module _ (P : Plan) (acyclic : IsAcyclic P.pairs) where
+module _ (P : Contents) (acyclic : IsAcyclic P.pairs) where
   -- ---- reports
 
   started_told : (m : ℕ) (o : OpKey) (op : Operation) (a : Option Attr) (r : Refusal) → Told (MayBeStarted P m o op a r)
@@ -137,8 +138,7 @@ module _ (P : Plan) (acyclic : IsAcyclic P.pairs) where
   open_by_told w items refusal.BadPlan = told_pairs_of AreApart told_apart items
   open_by_told w items r = inl tt
 
-  loaded_told : (denotes : Bool) (r : Refusal) → Told (MayBeLoaded P denotes r)
-  loaded_told denotes refusal.Loaded = told_true P.loaded false
+  loaded_told : (denotes : Bool) (r : Refusal) → Told (MayBeLoaded denotes r)
   loaded_told denotes refusal.BadPlan = told_true denotes true
   loaded_told denotes r = inl tt
 
@@ -192,9 +192,14 @@ needs_plan_told : (w : What) → Told (NeedsPlan w)
 needs_plan_told (what.Load draft) = inr (λ h. h)
 needs_plan_told w = inl tt
 
+is_load_told : (w : What) → Told (IsLoad w)
+is_load_told (what.Load draft) = inl tt
+is_load_told w = inr (λ h. h)
+
 -- whether the request may be accepted, under each refusal
-pub accepted_told : (P : Plan) → IsAcyclic P.pairs → (q : Request) (r : Refusal) → Told (MayBeAccepted P q r)
+pub accepted_told : (P : Plan) → IsAcyclic P.contents.pairs → (q : Request) (r : Refusal) → Told (MayBeAccepted P q r)
 accepted_told P acyclic q refusal.Past = not_after (pos P.clock) q.at
 accepted_told P acyclic q refusal.MomentRange = moment_told q.at
 accepted_told P acyclic q refusal.NotLoaded = told_if_then (needs_plan_told q.what) (λ _. told_true P.loaded true)
-accepted_told P acyclic q r = done_told P acyclic (minute_of q.at) q.what r
+accepted_told P acyclic q refusal.Loaded = told_if_then (is_load_told q.what) (λ _. told_true P.loaded false)
+accepted_told P acyclic q r = done_told P.contents acyclic (minute_of q.at) q.what r

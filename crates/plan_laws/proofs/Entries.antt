@@ -5,23 +5,23 @@ use Rattle.std.specs.Cmp.{IsTotalOrder}
 use Rattle.std.specs.FinMap.{FinMap, IsAntisymmetric, get, keys}
 use Rattle.plan_basics.specs.Keys.{operation_cmp-IsAntisymmetric, operation_cmp_total}
 use Rattle.plan_basics.specs.declared.keys.OpKey.{OpKey}
-use Rattle.plan_laws.proofs.Finite.{in_keys}
-use Rattle.plan_laws.proofs.Looks.{none_is_not_some, same_some}
+use Rattle.plan_model.proofs.Members.{in_keys}
+use Rattle.std.proofs.lemmas.Option.{none-some, same_Some}
 use Rattle.operation_graph.proofs.Telling.{Told, told_all, told_any, told_contains, told_equal}
-use Rattle.plan_model.specs.Plan.{Has, IsInPlan, Operation, Plan}
+use Rattle.plan_model.specs.Contents.{Contents, Has, IsInPlan, Operation}
 
 -- the value, if there is one
 found_told : {X : Type 0} (Q : X → Type 0) (x : Option X) → ((v : X) → x ≡ Some v → Told (Q v)) → Told ((v : X) × (x ≡ Some v) × Q v)
-found_told Q None each = inr (λ h. none_is_not_some h.0 h.1)
+found_told Q None each = inr (λ h. none-some h.0 h.1)
 found_told Q (Some v) each = elim (each v refl) [
   | inl q ↦ inl (v, refl, q)
-  | inr never ↦ inr (λ h. never (subst Q (sym (same_some v h.0 h.1)) h.2))
+  | inr never ↦ inr (λ h. never (subst Q (sym (same_Some v h.0 h.1)) h.2))
 ]
 
 each_told : {X : Type 0} (Q : X → Type 0) (x : Option X) → ((v : X) → x ≡ Some v → Told (Q v)) → Told ((v : X) → x ≡ Some v → Q v)
-each_told Q None each = inl (λ v e. absurd (none_is_not_some v e))
+each_told Q None each = inl (λ v e. absurd (none-some v e))
 each_told Q (Some v) each = elim (each v refl) [
-  | inl q ↦ inl (λ u e. subst Q (same_some v u e) q)
+  | inl q ↦ inl (λ u e. subst Q (same_Some v u e) q)
   | inr never ↦ inr (λ h. never (h v refl))
 ]
 
@@ -47,7 +47,7 @@ module _ {K X : Type 0} {R : K → K → Ordering} (m : FinMap R X) where
 pub same_operation : (a b : OpKey) → Told (a ≡ b)
 same_operation = told_equal operation_cmp_total operation_cmp-IsAntisymmetric
 
-module _ (P : Plan) where
+module _ (P : Contents) where
   -- it is so of all operations, where what isn't in the plan has it
   pub told_operations : (Q : OpKey → Type 0) → ((p : OpKey) → Told (Q p)) → ((p : OpKey) → ¬ IsInPlan P p → Q p) → Told ((p : OpKey) → Q p)
   told_operations Q each others = told_all Q each (keys P.operations)

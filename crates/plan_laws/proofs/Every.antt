@@ -9,16 +9,17 @@ use Rattle.operation_graph.specs.Paths.{LeadsBy, by_edge, by_more}
 use Rattle.plan_basics.specs.Keys.{name_cmp, occurrence_cmp, operation_cmp}
 use Rattle.plan_basics.specs.declared.keys.OpKey.{OpKey}
 use Rattle.plan_laws.proofs.Changing.{availability_keeps_sound, intervals_keep_sound, load_keeps_sound}
-use Rattle.plan_laws.proofs.Clock.{step_keeps_sound, tick_keeps_sound}
+use Rattle.plan_laws.proofs.KeptByStep.{step_keeps_sound, tick_keeps_sound}
 use Rattle.plan_laws.proofs.ComingIn.{addition_keeps_sound, pair_keeps_sound}
 use Rattle.plan_laws.proofs.Deleting.{delete_keeps_sound}
 use Rattle.plan_laws.proofs.Flags.{hold_keeps_sound, nop_keeps_sound, release_keeps_sound, unnop_keeps_sound}
-use Rattle.plan_laws.proofs.Looks.{none_is_not_some}
+use Rattle.std.proofs.lemmas.Option.{none-some}
 use Rattle.plan_laws.proofs.Reports.{complete_keeps_sound, end_keeps_sound, error_keeps_sound, interruption_keeps_sound, start_keeps_sound, undecided_keeps_sound}
 use Rattle.plan_laws.proofs.Rerun.{rerun_keeps_sound}
 use Rattle.plan_laws.proofs.Runs.{accepted_call, refused_changes_nothing}
 use Rattle.plan_laws.proofs.Starts.{starts_are_provided_for}
-use Rattle.plan_model.specs.Plan.{IsPairOf, Operation, Plan, no_plan, pair_cmp}
+use Rattle.plan_model.specs.Plan.{Plan, no_plan, IsSoundPlan}
+use Rattle.plan_model.specs.Contents.{nothing, IsPairOf, Operation, pair_cmp}
 use Rattle.plan_model.specs.declared.Occurrence.{Occurrence}
 use Rattle.plan_model.specs.Status.{HasStatus}
 use Rattle.plan_model.specs.Valid.{IsSound}
@@ -30,7 +31,7 @@ use Rattle.plan_records.specs.declared.What.{What}
 use Rattle.workstations.specs.Workstations.{Workstation}
 
 pub every_change_keeps_sound : (w : What) → ChangeKeepsSound w
-every_change_keeps_sound (what.Load None) = λ P Q at sound may request c. absurd (none_is_not_some Q c)
+every_change_keeps_sound (what.Load None) = λ P Q at sound may request c. absurd (none-some Q c)
 every_change_keeps_sound (what.Load (Some d)) = load_keeps_sound d
 every_change_keeps_sound what.Tick = tick_keeps_sound
 every_change_keeps_sound (what.Started o) = start_keeps_sound o
@@ -45,7 +46,7 @@ every_change_keeps_sound (what.Unnop o) = unnop_keeps_sound o
 every_change_keeps_sound (what.Rerun o) = rerun_keeps_sound o
 every_change_keeps_sound (what.Complete o) = complete_keeps_sound o
 every_change_keeps_sound (what.DeleteOccurrence c) = delete_keeps_sound c
-every_change_keeps_sound (what.AddOccurrence None) = λ P Q at sound may request c. absurd (none_is_not_some c.0 c.1)
+every_change_keeps_sound (what.AddOccurrence None) = λ P Q at sound may request c. absurd (none-some c.0 c.1)
 every_change_keeps_sound (what.AddOccurrence (Some s)) = addition_keeps_sound s
 every_change_keeps_sound (what.AddDependency p s) = pair_keeps_sound p s
 every_change_keeps_sound (what.SetAvailable r available) = availability_keeps_sound r available
@@ -65,15 +66,15 @@ accepted_step s t (plain q) chosen h = inl h.0
 accepted_step s t (numbered n) chosen (inl again) = inr again.1
 accepted_step s t (numbered n) chosen (inr new) = inl (as_step s.plan s.receipts n chosen t.plan new.2)
 
-pub answer_keeps_sound : (s t : State) (u v : Usable) (c : Call) (reply : Answer) → IsSound s.plan → Answers s u c reply t v → IsSound t.plan
-answer_keeps_sound s t u v c (refused r) sound h = subst (λ x. IsSound x.plan) (sym (refused_changes_nothing s t u v c r h)) sound
+pub answer_keeps_sound : (s t : State) (u v : Usable) (c : Call) (reply : Answer) → IsSoundPlan s.plan → Answers s u c reply t v → IsSoundPlan t.plan
+answer_keeps_sound s t u v c (refused r) sound h = subst (λ x. IsSoundPlan x.plan) (sym (refused_changes_nothing s t u v c r h)) sound
 answer_keeps_sound s t u v c (accepted chosen) sound h = elim (accepted_step s t c chosen (accepted_call s t u v c chosen h)) [
   | inl step ↦ every_step_keeps_sound s.plan t.plan (request_of c) (accepted chosen) sound step
-  | inr same ↦ subst IsSound (sym same) sound
+  | inr same ↦ subst IsSoundPlan (sym same) sound
 ]
 
 pub run_keeps_sound : RunKeepsSound
-run_keeps_sound s t u v [] [] sound h = subst (λ x. IsSound x.plan) (sym h.0) sound
+run_keeps_sound s t u v [] [] sound h = subst (λ x. IsSoundPlan x.plan) (sym h.0) sound
 run_keeps_sound s t u v (c ∷ cs) (reply ∷ replies) sound h = run_keeps_sound h.0 t h.1 v cs replies (answer_keeps_sound s h.0 u h.1 c reply sound h.2) h.3
 run_keeps_sound s t u v [] (reply ∷ replies) sound h = absurd h
 run_keeps_sound s t u v (c ∷ cs) [] sound h = absurd h
@@ -81,7 +82,7 @@ run_keeps_sound s t u v (c ∷ cs) [] sound h = absurd h
 -- ---- from the empty plan
 
 pub nothing_at : {A B : Type 0} (x : Option A) (a : A) → x ≡ None → x ≡ Some a → B
-nothing_at x a e h = absurd (none_is_not_some a (sym e ∙ h))
+nothing_at x a e h = absurd (none-some a (sym e ∙ h))
 
 nothing_known : {A B : Type 0} (x : Option A) → x ≡ None → is_some x ≡ true → B
 nothing_known x e h = absurd (true≢false (sym h ∙ ap is_some e))
@@ -90,22 +91,21 @@ no_path : {K : Type 0} {edge : K → K → Type 0} → ((a b : K) → edge a b �
 no_path none (by_edge e) = none _ _ e
 no_path none (by_more e rest) = none _ _ e
 
-no_pair : (p o : OpKey) → IsPairOf no_plan.pairs p o → ⊥
+no_pair : (p o : OpKey) → IsPairOf nothing.pairs p o → ⊥
 no_pair p o h = true≢false (sym h ∙ set.contains-empty pair_cmp (p, o))
 
-pub no_plan_is_sound : IsSound no_plan
-no_plan_is_sound = record {
+nothing_is_sound : IsSound nothing
+nothing_is_sound = record {
   valid = record {
-    clock = omega arith;
-    workstations = λ w ws e. nothing_at (get no_plan.workstations w) ws (get-empty name_cmp w) e;
-    resources = λ r h. nothing_known (get no_plan.resources r) (get-empty name_cmp r) h;
+    workstations = λ w ws e. nothing_at (get nothing.workstations w) ws (get-empty name_cmp w) e;
+    resources = λ r h. nothing_known (get nothing.resources r) (get-empty name_cmp r) h;
     occurrences = record {
-      each_occurrence = λ c x e. nothing_at (get no_plan.occurrences c) x (get-empty occurrence_cmp c) e;
-      each_operation = λ o x e. nothing_at (get no_plan.operations o) x (get-empty operation_cmp o) e;
-      not_empty = λ c h. nothing_known (get no_plan.occurrences c) (get-empty occurrence_cmp c) h;
+      each_occurrence = λ c x e. nothing_at (get nothing.occurrences c) x (get-empty occurrence_cmp c) e;
+      each_operation = λ o x e. nothing_at (get nothing.operations o) x (get-empty operation_cmp o) e;
+      not_empty = λ c h. nothing_known (get nothing.occurrences c) (get-empty occurrence_cmp c) h;
     };
-    have_workstations = λ o op e. nothing_at (get no_plan.operations o) op (get-empty operation_cmp o) e;
-    have_resources = λ o op e. nothing_at (get no_plan.operations o) op (get-empty operation_cmp o) e;
+    have_workstations = λ o op e. nothing_at (get nothing.operations o) op (get-empty operation_cmp o) e;
+    have_resources = λ o op e. nothing_at (get nothing.operations o) op (get-empty operation_cmp o) e;
     pairs = λ p o h. absurd (no_pair p o h);
     acyclic = λ o h. no_path no_pair h;
     limits = record {
@@ -116,19 +116,21 @@ no_plan_is_sound = record {
       pairs = rw (set.len-empty pair_cmp) (omega arith);
     };
   };
-  in_order = λ o h. nothing_at (get no_plan.operations o) h.0 (get-empty operation_cmp o) h.1;
-  compatible = λ a b r x y apart ha hb. nothing_at (get no_plan.operations a) ha.0 (get-empty operation_cmp a) ha.1;
-  held = λ o op e h. nothing_at (get no_plan.operations o) op (get-empty operation_cmp o) e;
-  marks = λ o op a e w. nothing_at (get no_plan.operations o) op (get-empty operation_cmp o) e;
-  deleted = λ a b e ha op hb. nothing_at (get no_plan.operations a) ha.0 (get-empty operation_cmp a) ha.1;
-  before_load = λ h. refl;
+  in_order = λ o h. nothing_at (get nothing.operations o) h.0 (get-empty operation_cmp o) h.1;
+  compatible = λ a b r x y apart ha hb. nothing_at (get nothing.operations a) ha.0 (get-empty operation_cmp a) ha.1;
+  held = λ o op e h. nothing_at (get nothing.operations o) op (get-empty operation_cmp o) e;
+  marks = λ o op a e w. nothing_at (get nothing.operations o) op (get-empty operation_cmp o) e;
+  deleted = λ a b e ha op hb. nothing_at (get nothing.operations a) ha.0 (get-empty operation_cmp a) ha.1;
 }
 
-pub reached_is_sound : (first : State) (calls : List Call) (replies : List Answer) (s : State) (u : Usable) → IsSound first.plan → Run first usable calls replies s u → IsSound s.plan
+pub no_plan_is_sound : IsSoundPlan no_plan
+no_plan_is_sound = record { clock = omega arith; contents = nothing_is_sound; before_load = λ h. refl }
+
+pub reached_is_sound : (first : State) (calls : List Call) (replies : List Answer) (s : State) (u : Usable) → IsSoundPlan first.plan → Run first usable calls replies s u → IsSoundPlan s.plan
 reached_is_sound first calls replies s u sound run = run_keeps_sound first s usable u calls replies sound run
 
 same_plan : {A : Type 0} (P Q : Plan) (o : OpKey) → Q ≡ P → BecomesStarted P Q o → A
-same_plan P Q o e b = absurd (b.0 (subst (λ X. HasStatus X o status.Started) e b.1))
+same_plan P Q o e b = absurd (b.0 (subst (λ X. HasStatus X.contents o status.Started) e b.1))
 
 pub reached_starts_are_provided_for : ReachedStartsAreProvidedFor
 reached_starts_are_provided_for first calls replies s t u v c (refused r) sound run h o becomes = same_plan s.plan t.plan o (ap (λ x. x.plan) (refused_changes_nothing s t u v c r h)) becomes

@@ -6,7 +6,7 @@ use Rattle.std.proofs.lemmas.Int.{by_lt_z, ints}
 use Rattle.latest_start.specs.LeastStart.{IsLeastStart, start_by}
 use Rattle.operation_graph.specs.Paths.{IsPathBy, IsRankBy}
 use Rattle.plan_basics.specs.declared.keys.OpKey.{OpKey}
-use Rattle.plan_laws.proofs.Finite.{Listed, alike_listed, either_listed, images_listed, one_listed, union_listed, where_told}
+use Rattle.plan_laws.proofs.Listed.{Listed, alike_listed, either_listed, images_listed, one_listed, union_listed, where_told}
 use Rattle.plan_laws.proofs.Ordered.{pairs_are_edges, pairs_have_rank}
 use Rattle.operation_graph.proofs.Ranks.{AreEdges}
 use Rattle.plan_laws.proofs.Sorted.{contains_head, contains_later, contains_cases, contains_none}
@@ -14,7 +14,7 @@ use Rattle.plan_laws.proofs.Decide.{told_live}
 use Rattle.plan_laws.proofs.Entries.{same_operation}
 use Rattle.operation_graph.proofs.Telling.{Told, told_and}
 use Rattle.plan_laws.specs.Derived.{EachHasOneLatestStart}
-use Rattle.plan_model.specs.Plan.{IsLive, Plan, Precedes}
+use Rattle.plan_model.specs.Contents.{Contents, IsLive, Precedes}
 use Rattle.plan_model.specs.Starts.{IsLatestStart}
 use Rattle.plan_model.specs.Valid.{IsAcyclic}
 
@@ -93,17 +93,17 @@ one_least_start edge live duration deadline a v w x y =
     (subst (λ z. w ≤ℤ z) (sym x.of_a_path.2) (y.least x.of_a_path.0 x.of_a_path.1))
 
 -- all paths from an operation
-pub plan_paths : (P : Plan) → IsAcyclic P.pairs → (o : OpKey) → Listed (IsPathBy (Precedes P) (IsLive P) o)
+pub plan_paths : (P : Contents) → IsAcyclic P.pairs → (o : OpKey) → Listed (IsPathBy (Precedes P) (IsLive P) o)
 plan_paths P acyclic o =
     let r = pairs_have_rank P.pairs acyclic in
     paths_are_listed (Precedes P) (IsLive P) (set.items P.pairs) (pairs_are_edges P.pairs) same_operation (told_live P) r.0 r.1 (length (set.items P.pairs)) r.2 o
 
-pub some_latest_start : (P : Plan) → IsAcyclic P.pairs → (o : OpKey) → (v : ℤ) × IsLatestStart P o v
+pub some_latest_start : (P : Contents) → IsAcyclic P.pairs → (o : OpKey) → (v : ℤ) × IsLatestStart P o v
 some_latest_start P acyclic o =
     let r = pairs_have_rank P.pairs acyclic in
     least_start (Precedes P) (IsLive P) (set.items P.pairs) (pairs_are_edges P.pairs) same_operation (told_live P) r.0 r.1 (length (set.items P.pairs)) r.2 _ _ o
 
-pub one_latest_start : (P : Plan) (o : OpKey) (v w : ℤ) → IsLatestStart P o v → IsLatestStart P o w → v ≡ w
+pub one_latest_start : (P : Contents) (o : OpKey) (v w : ℤ) → IsLatestStart P o v → IsLatestStart P o w → v ≡ w
 one_latest_start P o v w x y = one_least_start (Precedes P) (IsLive P) _ _ o v w x y
 
 pub each_has_one_latest_start : EachHasOneLatestStart

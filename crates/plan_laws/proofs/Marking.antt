@@ -1,20 +1,21 @@
 -- A plan stays sound where one operation's mark changes as reports and choices change it.
 use Rattle.std.proofs.Common.{◌≡◌, ◌≢◌, ◌⊎◌, inl, inr, refl, sym, ◌∙◌, ap, subst, true≢false, true, false, Some}
-use Rattle.std.proofs.lemmas.Bool.{cond-false}
+use Rattle.std.proofs.lemmas.Bool.{cond-false, false_from_ne_true}
 use Rattle.std.specs.Ordering.{is_eq}
 use Rattle.std.specs.Cmp.{tied_itself}
-use Rattle.std.specs.FinMap.{get, get-empty}
+use Rattle.std.specs.FinMap.{get}
 use Rattle.status_rules.specs.declared.Mark.TheVariants as mark
 use Rattle.special_resources.specs.declared.Mode.TheVariants.{Shared}
-use Rattle.plan_basics.specs.Keys.{Name, operation_cmp, operation_cmp_total}
+use Rattle.plan_basics.specs.Keys.{Name, operation_cmp_total}
 use Rattle.plan_basics.specs.Names.{IsName}
 use Rattle.plan_basics.specs.declared.Attr.{Attr}
 use Rattle.plan_basics.specs.declared.keys.OpKey.{OpKey}
 use Rattle.plan_laws.proofs.Entries.{same_operation}
-use Rattle.plan_laws.proofs.Looks.{none_is_not_some, same_key, same_some, told_flag}
+use Rattle.plan_model.proofs.Looks.{same_key}
+use Rattle.std.proofs.lemmas.Option.{same_Some}
 use Rattle.plan_laws.proofs.Revising.{now_at, now_elsewhere, valid_revised, was, with_state}
 use Rattle.plan_model.specs.Holdings.{Holds}
-use Rattle.plan_model.specs.Plan.{Has, HasAttribute, IsLive, LivePredecessor, Operation, Plan, attribute_at}
+use Rattle.plan_model.specs.Contents.{Contents, Has, HasAttribute, IsLive, LivePredecessor, Operation, attribute_at}
 use Rattle.plan_model.specs.Ready.{with_mark}
 use Rattle.plan_model.specs.Status.{AllPredecessorsSatisfied, IsSatisfied}
 use Rattle.plan_model.specs.Valid.{IsOperation, IsSound, IsValid, MayBear}
@@ -24,7 +25,7 @@ use Rattle.status_rules.specs.LeastSet.{by_all_before, by_given}
 use Rattle.status_rules.specs.declared.Mark.{Mark}
 
 -- what a change f of the operation o has to meet
-pub record MayChange (P : Plan) (o : OpKey) (op : Operation) (f : Operation → Operation) : Type 0 where
+pub record MayChange (P : Contents) (o : OpKey) (op : Operation) (f : Operation → Operation) : Type 0 where
   pub is : get P.operations o ≡ Some op
   pub keeps_operation : IsOperation o op → IsOperation o (f op)
   pub keeps_workstation : (x : Operation) → (f x).workstation ≡ x.workstation
@@ -37,15 +38,15 @@ pub record MayChange (P : Plan) (o : OpKey) (op : Operation) (f : Operation → 
   pub bears : (a : Attr) → HasAttribute P op.workstation a → MayBear a (f op).mark
   pub compatible : (r : Name) (x : Usage) → Holds (revised (is_at o) f P) o r x → (other : OpKey) (y : Usage) → other ≢ o → Holds P other r y → (x.mode ≡ Shared) × (y.mode ≡ Shared)
 
-module _ (P : Plan) (o : OpKey) (op : Operation) (f : Operation → Operation) (sound : IsSound P) (may : MayChange P o op f) where
-  abbrev after : Plan
+module _ (P : Contents) (o : OpKey) (op : Operation) (f : Operation → Operation) (sound : IsSound P) (may : MayChange P o op f) where
+  abbrev after : Contents
   after = revised (is_at o) f P
 
   found_at_o : get after.operations o ≡ Some (f op)
   found_at_o = now_at (is_at o) f P o op (ap is_eq (tied_itself operation_cmp_total o)) may.is
 
   not_at : (q : OpKey) → q ≢ o → is_at o q ≡ false
-  not_at q apart = told_flag (is_at o q) (λ t. apart (same_key q o t))
+  not_at q apart = false_from_ne_true (is_at o q) (λ t. apart (same_key q o t))
 
   found_elsewhere : (q : OpKey) (x : Operation) → q ≢ o → get P.operations q ≡ Some x → get after.operations q ≡ Some x
   found_elsewhere q x apart e = now_elsewhere (is_at o) f P q x (not_at q apart) e
@@ -61,7 +62,7 @@ module _ (P : Plan) (o : OpKey) (op : Operation) (f : Operation → Operation) (
 
   look : (q : OpKey) (x : Operation) → get after.operations q ≡ Some x → Found q x
   look q x e = elim (same_operation q o) [
-    | inl same ↦ inl (same, same_some x (f op) (sym e ∙ ap (λ z. get after.operations z) same ∙ found_at_o))
+    | inl same ↦ inl (same, same_Some x (f op) (sym e ∙ ap (λ z. get after.operations z) same ∙ found_at_o))
     | inr apart ↦ inr (apart, was_elsewhere q x apart e)
   ]
 
@@ -101,7 +102,7 @@ module _ (P : Plan) (o : OpKey) (op : Operation) (f : Operation → Operation) (
   still_valid : IsValid after
   still_valid = valid_revised (is_at o) f P may.keeps_workstation may.keeps_needs
       (λ q x e t v. let same = same_key q o t in
-      let x_is : op ≡ x = same_some op x (sym may.is ∙ sym (ap (λ z. get P.operations z) same) ∙ e) in
+      let x_is : op ≡ x = same_Some op x (sym may.is ∙ sym (ap (λ z. get P.operations z) same) ∙ e) in
       subst (λ z. IsOperation z (f x)) (sym same) (subst (λ z. IsOperation o (f z)) x_is (may.keeps_operation (subst (IsOperation o) (sym x_is) (subst (λ z. IsOperation z x) same v)))))
       sound.valid
 
@@ -134,11 +135,10 @@ module _ (P : Plan) (o : OpKey) (op : Operation) (f : Operation → Operation) (
         | inr b_not ↦ sound.deleted a b e (ha.0, a_not.1, ha.2) x b_not.1
       ]
     ];
-    before_load = λ h. absurd (none_is_not_some op (sym (get-empty operation_cmp o) ∙ ap (λ X. get X.operations o) (sym (sound.before_load h)) ∙ may.is));
   }
 
 -- what a new mark M of o has to meet
-pub record MayBeMarked (P : Plan) (o : OpKey) (op : Operation) (M : Mark) : Type 0 where
+pub record MayBeMarked (P : Contents) (o : OpKey) (op : Operation) (M : Mark) : Type 0 where
   pub is : get P.operations o ≡ Some op
   pub was_not_deleted : op.mark ≢ mark.Deleted
   pub is_not_deleted : M ≢ mark.Deleted
@@ -149,7 +149,7 @@ pub record MayBeMarked (P : Plan) (o : OpKey) (op : Operation) (M : Mark) : Type
   pub legal : (code : Name) → M ≡ mark.Error code → IsName 4 code
   pub compatible : (r : Name) (x : Usage) → Holds (marked o M P) o r x → (other : OpKey) (y : Usage) → other ≢ o → Holds P other r y → (x.mode ≡ Shared) × (y.mode ≡ Shared)
 
-pub still_sound : (P : Plan) (o : OpKey) (op : Operation) (M : Mark) → IsSound P → MayBeMarked P o op M → IsSound (marked o M P)
+pub still_sound : (P : Contents) (o : OpKey) (op : Operation) (M : Mark) → IsSound P → MayBeMarked P o op M → IsSound (marked o M P)
 still_sound P o op M sound may = change_is_sound P o op (with_mark M) sound (record {
   is = may.is;
   keeps_operation = λ v. with_state v M op.held op.nop may.legal;

@@ -14,12 +14,12 @@ use Rattle.status_rules.specs.declared.Status.TheVariants as status
 use Rattle.plan_laws.proofs.Allowing.{told_le}
 use Rattle.plan_laws.proofs.Entries.{same_operation, told_entries, told_has, told_operations}
 use Rattle.plan_laws.proofs.Latest.{plan_paths}
-use Rattle.plan_laws.proofs.Looks.{found_key}
+use Rattle.plan_drafts.proofs.Tables.{is_found}
 use Rattle.plan_laws.proofs.Ordered.{pairs_are_edges}
 use Rattle.plan_laws.proofs.Readying.{ready_told}
 use Rattle.plan_laws.proofs.Standing.{status_told}
 use Rattle.operation_graph.proofs.Telling.{Told, told_alike, told_and, told_each, told_equal, told_if_then, told_none, told_or, told_some, told_three}
-use Rattle.plan_model.specs.Plan.{IsInPlan, IsPairOf, Pairs, Plan}
+use Rattle.plan_model.specs.Contents.{Contents, IsInPlan, IsPairOf, Pairs}
 use Rattle.plan_model.specs.Starts.{Reaches}
 use Rattle.plan_model.specs.Status.{EachOperation, HasStatus, IsUnderWay, IsWaitingOrReady}
 use Rattle.plan_model.specs.Valid.{IsAcyclic, IsWithinLimits}
@@ -34,11 +34,11 @@ told_pairs pairs Q each = told_alike {A = (x : OpKey × OpKey) → Contains (set
 
 pub told_keys : {K X : Type 0} {R : K → K → Ordering} → IsTotalOrder R → IsAntisymmetric R → (m : FinMap R X) (Q : K → Type 0) → ((k : K) → Told (Q k)) → Told ((k : K) → contains_key m k ≡ true → Q k)
 told_keys {K} {X} o same m Q each = told_alike {A = (k : K) (x : X) → get m k ≡ Some x → Q k}
-    (λ h k has. let x = found_key (get m k) has in h k x.0 x.1)
+    (λ h k has. let x = is_found (get m k) has in h k x.0 x.1)
     (λ h k x e. h k (ap is_some e))
     (told_entries m o same (λ k x. Q k) (λ k x. each k))
 
-pub limits_told : (P : Plan) → Told (IsWithinLimits P)
+pub limits_told : (P : Contents) → Told (IsWithinLimits P)
 limits_told P = told_alike {A = ((len P.workstations ≤ MOST_WORKSTATIONS) × (len P.resources ≤ MOST_RESOURCES) × (len P.occurrences ≤ MOST_OCCURRENCES)) × ((len P.operations ≤ MOST_OPERATIONS) × (set.len P.pairs ≤ MOST_PAIRS))}
     (λ h. record { workstations = h.0.0; resources = h.0.1; occurrences = h.0.2; operations = h.1.0; pairs = h.1.1 })
     (λ h. ((h.workstations, h.resources, h.occurrences), (h.operations, h.pairs)))
@@ -49,7 +49,7 @@ same_occurrence = told_equal occurrence_cmp_total occurrence_cmp-IsAntisymmetric
 
 -- ---- statuses of one operation, of an occurrence's, and of those that are reached
 
-module _ (P : Plan) (acyclic : IsAcyclic P.pairs) where
+module _ (P : Contents) (acyclic : IsAcyclic P.pairs) where
   pub in_plan_told : (o : OpKey) → Told (IsInPlan P o)
   in_plan_told o = told_has P o (λ op. Unit {0}) (λ op e. inl tt)
 

@@ -4,13 +4,13 @@ use Rattle.std.specs.List.{AllZip, swap}
 use Rattle.std.specs.List.Sorted.{IsPermutation}
 use Rattle.std.proofs.lemmas.List.Sorted.{All-permutation, Contains-permutation, IsPermutation-keeps, IsPermutation-refl, IsPermutation-swap, IsPermutation-sym, IsPermutation-trans}
 use Rattle.std.proofs.lemmas.Slice.Zip.{AllZip-long}
-use Rattle.plan_model.specs.Plan.{Plan, AddedParts}
+use Rattle.plan_model.specs.Contents.{Contents, AddedParts}
 use Rattle.plan_items.specs.declared.Item.{Item}
 use Rattle.plan_items.specs.Items.{Fields, Says}
-use Rattle.plan_records.specs.declared.RowKey.{RowKey}
-use Rattle.plan_records.specs.Records.{AreDescriptions, AreItems, Denotes, DenotesAddition, key_of}
-use Rattle.plan_records.proofs.Lists.{differ_from_pairs, pairs_from_differ}
-use Rattle.plan_records.proofs.Orders.{differ_permuted}
+use Rattle.plan_drafts.specs.declared.RowKey.{RowKey}
+use Rattle.plan_drafts.specs.Records.{AreDescriptions, AreItems, Denotes, DenotesAddition, key_of}
+use Rattle.plan_drafts.proofs.Lists.{differ_from_pairs, pairs_from_differ}
+use Rattle.plan_drafts.proofs.Orders.{differ_permuted}
 use Rattle.plan_laws.specs.Denoting.{OrderDoesNotMatter, OrderDoesNotMatterToAdditions}
 use Rattle.plan_laws.proofs.RowOrder.{row_cmp_total, row_cmp-IsAntisymmetric}
 
@@ -60,10 +60,9 @@ module _ (stands : Item → Type 0) (is_item : RowKey → Type 0) where
       record { items = m.0; said = m.2; are = items_moved d.items m.0 m.1 d.are }
 
 -- ---- what they denote
-denotes_moved : (records others : List Fields) (P : Plan) → IsPermutation records others → Denotes records P → Denotes others P
+denotes_moved : (records others : List Fields) (P : Contents) → IsPermutation records others → Denotes records P → Denotes others P
 denotes_moved records others P moved d = record {
   draft = d.draft;
-  clock = d.clock;
   some_workstation = d.some_workstation;
   some_occurrence = d.some_occurrence;
   described = described_moved _ _ records others moved d.described;

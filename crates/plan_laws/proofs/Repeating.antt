@@ -3,7 +3,7 @@ use Rattle.std.proofs.Common.{◌≡◌, ◌≢◌, ◌⊎◌, inl, inr, refl, s
 use Rattle.std.specs.FinMap.{get}
 use Rattle.plan_basics.specs.declared.Refusal.TheVariants as refusal
 use Rattle.plan_laws.proofs.Elements.{first_of_all, rest_of_all}
-use Rattle.plan_laws.proofs.Looks.{same_some}
+use Rattle.std.proofs.lemmas.Option.{same_Some}
 use Rattle.plan_laws.proofs.Single.{one_step, one_step_by}
 use Rattle.plan_laws.specs.Steps.{IsOfThePlan, OneNumberedStep, OneRun}
 use Rattle.plan_records.specs.Answer.{Answer, accepted, refused}
@@ -43,7 +43,7 @@ module _ (last : Option Receipt) (n : Numbered) where
   not_both (inr none) more = omega (arith, none, more)
 
   same_receipt : (a b : Receipt) → IsLast a → IsLast b → a ≡ b
-  same_receipt a b h k = same_some a b (sym h.0 ∙ k.0)
+  same_receipt a b h k = same_Some a b (sym h.0 ∙ k.0)
 
   one_again : (x y : Answer) → Again x → Again y → x ≡ y
   one_again x y (inl h) (inl k) = h.3 ∙ ap (λ r. accepted r.named) (same_receipt h.0 k.0 h.1 k.1) ∙ sym k.3

@@ -4,7 +4,7 @@ use Rattle.std.specs.Prelude.{All, AllPairs}
 use Rattle.std.specs.List.{AllByRecursion}
 use Rattle.std.specs.List.Sorted.{IsStrictlySortedBy}
 use Rattle.plan_laws.proofs.Elements.{all_of, pairs_of}
-use Rattle.plan_laws.proofs.Finite.{Listed, images_listed}
+use Rattle.plan_laws.proofs.Listed.{Listed, images_listed}
 use Rattle.plan_laws.proofs.RowOrder.{keys_above, row_cmp-IsAntisymmetric, row_cmp_total}
 use Rattle.plan_laws.proofs.RowsListed.{one_of_key, rows_listed}
 use Rattle.plan_laws.proofs.RowsTold.{row_told}
@@ -15,7 +15,7 @@ use Rattle.plan_laws.proofs.Waiting.{told_listed}
 use Rattle.plan_laws.specs.Tables.{SomeChanges, SomeRows}
 use Rattle.plan_records.specs.Rows.{HasKey, IsRow, key_of, row_cmp}
 use Rattle.plan_records.specs.declared.PlanRow.{PlanRow}
-use Rattle.plan_records.specs.declared.RowKey.{RowKey}
+use Rattle.plan_drafts.specs.declared.RowKey.{RowKey}
 
 module _ (S : PlanRow → Type 0) where
   -- one of them for each of these keys

@@ -13,8 +13,8 @@ use Rattle.plan_laws.proofs.Sorted.{sorted_unique}
 use Rattle.plan_laws.specs.Tables.{OneListOfChanges}
 use Rattle.plan_records.specs.Rows.{key_of, row_cmp}
 use Rattle.plan_records.specs.declared.PlanRow.{PlanRow}
-use Rattle.plan_records.specs.declared.RowKey.{RowKey}
-use Rattle.plan_records.specs.declared.RowKey.TheVariants as key
+use Rattle.plan_drafts.specs.declared.RowKey.{RowKey}
+use Rattle.plan_drafts.specs.declared.RowKey.TheVariants as key
 
 -- a key's parts, in the order in which they are compared
 record Parts : Type 0 where

@@ -18,11 +18,12 @@ use Rattle.plan_laws.proofs.Allowing.{told_available}
 use Rattle.plan_laws.proofs.Decide.{told_attribute}
 use Rattle.plan_laws.proofs.Entries.{told_at, told_has}
 use Rattle.plan_laws.proofs.Latest.{one_latest_start, some_latest_start}
-use Rattle.plan_laws.proofs.Looks.{none_is_not_some, same_some}
+use Rattle.std.proofs.lemmas.Option.{none-some, same_Some}
 use Rattle.plan_laws.proofs.Standing.{status_told}
 use Rattle.operation_graph.proofs.Telling.{Told, told_alike, told_and, told_equal, told_three, told_true}
 use Rattle.plan_laws.proofs.Waiting.{one_count, one_occurrence_status, same_precedence, some_occurrence_status, some_waiting}
-use Rattle.plan_model.specs.Plan.{LivePredecessor, Operation, Plan}
+use Rattle.plan_model.specs.Plan.{Plan}
+use Rattle.plan_model.specs.Contents.{Contents, LivePredecessor, Operation}
 use Rattle.plan_model.specs.Starts.{IsLatestStart}
 use Rattle.plan_model.specs.Status.{HasOccurrenceStatus, HasStatus, IsSatisfied}
 use Rattle.plan_model.specs.Valid.{IsAcyclic}
@@ -41,8 +42,8 @@ same_name : (a b : Name) → Told (a ≡ b)
 same_name = told_equal name_cmp_total name_cmp-IsAntisymmetric
 
 told_some_is : {X : Type 0} → ((a b : X) → Told (a ≡ b)) → (x : Option X) (v : X) → Told (x ≡ Some v)
-told_some_is same None v = inr (λ e. none_is_not_some v e)
-told_some_is same (Some u) v = told_alike (λ e. ap Some e) (λ e. same_some u v e) (same u v)
+told_some_is same None v = inr (λ e. none-some v e)
+told_some_is same (Some u) v = told_alike (λ e. ap Some e) (λ e. same_Some u v e) (same u v)
 
 same_interval : (a b : OpenInterval) → Told (a ≡ b)
 same_interval a b = told_alike {A = ((a.from ≡ b.from) × (a.end ≡ b.end)) × ((a.servers ≡ b.servers) × (a.r1 ≡ b.r1) × (a.r2 ≡ b.r2))}
@@ -90,7 +91,7 @@ told_the F same v h one u = told_alike (λ e. subst F (sym e) h) (λ k. one u v 
 
 -- ---- rows
 
-module _ (P : Plan) (acyclic : IsAcyclic P.pairs) where
+module _ (P : Contents) (acyclic : IsAcyclic P.pairs) where
   occurrence_status_told : (c : OccKey) (s : OccStatus) → Told (HasOccurrenceStatus P c s)
   occurrence_status_told c s = let first = some_occurrence_status P acyclic c in told_the (HasOccurrenceStatus P c) same_occurrence_status first.0 first.1 (one_occurrence_status P c) s
 
@@ -115,12 +116,13 @@ module _ (P : Plan) (acyclic : IsAcyclic P.pairs) where
       (λ x. (x.op, x.is_in_plan, (((x.columns.0, x.columns.1, x.columns.2), (x.columns.3, x.columns.4, x.columns.5), (x.columns.6, x.columns.7, x.columns.8)), (x.status, (x.latest, x.waiting)))))
       (told_at P.operations r.op (λ op. Columns r op × (HasStatus P r.op r.status × (IsLatestStart P r.op r.latest × IsWaitingFor P r.op r.waiting))) (λ op e. told_and (columns_told r op) (λ _. told_and (status_told P acyclic r.op r.status) (λ _. told_and (latest_told r.op r.latest) (λ _. waiting_told r.op r.waiting)))))
 
+module _ (P : Plan) (acyclic : IsAcyclic P.contents.pairs) where
   pub row_told : (r : PlanRow) → Told (IsRow P r)
   row_told (row.Meta version loaded clock) = told_three (same_nat version 1) (told_true loaded P.loaded) (same_nat clock P.clock)
-  row_told (row.Workstation name a) = told_attribute P name a
-  row_told (row.Interval w i) = told_at P.workstations w (λ ws. get ws.intervals i.from ≡ Some i) (λ ws e. told_some_is same_interval (get ws.intervals i.from) i)
-  row_told (row.Resource name available) = told_available (get P.resources name) available
-  row_told (row.Occurrence c priority deadline s) = told_and (told_some_is same_terms (get P.occurrences c) _) (λ _. occurrence_status_told c s)
-  row_told (row.Operation r) = operation_row_told r
-  row_told (row.Dependency p s) = told_true (set.contains P.pairs (p, s)) true
-  row_told (row.Need o n) = told_has P o (λ op. get op.needs n.name ≡ Some (record { mode = n.mode; keep = n.keep })) (λ op e. told_some_is same_usage (get op.needs n.name) _)
+  row_told (row.Workstation name a) = told_attribute P.contents name a
+  row_told (row.Interval w i) = told_at P.contents.workstations w (λ ws. get ws.intervals i.from ≡ Some i) (λ ws e. told_some_is same_interval (get ws.intervals i.from) i)
+  row_told (row.Resource name available) = told_available (get P.contents.resources name) available
+  row_told (row.Occurrence c priority deadline s) = told_and (told_some_is same_terms (get P.contents.occurrences c) _) (λ _. occurrence_status_told P.contents acyclic c s)
+  row_told (row.Operation r) = operation_row_told P.contents acyclic r
+  row_told (row.Dependency p s) = told_true (set.contains P.contents.pairs (p, s)) true
+  row_told (row.Need o n) = told_has P.contents o (λ op. get op.needs n.name ≡ Some (record { mode = n.mode; keep = n.keep })) (λ op e. told_some_is same_usage (get op.needs n.name) _)

@@ -17,8 +17,8 @@ use Rattle.plan_laws.proofs.Repeating.{Again, again}
 use Rattle.plan_laws.proofs.Stepping.{some_step, some_step_by}
 use Rattle.operation_graph.proofs.Telling.{Told, told_and, told_equal, told_if_then, told_or, told_three, told_true}
 use Rattle.plan_laws.specs.Steps.{IsCall, IsOfThePlan, PlanAnswers, SomeNumberedStep, SomeRun}
-use Rattle.plan_model.specs.Plan.{Operation, Plan, attribute_at}
-use Rattle.plan_model.specs.Valid.{IsSound}
+use Rattle.plan_model.specs.Plan.{Plan, IsSoundPlan}
+use Rattle.plan_model.specs.Contents.{Contents, Operation, attribute_at}
 use Rattle.plan_records.specs.Acceptance.{MayBeAccepted, MayBeCompleted, MayBeDone, MayBeEnded, MayBeFlagged, MayBeInterrupted, MayBeRerun, MayBeStarted, MayBeUndecided, OfOperation, minute_of}
 use Rattle.plan_records.specs.Answer.{Answer, accepted, refused}
 use Rattle.plan_records.specs.Run.{Answers, Call, CallStep, State, numbered, plain, usable}
@@ -70,8 +70,8 @@ told_limit r = inr (λ e. cc)
 receipt_room_told : (T : Receipts) (n : Numbered) → Told (HasReceiptRoom T n)
 receipt_room_told T n = told_three (told_or (told_true (contains_key T n.tracker) true) (told_le _ MOST_TRACKERS)) (told_le _ _) (told_le _ _)
 
-numbered_told : (P : Plan) (T : Receipts) (n : Numbered) → IsSound P → (r : Refusal) → Told (NumberedMayBeAccepted P T n r)
-numbered_told P T n sound r = told_and (accepted_told P sound.valid.acyclic n.request r) (λ _. told_if_then (told_limit r) (λ _. receipt_room_told T n))
+numbered_told : (P : Plan) (T : Receipts) (n : Numbered) → IsSoundPlan P → (r : Refusal) → Told (NumberedMayBeAccepted P T n r)
+numbered_told P T n sound r = told_and (accepted_told P sound.contents.valid.acyclic n.request r) (λ _. told_if_then (told_limit r) (λ _. receipt_room_told T n))
 
 pub some_numbered_step : SomeNumberedStep
 some_numbered_step P T n sound request legal = elim (again_or_next (get T n.tracker) n) [
@@ -83,43 +83,43 @@ some_numbered_step P T n sound request legal = elim (again_or_next (get T n.trac
 
 -- ---- the plan never answers for memory or the store
 
--- of these lines none refuses for its moment, for a plan that lacks, or for memory or the store
+-- of these lines none refuses for its moment, for a plan that lacks or is loaded, or for memory or the store
 abbrev pub NeverRefuse : (Refusal → Type 0) → Type 0
-NeverRefuse lines = lines refusal.Past × lines refusal.MomentRange × lines refusal.NotLoaded × lines refusal.Memory × lines refusal.Store × lines refusal.Reopen
+NeverRefuse lines = lines refusal.Past × lines refusal.MomentRange × lines refusal.NotLoaded × lines refusal.Memory × lines refusal.Store × lines refusal.Reopen × lines refusal.Loaded
 
-start_passes : (P : Plan) (m : ℕ) (o : OpKey) (op : Operation) (a : Option Attr) → NeverRefuse (MayBeStarted P m o op a)
-start_passes P m o op (Some attribute.Automatic) = (tt, tt, tt, tt, tt, tt)
-start_passes P m o op (Some attribute.StartAndCompletion) = (tt, tt, tt, tt, tt, tt)
-start_passes P m o op (Some attribute.CompletionOnly) = (tt, tt, tt, tt, tt, tt)
-start_passes P m o op (Some attribute.Nonreporting) = (tt, tt, tt, tt, tt, tt)
-start_passes P m o op None = (tt, tt, tt, tt, tt, tt)
+start_passes : (P : Contents) (m : ℕ) (o : OpKey) (op : Operation) (a : Option Attr) → NeverRefuse (MayBeStarted P m o op a)
+start_passes P m o op (Some attribute.Automatic) = (tt, tt, tt, tt, tt, tt, tt)
+start_passes P m o op (Some attribute.StartAndCompletion) = (tt, tt, tt, tt, tt, tt, tt)
+start_passes P m o op (Some attribute.CompletionOnly) = (tt, tt, tt, tt, tt, tt, tt)
+start_passes P m o op (Some attribute.Nonreporting) = (tt, tt, tt, tt, tt, tt, tt)
+start_passes P m o op None = (tt, tt, tt, tt, tt, tt, tt)
 
-end_passes : (P : Plan) (o : OpKey) (op : Operation) (a : Option Attr) → NeverRefuse (MayBeEnded P o op a)
-end_passes P o op (Some attribute.Automatic) = (tt, tt, tt, tt, tt, tt)
-end_passes P o op (Some attribute.StartAndCompletion) = (tt, tt, tt, tt, tt, tt)
-end_passes P o op (Some attribute.CompletionOnly) = (tt, tt, tt, tt, tt, tt)
-end_passes P o op (Some attribute.Nonreporting) = (tt, tt, tt, tt, tt, tt)
-end_passes P o op None = (tt, tt, tt, tt, tt, tt)
+end_passes : (P : Contents) (o : OpKey) (op : Operation) (a : Option Attr) → NeverRefuse (MayBeEnded P o op a)
+end_passes P o op (Some attribute.Automatic) = (tt, tt, tt, tt, tt, tt, tt)
+end_passes P o op (Some attribute.StartAndCompletion) = (tt, tt, tt, tt, tt, tt, tt)
+end_passes P o op (Some attribute.CompletionOnly) = (tt, tt, tt, tt, tt, tt, tt)
+end_passes P o op (Some attribute.Nonreporting) = (tt, tt, tt, tt, tt, tt, tt)
+end_passes P o op None = (tt, tt, tt, tt, tt, tt, tt)
 
-operation_passes : (P : Plan) (o : OpKey) (rest : Operation → Refusal → Type 0) → ((op : Operation) → NeverRefuse (rest op)) → NeverRefuse (OfOperation P o rest)
-operation_passes P o rest each = (λ op e. (each op).0, λ op e. (each op).1, λ op e. (each op).2, λ op e. (each op).3, λ op e. (each op).4, λ op e. (each op).5)
+operation_passes : (P : Contents) (o : OpKey) (rest : Operation → Refusal → Type 0) → ((op : Operation) → NeverRefuse (rest op)) → NeverRefuse (OfOperation P o rest)
+operation_passes P o rest each = (λ op e. (each op).0, λ op e. (each op).1, λ op e. (each op).2, λ op e. (each op).3, λ op e. (each op).4, λ op e. (each op).5, λ op e. (each op).6)
 
 -- nor does any of what a request asks of the plan
-pub request_passes : (P : Plan) (m : ℕ) (w : What) → NeverRefuse (MayBeDone P m w)
+pub request_passes : (P : Contents) (m : ℕ) (w : What) → NeverRefuse (MayBeDone P m w)
 request_passes P m (what.Started o) = operation_passes P o (λ op. MayBeStarted P m o op (attribute_at P op.workstation)) (λ op. start_passes P m o op (attribute_at P op.workstation))
 request_passes P m (what.Ended o) = operation_passes P o (λ op. MayBeEnded P o op (attribute_at P op.workstation)) (λ op. end_passes P o op (attribute_at P op.workstation))
 request_passes P m (what.Error o code) = operation_passes P o (λ op. MayBeEnded P o op (attribute_at P op.workstation)) (λ op. end_passes P o op (attribute_at P op.workstation))
-request_passes P m (what.Interrupted o) = operation_passes P o (MayBeInterrupted P o) (λ op. (tt, tt, tt, tt, tt, tt))
-request_passes P m (what.Unknown o) = operation_passes P o (λ op. MayBeUndecided P o) (λ op. (tt, tt, tt, tt, tt, tt))
-request_passes P m (what.Hold o) = operation_passes P o (λ op. MayBeFlagged P o) (λ op. (tt, tt, tt, tt, tt, tt))
-request_passes P m (what.Release o) = operation_passes P o (λ op. MayBeFlagged P o) (λ op. (tt, tt, tt, tt, tt, tt))
-request_passes P m (what.Nop o) = operation_passes P o (λ op. MayBeFlagged P o) (λ op. (tt, tt, tt, tt, tt, tt))
-request_passes P m (what.Unnop o) = operation_passes P o (λ op. MayBeFlagged P o) (λ op. (tt, tt, tt, tt, tt, tt))
-request_passes P m (what.Rerun o) = operation_passes P o (λ op. MayBeRerun P o) (λ op. (tt, tt, tt, tt, tt, tt))
-request_passes P m (what.Complete o) = operation_passes P o (MayBeCompleted P o) (λ op. (tt, tt, tt, tt, tt, tt))
-request_passes P m (what.AddOccurrence None) = (tt, tt, tt, tt, tt, tt)
-request_passes P m (what.AddOccurrence (Some s)) = (tt, tt, tt, tt, tt, tt)
-request_passes P m w = (tt, tt, tt, tt, tt, tt)
+request_passes P m (what.Interrupted o) = operation_passes P o (MayBeInterrupted P o) (λ op. (tt, tt, tt, tt, tt, tt, tt))
+request_passes P m (what.Unknown o) = operation_passes P o (λ op. MayBeUndecided P o) (λ op. (tt, tt, tt, tt, tt, tt, tt))
+request_passes P m (what.Hold o) = operation_passes P o (λ op. MayBeFlagged P o) (λ op. (tt, tt, tt, tt, tt, tt, tt))
+request_passes P m (what.Release o) = operation_passes P o (λ op. MayBeFlagged P o) (λ op. (tt, tt, tt, tt, tt, tt, tt))
+request_passes P m (what.Nop o) = operation_passes P o (λ op. MayBeFlagged P o) (λ op. (tt, tt, tt, tt, tt, tt, tt))
+request_passes P m (what.Unnop o) = operation_passes P o (λ op. MayBeFlagged P o) (λ op. (tt, tt, tt, tt, tt, tt, tt))
+request_passes P m (what.Rerun o) = operation_passes P o (λ op. MayBeRerun P o) (λ op. (tt, tt, tt, tt, tt, tt, tt))
+request_passes P m (what.Complete o) = operation_passes P o (MayBeCompleted P o) (λ op. (tt, tt, tt, tt, tt, tt, tt))
+request_passes P m (what.AddOccurrence None) = (tt, tt, tt, tt, tt, tt, tt)
+request_passes P m (what.AddOccurrence (Some s)) = (tt, tt, tt, tt, tt, tt, tt)
+request_passes P m w = (tt, tt, tt, tt, tt, tt, tt)
 
 step_answers : (allows : Refusal → Type 0) (P : Plan) (q : Request) (x : Answer) (after : Plan) → allows refusal.Memory × allows refusal.Store × allows refusal.Reopen → StepBy allows P q x after → IsOfThePlan x
 step_answers allows P q (accepted chosen) after never step = tt
@@ -135,15 +135,15 @@ again_answers last n x (inr (inr (inl h))) = subst IsOfThePlan (sym h.1) tt
 again_answers last n x (inr (inr (inr h))) = subst IsOfThePlan (sym h.1) tt
 
 pub plan_answers : PlanAnswers
-plan_answers s t (plain q) x h = let never = request_passes s.plan (minute_of q.at) q.what in step_answers (MayBeAccepted s.plan q) s.plan q x t.plan (never.3, never.4, never.5) h.0
+plan_answers s t (plain q) x h = let never = request_passes s.plan.contents (minute_of q.at) q.what in step_answers (MayBeAccepted s.plan q) s.plan q x t.plan (never.3, never.4, never.5) h.0
 plan_answers s t (numbered n) x (inl h) = again_answers (get s.receipts n.tracker) n x (again (get s.receipts n.tracker) n x h.0)
 plan_answers s t (numbered n) x (inr h) =
-    let never = request_passes s.plan (minute_of n.request.at) n.request.what in
+    let never = request_passes s.plan.contents (minute_of n.request.at) n.request.what in
     step_answers (NumberedMayBeAccepted s.plan s.receipts n) s.plan n.request x t.plan ((never.3, λ e. absurd (cc)), (never.4, λ e. absurd (cc)), (never.5, λ e. absurd (cc))) h.2
 
 -- ---- calls and runs
 
-some_call : (s : State) (c : Call) → IsSound s.plan → IsCall c → (x : Answer) × (t : State) × CallStep s c x t
+some_call : (s : State) (c : Call) → IsSoundPlan s.plan → IsCall c → (x : Answer) × (t : State) × CallStep s c x t
 some_call s (plain q) sound request = let step = some_step s.plan q sound request in (step.0, record { plan = step.1; receipts = s.receipts }, (step.2, refl))
 some_call s (numbered n) sound legal = let step = some_numbered_step s.plan s.receipts n sound legal.0 legal.1 in (step.0, record { plan = step.1; receipts = step.2 }, step.3)
 

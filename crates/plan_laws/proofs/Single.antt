@@ -1,10 +1,11 @@
 -- A request has one answer, which leaves one plan.
-use Rattle.std.proofs.Common.{◌≡◌, ◌↔◌, inl, inr, sym, ◌∙◌, ap, ap₂, subst, Bool, true, List}
+use Rattle.std.proofs.Common.{◌≡◌, ◌↔◌, inl, inr, sym, ◌∙◌, ap, ap₂, subst, ℕ, Bool, true, List}
 use Rattle.std.proofs.lemmas.Bool.{cases_order}
 use Rattle.plan_basics.specs.declared.Refusal.{Refusal}
 use Rattle.plan_basics.specs.declared.keys.OpKey.{OpKey}
 use Rattle.plan_basics.specs.Refusals.{number_of}
 use Rattle.status_rules.specs.declared.Mark.TheVariants as mark
+use Rattle.plan_model.specs.Contents.{Contents}
 use Rattle.plan_model.specs.Plan.{Plan}
 use Rattle.plan_model.specs.Ready.{IsChosen, named, with_mark}
 use Rattle.plan_records.specs.declared.What.{What}
@@ -16,7 +17,7 @@ use Rattle.plan_records.specs.Changes.{Changes, revised, with_added}
 use Rattle.plan_records.specs.Step.{IsAccepted, IsRefused, StepBy}
 use Rattle.plan_laws.specs.Steps.{OneStep}
 use Rattle.plan_laws.proofs.Choice.{one_choice}
-use Rattle.plan_laws.proofs.Looks.{same_some}
+use Rattle.std.proofs.lemmas.Option.{same_Some}
 use Rattle.plan_laws.proofs.Numbers.{same_number}
 pub use Rattle.std.specs.Cmp.{both_ways as same_bool}
 
@@ -24,19 +25,23 @@ pub use Rattle.std.specs.Cmp.{both_ways as same_bool}
 one_test : {S : OpKey → Type 0} (t u : OpKey → Bool) → ((q : OpKey) → (t q ≡ true) ↔ S q) → ((q : OpKey) → (u q ≡ true) ↔ S q) → t ≡ u
 one_test t u f g = λ i q. same_bool (t q) (u q) (λ e. (g q).1 ((f q).0 e)) (λ e. (f q).1 ((g q).0 e)) i
 
-pub one_change : (P a b : Plan) (w : What) → Changes P w a → Changes P w b → a ≡ b
-one_change P a b (what.Load draft) x y = same_some a b (sym x ∙ y)
+pub one_change : (P a b : Contents) (w : What) → Changes P w a → Changes P w b → a ≡ b
+one_change P a b (what.Load draft) x y = same_Some a b (sym x ∙ y)
 one_change P a b (what.Rerun o) x y = x.2 ∙ ap (λ t. revised t (with_mark mark.Unmarked) P) (one_test x.0 y.0 x.1 y.1) ∙ sym y.2
-one_change P a b (what.AddOccurrence s) x y = x.2 ∙ ap (with_added P) (same_some x.0 y.0 (sym x.1 ∙ y.1)) ∙ sym y.2
+one_change P a b (what.AddOccurrence s) x y = x.2 ∙ ap (with_added P) (same_Some x.0 y.0 (sym x.1 ∙ y.1)) ∙ sym y.2
 one_change P a b w x y = x ∙ sym y
+
+-- the plan that a request at m leaves
+abbrev plan_after : ℕ → List OpKey → Contents → Plan
+plan_after m chosen changed = record { loaded = true; clock = m; contents = named chosen changed }
 
 module _ (allows : Refusal → Type 0) (P : Plan) where
   one_acceptance : (a b : Plan) (q : Request) (c d : List OpKey) → IsAccepted allows P q c a → IsAccepted allows P q d b → (c ≡ d) × (a ≡ b)
   one_acceptance a b q c d x y =
       let m = minute_of q.at in
-      let changed : x.changed ≡ y.changed = one_change P x.changed y.changed q.what x.changes y.changes in
-      let chosen : c ≡ d = one_choice (record y.changed { clock = m }) m c d (subst (λ X. IsChosen (record X { clock = m }) m c) changed x.is_chosen) y.is_chosen in
-      (chosen, x.is_after ∙ ap₂ (λ os X. named os (record X { clock = m })) chosen changed ∙ sym y.is_after)
+      let changed : x.changed ≡ y.changed = one_change P.contents x.changed y.changed q.what x.changes y.changes in
+      let chosen : c ≡ d = one_choice y.changed m c d (subst (λ X. IsChosen X m c) changed x.is_chosen) y.is_chosen in
+      (chosen, x.is_after ∙ ap₂ (plan_after m) chosen changed ∙ sym y.is_after)
 
   one_refusal : (a b : Plan) (r s : Refusal) → IsRefused allows P r a → IsRefused allows P s b → r ≡ s
   one_refusal a b r s x y = elim (cases_order (number_of r) (number_of s)) [

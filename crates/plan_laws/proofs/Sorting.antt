@@ -5,7 +5,7 @@ use Rattle.std.specs.Cmp.{IsTotalOrder}
 use Rattle.std.specs.FinMap.{IsAntisymmetric}
 use Rattle.std.specs.Ordering.{ordering_reverse}
 use Rattle.ready_list.proofs.Members.{all_by_members}
-use Rattle.plan_laws.proofs.Finite.{Listed}
+use Rattle.plan_laws.proofs.Listed.{Listed}
 use Rattle.plan_laws.proofs.Sorted.{at_member, contains_cases, contains_head, contains_later}
 
 module _ {K : Type 0} {R : K → K → Ordering} (o : IsTotalOrder R) (same : IsAntisymmetric R) where

@@ -9,12 +9,13 @@ use Rattle.status_rules.specs.declared.Status.{Status}
 use Rattle.status_rules.specs.declared.Status.TheVariants as status
 use Rattle.plan_laws.proofs.Decide.{told_attribute, told_live_predecessor, told_satisfied}
 use Rattle.plan_laws.proofs.Entries.{told_has, told_operation, told_operations}
-use Rattle.plan_laws.proofs.Looks.{found_key, same_some}
+use Rattle.plan_drafts.proofs.Tables.{is_found}
+use Rattle.std.proofs.lemmas.Option.{same_Some}
 use Rattle.plan_laws.proofs.Ordered.{pairs_have_rank}
 use Rattle.plan_laws.proofs.Tables.{status_is}
 use Rattle.operation_graph.proofs.Telling.{Told, if_told, is_told, told_alike, told_and, told_four, told_if, told_if_then, told_none, told_not, told_three}
 use Rattle.plan_laws.specs.Derived.{EachHasOneStatus, SatisfiedIsTold}
-use Rattle.plan_model.specs.Plan.{Has, HasAttribute, IsInPlan, LivePredecessor, Plan}
+use Rattle.plan_model.specs.Contents.{Contents, Has, HasAttribute, IsInPlan, LivePredecessor}
 use Rattle.plan_model.specs.Status.{AllPredecessorsSatisfied, ArePreds, FollowsNonreporting, HasStatus, IsSatisfied, UnmarkedStatus}
 use Rattle.plan_model.specs.Valid.{IsAcyclic, IsValid}
 
@@ -35,7 +36,7 @@ same_status s t = inr (λ e. cc)
 pick : Bool → Bool → Bool → Bool → Status
 pick a b c d = cond a status.Complete (cond (not b) status.Arriving (cond (not c) status.Waiting (cond d status.ReadyAfterNonreporting status.Ready)))
 
-module _ (P : Plan) (acyclic : IsAcyclic P.pairs) where
+module _ (P : Contents) (acyclic : IsAcyclic P.pairs) where
   pub satisfied_told : (o : OpKey) → Told (IsSatisfied P o)
   satisfied_told o = let r = pairs_have_rank P.pairs acyclic in told_satisfied P r.0 r.1 o
 
@@ -99,7 +100,7 @@ module _ (P : Plan) (acyclic : IsAcyclic P.pairs) where
 
   pub one_status : (o : OpKey) (s t : Status) → HasStatus P o s → HasStatus P o t → s ≡ t
   one_status o s t h k =
-      let same : k.0 ≡ h.0 = same_some k.0 h.0 (sym k.1 ∙ h.1) in
+      let same : k.0 ≡ h.0 = same_Some k.0 h.0 (sym k.1 ∙ h.1) in
       same_told o s t (marked_status h.0.mark) h.2 (subst (λ x. MatchOption (marked_status x.mark) (UnmarkedStatus P o t) (λ u. t ≡ u)) same k.2)
 
   -- ---- and one at least
@@ -118,9 +119,9 @@ module _ (P : Plan) (acyclic : IsAcyclic P.pairs) where
 pub satisfied_is_told : SatisfiedIsTold
 satisfied_is_told P valid o = satisfied_told P valid.acyclic o
 
-pub some_status : (P : Plan) → IsValid P → (o : OpKey) → IsInPlan P o → (s : Status) × HasStatus P o s
+pub some_status : (P : Contents) → IsValid P → (o : OpKey) → IsInPlan P o → (s : Status) × HasStatus P o s
 some_status P valid o h =
-    let w = found_key (get P.workstations h.0.workstation) (valid.have_workstations o h.0 h.1) in
+    let w = is_found (get P.workstations h.0.workstation) (valid.have_workstations o h.0 h.1) in
     (_, status_is P o h.0 w.0 (the_preds P valid.acyclic o) h.1 w.1 (are_preds P valid.acyclic o) h.0.mark refl)
 
 pub each_has_one_status : EachHasOneStatus

@@ -7,16 +7,16 @@ use Rattle.plan_basics.specs.declared.Refusal.TheVariants as refusal
 use Rattle.plan_basics.specs.declared.keys.OpKey.{OpKey}
 use Rattle.status_rules.specs.declared.Mark.TheVariants as mark
 use Rattle.plan_laws.proofs.Choosing.{some_choice}
-use Rattle.plan_laws.proofs.Clock.{changed_loaded, clock_keeps_sound, moment_in_range}
 use Rattle.plan_laws.proofs.Deciding.{accepted_told}
 use Rattle.plan_laws.proofs.Every.{every_change_keeps_sound}
-use Rattle.plan_laws.proofs.Finite.{Listed, alike_listed, one_listed, union_listed, where_told}
+use Rattle.plan_laws.proofs.Listed.{Listed, alike_listed, one_listed, union_listed, where_told}
 use Rattle.plan_laws.proofs.Latest.{least_of}
 use Rattle.plan_laws.proofs.Numbers.{all_refusals, in_all}
 use Rattle.plan_laws.proofs.Reaching.{reach_told}
 use Rattle.operation_graph.proofs.Telling.{Told, if_told, is_told, told_if, told_none, told_some}
 use Rattle.plan_laws.specs.Steps.{SomeStep}
-use Rattle.plan_model.specs.Plan.{Plan}
+use Rattle.plan_model.specs.Contents.{Contents}
+use Rattle.plan_model.specs.Plan.{Plan, IsSoundPlan}
 use Rattle.plan_model.specs.Ready.{named, with_mark}
 use Rattle.plan_model.specs.Valid.{IsAcyclic, IsSound}
 use Rattle.plan_records.specs.Acceptance.{MayBeAccepted, MayBeDone, minute_of}
@@ -58,7 +58,7 @@ module _ (allows : Refusal → Type 0) (told : (r : Refusal) → Told (allows r)
 
 -- ---- what an accepted request changes
 
-some_change : (P : Plan) → IsAcyclic P.pairs → (m : ℕ) (w : What) → MayBeDone P m w refusal.BadPlan → (Q : Plan) × Changes P w Q
+some_change : (P : Contents) → IsAcyclic P.pairs → (m : ℕ) (w : What) → MayBeDone P m w refusal.BadPlan → (Q : Contents) × Changes P w Q
 some_change P acyclic m (what.Load None) h = absurd (true≢false (sym h))
 some_change P acyclic m (what.Load (Some draft)) h = (draft, refl)
 some_change P acyclic m (what.AddOccurrence None) h = absurd h
@@ -68,18 +68,16 @@ some_change P acyclic m (what.Rerun o) h =
     (revised test (with_mark mark.Unmarked) P, (test, λ q. (if_told (reach_told P acyclic o q), told_if (reach_told P acyclic o q)), refl))
 some_change P acyclic m w h = (_, refl)
 
-module _ (P : Plan) (q : Request) (sound : IsSound P) (request : IsRequest q.what) where
+module _ (P : Plan) (q : Request) (sound : IsSoundPlan P) (request : IsRequest q.what) where
   -- a request that nothing refuses is accepted
   acceptance : NoneRefuses (MayBeAccepted P q) → (chosen : List OpKey) × (after : Plan) × ((allows : Refusal → Type 0) → NoneRefuses allows → IsAccepted allows P q chosen after)
   acceptance may =
       let m = minute_of q.at in
-      let change = some_change P sound.valid.acyclic m q.what (may refusal.BadPlan) in
+      let change = some_change P.contents sound.contents.valid.acyclic m q.what (may refusal.BadPlan) in
       let Q = change.0 in
       let Q_sound : IsSound Q = every_change_keeps_sound q.what P Q q.at sound may request change.1 in
-      let loaded : Q.loaded ≡ true = changed_loaded P Q q.what (may refusal.NotLoaded) request change.1 in
-      let later : IsSound (record Q { clock = m }) = clock_keeps_sound Q m (moment_in_range q (may refusal.MomentRange)) loaded Q_sound in
-      let choice = some_choice (record Q { clock = m }) m later.valid in
-      (choice.0, named choice.0 (record Q { clock = m }), λ allows all. record { none_refuses = all; is_request = request; changed = Q; changes = change.1; is_chosen = choice.1; is_after = refl })
+      let choice = some_choice Q m Q_sound.valid in
+      (choice.0, record { loaded = true; clock = m; contents = named choice.0 Q }, λ allows all. record { none_refuses = all; is_request = request; changed = Q; changes = change.1; is_chosen = choice.1; is_after = refl })
 
   -- by any rules that can be decided, and under which nothing passes that the request's own refuse
   pub some_step_by : (allows : Refusal → Type 0) → ((r : Refusal) → Told (allows r)) → ((r : Refusal) → allows r → MayBeAccepted P q r) → (x : Answer) × (after : Plan) × StepBy allows P q x after
@@ -89,4 +87,4 @@ module _ (P : Plan) (q : Request) (sound : IsSound P) (request : IsRequest q.wha
   ]
 
 pub some_step : SomeStep
-some_step P q sound request = some_step_by P q sound request (MayBeAccepted P q) (accepted_told P sound.valid.acyclic q) (λ r may. may)
+some_step P q sound request = some_step_by P q sound request (MayBeAccepted P q) (accepted_told P sound.contents.valid.acyclic q) (λ r may. may)

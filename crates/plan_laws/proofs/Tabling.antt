@@ -11,13 +11,14 @@ use Rattle.plan_basics.proofs.OptionLemmas.{same_answer}
 use Rattle.special_resources.specs.Holders.{Usage}
 use Rattle.workstations.specs.Workstations.{Workstation}
 use Rattle.plan_laws.proofs.Latest.{one_latest_start, some_latest_start}
-use Rattle.plan_laws.proofs.Looks.{none_is_not_some, same_some}
+use Rattle.std.proofs.lemmas.Option.{none-some, same_Some}
 use Rattle.plan_laws.proofs.Pairs.{pair_cmp-IsAntisymmetric, pair_cmp_total}
 use Rattle.plan_laws.proofs.Single.{same_bool}
 use Rattle.plan_laws.proofs.Standing.{one_status, some_status}
 use Rattle.plan_laws.proofs.Waiting.{one_count, some_occurrence_status, some_waiting}
 use Rattle.plan_laws.specs.Tables.{EachHasOneRow, RowsTellPlan, RowsTellReceipts}
-use Rattle.plan_model.specs.Plan.{LivePredecessor, Operation, Plan, Precedes}
+use Rattle.plan_model.specs.Plan.{Plan}
+use Rattle.plan_model.specs.Contents.{Contents, LivePredecessor, Operation, Precedes}
 use Rattle.plan_model.specs.Starts.{IsLatestStart}
 use Rattle.plan_model.specs.Status.{HasStatus, IsSatisfied}
 use Rattle.plan_model.specs.Valid.{IsAcyclic, IsValid}
@@ -29,7 +30,7 @@ use Rattle.plan_records.specs.declared.PlanRow.TheVariants as row
 
 -- ---- the row of an operation
 
-pub some_row : (P : Plan) → IsValid P → (o : OpKey) (op : Operation) → get P.operations o ≡ Some op → (r : OperationRow) × (r.op ≡ o) × IsOperationRow P r
+pub some_row : (P : Contents) → IsValid P → (o : OpKey) (op : Operation) → get P.operations o ≡ Some op → (r : OperationRow) × (r.op ≡ o) × IsOperationRow P r
 some_row P valid o op e =
     let s = some_status P valid o (op, e, tt) in
     let latest = some_latest_start P valid.acyclic o in
@@ -40,9 +41,9 @@ some_row P valid o op e =
     )
 
 -- two rows of one key
-module _ (P : Plan) (acyclic : IsAcyclic P.pairs) (r s : OperationRow) (x : IsOperationRow P r) (y : IsOperationRow P s) (key : r.op ≡ s.op) where
+module _ (P : Contents) (acyclic : IsAcyclic P.pairs) (r s : OperationRow) (x : IsOperationRow P r) (y : IsOperationRow P s) (key : r.op ≡ s.op) where
   same_operation_of : x.op ≡ y.op
-  same_operation_of = same_some x.op y.op (sym x.is_in_plan ∙ ap (get P.operations) key ∙ y.is_in_plan)
+  same_operation_of = same_Some x.op y.op (sym x.is_in_plan ∙ ap (get P.operations) key ∙ y.is_in_plan)
 
   same_column : {A : Type 0} (f : Operation → A) (a b : A) → a ≡ f x.op → b ≡ f y.op → a ≡ b
   same_column f a b p q = p ∙ ap f same_operation_of ∙ sym q
@@ -71,46 +72,46 @@ each_has_one_row P valid o h =
 -- ---- from the rows back to the plan
 
 -- where each row of P is one of Q, what P has Q has
-module _ (P Q : Plan) (valid : IsValid P) (carried : (r : PlanRow) → IsRow P r → IsRow Q r) where
-  resource : (r : Name) (available : Bool) → get P.resources r ≡ Some available → get Q.resources r ≡ Some available
+module _ (P Q : Plan) (valid : IsValid P.contents) (carried : (r : PlanRow) → IsRow P r → IsRow Q r) where
+  resource : (r : Name) (available : Bool) → get P.contents.resources r ≡ Some available → get Q.contents.resources r ≡ Some available
   resource r available e = carried (row.Resource r available) e
 
-  pair : (p o : OpKey) → Precedes P p o → Precedes Q p o
+  pair : (p o : OpKey) → Precedes P.contents p o → Precedes Q.contents p o
   pair p o h = carried (row.Dependency p o) h
 
-  occurrence : (c : OccKey) (x : Occurrence) → get P.occurrences c ≡ Some x → get Q.occurrences c ≡ Some x
+  occurrence : (c : OccKey) (x : Occurrence) → get P.contents.occurrences c ≡ Some x → get Q.contents.occurrences c ≡ Some x
   occurrence c x e =
-      let s = some_occurrence_status P valid.acyclic c in
+      let s = some_occurrence_status P.contents valid.acyclic c in
       (carried (row.Occurrence c x.priority x.deadline s.0) (e, s.1)).0
 
-  interval : (w : Name) (ws vs : Workstation) → get P.workstations w ≡ Some ws → get Q.workstations w ≡ Some vs → (from : ℕ) (x : OpenInterval) → get ws.intervals from ≡ Some x → get vs.intervals from ≡ Some x
+  interval : (w : Name) (ws vs : Workstation) → get P.contents.workstations w ≡ Some ws → get Q.contents.workstations w ≡ Some vs → (from : ℕ) (x : OpenInterval) → get ws.intervals from ≡ Some x → get vs.intervals from ≡ Some x
   interval w ws vs e f from x at =
       let key : from ≡ x.from = ((valid.workstations w ws e).1.intervals from x at).0 in
       let found = carried (row.Interval w x) (ws, e, subst (λ z. get ws.intervals z ≡ Some x) key at) in
-      let same : found.0 ≡ vs = same_some found.0 vs (sym found.1 ∙ f) in
+      let same : found.0 ≡ vs = same_Some found.0 vs (sym found.1 ∙ f) in
       subst (λ z. get vs.intervals z ≡ Some x) (sym key) (subst (λ u. get u.intervals x.from ≡ Some x) same found.2)
 
-  attribute : (w : Name) (ws : Workstation) → get P.workstations w ≡ Some ws → (vs : Workstation) × (get Q.workstations w ≡ Some vs) × (vs.attribute ≡ ws.attribute)
-  attribute w ws e = known (get Q.workstations w) (carried (row.Workstation w ws.attribute) (ap (option_map (λ u. u.attribute)) e))
+  attribute : (w : Name) (ws : Workstation) → get P.contents.workstations w ≡ Some ws → (vs : Workstation) × (get Q.contents.workstations w ≡ Some vs) × (vs.attribute ≡ ws.attribute)
+  attribute w ws e = known (get Q.contents.workstations w) (carried (row.Workstation w ws.attribute) (ap (option_map (λ u. u.attribute)) e))
     where
       known : (x : Option Workstation) → option_map (λ u. u.attribute) x ≡ Some ws.attribute → (vs : Workstation) × (x ≡ Some vs) × (vs.attribute ≡ ws.attribute)
-      known None h = absurd (none_is_not_some ws.attribute h)
-      known (Some vs) h = (vs, refl, same_some vs.attribute ws.attribute h)
+      known None h = absurd (none-some ws.attribute h)
+      known (Some vs) h = (vs, refl, same_Some vs.attribute ws.attribute h)
 
-  need : (o : OpKey) (op oq : Operation) → get P.operations o ≡ Some op → get Q.operations o ≡ Some oq → (r : Name) (usage : Usage) → get op.needs r ≡ Some usage → get oq.needs r ≡ Some usage
+  need : (o : OpKey) (op oq : Operation) → get P.contents.operations o ≡ Some op → get Q.contents.operations o ≡ Some oq → (r : Name) (usage : Usage) → get op.needs r ≡ Some usage → get oq.needs r ≡ Some usage
   need o op oq e f r usage at =
       let found = carried (row.Need o (record { name = r; mode = usage.mode; keep = usage.keep })) (op, e, at) in
-      let same : found.0 ≡ oq = same_some found.0 oq (sym found.1 ∙ f) in
+      let same : found.0 ≡ oq = same_Some found.0 oq (sym found.1 ∙ f) in
       subst (λ z. get z.needs r ≡ Some usage) same found.2
 
   -- the operation of the same key, with the same columns
-  operation : (o : OpKey) (op : Operation) → get P.operations o ≡ Some op → (r : OperationRow) × (r.op ≡ o) × IsOperationRow P r × IsOperationRow Q r
+  operation : (o : OpKey) (op : Operation) → get P.contents.operations o ≡ Some op → (r : OperationRow) × (r.op ≡ o) × IsOperationRow P.contents r × IsOperationRow Q.contents r
   operation o op e =
-      let r = some_row P valid o op e in
+      let r = some_row P.contents valid o op e in
       (r.0, r.1, r.2, carried (row.Operation r.0) r.2)
 
-module _ (P Q : Plan) (p : IsValid P) (q : IsValid Q) (to : (r : PlanRow) → IsRow P r → IsRow Q r) (back : (r : PlanRow) → IsRow Q r → IsRow P r) where
-  workstation_there : (w : Name) (ws : Workstation) → get P.workstations w ≡ Some ws → get Q.workstations w ≡ Some ws
+module _ (P Q : Plan) (p : IsValid P.contents) (q : IsValid Q.contents) (to : (r : PlanRow) → IsRow P r → IsRow Q r) (back : (r : PlanRow) → IsRow Q r → IsRow P r) where
+  workstation_there : (w : Name) (ws : Workstation) → get P.contents.workstations w ≡ Some ws → get Q.contents.workstations w ≡ Some ws
   workstation_there w ws e =
       let vs = attribute P Q p to w ws e in
       let intervals : vs.0.intervals ≡ ws.intervals = same_map nat_cmp_total nat_cmp-IsAntisymmetric vs.0.intervals ws.intervals (λ from.
@@ -118,13 +119,13 @@ module _ (P Q : Plan) (p : IsValid P) (q : IsValid Q) (to : (r : PlanRow) → Is
       let same : vs.0 ≡ ws = (λ i. record { attribute = vs.2 i; intervals = intervals i }) in
       vs.1 ∙ ap Some same
 
-  operation_there : (o : OpKey) (op : Operation) → get P.operations o ≡ Some op → get Q.operations o ≡ Some op
+  operation_there : (o : OpKey) (op : Operation) → get P.contents.operations o ≡ Some op → get Q.contents.operations o ≡ Some op
   operation_there o op e =
       let r = operation P Q p to o op e in
       let x = r.2 in
       let y = r.3 in
-      let first : x.op ≡ op = same_some x.op op (sym x.is_in_plan ∙ ap (get P.operations) r.1 ∙ e) in
-      let there : get Q.operations o ≡ Some y.op = ap (get Q.operations) (sym r.1) ∙ y.is_in_plan in
+      let first : x.op ≡ op = same_Some x.op op (sym x.is_in_plan ∙ ap (get P.contents.operations) r.1 ∙ e) in
+      let there : get Q.contents.operations o ≡ Some y.op = ap (get Q.contents.operations) (sym r.1) ∙ y.is_in_plan in
       let needs : y.op.needs ≡ op.needs = same_map name_cmp_total name_cmp-IsAntisymmetric y.op.needs op.needs (λ n.
       same_answer (get y.op.needs n) (get op.needs n) (need Q P q back o y.op op there e n) (need P Q p to o op y.op e there n)) in
       let workstation = sym y.columns.0 ∙ x.columns.0 ∙ ap (λ z. z.workstation) first in
@@ -144,12 +145,12 @@ rows_tell_plan P Q p q rows =
     let to : (r : PlanRow) → IsRow P r → IsRow Q r = λ r. (rows r).0 in
     let back : (r : PlanRow) → IsRow Q r → IsRow P r = λ r. (rows r).1 in
     let meta = to (row.Meta 1 P.loaded P.clock) (refl, refl, refl) in
-    let workstations : P.workstations ≡ Q.workstations = same_map name_cmp_total name_cmp-IsAntisymmetric P.workstations Q.workstations (λ w. same_answer (get P.workstations w) (get Q.workstations w) (workstation_there P Q p q to back w) (workstation_there Q P q p back to w)) in
-    let resources : P.resources ≡ Q.resources = same_map name_cmp_total name_cmp-IsAntisymmetric P.resources Q.resources (λ r. same_answer (get P.resources r) (get Q.resources r) (resource P Q p to r) (resource Q P q back r)) in
-    let occurrences : P.occurrences ≡ Q.occurrences = same_map occurrence_cmp_total occurrence_cmp-IsAntisymmetric P.occurrences Q.occurrences (λ c. same_answer (get P.occurrences c) (get Q.occurrences c) (occurrence P Q p to c) (occurrence Q P q back c)) in
-    let operations : P.operations ≡ Q.operations = same_map operation_cmp_total operation_cmp-IsAntisymmetric P.operations Q.operations (λ o. same_answer (get P.operations o) (get Q.operations o) (operation_there P Q p q to back o) (operation_there Q P q p back to o)) in
-    let pairs : P.pairs ≡ Q.pairs = set.same_set pair_cmp_total pair_cmp-IsAntisymmetric P.pairs Q.pairs (λ x. same_bool (set.contains P.pairs x) (set.contains Q.pairs x) (pair P Q p to x.0 x.1) (pair Q P q back x.0 x.1)) in
-    λ i. record { loaded = meta.1 i; clock = meta.2 i; workstations = workstations i; resources = resources i; occurrences = occurrences i; operations = operations i; pairs = pairs i }
+    let workstations : P.contents.workstations ≡ Q.contents.workstations = same_map name_cmp_total name_cmp-IsAntisymmetric P.contents.workstations Q.contents.workstations (λ w. same_answer (get P.contents.workstations w) (get Q.contents.workstations w) (workstation_there P Q p q to back w) (workstation_there Q P q p back to w)) in
+    let resources : P.contents.resources ≡ Q.contents.resources = same_map name_cmp_total name_cmp-IsAntisymmetric P.contents.resources Q.contents.resources (λ r. same_answer (get P.contents.resources r) (get Q.contents.resources r) (resource P Q p to r) (resource Q P q back r)) in
+    let occurrences : P.contents.occurrences ≡ Q.contents.occurrences = same_map occurrence_cmp_total occurrence_cmp-IsAntisymmetric P.contents.occurrences Q.contents.occurrences (λ c. same_answer (get P.contents.occurrences c) (get Q.contents.occurrences c) (occurrence P Q p to c) (occurrence Q P q back c)) in
+    let operations : P.contents.operations ≡ Q.contents.operations = same_map operation_cmp_total operation_cmp-IsAntisymmetric P.contents.operations Q.contents.operations (λ o. same_answer (get P.contents.operations o) (get Q.contents.operations o) (operation_there P Q p q to back o) (operation_there Q P q p back to o)) in
+    let pairs : P.contents.pairs ≡ Q.contents.pairs = set.same_set pair_cmp_total pair_cmp-IsAntisymmetric P.contents.pairs Q.contents.pairs (λ x. same_bool (set.contains P.contents.pairs x) (set.contains Q.contents.pairs x) (pair P Q p to x.0 x.1) (pair Q P q back x.0 x.1)) in
+    λ i. record { loaded = meta.1 i; clock = meta.2 i; contents = record { workstations = workstations i; resources = resources i; occurrences = occurrences i; operations = operations i; pairs = pairs i } }
 
 pub rows_tell_receipts : RowsTellReceipts
 rows_tell_receipts T U rows =

@@ -13,7 +13,8 @@ use Rattle.status_rules.specs.declared.Status.{Status}
 use Rattle.status_rules.specs.declared.Status.TheVariants as status
 use Rattle.plan_laws.proofs.Decide.{told_live_predecessor}
 use Rattle.plan_laws.proofs.Entries.{told_operation}
-use Rattle.plan_laws.proofs.Finite.{Listed, alike_listed, in_keys, one_listed, union_listed, where_told}
+use Rattle.plan_laws.proofs.Listed.{Listed, alike_listed, one_listed, union_listed, where_told}
+use Rattle.plan_model.proofs.Members.{in_keys}
 use Rattle.plan_laws.proofs.Latest.{least_of}
 use Rattle.plan_laws.proofs.Reaching.{each_operation_told, same_occurrence}
 use Rattle.plan_laws.proofs.Sorted.{sorted_unique}
@@ -21,7 +22,7 @@ use Rattle.plan_laws.proofs.Sorting.{ascending}
 use Rattle.plan_laws.proofs.Standing.{satisfied_told, status_told}
 use Rattle.operation_graph.proofs.Telling.{Told, told_alike, told_and, told_none, told_or}
 use Rattle.plan_laws.specs.Derived.{EachHasOneOccurrenceStatus}
-use Rattle.plan_model.specs.Plan.{IsInPlan, LivePredecessor, Plan}
+use Rattle.plan_model.specs.Contents.{Contents, IsInPlan, LivePredecessor}
 use Rattle.plan_model.specs.Status.{HasOccurrenceStatus, HasStatus, IsSatisfied, OccurrenceCase, SomeOperation}
 use Rattle.plan_model.specs.Valid.{IsAcyclic}
 use Rattle.plan_records.specs.Rows.{IsCount, IsWaitingFor}
@@ -35,7 +36,7 @@ told_listed {A} {S} xs within told = alike_listed {S = λ x. (y : A) × Contains
 
 -- ---- counts of operations
 
-some_count : (P : Plan) (S : OpKey → Type 0) → ((o : OpKey) → Told (S o)) → ((o : OpKey) → S o → IsInPlan P o) → (n : ℕ) × IsCount S n
+some_count : (P : Contents) (S : OpKey → Type 0) → ((o : OpKey) → Told (S o)) → ((o : OpKey) → S o → IsInPlan P o) → (n : ℕ) × IsCount S n
 some_count P S told within =
     let a = ascending operation_cmp_total operation_cmp-IsAntisymmetric (told_listed (keys P.operations) (λ o s. let h = within o s in in_keys operation_cmp-IsAntisymmetric P.operations o h.0 h.1) told) in
     (length a.0, (a.0, a.1, a.2, refl))
@@ -45,7 +46,7 @@ one_count S m n x y =
     let same : x.0 ≡ y.0 = sorted_unique operation_cmp_total x.0 y.0 x.1 y.1 (λ o h. (y.2 o).1 ((x.2 o).0 h)) (λ o h. (x.2 o).1 ((y.2 o).0 h)) in
     sym x.3 ∙ ap length same ∙ y.3
 
-module _ (P : Plan) (acyclic : IsAcyclic P.pairs) where
+module _ (P : Contents) (acyclic : IsAcyclic P.pairs) where
   pub some_waiting : (o : OpKey) → (n : ℕ) × IsWaitingFor P o n
   some_waiting o = some_count P (λ p. LivePredecessor P p o × ¬ IsSatisfied P p)
       (λ p. told_and (told_live_predecessor P p o) (λ _. told_none (satisfied_told P acyclic p)))
@@ -94,13 +95,13 @@ by_precedence occurrence.Waiting = refl
 pub same_precedence : (s t : OccStatus) → occurrence_status_place s ≡ occurrence_status_place t → s ≡ t
 same_precedence s t e = sym (by_precedence s) ∙ ap (at_place all_statuses) e ∙ by_precedence t
 
-pub some_occurrence_status : (P : Plan) → IsAcyclic P.pairs → (c : OccKey) → (s : OccStatus) × HasOccurrenceStatus P c s
+pub some_occurrence_status : (P : Contents) → IsAcyclic P.pairs → (c : OccKey) → (s : OccStatus) × HasOccurrenceStatus P c s
 some_occurrence_status P acyclic c =
     let cases : Listed (OccurrenceCase P c) = told_listed all_statuses (λ s h. is_one_of_all s) (case_told P acyclic c) in
     let m = least_of (λ s. pos (occurrence_status_place s)) cases.0 occurrence.Waiting ((cases.1 occurrence.Waiting).1 tt) in
     (m.0, ((cases.1 m.0).0 m.1.0, λ t less h. let le = m.1.1 t ((cases.1 t).1 h) in omega (arith, ints, le, less)))
 
-pub one_occurrence_status : (P : Plan) (c : OccKey) (s t : OccStatus) → HasOccurrenceStatus P c s → HasOccurrenceStatus P c t → s ≡ t
+pub one_occurrence_status : (P : Contents) (c : OccKey) (s t : OccStatus) → HasOccurrenceStatus P c s → HasOccurrenceStatus P c t → s ≡ t
 one_occurrence_status P c s t x y = elim (cases_order (occurrence_status_place s) (occurrence_status_place t)) [
   | inl e ↦ same_precedence s t e
   | inr (inl less) ↦ absurd (y.1 s less x.0)

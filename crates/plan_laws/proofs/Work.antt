@@ -1,17 +1,18 @@
 -- What a request may look at is a number, and one.
-use Rattle.std.proofs.Common.{◌≡◌, refl, sym, ◌∙◌, ℕ, List, length, Contains, ◌+◌, ◌*◌}
+use Rattle.std.proofs.Common.{◌≡◌, refl, sym, ◌∙◌, ℕ, true, List, length, Contains, ◌+◌, ◌*◌}
 use Rattle.std.specs.Prelude.{sum_by}
 use Rattle.plan_basics.specs.Keys.{operation_cmp-IsAntisymmetric, operation_cmp_total}
 use Rattle.plan_basics.specs.declared.keys.OpKey.{OpKey}
 use Rattle.operation_graph.specs.Paths.{end_of}
 use Rattle.plan_laws.proofs.Choice.{one_ready_list}
-use Rattle.plan_laws.proofs.Finite.{Listed, alike_listed, either_listed, images_listed, none_listed, one_listed, union_listed}
+use Rattle.plan_laws.proofs.Listed.{Listed, alike_listed, either_listed, images_listed, none_listed, one_listed, union_listed}
 use Rattle.plan_laws.proofs.Readying.{some_ready_list}
 use Rattle.plan_laws.proofs.RowChanges.{some_changes}
 use Rattle.plan_laws.proofs.Sorted.{sorted_unique}
 use Rattle.plan_laws.proofs.Sorting.{ascending}
 use Rattle.plan_laws.proofs.Latest.{plan_paths}
 use Rattle.plan_laws.specs.Work.{OneAllowance, SomeAllowance}
+use Rattle.plan_model.specs.Contents.{Contents}
 use Rattle.plan_model.specs.Plan.{Plan}
 use Rattle.plan_model.specs.Starts.{Reaches}
 use Rattle.plan_model.specs.Valid.{IsAcyclic, IsValid}
@@ -19,12 +20,12 @@ use Rattle.plan_records.specs.Rows.{AreChanges}
 use Rattle.plan_records.specs.Work.{HasChangedRow, IsAllowanceByChange, IsWorkedOn, by_whole_plan, neighbours}
 use Rattle.plan_records.specs.declared.PlanRow.{PlanRow}
 use Rattle.plan_records.specs.declared.PlanRow.TheVariants as row
-use Rattle.plan_records.specs.declared.RowKey.{RowKey}
+use Rattle.plan_drafts.specs.declared.RowKey.{RowKey}
 use Rattle.plan_records.specs.declared.What.{What}
 use Rattle.plan_records.specs.declared.What.TheVariants as what
 
 -- the ready lists are one each, and so are the operations worked on
-one_by_change : (P Q : Plan) (w : What) (n k : ℕ) → IsAllowanceByChange P w Q n → IsAllowanceByChange P w Q k → n ≡ k
+one_by_change : (P Q : Contents) (w : What) (n k : ℕ) → IsAllowanceByChange P w Q n → IsAllowanceByChange P w Q k → n ≡ k
 one_by_change P Q w n k x y =
     let before = one_ready_list P x.before y.before x.ready_before y.ready_before in
     let after = one_ready_list Q x.after y.after x.ready_after y.ready_after in
@@ -47,9 +48,13 @@ row_listed : (r : PlanRow) → Listed (IsRowOf r)
 row_listed (row.Operation r) = one_listed r.op
 row_listed r = none_listed (λ o h. h)
 
-module _ (P Q : Plan) (p : IsValid P) (q : IsValid Q) where
-  changes : (rows : List PlanRow) × (gone : List RowKey) × AreChanges P Q rows gone
-  changes = some_changes P Q p q
+-- a plan that holds this, at any moment
+abbrev holding : Contents → Plan
+holding P = record { loaded = true; clock = 0; contents = P }
+
+module _ (P Q : Contents) (p : IsValid P) (q : IsValid Q) where
+  changes : (rows : List PlanRow) × (gone : List RowKey) × AreChanges (holding P) (holding Q) rows gone
+  changes = some_changes (holding P) (holding Q) p q
 
   changed : (o : OpKey) (r : PlanRow) → Contains changes.0 r → IsRowOf r o → HasChangedRow P Q o
   changed o (row.Operation r) has e = let new = (changes.2.has_rows (row.Operation r)).0 has in (r, e, new.0, new.1)
@@ -61,14 +66,14 @@ module _ (P Q : Plan) (p : IsValid P) (q : IsValid Q) where
       (λ o h. (row.Operation h.0, (changes.2.has_rows (row.Operation h.0)).1 (h.2, h.3), h.1))
       (union_listed IsRowOf changes.0 (λ r has. row_listed r))
 
-reached_listed : (P : Plan) → IsAcyclic P.pairs → (o : OpKey) → Listed (Reaches P o)
+reached_listed : (P : Contents) → IsAcyclic P.pairs → (o : OpKey) → Listed (Reaches P o)
 reached_listed P acyclic o = images_listed (end_of o) (plan_paths P acyclic o)
 
-worked_on_listed : (P Q : Plan) → IsValid P → IsValid Q → (w : What) → Listed (IsWorkedOn P w Q)
+worked_on_listed : (P Q : Contents) → IsValid P → IsValid Q → (w : What) → Listed (IsWorkedOn P w Q)
 worked_on_listed P Q p q (what.Rerun o) = either_listed (changed_listed P Q p q) (reached_listed P p.acyclic o)
 worked_on_listed P Q p q w = changed_listed P Q p q
 
-some_by_change : (P Q : Plan) → IsValid P → IsValid Q → (w : What) → (n : ℕ) × IsAllowanceByChange P w Q n
+some_by_change : (P Q : Contents) → IsValid P → IsValid Q → (w : What) → (n : ℕ) × IsAllowanceByChange P w Q n
 some_by_change P Q p q w =
     let before = some_ready_list P p in
     let after = some_ready_list Q q in

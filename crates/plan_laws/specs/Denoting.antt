@@ -2,12 +2,12 @@
 use Rattle.std.specs.Prelude.{◌↔◌, List}
 use Rattle.std.specs.List.Sorted.{IsPermutation}
 use Rattle.plan_items.specs.Items.{Fields}
-use Rattle.plan_model.specs.Plan.{Plan, AddedParts}
-use Rattle.plan_records.specs.Records.{Denotes, DenotesAddition}
+use Rattle.plan_model.specs.Contents.{Contents, AddedParts}
+use Rattle.plan_drafts.specs.Records.{Denotes, DenotesAddition}
 
 -- the same records in another order denote the same plan
 abbrev pub OrderDoesNotMatter : Type 0
-OrderDoesNotMatter = (records others : List Fields) (P : Plan) → IsPermutation records others → Denotes records P ↔ Denotes others P
+OrderDoesNotMatter = (records others : List Fields) (P : Contents) → IsPermutation records others → Denotes records P ↔ Denotes others P
 
 -- and the same addition
 abbrev pub OrderDoesNotMatterToAdditions : Type 0

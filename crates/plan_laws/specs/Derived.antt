@@ -6,7 +6,7 @@ use Rattle.status_rules.specs.declared.OccStatus.{OccStatus}
 use Rattle.status_rules.specs.declared.Status.{Status}
 use Rattle.status_rules.specs.declared.Status.TheVariants as status
 use Rattle.status_rules.specs.Classes.{is_ready, is_satisfied, is_under_way, is_waiting_or_ready}
-use Rattle.plan_model.specs.Plan.{Plan, IsInPlan}
+use Rattle.plan_model.specs.Contents.{Contents, IsInPlan}
 use Rattle.plan_model.specs.Status.{HasOccurrenceStatus, HasStatus, IsReady, IsSatisfied, IsUnderWay, IsWaitingOrReady}
 use Rattle.plan_model.specs.Ready.{IsReadyList, IsChosen}
 use Rattle.ready_list.specs.declared.ReadyKey.{ReadyKey}
@@ -15,14 +15,14 @@ use Rattle.plan_model.specs.Valid.{IsValid}
 
 -- an operation of a valid plan is satisfied or it isn't
 abbrev pub SatisfiedIsTold : Type 0
-SatisfiedIsTold = (P : Plan) → IsValid P → (o : OpKey) → IsSatisfied P o ⊎ ¬ IsSatisfied P o
+SatisfiedIsTold = (P : Contents) → IsValid P → (o : OpKey) → IsSatisfied P o ⊎ ¬ IsSatisfied P o
 
 -- an operation is satisfied exactly where its status is complete or deleted
 abbrev pub SatisfiedByStatus : Type 0
-SatisfiedByStatus = (P : Plan) (o : OpKey) → IsSatisfied P o ↔ (HasStatus P o status.Complete ⊎ HasStatus P o status.Deleted)
+SatisfiedByStatus = (P : Contents) (o : OpKey) → IsSatisfied P o ↔ (HasStatus P o status.Complete ⊎ HasStatus P o status.Deleted)
 
 -- the classes of this status show what is so of o
-pub record AreItsClasses (P : Plan) (o : OpKey) (s : Status) : Type 0 where
+pub record AreItsClasses (P : Contents) (o : OpKey) (s : Status) : Type 0 where
   pub ready : IsReady P o ↔ (is_ready s ≡ true)
   pub waiting_or_ready : IsWaitingOrReady P o ↔ (is_waiting_or_ready s ≡ true)
   pub under_way : IsUnderWay P o ↔ (is_under_way s ≡ true)
@@ -30,28 +30,28 @@ pub record AreItsClasses (P : Plan) (o : OpKey) (s : Status) : Type 0 where
 
 -- of each operation of a valid plan the classes of its status show whether it is ready, waiting or ready, under way, and satisfied
 abbrev pub ClassesOfStatus : Type 0
-ClassesOfStatus = (P : Plan) → IsValid P → (o : OpKey) (s : Status) → HasStatus P o s → AreItsClasses P o s
+ClassesOfStatus = (P : Contents) → IsValid P → (o : OpKey) (s : Status) → HasStatus P o s → AreItsClasses P o s
 
 -- each operation of a valid plan has a status, and no other
 abbrev pub EachHasOneStatus : Type 0
-EachHasOneStatus = (P : Plan) → IsValid P → (o : OpKey) → IsInPlan P o → (s : Status) × HasStatus P o s × ((t : Status) → HasStatus P o t → t ≡ s)
+EachHasOneStatus = (P : Contents) → IsValid P → (o : OpKey) → IsInPlan P o → (s : Status) × HasStatus P o s × ((t : Status) → HasStatus P o t → t ≡ s)
 
 -- and a latest start, and no other
 abbrev pub EachHasOneLatestStart : Type 0
-EachHasOneLatestStart = (P : Plan) → IsValid P → (o : OpKey) → (v : ℤ) × IsLatestStart P o v × ((w : ℤ) → IsLatestStart P o w → w ≡ v)
+EachHasOneLatestStart = (P : Contents) → IsValid P → (o : OpKey) → (v : ℤ) × IsLatestStart P o v × ((w : ℤ) → IsLatestStart P o w → w ≡ v)
 
 -- a valid plan has a ready list
 abbrev pub SomeReadyList : Type 0
-SomeReadyList = (P : Plan) → IsValid P → (ready : List ReadyKey) × IsReadyList P ready
+SomeReadyList = (P : Contents) → IsValid P → (ready : List ReadyKey) × IsReadyList P ready
 
 -- and no other
 abbrev pub OneReadyList : Type 0
-OneReadyList = (P : Plan) (a b : List ReadyKey) → IsReadyList P a → IsReadyList P b → a ≡ b
+OneReadyList = (P : Contents) (a b : List ReadyKey) → IsReadyList P a → IsReadyList P b → a ≡ b
 
 -- and at each minute a choice from it
 abbrev pub SomeChoice : Type 0
-SomeChoice = (P : Plan) (m : ℕ) → IsValid P → (chosen : List OpKey) × IsChosen P m chosen
+SomeChoice = (P : Contents) (m : ℕ) → IsValid P → (chosen : List OpKey) × IsChosen P m chosen
 
 -- each occurrence of a valid plan has a status, and no other
 abbrev pub EachHasOneOccurrenceStatus : Type 0
-EachHasOneOccurrenceStatus = (P : Plan) → IsValid P → (c : OccKey) → (s : OccStatus) × HasOccurrenceStatus P c s × ((t : OccStatus) → HasOccurrenceStatus P c t → t ≡ s)
+EachHasOneOccurrenceStatus = (P : Contents) → IsValid P → (c : OccKey) → (s : OccStatus) × HasOccurrenceStatus P c s × ((t : OccStatus) → HasOccurrenceStatus P c t → t ≡ s)

@@ -2,12 +2,12 @@
 use Rattle.std.specs.Prelude.{◌⊎◌, ℕ}
 use Rattle.operation_graph.specs.Paths.{IsRankBy, LeadsBy}
 use Rattle.plan_basics.specs.declared.keys.OpKey.{OpKey}
-use Rattle.plan_model.specs.Plan.{Pairs, Plan, Precedes, IsPairOf}
+use Rattle.plan_model.specs.Contents.{Contents, Pairs, Precedes, IsPairOf}
 use Rattle.plan_model.specs.Valid.{IsAcyclic, IsValid}
 
 -- a valid plan has a rank
 abbrev pub ValidHasRank : Type 0
-ValidHasRank = (P : Plan) → IsValid P → (rank : OpKey → ℕ) × IsRankBy (Precedes P) rank
+ValidHasRank = (P : Contents) → IsValid P → (rank : OpKey → ℕ) × IsRankBy (Precedes P) rank
 
 -- whether these pairs lead from one operation to another is so or isn't
 abbrev pub PathsAreTold : Type 0

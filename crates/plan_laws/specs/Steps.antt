@@ -1,8 +1,7 @@
 -- A request has an answer, and one, which leaves one plan.
 use Rattle.std.specs.Prelude.{◌≡◌, List, All}
 use Rattle.plan_basics.specs.declared.Refusal.TheVariants as refusal
-use Rattle.plan_model.specs.Plan.{Plan}
-use Rattle.plan_model.specs.Valid.{IsSound}
+use Rattle.plan_model.specs.Plan.{Plan, IsSoundPlan}
 use Rattle.plan_records.specs.Changes.{IsRequest}
 use Rattle.plan_records.specs.declared.Request.{Request}
 use Rattle.plan_records.specs.Answer.{Answer}
@@ -31,11 +30,11 @@ OneRun = (s : State) (u : Usable) (calls : List Call) (xs ys : List Answer) (a b
 
 -- each request to a sound plan has an answer, which leaves some plan
 abbrev pub SomeStep : Type 0
-SomeStep = (P : Plan) (q : Request) → IsSound P → IsRequest q.what → (x : Answer) × (after : Plan) × Step P q x after
+SomeStep = (P : Plan) (q : Request) → IsSoundPlan P → IsRequest q.what → (x : Answer) × (after : Plan) × Step P q x after
 
 -- so has each numbered request, of a legal tracker
 abbrev pub SomeNumberedStep : Type 0
-SomeNumberedStep = (P : Plan) (T : Receipts) (n : Numbered) → IsSound P → IsRequest n.request.what → IsNumbered n → (x : Answer) × (after : Plan) × (receipts : Receipts) × NumberedStep P T n x after receipts
+SomeNumberedStep = (P : Plan) (T : Receipts) (n : Numbered) → IsSoundPlan P → IsRequest n.request.what → IsNumbered n → (x : Answer) × (after : Plan) × (receipts : Receipts) × NumberedStep P T n x after receipts
 
 -- no step is an answer for memory or the store
 abbrev pub PlanAnswers : Type 0
@@ -48,4 +47,4 @@ IsCall (numbered n) = IsRequest n.request.what × IsNumbered n
 
 -- from a sound plan all calls have a run in which the plan alone answers
 abbrev pub SomeRun : Type 0
-SomeRun = (s : State) (calls : List Call) → IsSound s.plan → All IsCall calls → (replies : List Answer) × (t : State) × All IsOfThePlan replies × Run s usable calls replies t usable
+SomeRun = (s : State) (calls : List Call) → IsSoundPlan s.plan → All IsCall calls → (replies : List Answer) × (t : State) × All IsOfThePlan replies × Run s usable calls replies t usable

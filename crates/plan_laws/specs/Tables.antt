@@ -1,7 +1,8 @@
 -- The rows of a valid plan, and those that change: they are there, and they determine the plan.
 use Rattle.std.specs.Prelude.{◌≡◌, ◌↔◌, List}
 use Rattle.plan_basics.specs.declared.keys.OpKey.{OpKey}
-use Rattle.plan_model.specs.Plan.{Plan, IsInPlan}
+use Rattle.plan_model.specs.Plan.{Plan}
+use Rattle.plan_model.specs.Contents.{Contents, IsInPlan}
 use Rattle.plan_model.specs.Valid.{IsValid}
 use Rattle.plan_basics.specs.Keys.{Name}
 use Rattle.plan_records.specs.Receipts.{IsReceiptRow}
@@ -9,23 +10,23 @@ use Rattle.plan_records.specs.Rows.{AreChanges, AreRows, IsOperationRow, IsRow}
 use Rattle.plan_records.specs.Step.{Receipt, Receipts}
 use Rattle.plan_records.specs.declared.OperationRow.{OperationRow}
 use Rattle.plan_records.specs.declared.PlanRow.{PlanRow}
-use Rattle.plan_records.specs.declared.RowKey.{RowKey}
+use Rattle.plan_drafts.specs.declared.RowKey.{RowKey}
 
 -- each operation of a valid plan has a row, and no other
 abbrev pub EachHasOneRow : Type 0
-EachHasOneRow = (P : Plan) → IsValid P → (o : OpKey) → IsInPlan P o → (r : OperationRow) × (r.op ≡ o) × IsOperationRow P r × ((s : OperationRow) → s.op ≡ o → IsOperationRow P s → s ≡ r)
+EachHasOneRow = (P : Contents) → IsValid P → (o : OpKey) → IsInPlan P o → (r : OperationRow) × (r.op ≡ o) × IsOperationRow P r × ((s : OperationRow) → s.op ≡ o → IsOperationRow P s → s ≡ r)
 
 -- two valid plans with the same rows are one plan
 abbrev pub RowsTellPlan : Type 0
-RowsTellPlan = (P Q : Plan) → IsValid P → IsValid Q → ((r : PlanRow) → IsRow P r ↔ IsRow Q r) → P ≡ Q
+RowsTellPlan = (P Q : Plan) → IsValid P.contents → IsValid Q.contents → ((r : PlanRow) → IsRow P r ↔ IsRow Q r) → P ≡ Q
 
 -- a valid plan has a list of its rows
 abbrev pub SomeRows : Type 0
-SomeRows = (P : Plan) → IsValid P → (rows : List PlanRow) × AreRows P rows
+SomeRows = (P : Plan) → IsValid P.contents → (rows : List PlanRow) × AreRows P rows
 
 -- from a valid plan to another there is a list of the rows that change, and one of the keys that go
 abbrev pub SomeChanges : Type 0
-SomeChanges = (P Q : Plan) → IsValid P → IsValid Q → (rows : List PlanRow) × (gone : List RowKey) × AreChanges P Q rows gone
+SomeChanges = (P Q : Plan) → IsValid P.contents → IsValid Q.contents → (rows : List PlanRow) × (gone : List RowKey) × AreChanges P Q rows gone
 
 -- from one plan to another one list of rows changes, and one list of keys goes
 abbrev pub OneListOfChanges : Type 0

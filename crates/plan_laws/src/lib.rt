@@ -5,12 +5,13 @@ ghost use Rattle.plan_model.specs.Ready.{OneChoice};
 ghost use Rattle.plan_records.specs.Run.{AcceptedAlone};
 ghost use Rattle.plan_records.specs.Run.{State, Usable, Call, Answers};
 ghost use Rattle.plan_records.specs.Laws.{StartsAreProvidedFor, ReachedStartsAreProvidedFor, ChoiceKeepsSound, ChangeKeepsSound, StepKeepsSound, RunKeepsSound};
-ghost use Rattle.plan_model.specs.Valid.{IsSound, IsAcyclic};
+ghost use Rattle.plan_model.specs.Valid.{IsAcyclic};
 ghost use Rattle.plan_records.specs.declared.What.{What};
 ghost use Rattle.plan_records.specs.Answer.{refused};
 ghost use Rattle.plan_basics.specs.declared.Refusal.{Refusal};
 ghost use Rattle.plan_basics.specs.declared.keys.OpKey.{OpKey};
-ghost use Rattle.plan_model.specs.Plan.{Plan, Operation, Pairs, IsPairOf, Precedes, no_plan};
+ghost use Rattle.plan_model.specs.Plan.{no_plan, IsSoundPlan};
+ghost use Rattle.plan_model.specs.Contents.{Contents, Operation, Pairs, IsPairOf, Precedes};
 ghost use Rattle.plan_records.specs.Schedules.{EverySchedule};
 ghost use Rattle.std.specs.FinSet as set;
 ghost use Rattle.workstations.specs.Workstations.{Workstation};
@@ -58,19 +59,19 @@ pub fn choice_keeps_sound()
 /// Whether an operation is satisfied can be decided, where there is a rank, as in each valid plan; and it is so where
 /// each closed set has it.
 pub fn satisfied_is_told()
-    ensures told { (P : Plan) → (rank : OpKey → ℕ) → IsRankBy (Precedes P) rank → (o : OpKey) → IsSatisfied P o ⊎ ¬ IsSatisfied P o }
-    ensures each { (P : Plan) → (rank : OpKey → ℕ) → IsRankBy (Precedes P) rank → (o : OpKey) → IsSatisfied P o ↔ IsInEachClosedSet P o }
+    ensures told { (P : Contents) → (rank : OpKey → ℕ) → IsRankBy (Precedes P) rank → (o : OpKey) → IsSatisfied P o ⊎ ¬ IsSatisfied P o }
+    ensures each { (P : Contents) → (rank : OpKey → ℕ) → IsRankBy (Precedes P) rank → (o : OpKey) → IsSatisfied P o ↔ IsInEachClosedSet P o }
     ensures valid { SatisfiedIsTold }
 {}
 
 /// The table over truth values gives the status.
 pub fn status_is_by_table()
-    ensures { (P : Plan) → (o : OpKey) → (op : Operation) → (ws : Workstation) → (p : Preds) → get P.operations o ≡ Some op → get P.workstations op.workstation ≡ Some ws → ArePreds P o p → HasStatus P o (status_by op.mark op.held op.nop ws.attribute p) }
+    ensures { (P : Contents) → (o : OpKey) → (op : Operation) → (ws : Workstation) → (p : Preds) → get P.operations o ≡ Some op → get P.workstations op.workstation ≡ Some ws → ArePreds P o p → HasStatus P o (status_by op.mark op.held op.nop ws.attribute p) }
 {}
 
 /// The number of live predecessors that aren't satisfied is zero exactly where all of them are.
 pub fn counter_at_zero()
-    ensures { (P : Plan) → (rank : OpKey → ℕ) → IsRankBy (Precedes P) rank → (o : OpKey) → IsWaitingFor P o 0 ↔ AllPredecessorsSatisfied P o }
+    ensures { (P : Contents) → (rank : OpKey → ℕ) → IsRankBy (Precedes P) rank → (o : OpKey) → IsWaitingFor P o 0 ↔ AllPredecessorsSatisfied P o }
 {}
 
 /// What an accepted request changes keeps the plan sound, whichever of the requests it is.
@@ -86,7 +87,7 @@ pub fn steps_keep_sound()
 /// A run that begins with a sound plan ends with one; and the plan before anything is loaded is sound.
 pub fn runs_keep_sound()
     ensures kept { RunKeepsSound }
-    ensures empty { IsSound no_plan }
+    ensures empty { IsSoundPlan no_plan }
 {}
 
 /// After any run from a sound plan, no operation becomes started by the next call, numbered or not, unless its

@@ -10,7 +10,8 @@ use Rattle.special_resources.specs.Needs.{Usages, usages_code}
 use Rattle.status_rules.specs.contracts.Mark as mark
 use Rattle.status_rules.specs.declared.Mark.{Mark}
 use Rattle.workstations.specs.Timetables.{workstation_code}
-use Rattle.plan_model.specs.Plan.{Operation, Plan, AddedParts, Workstations, Resources, Occurrences, Operations, Pairs}
+use Rattle.plan_model.specs.Plan.{Plan}
+use Rattle.plan_model.specs.Contents.{Contents, Operation, AddedParts, Workstations, Resources, Occurrences, Operations, Pairs}
 use Rattle.plan_model.specs.declared.Occurrence.{Occurrence}
 
 -- a name is stored as its bytes
@@ -54,14 +55,18 @@ operations_code = map.code (operation_key.the_row).coded operation_code
 abbrev pub pairs_code : Coded Pairs
 pairs_code = set.code (coded× (operation_key.the_row).coded (operation_key.the_row).coded)
 
--- a plan as its seven parts
-abbrev pub plan_code : Coded Plan
-plan_code = code_by
-    ((Bool × (ℕ × Workstations)) × (Resources × (Occurrences × (Operations × Pairs))))
-    (coded× (coded× coded_bool (coded× coded_ℕ (map.code name_code workstation_code))) (coded× (map.code name_code coded_bool) (coded× occurrences_code (coded× operations_code pairs_code))))
-    (λ c. ((c.loaded, (c.clock, c.workstations)), (c.resources, (c.occurrences, (c.operations, c.pairs)))))
-    (λ p. record { loaded = p.0.0; clock = p.0.1.0; workstations = p.0.1.1; resources = p.1.0; occurrences = p.1.1.0; operations = p.1.1.1.0; pairs = p.1.1.1.1 })
+-- contents as their five parts
+abbrev pub contents_code : Coded Contents
+contents_code = code_by
+    ((Workstations × Resources) × (Occurrences × (Operations × Pairs)))
+    (coded× (coded× (map.code name_code workstation_code) (map.code name_code coded_bool)) (coded× occurrences_code (coded× operations_code pairs_code)))
+    (λ c. ((c.workstations, c.resources), (c.occurrences, (c.operations, c.pairs))))
+    (λ p. record { workstations = p.0.0; resources = p.0.1; occurrences = p.1.0; operations = p.1.1.0; pairs = p.1.1.1 })
     (λ _. refl)
+
+-- a plan as its three parts
+abbrev pub plan_code : Coded Plan
+plan_code = code_by (Bool × (ℕ × Contents)) (coded× coded_bool (coded× coded_ℕ contents_code)) (λ c. (c.loaded, (c.clock, c.contents))) (λ p. record { loaded = p.0; clock = p.1.0; contents = p.1.1 }) (λ _. refl)
 
 -- an addition as its three parts
 abbrev pub added_code : Coded AddedParts

@@ -10,7 +10,7 @@ use Rattle.workstations.specs.declared.Capacity.{Capacity}
 use Rattle.special_resources.specs.Holders.{Usage}
 use Rattle.status_rules.specs.Table.{marked_status}
 pub use Rattle.status_rules.specs.Classes.{holds_resource, holds_server}
-use Rattle.plan_model.specs.Plan.{Plan, Operation, Has, attribute_at}
+use Rattle.plan_model.specs.Contents.{Contents, Operation, Has, attribute_at}
 
 -- whether operations take anything on a workstation of this attribute: on those of C and N they take nothing
 abbrev pub takes : Option Attr → Bool
@@ -19,17 +19,17 @@ takes (Some attribute.StartAndCompletion) = true
 takes _ = false
 
 -- whether the operation holds a server of this workstation
-abbrev pub is_serving : Plan → Name → Operation → Bool
+abbrev pub is_serving : Contents → Name → Operation → Bool
 is_serving P w op = eq_by_cmp name_cmp op.workstation w && (takes (attribute_at P w) && holds_server (marked_status op.mark))
 
 -- the sum of a number over the operations that hold a server of this workstation
-abbrev pub sum_given_out : Plan → Name → (Operation → ℕ) → ℕ
+abbrev pub sum_given_out : Contents → Name → (Operation → ℕ) → ℕ
 sum_given_out P w number = sum_by (λ op. cond (is_serving P w op) (number op) 0) (values P.operations)
 
 -- what the workstation has given out: one server for each such operation, and its R1 and R2
-abbrev pub given_out : Plan → Name → Capacity
+abbrev pub given_out : Contents → Name → Capacity
 given_out P w = record { servers = sum_given_out P w (λ op. 1); r1 = sum_given_out P w (λ op. op.r1); r2 = sum_given_out P w (λ op. op.r2) }
 
 -- o holds the resource, as its need of it says
-abbrev pub Holds : Plan → OpKey → Name → Usage → Type 0
+abbrev pub Holds : Contents → OpKey → Name → Usage → Type 0
 Holds P o r usage = Has P o (λ op. (get op.needs r ≡ Some usage) × (takes (attribute_at P op.workstation) ≡ true) × (holds_resource usage.keep (marked_status op.mark) ≡ true))

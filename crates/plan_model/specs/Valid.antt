@@ -16,7 +16,7 @@ use Rattle.special_resources.specs.Holders.{Usage}
 use Rattle.operation_graph.specs.Paths.{IsAcyclicBy}
 use Rattle.status_rules.specs.declared.Mark.{Mark}
 use Rattle.status_rules.specs.declared.Mark.TheVariants as mark
-use Rattle.plan_model.specs.Plan.{Plan, Operation, Occurrences, Operations, Workstations, Resources, Pairs, IsPairOf, Has, HasAttribute, no_plan}
+use Rattle.plan_model.specs.Contents.{Contents, Operation, Occurrences, Operations, Workstations, Resources, Pairs, IsPairOf, Has, HasAttribute}
 use Rattle.plan_model.specs.declared.Occurrence.{Occurrence}
 use Rattle.plan_model.specs.Status.{AllPredecessorsSatisfied}
 use Rattle.plan_model.specs.Holdings.{Holds}
@@ -59,7 +59,7 @@ abbrev pub IsAcyclic : Pairs → Type 0
 IsAcyclic pairs = IsAcyclicBy (IsPairOf pairs)
 
 -- the most that a plan may hold
-pub record IsWithinLimits (P : Plan) : Type 0 where
+pub record IsWithinLimits (P : Contents) : Type 0 where
   pub workstations : len P.workstations ≤ MOST_WORKSTATIONS
   pub resources : len P.resources ≤ MOST_RESOURCES
   pub occurrences : len P.occurrences ≤ MOST_OCCURRENCES
@@ -67,8 +67,7 @@ pub record IsWithinLimits (P : Plan) : Type 0 where
   pub pairs : set.len P.pairs ≤ MOST_PAIRS
 
 -- all that a plan names is there and in range, no path of pairs returns, and the limits hold
-pub record IsValid (P : Plan) : Type 0 where
-  pub clock : IsMoment P.clock
+pub record IsValid (P : Contents) : Type 0 where
   pub workstations : (w : Name) (ws : Workstation) → get P.workstations w ≡ Some ws → IsName 4 w × IsWorkstation ws
   pub resources : (r : Name) → contains_key P.resources r ≡ true → IsResourceName r
   pub occurrences : AreOccurrences P.occurrences P.operations
@@ -90,7 +89,7 @@ MayBear a mark.Unmarked = Unit {0}
 MayBear a mark.Deleted = Unit {0}
 
 -- a valid plan whose marks and flags fit together
-pub record IsSound (P : Plan) : Type 0 where
+pub record IsSound (P : Contents) : Type 0 where
   pub valid : IsValid P
   -- what is reported of an operation came after its predecessors
   pub in_order : (o : OpKey) → Has P o (λ op. (op.mark ≢ mark.Unmarked) × (op.mark ≢ mark.Deleted)) → AllPredecessorsSatisfied P o
@@ -102,8 +101,6 @@ pub record IsSound (P : Plan) : Type 0 where
   pub marks : (o : OpKey) (op : Operation) (a : Attr) → get P.operations o ≡ Some op → HasAttribute P op.workstation a → MayBear a op.mark
   -- an occurrence is deleted whole
   pub deleted : (a b : OpKey) → a.occurrence ≡ b.occurrence → Has P a (λ op. op.mark ≡ mark.Deleted) → (op : Operation) → get P.operations b ≡ Some op → op.mark ≡ mark.Deleted
-  -- before a load there is nothing
-  pub before_load : P.loaded ≡ false → P ≡ no_plan
 
 -- nothing was reported of it, and its flags are clear
 abbrev pub IsUntouched : Operation → Type 0

@@ -40,7 +40,7 @@ pub struct OperationRecord {
 }
 
 impl Model for OperationRecord {
-    ghost use Rattle.plan_model.specs.Plan.{Operation};
+    ghost use Rattle.plan_model.specs.Contents.{Operation};
     ghost use Rattle.plan_model.specs.Code.{operation_code};
 
     ghost Value = { Operation };

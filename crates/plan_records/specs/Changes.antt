@@ -10,13 +10,13 @@ use Rattle.plan_basics.specs.Keys.{name_cmp, occurrence_cmp, operation_cmp}
 use Rattle.workstations.specs.Workstations.{with_intervals}
 use Rattle.status_rules.specs.declared.Mark.{Mark}
 use Rattle.status_rules.specs.declared.Mark.TheVariants as mark
-use Rattle.plan_model.specs.Plan.{Plan, Operation, AddedParts}
+use Rattle.plan_model.specs.Contents.{Contents, Operation, AddedParts}
 use Rattle.plan_model.specs.Starts.{Reaches}
 use Rattle.plan_model.specs.Ready.{with_mark}
 use Rattle.plan_model.specs.Revise.{revise, joined}
 use Rattle.plan_records.specs.declared.What.{What}
 use Rattle.plan_records.specs.declared.What.TheVariants as what
-use Rattle.plan_records.specs.Drafts.{IsDraft, IsAddition}
+use Rattle.plan_drafts.specs.Drafts.{IsDraft, IsAddition}
 
 -- what a request's own parts are: texts that were read, a legal code, intervals
 abbrev pub IsRequest : What → Type 0
@@ -26,8 +26,8 @@ IsRequest (what.Error o code) = IsName 4 code
 IsRequest (what.ReplaceIntervals w items) = All IsInterval items.items
 IsRequest _ = Unit {0}
 
--- the plan with the operations at which the test passes made anew
-abbrev pub revised : (OpKey → Bool) → (Operation → Operation) → Plan → Plan
+-- what a plan holds, with the operations at which the test passes made anew
+abbrev pub revised : (OpKey → Bool) → (Operation → Operation) → Contents → Contents
 revised test f P = record P { operations = revise (λ o op. cond (test o) (f op) op) P.operations }
 
 -- whether q is o
@@ -35,19 +35,19 @@ abbrev pub is_at : OpKey → OpKey → Bool
 is_at o q = eq_by_cmp operation_cmp q o
 
 -- with this mark on one operation
-abbrev pub marked : OpKey → Mark → Plan → Plan
+abbrev pub marked : OpKey → Mark → Contents → Contents
 marked o mark P = revised (is_at o) (with_mark mark) P
 
 -- with what is added
-abbrev pub with_added : Plan → AddedParts → Plan
+abbrev pub with_added : Contents → AddedParts → Contents
 with_added P s = record P { occurrences = joined P.occurrences s.occurrences; operations = joined P.operations s.operations; pairs = set.union P.pairs s.pairs }
 
 -- with one more pair
-abbrev pub with_pair : Plan → OpKey → OpKey → Plan
+abbrev pub with_pair : Contents → OpKey → OpKey → Contents
 with_pair P p s = record P { pairs = set.insert P.pairs (p, s) }
 
--- what an accepted request makes of P: what it says, all else as it was; the clock, and what is named, come after it
-abbrev pub Changes : Plan → What → Plan → Type 0
+-- what an accepted request makes of what a plan holds: what it says, all else as it was; what is named comes after it
+abbrev pub Changes : Contents → What → Contents → Type 0
 Changes P (what.Load draft) Q = draft ≡ Some Q
 Changes P what.Tick Q = Q ≡ P
 Changes P (what.Started o) Q = Q ≡ marked o mark.Running P

@@ -4,7 +4,8 @@ use Rattle.plan_basics.specs.declared.keys.OpKey.{OpKey}
 use Rattle.plan_basics.specs.Refusals.{NoneRefuses}
 use Rattle.plan_basics.specs.declared.Refusal.TheVariants as refusal
 use Rattle.status_rules.specs.declared.Status.TheVariants as status
-use Rattle.plan_model.specs.Plan.{Plan, Has}
+use Rattle.plan_model.specs.Plan.{Plan, IsSoundPlan}
+use Rattle.plan_model.specs.Contents.{Contents, Has}
 use Rattle.plan_model.specs.Status.{HasStatus, AllPredecessorsSatisfied}
 use Rattle.plan_model.specs.Starts.{MayStart}
 use Rattle.plan_model.specs.Ready.{named, IsChosen}
@@ -21,32 +22,32 @@ use Rattle.plan_records.specs.Run.{State, Call, plain, numbered, Usable, usable,
 
 -- o is started after, and wasn't before
 abbrev pub BecomesStarted : Plan → Plan → OpKey → Type 0
-BecomesStarted before after o = ¬ HasStatus before o status.Started × HasStatus after o status.Started
+BecomesStarted before after o = ¬ HasStatus before.contents o status.Started × HasStatus after.contents o status.Started
 
 -- its predecessors are satisfied, its workstation is open, and servers, fixed and special resources suffice
-pub record IsProvidedFor (P : Plan) (o : OpKey) (m : ℕ) : Type 0 where
+pub record IsProvidedFor (P : Contents) (o : OpKey) (m : ℕ) : Type 0 where
   pub predecessors : AllPredecessorsSatisfied P o
   pub provided : Has P o (λ op. MayStart P o op m refusal.Closed × MayStart P o op m refusal.NoServer × MayStart P o op m refusal.NoFixed × MayStart P o op m refusal.ResourceBusy)
 
--- the plan from which o is named: what the request changes the plan to, at its moment, with the operations that are named before o marked so
-abbrev pub IsAtNaming : Plan → Request → Answer → OpKey → Plan → Type 0
+-- that from which o is named: what the request changes what the plan holds to, with the operations that are named before o marked so
+abbrev pub IsAtNaming : Plan → Request → Answer → OpKey → Contents → Type 0
 IsAtNaming P q reply o at_start =
-    (changed : Plan) × (before : List OpKey) × (after : List OpKey)
-    × Changes P q.what changed
+    (changed : Contents) × (before : List OpKey) × (after : List OpKey)
+    × Changes P.contents q.what changed
     × (reply ≡ accepted (before ++ o ∷ after))
-    × (at_start ≡ named before (record changed { clock = minute_of q.at }))
+    × (at_start ≡ named before changed)
 
--- the plan in which a start is judged: of one that is reported the plan before the request, of one that is named the plan from which it is
-abbrev pub IsAtStart : Plan → Request → Answer → OpKey → Plan → Type 0
-IsAtStart P q reply o at_start = ((q.what ≡ what.Started o) × (at_start ≡ P)) ⊎ IsAtNaming P q reply o at_start
+-- that in which a start is judged: of one that is reported what the plan holds before the request, of one that is named that from which it is
+abbrev pub IsAtStart : Plan → Request → Answer → OpKey → Contents → Type 0
+IsAtStart P q reply o at_start = ((q.what ≡ what.Started o) × (at_start ≡ P.contents)) ⊎ IsAtNaming P q reply o at_start
 
 -- at the request's moment there was all that o needs to start
 abbrev pub WasProvidedFor : Plan → Request → Answer → OpKey → Type 0
-WasProvidedFor P q reply o = (at_start : Plan) × IsAtStart P q reply o at_start × IsProvidedFor at_start o (minute_of q.at)
+WasProvidedFor P q reply o = (at_start : Contents) × IsAtStart P q reply o at_start × IsProvidedFor at_start o (minute_of q.at)
 
 -- no operation becomes started unless there is all that it needs
 abbrev pub StartsAreProvidedFor : Type 0
-StartsAreProvidedFor = (P after : Plan) (q : Request) (reply : Answer) → IsSound P → Step P q reply after → (o : OpKey) → BecomesStarted P after o → WasProvidedFor P q reply o
+StartsAreProvidedFor = (P after : Plan) (q : Request) (reply : Answer) → IsSoundPlan P → Step P q reply after → (o : OpKey) → BecomesStarted P after o → WasProvidedFor P q reply o
 
 -- the request of a call, numbered or not
 abbrev pub request_of : Call → Request
@@ -57,21 +58,21 @@ request_of (numbered n) = n.request
 abbrev pub ReachedStartsAreProvidedFor : Type 0
 ReachedStartsAreProvidedFor =
     (first : State) (calls : List Call) (replies : List Answer) (s t : State) (u v : Usable) (c : Call) (reply : Answer)
-    → IsSound first.plan → Run first usable calls replies s u → Answers s u c reply t v
+    → IsSoundPlan first.plan → Run first usable calls replies s u → Answers s u c reply t v
     → (o : OpKey) → BecomesStarted s.plan t.plan o → WasProvidedFor s.plan (request_of c) reply o
 
--- the choice keeps a plan sound
+-- the choice keeps what a plan holds sound
 abbrev pub ChoiceKeepsSound : Type 0
-ChoiceKeepsSound = (P : Plan) (m : ℕ) (chosen : List OpKey) → IsSound P → IsChosen P m chosen → IsSound (named chosen P)
+ChoiceKeepsSound = (P : Contents) (m : ℕ) (chosen : List OpKey) → IsSound P → IsChosen P m chosen → IsSound (named chosen P)
 
 -- what an accepted request changes keeps it sound
 abbrev pub ChangeKeepsSound : What → Type 0
-ChangeKeepsSound w = (P Q : Plan) (at : ℤ) → IsSound P → NoneRefuses (MayBeAccepted P (record { at = at; what = w })) → IsRequest w → Changes P w Q → IsSound Q
+ChangeKeepsSound w = (P : Plan) (Q : Contents) (at : ℤ) → IsSoundPlan P → NoneRefuses (MayBeAccepted P (record { at = at; what = w })) → IsRequest w → Changes P.contents w Q → IsSound Q
 
 -- so does every step
 abbrev pub StepKeepsSound : Type 0
-StepKeepsSound = (P after : Plan) (q : Request) (reply : Answer) → IsSound P → Step P q reply after → IsSound after
+StepKeepsSound = (P after : Plan) (q : Request) (reply : Answer) → IsSoundPlan P → Step P q reply after → IsSoundPlan after
 
 -- a run that begins with a sound plan ends with one
 abbrev pub RunKeepsSound : Type 0
-RunKeepsSound = (s t : State) (u v : Usable) (calls : List Call) (replies : List Answer) → IsSound s.plan → Run s u calls replies t v → IsSound t.plan
+RunKeepsSound = (s t : State) (u v : Usable) (calls : List Call) (replies : List Answer) → IsSoundPlan s.plan → Run s u calls replies t v → IsSoundPlan t.plan

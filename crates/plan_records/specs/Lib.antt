@@ -1,7 +1,4 @@
 pub mod Answer
-pub mod Drafts
-pub mod Contents
-pub mod Places
 pub mod Changes
 pub mod Acceptance
 pub mod Step
@@ -9,9 +6,5 @@ pub mod Run
 pub mod Rows
 pub mod Work
 pub mod Laws
-pub mod Records
-pub mod KeyOrder
-pub mod PlanItems
-pub mod AdditionItems
 pub mod Receipts
 pub mod Schedules

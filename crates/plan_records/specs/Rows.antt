@@ -8,25 +8,26 @@ use Rattle.std.specs.FinMap.{get}
 use Rattle.plan_basics.specs.declared.keys.OpKey.{OpKey}
 use Rattle.plan_basics.specs.Keys.{name_cmp, occurrence_cmp, operation_cmp}
 use Rattle.workstations.specs.Workstations.{Workstation}
-use Rattle.plan_model.specs.Plan.{Plan, Operation, Has, HasAttribute, Precedes, LivePredecessor}
+use Rattle.plan_model.specs.Plan.{Plan}
+use Rattle.plan_model.specs.Contents.{Contents, Operation, Has, HasAttribute, Precedes, LivePredecessor}
 use Rattle.plan_model.specs.Status.{HasStatus, HasOccurrenceStatus, IsSatisfied}
 use Rattle.plan_model.specs.Starts.{IsLatestStart}
 use Rattle.plan_records.specs.declared.PlanRow.{PlanRow}
 use Rattle.plan_records.specs.declared.PlanRow.TheVariants as row
 use Rattle.plan_records.specs.declared.OperationRow.{OperationRow}
-use Rattle.plan_records.specs.declared.RowKey.{RowKey}
-use Rattle.plan_records.specs.declared.RowKey.TheVariants as key
+use Rattle.plan_drafts.specs.declared.RowKey.{RowKey}
+use Rattle.plan_drafts.specs.declared.RowKey.TheVariants as key
 
 -- the operations of which S holds are this many
 abbrev pub IsCount : (OpKey → Type 0) → ℕ → Type 0
 IsCount S n = (os : List OpKey) × IsStrictlySortedBy operation_cmp os × ((o : OpKey) → Contains os o ↔ S o) × (length os ≡ n)
 
 -- how many live predecessors aren't satisfied
-abbrev pub IsWaitingFor : Plan → OpKey → ℕ → Type 0
+abbrev pub IsWaitingFor : Contents → OpKey → ℕ → Type 0
 IsWaitingFor P o n = IsCount (λ p. LivePredecessor P p o × ¬ IsSatisfied P p) n
 
 -- the row of one operation: its own columns, and what is read off the plan for it
-pub record IsOperationRow (P : Plan) (r : OperationRow) : Type 0 where
+pub record IsOperationRow (P : Contents) (r : OperationRow) : Type 0 where
   pub op : Operation
   pub is_in_plan : get P.operations r.op ≡ Some op
   pub columns :
@@ -39,13 +40,13 @@ pub record IsOperationRow (P : Plan) (r : OperationRow) : Type 0 where
 -- a row of the tables for P
 abbrev pub IsRow : Plan → PlanRow → Type 0
 IsRow P (row.Meta version loaded clock) = (version ≡ 1) × (loaded ≡ P.loaded) × (clock ≡ P.clock)
-IsRow P (row.Workstation name a) = HasAttribute P name a
-IsRow P (row.Interval w i) = (ws : Workstation) × (get P.workstations w ≡ Some ws) × (get ws.intervals i.from ≡ Some i)
-IsRow P (row.Resource name available) = get P.resources name ≡ Some available
-IsRow P (row.Occurrence c priority deadline status) = (get P.occurrences c ≡ Some (record { priority = priority; deadline = deadline })) × HasOccurrenceStatus P c status
-IsRow P (row.Operation r) = IsOperationRow P r
-IsRow P (row.Dependency p s) = Precedes P p s
-IsRow P (row.Need o n) = Has P o (λ op. get op.needs n.name ≡ Some (record { mode = n.mode; keep = n.keep }))
+IsRow P (row.Workstation name a) = HasAttribute P.contents name a
+IsRow P (row.Interval w i) = (ws : Workstation) × (get P.contents.workstations w ≡ Some ws) × (get ws.intervals i.from ≡ Some i)
+IsRow P (row.Resource name available) = get P.contents.resources name ≡ Some available
+IsRow P (row.Occurrence c priority deadline status) = (get P.contents.occurrences c ≡ Some (record { priority = priority; deadline = deadline })) × HasOccurrenceStatus P.contents c status
+IsRow P (row.Operation r) = IsOperationRow P.contents r
+IsRow P (row.Dependency p s) = Precedes P.contents p s
+IsRow P (row.Need o n) = Has P.contents o (λ op. get op.needs n.name ≡ Some (record { mode = n.mode; keep = n.keep }))
 
 -- the key columns of a row
 abbrev pub key_of : PlanRow → RowKey

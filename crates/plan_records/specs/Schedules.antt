@@ -2,7 +2,7 @@
 use Rattle.std.specs.Prelude.{◌≡◌, ◌⊎◌, List, [], ◌∷◌, Option, Some, None}
 use Rattle.plan_basics.specs.declared.keys.OpKey.{OpKey}
 use Rattle.plan_basics.specs.declared.Refusal.{Refusal}
-use Rattle.plan_model.specs.Valid.{IsSound}
+use Rattle.plan_model.specs.Plan.{IsSoundPlan}
 use Rattle.plan_records.specs.Answer.{Answer}
 use Rattle.plan_records.specs.Answer.{accepted, refused}
 use Rattle.plan_records.specs.Receipts.{AreReceipts}
@@ -33,7 +33,7 @@ created = record { stored = empty_state; desk = Some usable }
 
 -- a desk may have this state
 abbrev pub IsDeskState : State → Type 0
-IsDeskState s = IsSound s.plan × AreReceipts s.plan.loaded s.receipts
+IsDeskState s = IsSoundPlan s.plan × AreReceipts s.plan.loaded s.receipts
 
 -- what an event makes of what is stored, and of the desk, if there is one
 abbrev pub Leaves : State → Option Usable → Event → State → Option Usable → Type 0

@@ -9,6 +9,7 @@ use Rattle.plan_basics.specs.Keys.{Name, name_cmp}
 use Rattle.plan_basics.specs.Names.{IsName}
 use Rattle.plan_basics.specs.Refusals.{IsLeastRefusal, NoneRefuses}
 use Rattle.plan_model.specs.Plan.{Plan}
+use Rattle.plan_model.specs.Contents.{Contents}
 use Rattle.plan_model.specs.Ready.{IsChosen, named}
 use Rattle.plan_records.specs.declared.Request.{Request}
 use Rattle.plan_records.specs.Answer.{Answer}
@@ -16,14 +17,14 @@ use Rattle.plan_records.specs.Answer.{accepted, refused}
 use Rattle.plan_records.specs.Acceptance.{MayBeAccepted, minute_of}
 use Rattle.plan_records.specs.Changes.{IsRequest, Changes}
 
--- the request is accepted: it changes P to `changed`, at its moment these are chosen, and they are named
+-- the request is accepted: it changes what P holds to `changed`, at its moment these are chosen, and they are named; a plan is loaded then, and its clock is at that moment
 pub record IsAccepted (allows : Refusal → Type 0) (P : Plan) (q : Request) (chosen : List OpKey) (after : Plan) : Type 0 where
   pub none_refuses : NoneRefuses allows
   pub is_request : IsRequest q.what
-  pub changed : Plan
-  pub changes : Changes P q.what changed
-  pub is_chosen : IsChosen (record changed { clock = minute_of q.at }) (minute_of q.at) chosen
-  pub is_after : after ≡ named chosen (record changed { clock = minute_of q.at })
+  pub changed : Contents
+  pub changes : Changes P.contents q.what changed
+  pub is_chosen : IsChosen changed (minute_of q.at) chosen
+  pub is_after : after ≡ record { loaded = true; clock = minute_of q.at; contents = named chosen changed }
 
 -- the request is refused, for the least number that applies
 pub record IsRefused (allows : Refusal → Type 0) (P : Plan) (r : Refusal) (after : Plan) : Type 0 where

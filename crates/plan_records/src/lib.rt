@@ -1,26 +1,11 @@
-//! Requests and their answers, what a plan's text denotes, and the rows of the tables.
+//! Requests and their answers, and the rows of the tables. What texts denote comes from `plan_drafts`.
 #![tactic(auto)]
 
-ghost use Rattle.plan_records.specs.Records.{OnePlan, OneAddition};
-
-mod additions;
-mod builder;
-mod contents;
-mod drafts;
-mod graphs;
-mod in_order;
-mod intervals;
-mod key_order;
-mod needs;
-mod places;
-
-pub use builder::Record;
-pub use contents::{AdditionParts, PlanContents};
-pub use drafts::{Addition, PlanDraft};
-pub use graphs::{graph_for, is_acyclic};
-pub use key_order::ExactKey;
-pub use places::{known_row, known_workstation, row_place, workstation_place};
 use plan_basics::{Attr, ErrCode, Interval, Moment, OccKey, OpKey, Refusal, ResName, WsName};
+pub use plan_drafts::{
+    Addition, AdditionParts, ExactKey, PlanContents, PlanDraft, Record, RowKey, is_acyclic,
+    one_denotation, row_place,
+};
 use special_resources::Need;
 use status_rules::{Mark, OccStatus, Status};
 
@@ -118,22 +103,3 @@ pub struct OperationRow {
     pub latest: i64,
     pub waiting: u32,
 }
-
-/// A row's key columns.
-#[derive(Clone, Copy)]
-pub enum RowKey {
-    Meta,
-    Workstation(WsName),
-    Interval(WsName, Moment),
-    Resource(ResName),
-    Occurrence(OccKey),
-    Operation(OpKey),
-    Dependency(OpKey, OpKey),
-    Need(OpKey, ResName),
-}
-
-/// The law that records denote one plan at most, and one addition at most. It does nothing.
-pub fn one_denotation()
-    ensures plan { OnePlan }
-    ensures addition { OneAddition }
-{}

@@ -4,23 +4,23 @@ use Rattle.std.specs.FinMap.{get}
 use Rattle.plan_basics.specs.declared.Attr.{Attr}
 use Rattle.plan_basics.specs.declared.Attr.TheVariants.{Nonreporting}
 use Rattle.plan_basics.specs.declared.keys.OpKey.{OpKey}
-use Rattle.plan_model.specs.Plan.{Plan, Operation, Has, HasAttribute, LivePredecessor}
+use Rattle.plan_model.specs.Contents.{Contents, Operation, Has, HasAttribute, LivePredecessor}
 use Rattle.plan_model.specs.Status.{IsSatisfied}
 use Rattle.plan_records.specs.Rows.{IsCount}
-use Rattle.plan_laws.proofs.Looks.{same_some}
+use Rattle.std.proofs.lemmas.Option.{same_Some}
 use Rattle.plan_status.specs.Standings.{IsStanding}
 use Rattle.plan_status.specs.declared.standings.Standing.{Standing}
 
 -- o is on a workstation that doesn't report
-abbrev pub IsOnNonreporting : Plan → OpKey → Type 0
+abbrev pub IsOnNonreporting : Contents → OpKey → Type 0
 IsOnNonreporting P o = Has P o (λ op. HasAttribute P op.workstation Nonreporting)
 
 -- by the attribute of its workstation
-pub decides_on : (P : Plan) (o : OpKey) (op : Operation) (a : Attr) (b : Bool) → get P.operations o ≡ Some op → HasAttribute P op.workstation a
+pub decides_on : (P : Contents) (o : OpKey) (op : Operation) (a : Attr) (b : Bool) → get P.operations o ≡ Some op → HasAttribute P op.workstation a
     → Decides b (a ≡ Nonreporting) → Decides b (IsOnNonreporting P o)
 decides_on P o op a b is on d = (
   λ e. (op, is, subst (HasAttribute P op.workstation) (d.0 e) on),
-  λ h. d.1 (same_some a Nonreporting (sym on ∙ subst (λ x. HasAttribute P x.workstation Nonreporting) (same_some h.0 op (sym h.1 ∙ is)) h.2)),
+  λ h. d.1 (same_Some a Nonreporting (sym on ∙ subst (λ x. HasAttribute P x.workstation Nonreporting) (same_Some h.0 op (sym h.1 ∙ is)) h.2)),
 )
 
 pub decides_alike : {A B : Type 0} {b : Bool} → (A → B) → (B → A) → Decides b A → Decides b B
@@ -29,7 +29,7 @@ decides_alike f g d = (λ e. f (d.0 e), λ y. d.1 (g y))
 pub count_alike : {S T : OpKey → Type 0} {n : ℕ} → ((o : OpKey) → S o → T o) → ((o : OpKey) → T o → S o) → IsCount S n → IsCount T n
 count_alike f g c = (c.0, c.1, λ o. (λ has. f o ((c.2 o).0 has), λ t. (c.2 o).1 (g o t)), c.3)
 
-module _ (P Q : Plan) (o : OpKey)
+module _ (P Q : Contents) (o : OpKey)
     (live : (p : OpKey) → LivePredecessor P p o ↔ LivePredecessor Q p o)
     (satisfied : (p : OpKey) → LivePredecessor P p o → IsSatisfied P p ↔ IsSatisfied Q p)
     (nonreporting : (p : OpKey) → LivePredecessor P p o → IsOnNonreporting P p ↔ IsOnNonreporting Q p) where

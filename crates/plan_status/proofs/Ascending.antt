@@ -6,8 +6,9 @@ use Rattle.std.specs.Cmp.{IsTotalOrder}
 use Rattle.std.specs.List.{AllByRecursion}
 use Rattle.std.specs.List.Sorted.{IsStrictlySortedBy}
 use Rattle.std.specs.Map.{keys_of}
-use Rattle.plan_laws.proofs.Sorted.{contains_cases, contains_head, contains_later, contains_none, not_itself}
-use Rattle.plan_records.proofs.RowPlaces.{later_key}
+use Rattle.plan_laws.proofs.Sorted.{not_itself}
+use Rattle.plan_drafts.proofs.RowPlaces.{later_key}
+use Rattle.plan_basics.proofs.Members.{contains_cases, contains_head, contains_later, contains_none}
 
 -- at the index that is set is the new element, elsewhere what was there
 pub set_cases : {X : Type 0} (xs : List X) (i k : ℕ) (z u : X) → slice_get (set xs i z) k ≡ Some u → ((k ≡ i) × (u ≡ z)) ⊎ ((k ≢ i) × (slice_get xs k ≡ Some u))

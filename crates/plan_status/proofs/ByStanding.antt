@@ -3,14 +3,14 @@ use Rattle.std.proofs.Common.{◌≡◌, refl, subst, Some}
 use Rattle.std.specs.FinMap.{get}
 use Rattle.plan_basics.specs.declared.Attr.{Attr}
 use Rattle.plan_basics.specs.declared.keys.OpKey.{OpKey}
-use Rattle.plan_laws.proofs.Looks.{mapped}
+use Rattle.plan_drafts.proofs.Needed.{mapped}
 use Rattle.plan_laws.proofs.Tables.{status_is}
-use Rattle.plan_model.specs.Plan.{HasAttribute, Operation, Plan}
+use Rattle.plan_model.specs.Contents.{Contents, HasAttribute, Operation}
 use Rattle.plan_model.specs.Status.{ArePreds, HasStatus}
 use Rattle.status_rules.specs.Table.{status_by}
 use Rattle.status_rules.specs.declared.Preds.{Preds}
 
-pub status_on : (P : Plan) (o : OpKey) (op : Operation) (a : Attr) (p : Preds)
+pub status_on : (P : Contents) (o : OpKey) (op : Operation) (a : Attr) (p : Preds)
     → get P.operations o ≡ Some op → HasAttribute P op.workstation a → ArePreds P o p → HasStatus P o (status_by op.mark op.held op.nop a p)
 status_on P o op a p is on are =
     let ws = mapped (λ ws. ws.attribute) (get P.workstations op.workstation) a on in

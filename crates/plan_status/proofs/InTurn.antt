@@ -1,6 +1,6 @@
 -- The edges of a plan's graph, as pairs of keys, are in turn.
 use Rattle.std.proofs.Common.{◌≡◌, inl, inr, sym, ◌∙◌, ap, subst, arith, ℕ, zero, suc, ◌+◌, ◌<◌, ◌≤◌, true, false, cond, List, [], ◌∷◌, ◌++◌, length, get_or, map, take, Some, Option, option_map, unwrap_or, slice_get, Contains, ◌↔◌}
-use Rattle.std.specs.FinMap.{from_entries, get}
+use Rattle.std.specs.FinMap.{entries, get}
 use Rattle.std.specs.FinSet as set
 use Rattle.std.specs.FinSet.{from_list, same_set}
 use Rattle.std.proofs.lemmas.List.{map-append, take_all, take_more}
@@ -10,15 +10,17 @@ use Rattle.operation_graph.specs.Graphs.{AreDifferent, AreInTurn, Digraph, HasEd
 use Rattle.plan_basics.proofs.Members.{contains_cases, contains_none}
 use Rattle.plan_basics.specs.Keys.{operation_cmp, operation_cmp_total, operation_cmp-IsAntisymmetric}
 use Rattle.plan_basics.specs.declared.keys.OpKey.{OpKey}
-use Rattle.plan_graph.proofs.KeyPlaces.{listed_in, in_listed, pair_cmp_total, pair_cmp-IsAntisymmetric}
-use Rattle.plan_model.specs.Plan.{IsPairOf, Operation, pair_cmp}
-use Rattle.plan_records.proofs.Pairs.{pair_cases, pair_pushed}
-use Rattle.plan_records.proofs.Lists.{from_map, in_map}
-use Rattle.plan_records.specs.Contents.{AreValidContents, IsGraphFor, plan_of}
-use Rattle.plan_records.specs.declared.contents.PlanContents.{PlanContents}
-use Rattle.plan_laws.proofs.Looks.{found_key, told_flag}
+use Rattle.plan_drafts.proofs.KeyPlaces.{listed_in, in_listed, pair_cmp_total, pair_cmp-IsAntisymmetric}
+use Rattle.plan_model.specs.Contents.{Contents, IsPairOf, Operation, pair_cmp}
+use Rattle.plan_drafts.proofs.Pairs.{pair_cases, pair_pushed}
+use Rattle.plan_drafts.proofs.Lists.{from_map, in_map}
+use Rattle.plan_drafts.specs.PlanGraphs.{IsGraphFor}
+use Rattle.plan_model.specs.Valid.{IsValid}
+use Rattle.plan_model.proofs.Entries.{entries_are, entries_in_order}
+use Rattle.plan_drafts.proofs.Tables.{is_found}
+use Rattle.std.proofs.lemmas.Bool.{false_from_ne_true}
 use Rattle.plan_laws.proofs.Single.{same_bool}
-use Rattle.plan_records.proofs.RowPlaces.{place_of_found}
+use Rattle.plan_drafts.proofs.RowPlaces.{place_of_found}
 use Rattle.plan_status.proofs.Ascending.{one_place}
 use Rattle.plan_status.proofs.RowKeys.{key_of_row, row_of_key}
 use Rattle.plan_status.specs.Incoming.{ComesAfter}
@@ -67,24 +69,24 @@ pub all_shown : (g : Digraph) (shown edges : List Edge) → shown ≡ edges → 
 all_shown g shown edges same told turn = subst (AreAllInTurn g) (sym same) (record { different = told.0; listed = told.1; turn = turn })
 
 -- an edge's ends are rows, and their keys are a pair of the plan
-pub record IsPairAt (c : PlanContents) (e : Edge) : Type 0 where
+pub record IsPairAt (P : Contents) (e : Edge) : Type 0 where
   pub before : Operation
   pub after : Operation
-  pub first : slice_get c.operations.items e.0 ≡ Some ((pair_of c.operations.items e).0, before)
-  pub second : slice_get c.operations.items e.1 ≡ Some ((pair_of c.operations.items e).1, after)
-  pub is_pair : IsPairOf (plan_of 0 c).pairs (pair_of c.operations.items e).0 (pair_of c.operations.items e).1
+  pub first : slice_get (entries P.operations) e.0 ≡ Some ((pair_of (entries P.operations) e).0, before)
+  pub second : slice_get (entries P.operations) e.1 ≡ Some ((pair_of (entries P.operations) e).1, after)
+  pub is_pair : IsPairOf P.pairs (pair_of (entries P.operations) e).0 (pair_of (entries P.operations) e).1
 
-pub ends_within : (c : PlanContents) (e : Edge) → IsPairAt c e → (e.0 < length c.operations.items) × (e.1 < length c.operations.items)
-ends_within c e pair = (
-  slice_get_within c.operations.items e.0 ((pair_of c.operations.items e).0, pair.before) pair.first,
-  slice_get_within c.operations.items e.1 ((pair_of c.operations.items e).1, pair.after) pair.second,
+pub ends_within : (P : Contents) (e : Edge) → IsPairAt P e → (e.0 < length (entries P.operations)) × (e.1 < length (entries P.operations))
+ends_within P e pair = (
+  slice_get_within (entries P.operations) e.0 ((pair_of (entries P.operations) e).0, pair.before) pair.first,
+  slice_get_within (entries P.operations) e.1 ((pair_of (entries P.operations) e).1, pair.after) pair.second,
 )
 
-module _ (c : PlanContents) (h : AreValidContents c) (g : Digraph) (graph : IsGraphFor c g) (edges : List Edge) (all : AreAllInTurn g edges) where
+module _ (P : Contents) (valid : IsValid P) (g : Digraph) (graph : IsGraphFor P g) (edges : List Edge) (all : AreAllInTurn g edges) where
   abbrev rows : Rows
-  rows = c.operations.items
+  rows = entries P.operations
 
-  pair_is : (e : Edge) → HasEdge g e.0 e.1 → IsPairAt c e
+  pair_is : (e : Edge) → HasEdge g e.0 e.1 → IsPairAt P e
   pair_is e has =
       let found = (graph.edges e.0 e.1).0 has in
       let p = found.0 in
@@ -98,7 +100,7 @@ module _ (c : PlanContents) (h : AreValidContents c) (g : Digraph) (graph : IsGr
         after = second.0;
         first = subst (λ k. slice_get rows e.0 ≡ Some (k, first.0)) same_p first.1;
         second = subst (λ k. slice_get rows e.1 ≡ Some (k, second.0)) same_o second.1;
-        is_pair = subst (λ k. IsPairOf (plan_of 0 c).pairs (key_at rows e.0) k) same_o (subst (λ k. IsPairOf (plan_of 0 c).pairs k o) same_p found.4);
+        is_pair = subst (λ k. IsPairOf P.pairs (key_at rows e.0) k) same_o (subst (λ k. IsPairOf P.pairs k o) same_p found.4);
       }
 
   -- the edge at an index
@@ -106,19 +108,19 @@ module _ (c : PlanContents) (h : AreValidContents c) (g : Digraph) (graph : IsGr
     has_edge : HasEdge g e.0 e.1
     has_edge = (all.listed e.0 e.1).0 (taken_in i edges e lt at)
 
-    pair_at : IsPairAt c e
+    pair_at : IsPairAt P e
     pair_at = pair_is e has_edge
 
   -- the edge at an index below the length
-  pub pair_below : (i : ℕ) → i < length edges → IsPairAt c (get_or edges i (0, 0))
+  pub pair_below : (i : ℕ) → i < length edges → IsPairAt P (get_or edges i (0, 0))
   pair_below i lt = pair_at i lt (get_or edges i (0, 0)) (slice_get-get_or edges i (0, 0) lt)
 
-  edge_of : (j : ℕ) (e : Edge) → slice_get edges j ≡ Some e → IsPairAt c e
+  edge_of : (j : ℕ) (e : Edge) → slice_get edges j ≡ Some e → IsPairAt P e
   edge_of j e at = pair_at j (slice_get_within edges j e at) e at
 
   -- equal keys are at one index
   same_place : (i j : ℕ) (a b : OpKey) (v w : Operation) → slice_get rows i ≡ Some (a, v) → slice_get rows j ≡ Some (b, w) → a ≡ b → i ≡ j
-  same_place i j a b v w at_i at_j same = one_place operation_cmp_total rows h.in_order.operations i j a v w at_i (subst (λ k. slice_get rows j ≡ Some (k, w)) (sym same) at_j)
+  same_place i j a b v w at_i at_j same = one_place operation_cmp_total rows (entries_in_order operation_cmp P.operations) i j a v w at_i (subst (λ k. slice_get rows j ≡ Some (k, w)) (sym same) at_j)
 
   module _ (i : ℕ) (lt : i < length edges) (e : Edge) (at : slice_get edges i ≡ Some e) where
     here : get_or edges i e ≡ e
@@ -165,7 +167,7 @@ module _ (c : PlanContents) (h : AreValidContents c) (g : Digraph) (graph : IsGr
   len-so_far (suc i) le =
       let lt : i < length edges = omega (arith, le) in
       let e = edge_there i lt in
-      let new : set.contains {R = pair_cmp} (from_list (pairs_so_far rows edges i)) (pair_of rows e.0) ≡ false = told_flag _ (comes_after i lt e.0 e.1).is_new in
+      let new : set.contains {R = pair_cmp} (from_list (pairs_so_far rows edges i)) (pair_of rows e.0) ≡ false = false_from_ne_true _ (comes_after i lt e.0 e.1).is_new in
       let ih = len-so_far i (omega (arith, le)) in
       let step : pairs_so_far rows edges (suc i) ≡ pairs_so_far rows edges i ++ pair_of rows e.0 ∷ [] = subst (λ n. pairs_so_far rows edges n ≡ pairs_so_far rows edges i ++ pair_of rows e.0 ∷ []) (more i) (pairs_more i lt e.0 e.1) in
       ap (λ ps. set.len (from_list {R = pair_cmp} ps)) step
@@ -181,31 +183,32 @@ module _ (c : PlanContents) (h : AreValidContents c) (g : Digraph) (graph : IsGr
       edge_there i lt = (get_or edges i (0, 0), slice_get-get_or edges i (0, 0) lt)
 
   -- in the end they are the plan's pairs
-  pub pairs_all : from_list {R = pair_cmp} (pairs_so_far rows edges (length edges)) ≡ (plan_of 0 c).pairs
-  pairs_all = ap (λ es. from_list {R = pair_cmp} (map (pair_of rows) es)) (take_all (length edges) edges (omega arith)) ∙ same_set pair_cmp_total pair_cmp-IsAntisymmetric (from_list (map (pair_of rows) edges)) (plan_of 0 c).pairs alike
+  pub pairs_all : from_list {R = pair_cmp} (pairs_so_far rows edges (length edges)) ≡ P.pairs
+  pairs_all = ap (λ es. from_list {R = pair_cmp} (map (pair_of rows) es)) (take_all (length edges) edges (omega arith)) ∙ same_set pair_cmp_total pair_cmp-IsAntisymmetric (from_list (map (pair_of rows) edges)) P.pairs alike
     where
-      there : (x : OpKey × OpKey) → set.contains {R = pair_cmp} (from_list (map (pair_of rows) edges)) x ≡ true → set.contains (plan_of 0 c).pairs x ≡ true
+      there : (x : OpKey × OpKey) → set.contains {R = pair_cmp} (from_list (map (pair_of rows) edges)) x ≡ true → set.contains P.pairs x ≡ true
       there x has =
           let found = from_map (pair_of rows) edges x (listed_in pair_cmp_total pair_cmp-IsAntisymmetric (map (pair_of rows) edges) x has) in
-          subst (λ z. set.contains (plan_of 0 c).pairs z ≡ true) found.2 (pair_is found.0 ((all.listed (found.0).0 (found.0).1).0 found.1)).is_pair
+          subst (λ z. set.contains P.pairs z ≡ true) found.2 (pair_is found.0 ((all.listed (found.0).0 (found.0).1).0 found.1)).is_pair
 
-      back : (x : OpKey × OpKey) → set.contains (plan_of 0 c).pairs x ≡ true → set.contains {R = pair_cmp} (from_list (map (pair_of rows) edges)) x ≡ true
+      back : (x : OpKey × OpKey) → set.contains P.pairs x ≡ true → set.contains {R = pair_cmp} (from_list (map (pair_of rows) edges)) x ≡ true
       back x has =
-          let ends = h.valid.pairs x.0 x.1 has in
-          let p = found_key (get {R = operation_cmp} (from_entries rows) x.0) ends.0 in
-          let o = found_key (get {R = operation_cmp} (from_entries rows) x.1) ends.1 in
-          let i = place_of_found operation_cmp operation_cmp_total operation_cmp-IsAntisymmetric rows x.0 p.0 p.1 in
-          let j = place_of_found operation_cmp operation_cmp_total operation_cmp-IsAntisymmetric rows x.1 o.0 o.1 in
+          let ends = valid.pairs x.0 x.1 has in
+          let whole = entries_are operation_cmp operation_cmp_total operation_cmp-IsAntisymmetric P.operations in
+          let p = is_found (get P.operations x.0) ends.0 in
+          let o = is_found (get P.operations x.1) ends.1 in
+          let i = place_of_found operation_cmp operation_cmp_total operation_cmp-IsAntisymmetric rows x.0 p.0 (ap (λ m. get m x.0) whole ∙ p.1) in
+          let j = place_of_found operation_cmp operation_cmp_total operation_cmp-IsAntisymmetric rows x.1 o.0 (ap (λ m. get m x.1) whole ∙ o.1) in
           let edge : HasEdge g i.0 j.0 = (graph.edges i.0 j.0).1 (x.0, x.1, key_of_row rows i.0 x.0 p.0 i.1, key_of_row rows j.0 x.1 o.0 j.1, has) in
           let is : ◌≡◌ {A = OpKey × OpKey} (pair_of rows (i.0, j.0)) x = λ k. (key_is rows i.0 x.0 p.0 i.1 k, key_is rows j.0 x.1 o.0 j.1 k) in
           in_listed pair_cmp_total pair_cmp-IsAntisymmetric (map (pair_of rows) edges) x (subst (Contains (map (pair_of rows) edges)) is (in_map (pair_of rows) edges (i.0, j.0) ((all.listed i.0 j.0).1 edge)))
 
-      alike : (x : OpKey × OpKey) → set.contains {R = pair_cmp} (from_list (map (pair_of rows) edges)) x ≡ set.contains (plan_of 0 c).pairs x
+      alike : (x : OpKey × OpKey) → set.contains {R = pair_cmp} (from_list (map (pair_of rows) edges)) x ≡ set.contains P.pairs x
       alike x = same_bool _ _ (there x) (back x)
 
   -- so that there are no more than a plan may have
   pub few_edges : length edges ≤ MOST_PAIRS
   few_edges =
-      let most = h.valid.limits.pairs in
+      let most = valid.limits.pairs in
       let count = sym (len-so_far (length edges) (omega arith)) ∙ ap set.len pairs_all in
       omega (arith, most, count)

@@ -2,10 +2,10 @@
 use Rattle.std.proofs.Common.{◌≡◌, ◌≢◌, ◌⊎◌, ◌↔◌, inl, inr, refl, sym, ◌∙◌, subst, true≢false, Bool, true, false, ◌&&◌, ◌||◌, ◌+◌, cond, List, ◌∷◌, Decides}
 use Rattle.plan_basics.specs.declared.keys.OpKey.{OpKey}
 use Rattle.status_rules.specs.LeastSet.{by_all_before, by_given}
-use Rattle.plan_model.specs.Plan.{Plan, IsLive, LivePredecessor, Precedes}
+use Rattle.plan_model.specs.Contents.{Contents, IsLive, LivePredecessor, Precedes}
 use Rattle.plan_model.specs.Status.{AllPredecessorsSatisfied, FollowsNonreporting, IsSatisfied}
 use Rattle.plan_records.specs.Rows.{IsWaitingFor}
-use Rattle.plan_records.proofs.Pairs.{pair_added, pair_cases, pair_kept}
+use Rattle.plan_drafts.proofs.Pairs.{pair_added, pair_cases, pair_kept}
 use Rattle.plan_status.specs.Incoming.{ComesAfter, with_pairs}
 use Rattle.plan_status.specs.Standings.{IsStanding}
 use Rattle.plan_status.specs.declared.standings.Standing.{Standing}
@@ -13,11 +13,11 @@ use Rattle.plan_status.proofs.Alike.{IsOnNonreporting, count_alike, standing_ali
 use Rattle.plan_status.proofs.CountOneMore.{count_more}
 use Rattle.std.proofs.lemmas.Bool.{and_from, and_parts, or_cases, or_left, or_right}
 
-module _ (P : Plan) (pairs : List (OpKey × OpKey)) (pair : OpKey × OpKey) (next : ComesAfter pairs pair) where
-  abbrev was : Plan
+module _ (P : Contents) (pairs : List (OpKey × OpKey)) (pair : OpKey × OpKey) (next : ComesAfter pairs pair) where
+  abbrev was : Contents
   was = with_pairs pairs P
 
-  abbrev now : Plan
+  abbrev now : Contents
   now = with_pairs (pair ∷ pairs) P
 
   -- no predecessor of anything is where the pair leads

@@ -6,11 +6,13 @@ use Rattle.plan_basics.specs.declared.keys.OpKey.{OpKey}
 use Rattle.status_rules.specs.LeastSet.{by_all_before, by_given}
 use Rattle.status_rules.specs.declared.Mark.TheVariants as mark
 use Rattle.ready_list.specs.Choice.{is_among}
-use Rattle.plan_model.specs.Plan.{Plan, Operation, HasAttribute, IsLive}
+use Rattle.plan_model.specs.Contents.{Contents, Operation, HasAttribute, IsLive}
 use Rattle.plan_model.specs.Ready.{named, with_mark}
 use Rattle.plan_model.specs.Status.{IsReady, IsSatisfied}
 use Rattle.plan_laws.proofs.Kept.{ready_not_satisfied, ready_unmarked}
-use Rattle.plan_laws.proofs.Looks.{get-named, mapped, same_workstation, told_flag}
+use Rattle.plan_model.proofs.Looks.{get-named, same_workstation}
+use Rattle.plan_drafts.proofs.Needed.{mapped}
+use Rattle.std.proofs.lemmas.Bool.{false_from_ne_true}
 use Rattle.plan_status.specs.Standings.{NamingKeepsStandings}
 use Rattle.plan_status.proofs.Alike.{IsOnNonreporting, standing_alike}
 
@@ -30,8 +32,8 @@ was_live : (b : Bool) (op : Operation) → (b ≡ true → op.mark ≡ mark.Unma
 was_live true op unmarked h = let u = unmarked refl in λ e. cc
 was_live false op unmarked h = h
 
-module _ (P : Plan) (os : List OpKey) where
-  abbrev after : Plan
+module _ (P : Contents) (os : List OpKey) where
+  abbrev after : Contents
   after = named os P
 
   pub row_after : (o : OpKey) (op : Operation) → get P.operations o ≡ Some op → get after.operations o ≡ Some (named_if (is_among os o) op)
@@ -46,10 +48,10 @@ module _ (P : Plan) (os : List OpKey) where
   module _ (ready : (k : OpKey) → is_among os k ≡ true → IsReady P k) where
     -- what is satisfied isn't ready, so it isn't named
     pub satisfied_is_other : (o : OpKey) → IsSatisfied P o → is_among os o ≡ false
-    satisfied_is_other o s = told_flag (is_among os o) (λ e. ready_not_satisfied P o (ready o e) s)
+    satisfied_is_other o s = false_from_ne_true (is_among os o) (λ e. ready_not_satisfied P o (ready o e) s)
 
     another_mark : (o : OpKey) (op : Operation) → get after.operations o ≡ Some op → op.mark ≢ mark.Named → is_among os o ≡ false
-    another_mark o op is other = told_flag (is_among os o) (λ e.
+    another_mark o op is other = false_from_ne_true (is_among os o) (λ e.
         let was = row_before o op is in
         other (ap (λ x. x.mark) (sym (subst (λ b. named_if b was.0 ≡ op) e was.2))))
 

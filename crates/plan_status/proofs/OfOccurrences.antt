@@ -2,7 +2,7 @@
 use Rattle.std.proofs.Common.{◌≡◌, ◌⊎◌, ◌↔◌, inl, inr, ℕ, ◌<◌}
 use Rattle.plan_basics.specs.declared.keys.OccKey.{OccKey}
 use Rattle.plan_basics.specs.declared.keys.OpKey.{OpKey}
-use Rattle.plan_model.specs.Plan.{IsInPlan, Plan}
+use Rattle.plan_model.specs.Contents.{Contents, IsInPlan}
 use Rattle.plan_model.specs.Status.{EachOperation, HasOccurrenceStatus, OccurrenceCase, SomeOperation}
 use Rattle.plan_records.specs.Rows.{IsCount}
 use Rattle.plan_status.proofs.Counting.{each_counted, some_counted}
@@ -15,14 +15,14 @@ use Rattle.status_rules.specs.declared.Status.{Status}
 use Rattle.status_rules.specs.declared.Status.TheVariants as status
 
 -- o is an operation of the occurrence
-abbrev pub IsOfIts : Plan → OccKey → OpKey → Type 0
+abbrev pub IsOfIts : Contents → OccKey → OpKey → Type 0
 IsOfIts P c o = (o.occurrence ≡ c) × IsInPlan P o
 
 -- and is started or interrupted
-abbrev pub IsStarted : Plan → OccKey → OpKey → Type 0
+abbrev pub IsStarted : Contents → OccKey → OpKey → Type 0
 IsStarted P c o = BelongsWithStatus P c status.Started o ⊎ BelongsWithStatus P c status.Interrupted o
 
-module _ (P : Plan) (c : OccKey) where
+module _ (P : Contents) (c : OccKey) where
   each_has : (s : Status) (m n : ℕ) → IsCount (BelongsWithStatus P c s) m → IsCount (IsOfIts P c) n → (m ≡ n) ↔ EachOperation P c s
   each_has s m n x y =
       let e = each_counted (BelongsWithStatus P c s) (IsOfIts P c) m n x y (λ o h. (h.0, (h.1.0, h.1.1, tt))) in

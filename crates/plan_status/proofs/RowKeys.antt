@@ -15,3 +15,7 @@ module _ {K V : Type 0} where
 -- what is read of rows that are shown as a slice is there
 pub row_shown : {X : Type 0} (shown rows : List X) → shown ≡ rows → (i : ℕ) (x : X) → i < length shown → x ≡ get_or shown i x → slice_get rows i ≡ Some x
 row_shown shown rows same i x lt is = subst (λ xs. slice_get xs i ≡ Some x) same (slice_get-get_or shown i x lt ∙ ap Some (sym is))
+
+-- and so is what is read at an index
+pub row_read : {X : Type 0} (shown rows : List X) → shown ≡ rows → (i : ℕ) (d : X) → i < length rows → slice_get rows i ≡ Some (get_or shown i d)
+row_read shown rows same i d lt = subst (λ xs. slice_get xs i ≡ Some (get_or shown i d)) same (slice_get-get_or shown i d (subst (λ xs. i < length xs) (sym same) lt))

@@ -4,18 +4,18 @@ use Rattle.std.proofs.lemmas.List.{length-replicate, length-set}
 use Rattle.std.proofs.lemmas.Option.{some_pair_parts}
 use Rattle.std.specs.List.Sorted.{IsStrictlySortedBy}
 use Rattle.std.specs.Map.{keys_of}
+use Rattle.std.specs.FinMap.{entries, from_entries, get}
 use Rattle.plan_basics.specs.declared.limits.TheConstants.{MOST_OPERATIONS}
-use Rattle.plan_basics.specs.Keys.{occurrence_cmp, occurrence_cmp_total, operation_cmp}
+use Rattle.plan_basics.specs.Keys.{occurrence_cmp, occurrence_cmp_total, operation_cmp, operation_cmp_total, operation_cmp-IsAntisymmetric}
 use Rattle.plan_basics.specs.declared.keys.OccKey.{OccKey}
 use Rattle.plan_basics.specs.declared.keys.OpKey.{OpKey}
 use Rattle.plan_laws.proofs.Standing.{one_status}
-use Rattle.plan_model.specs.Plan.{Operation, Plan}
+use Rattle.plan_model.specs.Contents.{Contents, Operation}
+use Rattle.plan_model.proofs.Entries.{entries_are}
 use Rattle.plan_model.specs.Status.{HasStatus}
 use Rattle.plan_model.specs.Valid.{IsAcyclic}
 use Rattle.plan_model.specs.declared.Occurrence.{Occurrence}
-use Rattle.plan_records.specs.Contents.{plan_of}
-use Rattle.plan_records.specs.Places.{AreByPlace}
-use Rattle.plan_records.specs.declared.contents.PlanContents.{PlanContents}
+use Rattle.plan_drafts.specs.Places.{AreByPlace}
 use Rattle.plan_status.proofs.Ascending.{all_alike, one_place, set_cases}
 use Rattle.plan_status.proofs.OfOccurrences.{IsOfIts, IsStarted}
 use Rattle.plan_status.proofs.SoMany.{IsSoMany, all_counted, none_before, one_more_row}
@@ -29,7 +29,7 @@ abbrev pub no_counts : Counts
 no_counts = record { all = 0; deleted = 0; error = 0; undecided = 0; complete = 0; started = 0 }
 
 -- the numbers of the occurrence's operations among the first i rows
-pub record IsTallySoFar (P : Plan) (rows : List (OpKey × Operation)) (i : ℕ) (c : OccKey) (n : Counts) : Type 0 where
+pub record IsTallySoFar (P : Contents) (rows : List (OpKey × Operation)) (i : ℕ) (c : OccKey) (n : Counts) : Type 0 where
   pub all : IsSoMany rows i (IsOfIts P c) n.all
   pub deleted : IsSoMany rows i (BelongsWithStatus P c status.Deleted) n.deleted
   pub error : IsSoMany rows i (BelongsWithStatus P c status.Error) n.error
@@ -37,7 +37,7 @@ pub record IsTallySoFar (P : Plan) (rows : List (OpKey × Operation)) (i : ℕ) 
   pub complete : IsSoMany rows i (BelongsWithStatus P c status.Complete) n.complete
   pub started : IsSoMany rows i (IsStarted P c) n.started
 
-pub at_most_rows : (P : Plan) (rows : List (OpKey × Operation)) (i : ℕ) (c : OccKey) (n : Counts) → IsTallySoFar P rows i c n → i ≤ MOST_OPERATIONS → AreAtMost MOST_OPERATIONS n
+pub at_most_rows : (P : Contents) (rows : List (OpKey × Operation)) (i : ℕ) (c : OccKey) (n : Counts) → IsTallySoFar P rows i c n → i ≤ MOST_OPERATIONS → AreAtMost MOST_OPERATIONS n
 at_most_rows P rows i c n t le = record {
   all = omega (arith, t.all.at_most, le);
   deleted = omega (arith, t.deleted.at_most, le);
@@ -47,7 +47,7 @@ at_most_rows P rows i c n t le = record {
   started = omega (arith, t.started.at_most, le);
 }
 
-pub none_tallied : (P : Plan) (rows : List (OpKey × Operation)) (c : OccKey) → IsTallySoFar P rows 0 c no_counts
+pub none_tallied : (P : Contents) (rows : List (OpKey × Operation)) (c : OccKey) → IsTallySoFar P rows 0 c no_counts
 none_tallied P rows c = record {
   all = none_before rows (IsOfIts P c);
   deleted = none_before rows (BelongsWithStatus P c status.Deleted);
@@ -58,14 +58,14 @@ none_tallied P rows c = record {
 }
 
 -- before a row is gone through
-pub tallies_begin : (P : Plan) (rows : List (OpKey × Operation)) (occurrences : List (OccKey × Occurrence)) (n : ℕ) (tallies : List Counts)
+pub tallies_begin : (P : Contents) (rows : List (OpKey × Operation)) (occurrences : List (OccKey × Occurrence)) (n : ℕ) (tallies : List Counts)
     → n ≡ length occurrences → tallies ≡ replicate n no_counts → AreByPlace occurrences tallies (IsTallySoFar P rows 0)
 tallies_begin P rows occurrences n tallies e is = record {
   size = ap length is ∙ length-replicate n no_counts ∙ e;
   each = λ i c v x row at. subst (IsTallySoFar P rows 0 c) (sym (all_alike n i no_counts x (ap (λ xs. slice_get xs i) (sym is) ∙ at))) (none_tallied P rows c);
 }
 
-module _ (P : Plan) (acyclic : IsAcyclic P.pairs) (rows : List (OpKey × Operation)) (sorted : IsStrictlySortedBy operation_cmp (keys_of rows))
+module _ (P : Contents) (acyclic : IsAcyclic P.pairs) (rows : List (OpKey × Operation)) (sorted : IsStrictlySortedBy operation_cmp (keys_of rows))
     (i : ℕ) (k : OpKey) (op : Operation) (row : slice_get rows i ≡ Some (k, op)) (s : Status) (has : HasStatus P k s) where
   rises_of_its : (c : OccKey) → k.occurrence ≡ c → (t : Status) (n m : ℕ) → RisesIf (s ≡ t) n m → RisesIf (BelongsWithStatus P c t k) n m
   rises_of_its c of t n m (inl up) = inl ((of, subst (HasStatus P k) up.0 has), up.1)
@@ -125,20 +125,23 @@ module _ (P : Plan) (acyclic : IsAcyclic P.pairs) (rows : List (OpKey × Operati
     }
 
 -- all rows are gone through
-module _ (c : PlanContents) (clock : ℕ) where
+module _ (P : Contents) where
   abbrev rows_of : List (OpKey × Operation)
-  rows_of = c.operations.items
+  rows_of = entries P.operations
 
-  complete_tally : (i : ℕ) → i ≡ length rows_of → (k : OccKey) (n : Counts) → IsTallySoFar (plan_of 0 c) rows_of i k n → IsTally (plan_of clock c) k n
+  row_of : (o : OpKey) (op : Operation) → get P.operations o ≡ Some op → get {R = operation_cmp} (from_entries rows_of) o ≡ Some op
+  row_of o op is = ap (λ m. get m o) (entries_are operation_cmp operation_cmp_total operation_cmp-IsAntisymmetric P.operations) ∙ is
+
+  complete_tally : (i : ℕ) → i ≡ length rows_of → (k : OccKey) (n : Counts) → IsTallySoFar P rows_of i k n → IsTally P k n
   complete_tally i e k n t = record {
-    all = all_counted rows_of (IsOfIts (plan_of 0 c) k) (λ o h. (h.1.0, h.1.1)) i n.all e t.all;
-    deleted = all_counted rows_of (BelongsWithStatus (plan_of 0 c) k status.Deleted) (λ o h. (h.1.0, h.1.1)) i n.deleted e t.deleted;
-    error = all_counted rows_of (BelongsWithStatus (plan_of 0 c) k status.Error) (λ o h. (h.1.0, h.1.1)) i n.error e t.error;
-    undecided = all_counted rows_of (BelongsWithStatus (plan_of 0 c) k status.Undecided) (λ o h. (h.1.0, h.1.1)) i n.undecided e t.undecided;
-    complete = all_counted rows_of (BelongsWithStatus (plan_of 0 c) k status.Complete) (λ o h. (h.1.0, h.1.1)) i n.complete e t.complete;
-    started = all_counted rows_of (IsStarted (plan_of 0 c) k) (λ o h. elim h [ inl a ↦ (a.1.0, a.1.1) | inr b ↦ (b.1.0, b.1.1) ]) i n.started e t.started;
+    all = all_counted rows_of (IsOfIts P k) (λ o h. (h.1.0, row_of o h.1.0 h.1.1)) i n.all e t.all;
+    deleted = all_counted rows_of (BelongsWithStatus P k status.Deleted) (λ o h. (h.1.0, row_of o h.1.0 h.1.1)) i n.deleted e t.deleted;
+    error = all_counted rows_of (BelongsWithStatus P k status.Error) (λ o h. (h.1.0, row_of o h.1.0 h.1.1)) i n.error e t.error;
+    undecided = all_counted rows_of (BelongsWithStatus P k status.Undecided) (λ o h. (h.1.0, row_of o h.1.0 h.1.1)) i n.undecided e t.undecided;
+    complete = all_counted rows_of (BelongsWithStatus P k status.Complete) (λ o h. (h.1.0, row_of o h.1.0 h.1.1)) i n.complete e t.complete;
+    started = all_counted rows_of (IsStarted P k) (λ o h. elim h [ inl a ↦ (a.1.0, row_of o a.1.0 a.1.1) | inr b ↦ (b.1.0, row_of o b.1.0 b.1.1) ]) i n.started e t.started;
   }
 
   pub all_tallied : (i : ℕ) → i ≡ length rows_of → (tallies : List Counts)
-      → AreByPlace c.occurrences.items tallies (IsTallySoFar (plan_of 0 c) rows_of i) → AreTallies (plan_of clock c) c.occurrences.items tallies
+      → AreByPlace (entries P.occurrences) tallies (IsTallySoFar P rows_of i) → AreTallies P tallies
   all_tallied i e tallies so_far = record { size = so_far.size; each = λ j k v n row at. complete_tally i e k n (so_far.each j k v n row at) }

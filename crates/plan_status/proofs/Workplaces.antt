@@ -1,27 +1,25 @@
--- The workstation of an operation of a plan's contents, by its row: the operation and the rows are as they are seen in code.
-use Rattle.std.proofs.Common.{◌≡◌, sym, ap, subst, ◌∙◌, ℕ, List, get_or, slice_get, Some, is_some, true}
-use Rattle.std.proofs.lemmas.Option.{get_or_from_slice_get}
-use Rattle.std.specs.FinMap.{from_entries, get}
-use Rattle.plan_basics.specs.Keys.{name_cmp, name_cmp_total, name_cmp-IsAntisymmetric}
+-- The workstation of an operation of a valid plan is found.
+use Rattle.std.proofs.Common.{◌≡◌, refl, sym, ap, ◌∙◌, subst, ℕ, true, true≢false, List, slice_get, Option, Some, None, is_some}
+use Rattle.std.specs.Prelude.{IsSome, IsNone}
+use Rattle.std.specs.FinMap.{contains_key, get}
+use Rattle.plan_basics.specs.Keys.{Name}
 use Rattle.plan_basics.specs.declared.keys.OpKey.{OpKey}
-use Rattle.plan_model.specs.Plan.{Operation}
-use Rattle.plan_records.proofs.RowPlaces.{get_at}
-use Rattle.plan_records.specs.Contents.{AreValidContents, plan_of}
-use Rattle.plan_records.specs.declared.contents.PlanContents.{PlanContents}
-use Rattle.workstations.specs.Timetables.{NamedWorkstation}
+use Rattle.plan_model.specs.Contents.{Contents, Operation}
+use Rattle.plan_model.specs.Valid.{IsValid}
 use Rattle.workstations.specs.Workstations.{Workstation}
 
-module _ (c : PlanContents) (are : AreValidContents c) {op seen : Operation} (same : seen ≡ op) {rows : List NamedWorkstation} (its : rows ≡ c.workstations.items) where
-  -- it has a row
-  pub workplace_known : (o : OpKey) × (get (plan_of 0 c).operations o ≡ Some op) → is_some (get {R = name_cmp} (from_entries rows) seen.workstation) ≡ true
-  workplace_known on = rw (same, its) (are.valid.have_workstations on.0 op on.1)
+-- what is found where there is one
+pub there : {A X : Type 0} (found : Option A) (x : Option X) → (IsNone found → x ≡ None) → is_some x ≡ true → IsSome found
+there None x absent known = absurd (true≢false (sym known ∙ ap is_some (absent refl)))
+there (Some a) x absent known = refl
 
-  -- and is what is read at the row's index
-  pub workplace_read : (place : ℕ) → (ws : Workstation) × (slice_get rows place ≡ Some (seen.workstation, ws)) → (x : NamedWorkstation) → x ≡ get_or c.workstations.items place x
-      → get (plan_of 0 c).workstations op.workstation ≡ Some x.1
-  workplace_read place at x read =
-      let here : (ws : Workstation) × (slice_get c.workstations.items place ≡ Some (seen.workstation, ws)) = subst (λ rs. (ws : Workstation) × (slice_get rs place ≡ Some (seen.workstation, ws))) its at in
-      let is : x ≡ (seen.workstation, here.0) = read ∙ get_or_from_slice_get c.workstations.items place (seen.workstation, here.0) x here.1 in
-      ap (λ (z : Operation). get (plan_of 0 c).workstations z.workstation) (sym same)
-      ∙ get_at name_cmp name_cmp_total name_cmp-IsAntisymmetric c.workstations.items are.in_order.workstations place seen.workstation here.0 here.1
-      ∙ ap (λ (z : NamedWorkstation). Some z.1) (sym is)
+-- what stands at an index under a name stands there under a name that is this one
+pub own_place : (rows : List (Name × Workstation)) (place : ℕ) (a b : Name) → a ≡ b → (ws : Workstation) × (slice_get rows place ≡ Some (a, ws)) → (ws : Workstation) × (slice_get rows place ≡ Some (b, ws))
+own_place rows place a b e at = (at.0, at.1 ∙ ap (λ n. Some (n, at.0)) e)
+
+-- the operation is as it is seen in code
+pub workplace_known : (P : Contents) → IsValid P → {op seen : Operation} → seen ≡ op → (o : OpKey) × (get P.operations o ≡ Some op) → contains_key P.workstations seen.workstation ≡ true
+workplace_known P valid same on = subst (λ (x : Operation). contains_key P.workstations x.workstation ≡ true) (sym same) (valid.have_workstations on.0 _ on.1)
+
+pub workplace_found : (P : Contents) → IsValid P → {op seen : Operation} → seen ≡ op → (o : OpKey) × (get P.operations o ≡ Some op) → {A : Type 0} (found : Option A) → (IsNone found → get P.workstations seen.workstation ≡ None) → IsSome found
+workplace_found P valid {seen = seen} same on found absent = there found (get P.workstations seen.workstation) absent (workplace_known P valid same on)

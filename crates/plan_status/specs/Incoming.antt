@@ -4,16 +4,16 @@ use Rattle.std.specs.FinMap.{get}
 use Rattle.std.specs.FinSet.{from_list}
 use Rattle.plan_basics.specs.declared.Attr.{Attr}
 use Rattle.plan_basics.specs.declared.keys.OpKey.{OpKey}
-use Rattle.plan_model.specs.Plan.{Plan, Operation, HasAttribute, IsPairOf}
+use Rattle.plan_model.specs.Contents.{Contents, Operation, HasAttribute, IsPairOf}
 use Rattle.plan_status.specs.Standings.{IsStanding}
 use Rattle.plan_status.specs.declared.standings.Standing.{Standing}
 
 -- o is this operation, on a workstation that reports so
-abbrev pub IsOperationOn : Plan → OpKey → Operation → Attr → Type 0
+abbrev pub IsOperationOn : Contents → OpKey → Operation → Attr → Type 0
 IsOperationOn P o op a = (get P.operations o ≡ Some op) × HasAttribute P op.workstation a
 
 -- the plan with these pairs alone
-abbrev pub with_pairs : List (OpKey × OpKey) → Plan → Plan
+abbrev pub with_pairs : List (OpKey × OpKey) → Contents → Contents
 with_pairs pairs P = record P { pairs = from_list pairs }
 
 -- a pair that comes after these: none of them, and neither it nor any of them leads away from where it leads
@@ -22,7 +22,7 @@ pub record ComesAfter (pairs : List (OpKey × OpKey)) (pair : OpKey × OpKey) : 
   pub leads_on : (o : OpKey) → ¬ IsPairOf (from_list (pair ∷ pairs)) pair.1 o
 
 -- where these are the standings of the pair's ends before it is added, `next` is its successor's after that
-abbrev pub IsNextStanding : Plan → List (OpKey × OpKey) → OpKey × OpKey → Standing → Standing → Standing → Type 0
+abbrev pub IsNextStanding : Contents → List (OpKey × OpKey) → OpKey × OpKey → Standing → Standing → Standing → Type 0
 IsNextStanding P pairs pair predecessors successors next =
     ComesAfter pairs pair → IsStanding (with_pairs pairs P) pair.0 predecessors → IsStanding (with_pairs pairs P) pair.1 successors
     → IsStanding (with_pairs (pair ∷ pairs) P) pair.1 next

@@ -1,12 +1,17 @@
-//! What is read off the plan for its operations and occurrences: which predecessors they wait for, and their statuses.
+//! What is read off a loaded plan for its operations and occurrences: their graph, which predecessors they wait for, and
+//! their statuses.
 #![tactic(auto)]
 
 ghost use Rattle.plan_status.specs.Standings.{NamingKeepsStandings};
 
+mod graphs;
+mod sound;
 mod standings;
 mod statuses;
 mod tallies;
 
+pub use graphs::graph_for;
+pub use sound::SoundContents;
 pub use standings::{Standing, attribute_of, standings_of};
 pub use statuses::{status_with, statuses_of};
 pub use tallies::{occurrence_status_with, tallies_of};

@@ -1,19 +1,19 @@
 // What is known of operations' predecessors.
-ghost use Rattle.std.specs.Prelude.{◌≡◌, ◌+◌, ◌<◌, ◌≤◌, ◌&&◌, ◌||◌, ℕ, true, cond, List, Some, IfOk, IfErr, Decides};
+ghost use Rattle.std.specs.Prelude.{◌≡◌, ◌+◌, ◌<◌, ◌≤◌, ◌&&◌, ◌||◌, true, cond, List, Some, IfOk, IfErr, Decides};
 ghost use Rattle.std.specs.FinMap.{get};
 ghost use Rattle.plan_basics.specs.declared.Refusal.{Refusal};
 ghost use Rattle.plan_basics.specs.declared.keys.OpKey.{OpKey};
-ghost use Rattle.plan_model.specs.Plan.{Plan, HasAttribute};
+ghost use Rattle.plan_model.specs.Contents.{Contents, HasAttribute};
 ghost use Rattle.plan_model.specs.Status.{IsSatisfied};
-ghost use Rattle.plan_records.specs.Contents.{plan_of, AreValidContents, IsGraphFor};
+ghost use Rattle.plan_drafts.specs.PlanGraphs.{IsGraphFor};
 ghost use Rattle.plan_status.specs.Incoming.{IsNextStanding, IsOperationOn};
 ghost use Rattle.plan_status.specs.Standings.{IsStanding, AreStandings};
 
+use super::sound::SoundContents;
 use super::statuses::status_with;
 use operation_graph::Graph;
 use plan_basics::{Attr, Refusal};
 use plan_model::OperationRecord;
-use plan_records::{PlanContents, known_workstation};
 use status_rules::Preds;
 use std::alloc::Global;
 
@@ -36,18 +36,19 @@ const FIRST: Standing = Standing {
 };
 
 /// How the workstation of an operation of the plan reports.
-pub fn attribute_of(contents: &PlanContents, operation: &OperationRecord) -> Attr
-    requires contents { AreValidContents contents.now }
-    requires operation { (o : OpKey) × (get (plan_of 0 contents.now).operations o ≡ Some operation.now) }
-    ensures { HasAttribute (plan_of 0 contents.now) operation.now.workstation result }
+pub fn attribute_of(contents: &SoundContents, operation: &OperationRecord) -> Attr
+    requires { (o : OpKey) × (get contents.now.operations o ≡ Some operation.now) }
+    ensures { HasAttribute contents.now operation.now.workstation result }
 {
-    let place = known_workstation(&contents.workstations, &operation.workstation);
-    contents.workstations[place].attribute()
+    contents
+        .workstation(&operation.workstation)
+        .unwrap()
+        .attribute()
 }
 
 // Whether an operation is satisfied, by its standing: its status is complete or deleted.
 fn is_satisfied(operation: &OperationRecord, attr: Attr, standing: &Standing) -> bool
-    ensures { (P : Plan) (o : OpKey) → IsOperationOn P o operation.now attr → IsStanding P o standing.now → Decides result (IsSatisfied P o) }
+    ensures { (P : Contents) (o : OpKey) → IsOperationOn P o operation.now attr → IsStanding P o standing.now → Decides result (IsSatisfied P o) }
 {
     status_with(operation, attr, standing).is_satisfied()
 }
@@ -83,7 +84,7 @@ fn standing_after(
     its: &Standing,
 ) -> Standing
     requires { standing.now.waiting < 4294967295 }
-    ensures standing { (P : Plan) (pairs : List (OpKey × OpKey)) (pair : OpKey × OpKey) → IsOperationOn P pair.0 predecessor.now attr → IsNextStanding P pairs pair its.now standing.now result }
+    ensures standing { (P : Contents) (pairs : List (OpKey × OpKey)) (pair : OpKey × OpKey) → IsOperationOn P pair.0 predecessor.now attr → IsNextStanding P pairs pair its.now standing.now result }
     ensures waiting { result.waiting ≤ standing.now.waiting + 1 }
 {
     if !predecessor.mark.is_live() {
@@ -94,20 +95,20 @@ fn standing_after(
     with_one_more(standing, satisfied, nonreporting)
 }
 
-/// The standing of each operation, at its row's index. The error is always `Memory`.
+/// The standing of each operation, in key order. The error is always `Memory`.
 pub fn standings_of(
     alloc: Global,
-    contents: &PlanContents,
+    contents: &SoundContents,
     graph: &Graph,
 ) -> Result<Vec<Standing>, Refusal>
-    requires contents { AreValidContents contents.now }
-    requires graph { IsGraphFor contents.now graph.now }
-    ensures standings { IfOk result (λ found. (clock : ℕ) → AreStandings (plan_of clock contents.now) contents.now.operations.items found.items) }
+    requires { IsGraphFor contents.now graph.now }
+    ensures standings { IfOk result (λ found. AreStandings contents.now found.items) }
     ensures refused { IfErr result (λ r. r ≡ Refusal.Memory) }
 {
-    let mut standings = vec![in alloc; FIRST; contents.operations.len()]?;
+    let rows = contents.operations();
+    let mut standings = vec![in alloc; FIRST; rows.len()]?;
     for (before, after) in &graph.edges_in_turn()? {
-        let predecessor = &contents.operations[*before].1;
+        let predecessor = &rows[*before].1;
         let attr = attribute_of(contents, predecessor);
         standings[*after] = standing_after(
             &standings[*after],

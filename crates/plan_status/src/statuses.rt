@@ -1,23 +1,22 @@
 // Statuses of operations.
-ghost use Rattle.std.specs.Prelude.{◌≡◌, ℕ, IfOk, Some};
+ghost use Rattle.std.specs.Prelude.{◌≡◌, IfOk, Some};
 ghost use Rattle.std.specs.FinMap.{get};
 ghost use Rattle.plan_basics.specs.declared.keys.OpKey.{OpKey};
-ghost use Rattle.plan_model.specs.Plan.{Plan, HasAttribute};
+ghost use Rattle.plan_model.specs.Contents.{Contents, HasAttribute};
 ghost use Rattle.plan_model.specs.Status.{HasStatus};
-ghost use Rattle.plan_records.specs.Contents.{plan_of, AreValidContents};
-ghost use Rattle.plan_records.specs.Places.{AreStatuses};
+ghost use Rattle.plan_drafts.specs.Places.{AreStatuses};
 ghost use Rattle.plan_status.specs.Standings.{IsStanding, AreStandings};
 
+use super::sound::SoundContents;
 use super::standings::{Standing, attribute_of};
 use plan_basics::Attr;
 use plan_model::OperationRecord;
-use plan_records::PlanContents;
 use status_rules::{Status, status_of};
 use std::alloc::{AllocError, Global};
 
 /// The status of an operation on a workstation of this attribute, by its standing.
 pub fn status_with(operation: &OperationRecord, attribute: Attr, standing: &Standing) -> Status
-    ensures { (P : Plan) → (o : OpKey) → get P.operations o ≡ Some operation.now → HasAttribute P operation.now.workstation attribute → IsStanding P o standing.now → HasStatus P o result }
+    ensures { (P : Contents) → (o : OpKey) → get P.operations o ≡ Some operation.now → HasAttribute P operation.now.workstation attribute → IsStanding P o standing.now → HasStatus P o result }
 {
     status_of(
         operation.mark,
@@ -28,19 +27,19 @@ pub fn status_with(operation: &OperationRecord, attribute: Attr, standing: &Stan
     )
 }
 
-/// The status of each operation, at its row's index.
+/// The status of each operation, in key order.
 pub fn statuses_of(
     alloc: Global,
-    contents: &PlanContents,
+    contents: &SoundContents,
     standings: &[Standing],
 ) -> Result<Vec<Status>, AllocError>
-    requires contents { AreValidContents contents.now }
-    requires standings { AreStandings (plan_of 0 contents.now) contents.now.operations.items standings.now }
-    ensures { IfOk result (λ found. (clock : ℕ) → AreStatuses (plan_of clock contents.now) contents.now.operations.items found.items) }
+    requires { AreStandings contents.now standings.now }
+    ensures { IfOk result (λ found. AreStatuses contents.now found.items) }
 {
+    let rows = contents.operations();
     let mut statuses = Vec::with_capacity(alloc, standings.len())?;
     for (i, standing) in standings.iter().enumerate() {
-        let operation = &contents.operations[i].1;
+        let operation = &rows[i].1;
         let attribute = attribute_of(contents, operation);
         statuses.push(status_with(operation, attribute, standing))?;
     }

@@ -1,22 +1,20 @@
 // Numbers of an occurrence's operations by status.
-ghost use Rattle.std.specs.Prelude.{ℕ, IfOk};
+ghost use Rattle.std.specs.Prelude.{IfOk};
 ghost use Rattle.plan_basics.specs.declared.keys.OccKey.{OccKey};
 ghost use Rattle.plan_basics.specs.declared.limits.TheConstants.{MOST_OPERATIONS};
-ghost use Rattle.plan_model.specs.Plan.{Plan};
+ghost use Rattle.plan_model.specs.Contents.{Contents};
 ghost use Rattle.plan_model.specs.Status.{HasOccurrenceStatus};
-ghost use Rattle.plan_model.specs.Valid.{IsValid};
-ghost use Rattle.plan_records.specs.Contents.{plan_of, AreValidContents};
-ghost use Rattle.plan_records.specs.Places.{AreStatuses};
+ghost use Rattle.plan_drafts.specs.Places.{AreStatuses};
 ghost use Rattle.plan_status.specs.OneMore.{AreAtMost, CountsOneMore};
 ghost use Rattle.plan_status.specs.Standings.{IsTally, AreTallies};
 
-use plan_records::{PlanContents, known_row};
+use super::sound::SoundContents;
 use status_rules::{Counts, OccStatus, Status, occurrence_status};
 use std::alloc::{AllocError, Global};
 
 /// The status of an occurrence, by the numbers of its operations.
 pub fn occurrence_status_with(counts: Counts) -> OccStatus
-    ensures { (P : Plan) → (c : OccKey) → IsValid P → IsTally P c counts → HasOccurrenceStatus P c result }
+    ensures { (P : Contents) → (c : OccKey) → IsTally P c counts → HasOccurrenceStatus P c result }
 {
     occurrence_status(counts)
 }
@@ -47,20 +45,21 @@ fn count_one(counts: &mut Counts, status: Status)
     }
 }
 
-/// The numbers of each occurrence's operations, at its row's index.
+/// The numbers of each occurrence's operations, in key order.
 pub fn tallies_of(
     alloc: Global,
-    contents: &PlanContents,
+    contents: &SoundContents,
     statuses: &[Status],
 ) -> Result<Vec<Counts>, AllocError>
-    requires contents { AreValidContents contents.now }
-    requires statuses { AreStatuses (plan_of 0 contents.now) contents.now.operations.items statuses.now }
-    ensures { IfOk result (λ found. (clock : ℕ) → AreTallies (plan_of clock contents.now) contents.now.occurrences.items found.items) }
+    requires { AreStatuses contents.now statuses.now }
+    ensures { IfOk result (λ found. AreTallies contents.now found.items) }
 {
-    let mut tallies = vec![in alloc; NONE_COUNTED; contents.occurrences.len()]?;
+    let rows = contents.operations();
+    let occurrences = contents.occurrences().len();
+    let mut tallies = vec![in alloc; NONE_COUNTED; occurrences]?;
     for (i, status) in statuses.iter().enumerate() {
-        let key = &contents.operations[i].0;
-        let place = known_row(&contents.occurrences, &key.occurrence);
+        let key = &rows[i].0;
+        let place = contents.occurrence_place_of(key);
         count_one(&mut tallies[place], *status);
     }
     Ok(tallies)

@@ -10,9 +10,9 @@ use Rattle.plan_basics.proofs.Members.{contains_mapped}
 use Rattle.plan_basics.specs.Keys.{occurrence_cmp_total, operation_cmp}
 use Rattle.plan_basics.specs.declared.keys.OccKey.{OccKey}
 use Rattle.plan_basics.specs.declared.keys.OpKey.{OpKey}
-use Rattle.plan_model.specs.Plan.{pair_cmp}
+use Rattle.plan_model.specs.Contents.{pair_cmp}
 use Rattle.tests_layers.specs.Numbered.{numbered, numbered_pair}
-use Rattle.plan_graph.specs.PlanGraphs.{AreAmong}
+use Rattle.plan_drafts.specs.PlanGraphs.{AreAmong}
 
 module _ (c : OccKey) where
   by_number : (m n : ℕ) → operation_cmp (numbered c m) (numbered c n) ≡ nat_cmp m n

@@ -5,7 +5,7 @@ ghost use Rattle.tests_layers.specs.Numbered.{numbered, numbered_pair};
 use super::named;
 use operation_graph::Graph;
 use plan_basics::{OccKey, OpKey};
-use plan_graph::graph_of;
+use plan_drafts::graph_of;
 use std::alloc::{AllocError, Global};
 
 // An operation of an occurrence.

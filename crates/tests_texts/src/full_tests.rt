@@ -32,8 +32,8 @@ fn builds_a_full_occurrence(rt: HostRuntime) {
         push_pairs_to(&mut text, later).expect(&rt, "memory");
     }
     let draft = draft(&rt, alloc, &text);
-    assert_eq!(rt; draft.contents().operations.len(), 255);
-    assert_eq!(rt; draft.contents().pairs.len(), 32_385);
+    assert_eq!(rt; draft.contents().operations().len(), 255);
+    assert_eq!(rt; draft.contents().pairs().len(), 32_385);
 }
 
 // A workstation and its interval.
@@ -82,14 +82,14 @@ fn crowd(alloc: Global, applications: Range<u16>, each: u16) -> Result<String, A
 fn builds_a_full_plan(rt: HostRuntime) {
     let text = crowd(rt.alloc(), 1_000..6_000, 4).expect(&rt, "memory");
     let draft = draft(&rt, rt.alloc(), &text);
-    assert_eq!(rt; draft.contents().occurrences.len(), 5_000);
-    assert_eq!(rt; draft.contents().operations.len(), 20_000);
-    assert_eq!(rt; draft.contents().pairs.len(), 99_940);
+    assert_eq!(rt; draft.contents().occurrences().len(), 5_000);
+    assert_eq!(rt; draft.contents().operations().len(), 20_000);
+    assert_eq!(rt; draft.contents().pairs().len(), 99_940);
 }
 
 #[test]
 fn takes_as_many_occurrences_as_a_plan_may_hold(rt: HostRuntime) {
     let alloc = rt.alloc();
     let draft = fullest(&rt, alloc, 6_000, |end| crowd(alloc, 1_000..end, 1));
-    assert_eq!(rt; draft.contents().occurrences.len(), 5_000);
+    assert_eq!(rt; draft.contents().occurrences().len(), 5_000);
 }

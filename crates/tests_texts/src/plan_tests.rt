@@ -45,7 +45,7 @@ fn builds_the_day(rt: HostRuntime) {
     let second = operation(&rt, b"PAYROLL/2024-03-01T22:00/020");
     let deadline = moment(&rt, b"2024-03-02T05:00");
     let cpu = workstation(&rt, b"CPU1");
-    let [workstation] = contents.workstations.as_slice() else {
+    let [workstation] = contents.workstations() else {
         panic!(rt; "one workstation");
     };
     assert!(rt; workstation.name() == cpu);
@@ -53,9 +53,9 @@ fn builds_the_day(rt: HostRuntime) {
         priority: 5,
         deadline,
     };
-    assert!(rt; contents.occurrences.as_slice() == [(first.occurrence, terms)].as_slice());
-    assert!(rt; contents.pairs.as_slice() == [(first, second)].as_slice());
-    let [(a, early), (b, late)] = contents.operations.as_slice() else {
+    assert!(rt; contents.occurrences() == [(first.occurrence, terms)].as_slice());
+    assert!(rt; contents.pairs() == [(first, second)].as_slice());
+    let [(a, early), (b, late)] = contents.operations() else {
         panic!(rt; "two operations");
     };
     assert!(rt; *a == first && *b == second);
@@ -83,8 +83,8 @@ fn check_terms(rt: &impl Abort, occurrences: &[(OccKey, Occurrence)]) {
 fn check_night(rt: &impl Abort, text: Vec<Record>) {
     let draft = draft_of(rt, text).expect(rt, "a draft");
     let contents = draft.contents();
-    check_terms(rt, &contents.occurrences);
-    let [(a, first), (b, second), (c, third)] = contents.operations.as_slice() else {
+    check_terms(rt, contents.occurrences());
+    let [(a, first), (b, second), (c, third)] = contents.operations() else {
         panic!(rt; "three operations");
     };
     assert!(rt; *a == operation(rt, b"BILLING/2024-03-01T23:00/010"));
@@ -97,7 +97,7 @@ fn check_night(rt: &impl Abort, text: Vec<Record>) {
     assert_eq!(rt; second.deadline.minute(), due.minute() - 120);
     let late = moment(rt, b"2024-03-02T05:00");
     assert!(rt; third.deadline == late, "the deadline of PAYROLL");
-    assert!(rt; contents.pairs.as_slice() == [(*b, *c)].as_slice());
+    assert!(rt; contents.pairs() == [(*b, *c)].as_slice());
 }
 
 #[test]
@@ -116,10 +116,10 @@ fn builds_pairs_that_lead_either_way(rt: HostRuntime) {
     let text = records(&rt, rt.alloc(), NIGHT, "", BACK);
     let draft = draft_of(&rt, text).expect(&rt, "a draft");
     let contents = draft.contents();
-    let [(a, _), (b, _), (c, _)] = contents.operations.as_slice() else {
+    let [(a, _), (b, _), (c, _)] = contents.operations() else {
         panic!(rt; "three operations");
     };
-    assert!(rt; contents.pairs.as_slice() == [(*b, *c), (*c, *a)].as_slice());
+    assert!(rt; contents.pairs() == [(*b, *c), (*c, *a)].as_slice());
 }
 
 // The day's pair is left out, and added the other way.

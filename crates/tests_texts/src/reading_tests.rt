@@ -107,29 +107,29 @@ fn pieces_of_any_size(rt: HostRuntime) {
 fn several_occurrences(rt: HostRuntime) {
     let draft = draft(&rt, rt.alloc(), NIGHT);
     let contents = draft.contents();
-    let [(billing, due), (daily, late)] = contents.occurrences.as_slice() else {
+    let [(billing, due), (daily, late)] = contents.occurrences() else {
         panic!(rt; "two occurrences");
     };
     assert_eq!(rt; (due.priority, late.priority), (7, 5));
-    let [(_, first), (last, second), (other, third)] = contents.operations.as_slice() else {
+    let [(_, first), (last, second), (other, third)] = contents.operations() else {
         panic!(rt; "three operations");
     };
     assert!(rt; last.occurrence == *billing && other.occurrence == *daily);
     assert!(rt; first.deadline == due.deadline && second.deadline == due.deadline);
     assert!(rt; third.deadline == late.deadline);
-    assert!(rt; contents.pairs.as_slice() == [(*last, *other)].as_slice());
+    assert!(rt; contents.pairs() == [(*last, *other)].as_slice());
 }
 
 #[test]
 fn several_workstations(rt: HostRuntime) {
     let draft = draft(&rt, rt.alloc(), STATIONS);
     let contents = draft.contents();
-    let [cpu, setup] = contents.workstations.as_slice() else {
+    let [cpu, setup] = contents.workstations() else {
         panic!(rt; "two workstations");
     };
     assert!(rt; cpu.attribute() == Attr::Automatic);
     assert!(rt; setup.attribute() == Attr::StartAndCompletion);
-    let [(_, first), (_, second)] = contents.operations.as_slice() else {
+    let [(_, first), (_, second)] = contents.operations() else {
         panic!(rt; "two operations");
     };
     assert!(rt; first.workstation == setup.name() && second.workstation == cpu.name());
@@ -140,14 +140,14 @@ fn several_workstations(rt: HostRuntime) {
 fn special_resource_and_descending_pair(rt: HostRuntime) {
     let draft = draft(&rt, rt.alloc(), TAPES);
     let contents = draft.contents();
-    let [(_, available)] = contents.resources.as_slice() else {
+    let [(_, available)] = contents.resources() else {
         panic!(rt; "one special resource");
     };
     assert!(rt; !*available);
-    let [(first, _), (second, _)] = contents.operations.as_slice() else {
+    let [(first, _), (second, _)] = contents.operations() else {
         panic!(rt; "two operations");
     };
-    assert!(rt; contents.pairs.as_slice() == [(*second, *first)].as_slice());
+    assert!(rt; contents.pairs() == [(*second, *first)].as_slice());
 }
 
 // Each case, which is put behind the same lines, denotes no plan.
@@ -196,11 +196,11 @@ P,DAILY,2024-03-01T22:00,\"10\",CPU1,30,0,0,\"\",
 // The text is of the plan of one operation.
 fn check_daily(rt: &impl Abort, alloc: Global, text: &[u8], what: &str) {
     let draft = draft(rt, alloc, text);
-    let [station] = draft.contents().workstations.as_slice() else {
+    let [station] = draft.contents().workstations() else {
         panic!(rt; "one workstation");
     };
     assert!(rt; station.name() == workstation(rt, b"CPU1"), "{what}");
-    let [(key, row)] = draft.contents().operations.as_slice() else {
+    let [(key, row)] = draft.contents().operations() else {
         panic!(rt; "one operation");
     };
     assert!(rt;

@@ -30,11 +30,11 @@ fn builds_the_night_of_payroll(rt: HostRuntime) {
     let draft = draft(&rt, rt.alloc(), PAYROLL);
     let contents = draft.contents();
     let file = resource(&rt, b"CUSTFILE");
-    assert!(rt; contents.resources.as_slice() == [(file, true)].as_slice());
-    assert_eq!(rt; contents.workstations.len(), 4);
-    assert_eq!(rt; contents.occurrences.len(), 1);
-    assert_eq!(rt; contents.pairs.len(), 4);
-    let [(_, a), (_, b), (key, c), (_, d), (_, e)] = contents.operations.as_slice() else {
+    assert!(rt; contents.resources() == [(file, true)].as_slice());
+    assert_eq!(rt; contents.workstations().len(), 4);
+    assert_eq!(rt; contents.occurrences().len(), 1);
+    assert_eq!(rt; contents.pairs().len(), 4);
+    let [(_, a), (_, b), (key, c), (_, d), (_, e)] = contents.operations() else {
         panic!(rt; "five operations");
     };
     assert!(rt; *key == operation(&rt, b"PAYROLL/2024-03-01T22:00/020"));
@@ -88,8 +88,8 @@ fn builds_the_night_with_one_pair_that_leads_back(rt: HostRuntime) {
     let draft = draft(&rt, rt.alloc(), &text);
     let first = operation(&rt, b"PAYROLL/2024-03-01T22:00/005");
     let last = operation(&rt, b"PAYROLL/2024-03-01T22:00/040");
-    assert!(rt; draft.contents().pairs.as_slice() == [(last, first)].as_slice());
-    assert_eq!(rt; draft.contents().operations.len(), 5);
+    assert!(rt; draft.contents().pairs() == [(last, first)].as_slice());
+    assert_eq!(rt; draft.contents().operations().len(), 5);
 }
 
 // The night, with so many special resources more.
@@ -101,7 +101,7 @@ fn with_tapes(alloc: Global, count: u16) -> Result<String, AllocError> {
 fn takes_as_many_resources_as_a_plan_may_hold(rt: HostRuntime) {
     let alloc = rt.alloc();
     let draft = fullest(&rt, alloc, 998, |count| with_tapes(alloc, count));
-    assert_eq!(rt; draft.contents().resources.len(), 999);
+    assert_eq!(rt; draft.contents().resources().len(), 999);
 }
 
 // The night, with so many special resources more, and a need of each of these of the operation that has one already.
@@ -116,7 +116,7 @@ fn with_needs(alloc: Global, count: u16) -> Result<String, AllocError> {
 fn takes_as_many_needs_as_an_operation_may_have(rt: HostRuntime) {
     let alloc = rt.alloc();
     let draft = fullest(&rt, alloc, 15, |count| with_needs(alloc, count));
-    let [_, _, (_, needy), _, _] = draft.contents().operations.as_slice() else {
+    let [_, _, (_, needy), _, _] = draft.contents().operations() else {
         panic!(rt; "five operations");
     };
     assert_eq!(rt; needy.needs.as_slice().len(), 16);

@@ -35,7 +35,7 @@ fn is(rt: &impl Abort, station: &Workstation, name: &[u8], attribute: Attr) {
 #[test]
 fn builds_workstations_of_each_attribute(rt: HostRuntime) {
     let draft = draft(&rt, rt.alloc(), HALL);
-    let [cpu, printer, setup, wait] = draft.contents().workstations.as_slice() else {
+    let [cpu, printer, setup, wait] = draft.contents().workstations() else {
         panic!(rt; "four workstations");
     };
     is(&rt, cpu, b"CPU1", Attr::Automatic);
@@ -55,7 +55,7 @@ fn builds_workstations_of_each_attribute(rt: HostRuntime) {
 #[test]
 fn builds_operations_on_each(rt: HostRuntime) {
     let draft = draft(&rt, rt.alloc(), HALL);
-    let [(_, a), (_, b), (_, c), (_, d)] = draft.contents().operations.as_slice() else {
+    let [(_, a), (_, b), (_, c), (_, d)] = draft.contents().operations() else {
         panic!(rt; "four operations");
     };
     assert!(rt; a.workstation == workstation(&rt, b"SETP"));
@@ -118,7 +118,7 @@ fn with_intervals(alloc: Global, count: u16) -> Result<String, AllocError> {
 fn takes_as_many_intervals_as_a_workstation_may_hold(rt: HostRuntime) {
     let alloc = rt.alloc();
     let draft = fullest(&rt, alloc, 400, |count| with_intervals(alloc, count));
-    let [_, _, setup, _] = draft.contents().workstations.as_slice() else {
+    let [_, _, setup, _] = draft.contents().workstations() else {
         panic!(rt; "four workstations");
     };
     assert_eq!(rt; offered(&rt, setup, b"2024-03-01T10:10"), Some((1, 0, 0)));
@@ -135,5 +135,5 @@ fn takes_as_many_workstations_as_a_plan_may_hold(rt: HostRuntime) {
         195,
         |end| with_lines(alloc, HALL, "W,A", 100..end, ",S,,,,,,,\n"),
     );
-    assert_eq!(rt; draft.contents().workstations.len(), 99);
+    assert_eq!(rt; draft.contents().workstations().len(), 99);
 }

@@ -11,13 +11,13 @@ use Rattle.status_rules.specs.declared.Status.TheVariants as status
 use Rattle.ready_list.specs.declared.ReadyKey.{ReadyKey}
 use Rattle.ready_list.specs.Choice.{is_among}
 use Rattle.plan_model.specs.Holdings.{given_out}
-use Rattle.plan_model.specs.Plan.{Operation, Plan, Precedes}
+use Rattle.plan_model.specs.Contents.{Contents, Operation, Precedes}
 use Rattle.plan_model.specs.Ready.{IsChosen, IsEntry, named, with_mark}
 use Rattle.plan_model.specs.Starts.{IsAllowedToStart, IsLatestStart}
 use Rattle.plan_model.specs.Status.{HasStatus, IsReady}
 use Rattle.plan_laws.proofs.Decide.{pair_cmp_total}
 use Rattle.plan_laws.proofs.Kept.{named_none}
-use Rattle.plan_laws.proofs.Looks.{get-named}
+use Rattle.plan_model.proofs.Looks.{get-named}
 use Rattle.worked_examples.specs.Backup.{backup_addition, backup_key, three_operations, two_occurrences, two_pairs, with_backup}
 use Rattle.worked_examples.specs.Day.{always_open, cpu1, daily, evening, first, lasting, occurrence, second}
 use Rattle.worked_examples.specs.Statements.{BackupAdded}
@@ -104,7 +104,7 @@ first_chosen = chosen_by with_backup evening (first_key ∷ []) (first ∷ []) (
 
 -- ---- once it is named
 
-abbrev after : Plan
+abbrev after : Contents
 after = named (first ∷ []) with_backup
 
 found_then : (o : OpKey) (op : Operation) → get with_backup.operations o ≡ Some op → get after.operations o ≡ Some (cond (is_among (first ∷ []) o) (with_mark mark.Named op) op)
@@ -124,7 +124,7 @@ backup_added = (
   record {
     none_refuses = nothing_refuses;
     is_request = is_addition;
-    changed = record with_backup { clock = 0 };
+    changed = with_backup;
     changes = (backup_addition, refl, sym added_is);
     is_chosen = first_chosen;
     is_after = refl;

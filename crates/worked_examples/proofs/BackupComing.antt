@@ -9,18 +9,18 @@ use Rattle.plan_basics.specs.declared.Refusal.TheVariants as refusal
 use Rattle.plan_basics.specs.Keys.{IsOccurrenceKey, IsOperationKey, Name, name_cmp, name_cmp_total, occurrence_cmp_total, occurrence_cmp-IsAntisymmetric, operation_cmp_total, operation_cmp-IsAntisymmetric}
 use Rattle.special_resources.specs.Holders.{Usage}
 use Rattle.status_rules.specs.declared.Status.TheVariants as status
-use Rattle.plan_model.specs.Plan.{IsPairOf, Operation}
+use Rattle.plan_model.specs.Contents.{IsPairOf, Operation}
 use Rattle.plan_model.specs.Status.{HasStatus, IsWaitingOrReady}
 use Rattle.plan_model.specs.Valid.{IsAcyclic, IsOccurrence, IsOperation, IsUntouched, IsWithinLimits}
 use Rattle.plan_records.specs.declared.Request.{Request}
 use Rattle.plan_records.specs.declared.What.TheVariants as what
 use Rattle.plan_records.specs.Acceptance.{IsNew, IsOld, MayBeAccepted}
 use Rattle.plan_records.specs.Changes.{with_added}
-use Rattle.plan_records.specs.Drafts.{IsAddition, IsEnd, IsOwn}
-use Rattle.plan_laws.proofs.Looks.{none_is_not_some}
+use Rattle.plan_drafts.specs.Drafts.{IsAddition, IsEnd, IsOwn}
+use Rattle.std.proofs.lemmas.Option.{none-some}
 use Rattle.plan_laws.proofs.Pairs.{pair_cmp_total, pair_cmp-IsAntisymmetric}
 use Rattle.worked_examples.specs.Backup.{backup, backup_addition, backup_key, three_operations, two_occurrences, two_pairs, with_backup}
-use Rattle.worked_examples.specs.Day.{always_open, cpu1, daily, day, evening, first, lasting, occurrence, second}
+use Rattle.worked_examples.specs.Day.{always_open, cpu1, daily, day, evening, first, lasting, loaded_at, occurrence, second}
 use Rattle.worked_examples.proofs.DayLoad.{cpu1_held, daily_key, lasting_is}
 use Rattle.worked_examples.proofs.Facts.{unmarked_has}
 use Rattle.worked_examples.proofs.Lists.{entries-from_entries, joined_written, union_written}
@@ -71,7 +71,7 @@ is_addition = record {
 
 -- ---- the plan with it
 
-pub added_is : with_added day backup_addition ≡ record with_backup { clock = 0 }
+pub added_is : with_added day backup_addition ≡ with_backup
 added_is =
     let occurrences_are = joined_written occurrence_cmp_total occurrence_cmp-IsAntisymmetric ((daily, occurrence) ∷ []) backup occurrence in
     let operations_are = joined_written operation_cmp_total operation_cmp-IsAntisymmetric ((first, lasting 30) ∷ (second, lasting 60) ∷ []) backup_key (lasting 30) in
@@ -86,7 +86,7 @@ closes_no_path : IsAcyclic with_backup.pairs
 unfolding place
 closes_no_path = acyclic_by place (each_pair two_pairs (λ p o. place p < place o) (omega arith, (omega arith, tt)))
 
-is_within_limits : IsWithinLimits (record with_backup { clock = 0 })
+is_within_limits : IsWithinLimits with_backup
 is_within_limits = record {
   workstations = len_at_most name_cmp_total ((cpu1, always_open) ∷ []) MOST_WORKSTATIONS (omega arith);
   resources = let e = len-empty name_cmp Bool in omega arith;
@@ -100,13 +100,14 @@ is_within_limits = record {
 abbrev pub adding : Request
 adding = record { at = pos evening; what = what.AddOccurrence (Some backup_addition) }
 
-pub nothing_refuses : (r : Refusal) → MayBeAccepted day adding r
+pub nothing_refuses : (r : Refusal) → MayBeAccepted (loaded_at 0 day) adding r
 nothing_refuses refusal.Past = search rules
 nothing_refuses refusal.MomentRange = (evening, refl, omega arith)
 nothing_refuses refusal.NotLoaded = λ needs. refl
+nothing_refuses refusal.Loaded = λ loads. absurd loads
 nothing_refuses refusal.UnknownOperation = of_pair (λ p o. (IsNew backup_addition p ⊎ IsOld day backup_addition p) × (IsNew backup_addition o ⊎ IsOld day backup_addition o)) (inr ((lasting 60, second_is, tt), second_is_other), inl is_new)
 nothing_refuses refusal.UnknownWorkstation = of_backup (λ o op. contains_key day.workstations op.workstation ≡ true) cpu1_held
-nothing_refuses refusal.UnknownResource = of_backup (λ o op. (r : Name) (usage : Usage) → get op.needs r ≡ Some usage → contains_key day.resources r ≡ true) (λ r usage found. absurd (none_is_not_some usage (sym (get-empty name_cmp r) ∙ found)))
+nothing_refuses refusal.UnknownResource = of_backup (λ o op. (r : Name) (usage : Usage) → get op.needs r ≡ Some usage → contains_key day.resources r ≡ true) (λ r usage found. absurd (none-some usage (sym (get-empty name_cmp r) ∙ found)))
 nothing_refuses refusal.WrongStatus = of_pair (λ p o. (IsOld day backup_addition o → IsWaitingOrReady day o) × (IsOld day backup_addition p → ¬ HasStatus day p status.Deleted))
     (λ old. absurd (old.1 is_own), λ old deleted. unmarked_has day second (lasting 60) status.Deleted second_is refl deleted)
 nothing_refuses refusal.Duplicate = of_occurrence (λ c. contains_key day.occurrences c ≡ false) (ap is_some (get-from_entries occurrence_cmp_total ((daily, occurrence) ∷ []) backup))

@@ -12,7 +12,7 @@ use Rattle.special_resources.specs.declared.Mode.TheVariants.{Exclusive, Shared}
 use Rattle.status_rules.specs.declared.Mark.TheVariants as mark
 use Rattle.status_rules.specs.declared.Status.TheVariants as status
 use Rattle.plan_model.specs.Holdings.{Holds, given_out, takes}
-use Rattle.plan_model.specs.Plan.{Operation, Precedes, pair_cmp}
+use Rattle.plan_model.specs.Contents.{Operation, Precedes, pair_cmp}
 use Rattle.plan_model.specs.Ready.{with_mark}
 use Rattle.plan_model.specs.Revise.{get-joined, joined, or_else, revise}
 use Rattle.plan_model.specs.Starts.{MayStart}

@@ -17,11 +17,11 @@ use Rattle.plan_items.specs.declared.Item.TheVariants as item
 use Rattle.plan_items.specs.declared.OperationItem.{OperationItem}
 use Rattle.plan_items.specs.Items.{Fields, IsOperationItem, Says}
 use Rattle.workstations.specs.Workstations.{Workstation}
-use Rattle.plan_model.specs.Plan.{Operation}
-use Rattle.plan_records.specs.declared.RowKey.{RowKey}
-use Rattle.plan_records.specs.declared.RowKey.TheVariants as key
-use Rattle.plan_records.specs.Records.{Denotes, IsItemOfPlan, StandsIn, key_of}
-use Rattle.plan_laws.proofs.Looks.{found_key}
+use Rattle.plan_model.specs.Contents.{Operation}
+use Rattle.plan_drafts.specs.declared.RowKey.{RowKey}
+use Rattle.plan_drafts.specs.declared.RowKey.TheVariants as key
+use Rattle.plan_drafts.specs.Records.{Denotes, IsItemOfPlan, StandsIn, key_of}
+use Rattle.plan_drafts.proofs.Tables.{is_found}
 use Rattle.worked_examples.specs.Day.{always_open, cpu1, daily, day, evening, first, lasting, morning, occurrence, second}
 use Rattle.worked_examples.specs.DayText.{arrival_text, day_records, deadline_text, first_minute, last_minute}
 use Rattle.worked_examples.proofs.DayLoad.{cpu1_name, daily_key, day_is_draft, of_both, one_occurrence, one_workstation, only_pair, open_interval, station_found}
@@ -166,7 +166,7 @@ all_held (key.Interval w m) has =
     (each_key nat_cmp_total nat_cmp-IsAntisymmetric ((0, interval_by 0 52595999 2 0 0) ∷ []) (λ z. IsSaid (key.Interval cpu1 z)) (interval_said, tt) m, tt)
     w has.0 has.1 has.2
 all_held (key.Occurrence c) has = each_key occurrence_cmp_total occurrence_cmp-IsAntisymmetric ((daily, occurrence) ∷ []) (λ z. IsSaid (key.Occurrence z)) (occurrence_said, tt) c has
-all_held (key.Operation o) has = let found = found_key (get day.operations o) has in operation_said o found.0 found.1
+all_held (key.Operation o) has = let found = is_found (get day.operations o) has in operation_said o found.0 found.1
 all_held (key.Dependency p o) has = only_pair (λ x y. IsSaid (key.Dependency x y)) pair_said p o has
 all_held (key.Resource r) has = absurd (true≢false (sym has ∙ ap is_some (get-empty name_cmp r)))
 all_held (key.Need o r) has = of_both (λ x op. contains_key op.needs r ≡ true → IsSaid (key.Need o r))
@@ -203,7 +203,6 @@ no_key_twice i j d h below e =
 pub day_is_denoted : Denotes day_records day
 day_is_denoted = record {
   draft = day_is_draft;
-  clock = refl;
   some_workstation = let e = one_workstation in omega arith;
   some_occurrence = let e = one_occurrence in omega arith;
   described = record { items = day_items; said = all_said; are = record { distinct = no_key_twice; stand = all_stand; all = all_held } };

@@ -9,9 +9,9 @@ use Rattle.plan_basics.specs.Keys.{Name, IsOperationKey, IsOccurrenceKey, name_c
 use Rattle.plan_basics.specs.Names.{IsName}
 use Rattle.special_resources.specs.Holders.{Usage}
 use Rattle.workstations.specs.Workstations.{IsWorkstation}
-use Rattle.plan_model.specs.Plan.{Operation, Plan, IsPairOf}
+use Rattle.plan_model.specs.Contents.{Operation, IsPairOf}
 use Rattle.plan_model.specs.Valid.{AreOccurrences, IsOccurrence, IsOperation, IsUntouched, IsValid}
-use Rattle.plan_records.specs.Drafts.{IsDraft}
+use Rattle.plan_drafts.specs.Drafts.{IsDraft}
 use Rattle.ready_list.specs.declared.ReadyKey.{ReadyKey}
 use Rattle.plan_model.specs.Holdings.{given_out}
 use Rattle.plan_model.specs.Ready.{IsChosen, IsEntry}
@@ -19,7 +19,7 @@ use Rattle.plan_model.specs.Starts.{IsAllowedToStart, IsLatestStart}
 use Rattle.plan_model.specs.Status.{IsReady}
 use Rattle.plan_laws.proofs.Decide.{pair_cmp_total}
 use Rattle.plan_laws.proofs.Kept.{named_none}
-use Rattle.plan_laws.proofs.Looks.{none_is_not_some}
+use Rattle.std.proofs.lemmas.Option.{none-some}
 use Rattle.worked_examples.specs.Day.{always_open, cpu1, daily, day, evening, first, lasting, occurrence, second}
 use Rattle.worked_examples.specs.Statements.{LoadThatNames}
 use Rattle.worked_examples.proofs.Facts.{waiting_is_not_ready}
@@ -75,14 +75,13 @@ only_pair Q h = each_pair ((first, second) ∷ []) Q (h, tt)
 
 day_is_valid : IsValid day
 day_is_valid = record {
-  clock = omega arith;
   workstations = each_entry name_cmp_total name_cmp-IsAntisymmetric ((cpu1, always_open) ∷ []) (λ w ws. IsName 4 w × IsWorkstation ws) ((cpu1_name, station_is Automatic (interval_by 0 52595999 2 0 0) open_interval), tt);
   resources = λ r has. absurd (true≢false (sym has ∙ ap is_some (get-empty name_cmp r)));
   occurrences = occurrences_are;
   have_workstations = of_both (λ o op. contains_key day.workstations op.workstation ≡ true) cpu1_held cpu1_held;
   have_resources = of_both (λ o op. (r : Name) (usage : Usage) → get op.needs r ≡ Some usage → contains_key day.resources r ≡ true)
-      (λ r usage found. absurd (none_is_not_some usage (sym (get-empty name_cmp r) ∙ found)))
-      (λ r usage found. absurd (none_is_not_some usage (sym (get-empty name_cmp r) ∙ found)));
+      (λ r usage found. absurd (none-some usage (sym (get-empty name_cmp r) ∙ found)))
+      (λ r usage found. absurd (none-some usage (sym (get-empty name_cmp r) ∙ found)));
   pairs = only_pair (λ p o. (contains_key day.operations p ≡ true) × (contains_key day.operations o ≡ true)) (first_held, second_held);
   acyclic = acyclic_by (λ o. o.number) (only_pair (λ p o. p.number < o.number) (omega arith));
   limits = record {
@@ -95,7 +94,7 @@ day_is_valid = record {
 }
 
 pub day_is_draft : IsDraft day
-day_is_draft = record { valid = day_is_valid; loaded = refl; untouched = of_both (λ o op. IsUntouched op) (refl, refl, refl) (refl, refl, refl) }
+day_is_draft = record { valid = day_is_valid; untouched = of_both (λ o op. IsUntouched op) (refl, refl, refl) (refl, refl, refl) }
 
 pub one_occurrence : len day.occurrences ≡ 1
 one_occurrence = len-entries day.occurrences ∙ ap length (entries-from_entries occurrence_cmp_total occurrence_cmp-IsAntisymmetric ((daily, occurrence) ∷ []) tt)
@@ -105,40 +104,36 @@ one_workstation = len-entries day.workstations ∙ ap length (entries-from_entri
 
 -- ---- the step
 
--- at 22:00
-abbrev later : Plan
-later = record day { clock = evening }
-
 -- it is to start at 04:00, an hour before the deadline
-latest_second : IsLatestStart later second (pos 27438000)
-latest_second = starts_at_end later ((first, second) ∷ []) refl second (lasting 60) second_is refl
+latest_second : IsLatestStart day second (pos 27438000)
+latest_second = starts_at_end day ((first, second) ∷ []) refl second (lasting 60) second_is refl
 
-pub latest_first : IsLatestStart later first (pos 27437970)
-latest_first = starts_before later ((first, second) ∷ []) refl first (lasting 30) first_is second (lasting 60) _ second_is (λ e. cc) refl refl latest_second (search rules)
+pub latest_first : IsLatestStart day first (pos 27437970)
+latest_first = starts_before day ((first, second) ∷ []) refl first (lasting 30) first_is second (lasting 60) _ second_is (λ e. cc) refl refl latest_second (search rules)
 
 abbrev first_key : ReadyKey
 first_key = record { latest = pos 27437970; priority = 5; duration = 30; op = first }
 
-first_entry : IsEntry later first_key
+first_entry : IsEntry day first_key
 first_entry = (inl first_arrives, latest_first, (lasting 30, first_is, refl), (occurrence, get-from_entries occurrence_cmp_total ((daily, occurrence) ∷ []) daily, refl))
 
-only_first : (o : OpKey) (op : Operation) → get day.operations o ≡ Some op → IsReady later o → o ≡ first
-only_first = of_both (λ o op. IsReady later o → o ≡ first) (λ ready. refl) (λ ready. absurd (waiting_is_not_ready later second (lasting 60) second_is refl second_waits ready))
+only_first : (o : OpKey) (op : Operation) → get day.operations o ≡ Some op → IsReady day o → o ≡ first
+only_first = of_both (λ o op. IsReady day o → o ≡ first) (λ ready. refl) (λ ready. absurd (waiting_is_not_ready day second (lasting 60) second_is refl second_waits ready))
 
 pub station_found : get day.workstations cpu1 ≡ Some always_open
 station_found = get-from_entries name_cmp_total ((cpu1, always_open) ∷ []) cpu1
 
-given_out_then : given_out later cpu1 ≡ given_out_by cpu1 (Some Automatic) ((first, lasting 30) ∷ (second, lasting 60) ∷ [])
-given_out_then = given_out_is later cpu1 (Some Automatic) ((first, lasting 30) ∷ (second, lasting 60) ∷ []) on_automatic (entries-from_entries operation_cmp_total operation_cmp-IsAntisymmetric ((first, lasting 30) ∷ (second, lasting 60) ∷ []) tt)
+given_out_then : given_out day cpu1 ≡ given_out_by cpu1 (Some Automatic) ((first, lasting 30) ∷ (second, lasting 60) ∷ [])
+given_out_then = given_out_is day cpu1 (Some Automatic) ((first, lasting 30) ∷ (second, lasting 60) ∷ []) on_automatic (entries-from_entries operation_cmp_total operation_cmp-IsAntisymmetric ((first, lasting 30) ∷ (second, lasting 60) ∷ []) tt)
 
-first_allowed : IsAllowedToStart later first evening
+first_allowed : IsAllowedToStart day first evening
 first_allowed =
-    allowed later first (lasting 30) first_is Automatic (interval_by 0 52595999 2 0 0) station_found evening (given_out_by cpu1 (Some Automatic) ((first, lasting 30) ∷ (second, lasting 60) ∷ [])) given_out_then
+    allowed day first (lasting 30) first_is Automatic (interval_by 0 52595999 2 0 0) station_found evening (given_out_by cpu1 (Some Automatic) ((first, lasting 30) ∷ (second, lasting 60) ∷ [])) given_out_then
     (inl first_arrives) refl (omega arith) (omega arith, omega arith) (omega arith) (omega arith) (omega arith) refl
 
-first_chosen : IsChosen later evening (first ∷ [])
-first_chosen = chosen_by later evening (first_key ∷ []) (first ∷ []) (one_ready later first_key first_entry only_first) refl ((lasting 30, first_is, on_automatic), tt)
-    (subst (λ P. IsAllowedToStart P first evening) (sym (named_none later)) first_allowed, tt) (not_left _ refl, tt)
+first_chosen : IsChosen day evening (first ∷ [])
+first_chosen = chosen_by day evening (first_key ∷ []) (first ∷ []) (one_ready day first_key first_entry only_first) refl ((lasting 30, first_is, on_automatic), tt)
+    (subst (λ P. IsAllowedToStart P first evening) (sym (named_none day)) first_allowed, tt) (not_left _ refl, tt)
 
 pub load_names_first : LoadThatNames
 load_names_first = load_names day evening (omega arith) (first ∷ []) first_chosen day_is_draft

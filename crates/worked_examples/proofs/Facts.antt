@@ -16,10 +16,10 @@ use Rattle.status_rules.specs.declared.Preds.{Preds}
 use Rattle.status_rules.specs.declared.Status.{Status}
 use Rattle.status_rules.specs.declared.Status.TheVariants as status
 use Rattle.status_rules.specs.LeastSet.{by_given}
-use Rattle.plan_model.specs.Plan.{attribute_at, HasAttribute, Operation, Plan, Precedes}
+use Rattle.plan_model.specs.Contents.{Contents, attribute_at, HasAttribute, Operation, Precedes}
 use Rattle.plan_model.specs.Status.{ArePreds, HasStatus, IsReady, IsSatisfied, UnmarkedStatus}
 use Rattle.plan_laws.proofs.Decide.{invert}
-use Rattle.plan_laws.proofs.Looks.{same_some}
+use Rattle.std.proofs.lemmas.Option.{same_Some}
 use Rattle.plan_laws.proofs.Tables.{status_is}
 use Rattle.workstations.specs.Workstations.{Workstation}
 use Rattle.plan_basics.specs.Keys.{Name}
@@ -40,7 +40,7 @@ none_before = record { live = false; satisfied = true; nonreporting = false }
 abbrev pub one_is_before : Status → Bool → Preds
 one_is_before s nonreporting = record { live = true; satisfied = is_over s; nonreporting = nonreporting }
 
-by_status : (P : Plan) (o : OpKey) (s : Status) → UnmarkedStatus P o s → Decides (is_over s) (IsSatisfied P o)
+by_status : (P : Contents) (o : OpKey) (s : Status) → UnmarkedStatus P o s → Decides (is_over s) (IsSatisfied P o)
 by_status P o status.Complete h = (λ e. h, λ s. refl)
 by_status P o status.Arriving h = (λ e. absurd (true≢false (sym e)), λ s. absurd (h.0 s))
 by_status P o status.ReadyAfterNonreporting h = (λ e. absurd (true≢false (sym e)), λ s. absurd (h.0 s))
@@ -48,14 +48,14 @@ by_status P o status.Ready h = (λ e. absurd (true≢false (sym e)), λ s. absur
 by_status P o status.Waiting h = (λ e. absurd (true≢false (sym e)), λ s. absurd (h.0 s))
 by_status P o _ h = absurd h
 
-module _ (P : Plan) (o : OpKey) (op : Operation) (is : get P.operations o ≡ Some op) where
+module _ (P : Contents) (o : OpKey) (op : Operation) (is : get P.operations o ≡ Some op) where
   -- a mark other than none, done and deleted
   under_way : (op.mark ≢ mark.Done) → (op.mark ≢ mark.Deleted) → (op.mark ≢ mark.Unmarked) → Decides false (IsSatisfied P o)
   under_way done deleted unmarked = (
     λ e. absurd (true≢false (sym e)),
     λ s.
         let c = invert P s in
-        let e : c.0 ≡ op = same_some c.0 op (sym c.1 ∙ is) in
+        let e : c.0 ≡ op = same_Some c.0 op (sym c.1 ∙ is) in
         elim c.2 [
           | inl d ↦ absurd (done (ap (λ z. z.mark) (sym e) ∙ d))
           | inr (inl d) ↦ absurd (deleted (ap (λ z. z.mark) (sym e) ∙ d))
@@ -76,16 +76,16 @@ module _ (P : Plan) (o : OpKey) (op : Operation) (is : get P.operations o ≡ So
   -- an operation's status shows whether it is satisfied
   pub satisfied_by_status : (s : Status) → HasStatus P o s → Decides (is_over s) (IsSatisfied P o)
   satisfied_by_status s h =
-      at_mark s op.mark refl (subst (λ x. MatchOption (marked_status x.mark) (UnmarkedStatus P o s) (λ t. s ≡ t)) (same_some h.0 op (sym h.1 ∙ is)) h.2)
+      at_mark s op.mark refl (subst (λ x. MatchOption (marked_status x.mark) (UnmarkedStatus P o s) (λ t. s ≡ t)) (same_Some h.0 op (sym h.1 ∙ is)) h.2)
 
-pub preds_of_none : (P : Plan) (o : OpKey) → ((p : OpKey) → Precedes P p o → ⊥) → ArePreds P o none_before
+pub preds_of_none : (P : Contents) (o : OpKey) → ((p : OpKey) → Precedes P p o → ⊥) → ArePreds P o none_before
 preds_of_none P o never = record {
   live = (λ e. absurd (true≢false (sym e)), λ h. absurd (never h.0 h.1.0));
   satisfied = (λ e p live. absurd (never p live.0), λ h. refl);
   nonreporting = (λ e. absurd (true≢false (sym e)), λ h. absurd (never h.0 h.1.0));
 }
 
-pub preds_of_one : (P : Plan) (o p : OpKey) (op : Operation) (s : Status) (n : Bool) → Precedes P p o → ((q : OpKey) → Precedes P q o → q ≡ p)
+pub preds_of_one : (P : Contents) (o p : OpKey) (op : Operation) (s : Status) (n : Bool) → Precedes P p o → ((q : OpKey) → Precedes P q o → q ≡ p)
     → get P.operations p ≡ Some op → op.mark ≢ mark.Deleted → HasStatus P p s → Decides n (HasAttribute P op.workstation attribute.Nonreporting) → ArePreds P o (one_is_before s n)
 preds_of_one P o p op s n before only is not_deleted has told =
     let d = satisfied_by_status P p op is s has in
@@ -98,7 +98,7 @@ preds_of_one P o p op s n before only is not_deleted has told =
       nonreporting = (
         λ e. (p, (before, (op, is, not_deleted)), (op, is, told.0 e)),
         λ h.
-            let same : h.2.0 ≡ op = same_some h.2.0 op (sym h.2.1 ∙ ap (get P.operations) (only h.0 h.1.0) ∙ is) in
+            let same : h.2.0 ≡ op = same_Some h.2.0 op (sym h.2.1 ∙ ap (get P.operations) (only h.0 h.1.0) ∙ is) in
             told.1 (subst (λ x. HasAttribute P x.workstation attribute.Nonreporting) same h.2.2),
       );
     }
@@ -110,19 +110,19 @@ told_attribute attribute.StartAndCompletion = (λ e. absurd (true≢false (sym e
 told_attribute attribute.CompletionOnly = (λ e. absurd (true≢false (sym e)), λ e. cc)
 
 -- whether a workstation doesn't report
-pub told_nonreporting : (P : Plan) (w : Name) (ws : Workstation) → get P.workstations w ≡ Some ws → Decides (not (reports ws.attribute)) (HasAttribute P w attribute.Nonreporting)
+pub told_nonreporting : (P : Contents) (w : Name) (ws : Workstation) → get P.workstations w ≡ Some ws → Decides (not (reports ws.attribute)) (HasAttribute P w attribute.Nonreporting)
 told_nonreporting P w ws is =
     let d = told_attribute ws.attribute in
     let found : attribute_at P w ≡ Some ws.attribute = ap (option_map (λ z. z.attribute)) is in
-    (λ e. found ∙ ap Some (d.0 e), λ h. d.1 (same_some ws.attribute attribute.Nonreporting (sym found ∙ h)))
+    (λ e. found ∙ ap Some (d.0 e), λ h. d.1 (same_Some ws.attribute attribute.Nonreporting (sym found ∙ h)))
 
 -- the status of an operation without predecessors
-pub status_of_first : (P : Plan) (o : OpKey) (op : Operation) (ws : Workstation) → get P.operations o ≡ Some op → get P.workstations op.workstation ≡ Some ws → ((p : OpKey) → Precedes P p o → ⊥)
+pub status_of_first : (P : Contents) (o : OpKey) (op : Operation) (ws : Workstation) → get P.operations o ≡ Some op → get P.workstations op.workstation ≡ Some ws → ((p : OpKey) → Precedes P p o → ⊥)
     → HasStatus P o (status_by op.mark op.held op.nop ws.attribute none_before)
 status_of_first P o op ws is w never = status_is P o op ws none_before is w (preds_of_none P o never) op.mark refl
 
 -- the status of an operation with one predecessor, from the predecessor's
-pub status_of_next : (P : Plan) (o : OpKey) (op : Operation) (ws : Workstation) (p : OpKey) (before : Operation) (there : Workstation) (s : Status)
+pub status_of_next : (P : Contents) (o : OpKey) (op : Operation) (ws : Workstation) (p : OpKey) (before : Operation) (there : Workstation) (s : Status)
     → get P.operations o ≡ Some op → get P.workstations op.workstation ≡ Some ws → get P.operations p ≡ Some before → get P.workstations before.workstation ≡ Some there
     → before.mark ≢ mark.Deleted → Precedes P p o → ((q : OpKey) → Precedes P q o → q ≡ p) → HasStatus P p s
     → HasStatus P o (status_by op.mark op.held op.nop ws.attribute (one_is_before s (not (reports there.attribute))))
@@ -130,11 +130,11 @@ status_of_next P o op ws p before there s is w is_p w_p lives edge only has =
     status_is P o op ws (one_is_before s (not (reports there.attribute))) is w (preds_of_one P o p before s (not (reports there.attribute)) edge only is_p lives has (told_nonreporting P before.workstation there w_p)) op.mark refl
 
 -- what a status says of an operation without a mark
-pub unmarked_has : (P : Plan) (o : OpKey) (op : Operation) (s : Status) → get P.operations o ≡ Some op → op.mark ≡ mark.Unmarked → HasStatus P o s → UnmarkedStatus P o s
-unmarked_has P o op s is none h = subst (λ m. MatchOption (marked_status m) (UnmarkedStatus P o s) (λ t. s ≡ t)) (ap (λ x. x.mark) (same_some h.0 op (sym h.1 ∙ is)) ∙ none) h.2
+pub unmarked_has : (P : Contents) (o : OpKey) (op : Operation) (s : Status) → get P.operations o ≡ Some op → op.mark ≡ mark.Unmarked → HasStatus P o s → UnmarkedStatus P o s
+unmarked_has P o op s is none h = subst (λ m. MatchOption (marked_status m) (UnmarkedStatus P o s) (λ t. s ≡ t)) (ap (λ x. x.mark) (same_Some h.0 op (sym h.1 ∙ is)) ∙ none) h.2
 
 -- an operation that waits isn't ready
-pub waiting_is_not_ready : (P : Plan) (o : OpKey) (op : Operation) → get P.operations o ≡ Some op → op.mark ≡ mark.Unmarked → HasStatus P o status.Waiting → IsReady P o → ⊥
+pub waiting_is_not_ready : (P : Contents) (o : OpKey) (op : Operation) → get P.operations o ≡ Some op → op.mark ≡ mark.Unmarked → HasStatus P o status.Waiting → IsReady P o → ⊥
 waiting_is_not_ready P o op is none waits ready =
     let w = unmarked_has P o op status.Waiting is none waits in
     elim ready [
@@ -144,7 +144,7 @@ waiting_is_not_ready P o op is none waits ready =
     ]
 
 -- an operation with a mark isn't ready
-pub marked_is_not_ready : (P : Plan) (o : OpKey) (op : Operation) (s : Status) → get P.operations o ≡ Some op → marked_status op.mark ≡ Some s → (s ≢ status.Arriving) → (s ≢ status.ReadyAfterNonreporting) → (s ≢ status.Ready) → IsReady P o → ⊥
+pub marked_is_not_ready : (P : Contents) (o : OpKey) (op : Operation) (s : Status) → get P.operations o ≡ Some op → marked_status op.mark ≡ Some s → (s ≢ status.Arriving) → (s ≢ status.ReadyAfterNonreporting) → (s ≢ status.Ready) → IsReady P o → ⊥
 marked_is_not_ready P o op s is told a b c ready =
     elim ready [
       | inl h ↦ a (sym (told_alone status.Arriving h))
@@ -153,7 +153,7 @@ marked_is_not_ready P o op s is told a b c ready =
     ]
   where
     told_alone : (t : Status) → HasStatus P o t → t ≡ s
-    told_alone t h = subst (λ x. MatchOption x (UnmarkedStatus P o t) (λ z. t ≡ z)) (ap (λ x. marked_status x.mark) (same_some h.0 op (sym h.1 ∙ is)) ∙ told) h.2
+    told_alone t h = subst (λ x. MatchOption x (UnmarkedStatus P o t) (λ z. t ≡ z)) (ap (λ x. marked_status x.mark) (same_Some h.0 op (sym h.1 ∙ is)) ∙ told) h.2
 
 -- ---- latest starts
 

@@ -13,10 +13,10 @@ use Rattle.workstations.specs.Workstations.{HasCapacity, HasRoom, Workstation, c
 use Rattle.workstations.specs.declared.Capacity.{Capacity}
 use Rattle.status_rules.specs.Table.{marked_status}
 use Rattle.plan_model.specs.Holdings.{given_out, holds_server, takes}
-use Rattle.plan_model.specs.Plan.{Operation, Plan, attribute_at}
+use Rattle.plan_model.specs.Contents.{Contents, Operation, attribute_at}
 use Rattle.plan_model.specs.Starts.{FitsAt, IsAllowedToStart, MayStart}
 use Rattle.plan_model.specs.Status.{IsReady}
-use Rattle.plan_laws.proofs.Looks.{none_is_not_some, same_some}
+use Rattle.std.proofs.lemmas.Option.{none-some, same_Some}
 use Rattle.worked_examples.proofs.Literal.{entry_of}
 use Rattle.worked_examples.specs.Night.{workstation_by}
 
@@ -27,7 +27,7 @@ given_by w a es number = sum_by (λ op. cond (eq_by_cmp name_cmp op.workstation 
 abbrev pub given_out_by : Name → Option Attr → List (OpKey × Operation) → Capacity
 given_out_by w a es = record { servers = given_by w a es (λ op. 1); r1 = given_by w a es (λ op. op.r1); r2 = given_by w a es (λ op. op.r2) }
 
-pub given_out_is : (P : Plan) (w : Name) (a : Option Attr) (es : List (OpKey × Operation)) → attribute_at P w ≡ a → entries P.operations ≡ es → given_out P w ≡ given_out_by w a es
+pub given_out_is : (P : Contents) (w : Name) (a : Option Attr) (es : List (OpKey × Operation)) → attribute_at P w ≡ a → entries P.operations ≡ es → given_out P w ≡ given_out_by w a es
 given_out_is P w a es is_a is_es = ap₂ (given_out_by w) is_a is_es
 
 -- a workstation of one interval has its capacity alone
@@ -35,7 +35,7 @@ pub one_capacity : (a : Attr) (x : OpenInterval) (m : ℕ) (capacity : Capacity)
 one_capacity a x m capacity h =
     elim (entry_of nat_cmp_total nat_cmp-IsAntisymmetric ((x.from, x) ∷ []) h.0 h.1 h.2) [ inl e ↦ h.4 ∙ ap capacity_of e.1 | inr never ↦ absurd never ]
 
-module _ (P : Plan) (o : OpKey) (op : Operation) (is : get P.operations o ≡ Some op) (a : Attr) (x : OpenInterval) (w : get P.workstations op.workstation ≡ Some (workstation_by a ((x.from, x) ∷ []))) (m : ℕ) (taken : Capacity) (out : given_out P op.workstation ≡ taken) where
+module _ (P : Contents) (o : OpKey) (op : Operation) (is : get P.operations o ≡ Some op) (a : Attr) (x : OpenInterval) (w : get P.workstations op.workstation ≡ Some (workstation_by a ((x.from, x) ∷ []))) (m : ℕ) (taken : Capacity) (out : given_out P op.workstation ≡ taken) where
   abbrev station : Workstation
   station = workstation_by a ((x.from, x) ∷ [])
 
@@ -67,13 +67,13 @@ module _ (P : Plan) (o : OpKey) (op : Operation) (is : get P.operations o ≡ So
   -- there is room, and it needs no special resource
   pub allowed : IsReady P o → op.held ≡ false → op.not_before ≤ m → IsOpenAt x m → taken.servers + 1 ≤ x.servers → taken.r1 + op.r1 ≤ x.r1 → taken.r2 + op.r2 ≤ x.r2 → op.needs ≡ empty → IsAllowedToStart P o m
   allowed ready held late now servers r1 r2 none =
-      (op, is, with_resources (λ r usage found. absurd (none_is_not_some usage (sym (get-empty name_cmp r) ∙ ap (λ needs. get needs r) (sym none) ∙ found))) (lines_of_room ready held late now servers r1 r2))
+      (op, is, with_resources (λ r usage found. absurd (none-some usage (sym (get-empty name_cmp r) ∙ ap (λ needs. get needs r) (sym none) ∙ found))) (lines_of_room ready held late now servers r1 r2))
 
   lines_of : IsAllowedToStart P o m → (line : Refusal) → MayStart P o op m line
-  lines_of h = subst (λ z. (line : Refusal) → MayStart P o z m line) (same_some h.0 op (sym h.1 ∙ is)) h.2
+  lines_of h = subst (λ z. (line : Refusal) → MayStart P o z m line) (same_Some h.0 op (sym h.1 ∙ is)) h.2
 
   room_of : (line : Refusal) → FitsAt P op m line → HasRoom station m (given_out P op.workstation) op.r1 op.r2 line
-  room_of line fits = subst (λ ws. HasRoom ws m (given_out P op.workstation) op.r1 op.r2 line) (same_some fits.0 station (sym fits.1 ∙ w)) fits.2
+  room_of line fits = subst (λ ws. HasRoom ws m (given_out P op.workstation) op.r1 op.r2 line) (same_Some fits.0 station (sym fits.1 ∙ w)) fits.2
 
   -- all servers are given out
   pub without_server : IsOpenAt x m → x.servers < taken.servers + 1 → IsAllowedToStart P o m → ⊥

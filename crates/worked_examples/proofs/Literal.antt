@@ -8,8 +8,9 @@ use Rattle.std.specs.FinMap.{IsAntisymmetric, contains_key, get, find, from_entr
 use Rattle.std.specs.FinSet.{contains, contains-from_list, from_list}
 use Rattle.plan_basics.specs.declared.keys.OpKey.{OpKey}
 use Rattle.plan_basics.specs.Keys.{operation_cmp, operation_cmp_total}
-use Rattle.plan_model.specs.Plan.{pair_cmp}
-use Rattle.plan_laws.proofs.Looks.{found_key, same_some, none_is_not_some}
+use Rattle.plan_model.specs.Contents.{pair_cmp}
+use Rattle.plan_drafts.proofs.Tables.{is_found}
+use Rattle.std.proofs.lemmas.Option.{same_Some, none-some}
 use Rattle.plan_laws.proofs.Pairs.{pair_cmp_total, pair_cmp-IsAntisymmetric}
 
 -- some element of the list has it
@@ -31,12 +32,12 @@ module _ {K X : Type 0} where
 
 module _ {K X : Type 0} {R : K → K → Ordering} where
   entry_cases : IsAntisymmetric R → (q k : K) (v x : X) (es : List (K × X)) (r : Bool) → eq_by_cmp R q k ≡ r → cond r (Some v) (find R q es) ≡ Some x → (find R q es ≡ Some x → OneOf (λ e. (q ≡ e.0) × (x ≡ e.1)) es) → OneOf (λ e. (q ≡ e.0) × (x ≡ e.1)) ((k, v) ∷ es)
-  entry_cases same q k v x es true ties is rest = inl (same q k ((Equal-is (R q k)).0 ties), sym (same_some v x is))
+  entry_cases same q k v x es true ties is rest = inl (same q k ((Equal-is (R q k)).0 ties), sym (same_Some v x is))
   entry_cases same q k v x es false ties is rest = inr (rest is)
 
   -- what is found in a list of entries is one of them
   pub found_entry : IsAntisymmetric R → (es : List (K × X)) (q : K) (x : X) → find R q es ≡ Some x → OneOf (λ e. (q ≡ e.0) × (x ≡ e.1)) es
-  found_entry same [] q x is = absurd (none_is_not_some x is)
+  found_entry same [] q x is = absurd (none-some x is)
   found_entry same (e ∷ es) q x is = entry_cases same q e.0 e.1 x es (eq_by_cmp R q e.0) refl is (found_entry same es q x)
 
   pub entry_of : IsTotalOrder R → IsAntisymmetric R → (es : List (K × X)) (q : K) (x : X) → get (from_entries {R = R} es) q ≡ Some x → OneOf (λ e. (q ≡ e.0) × (x ≡ e.1)) es
@@ -48,7 +49,7 @@ module _ {K X : Type 0} {R : K → K → Ordering} where
 
   -- what holds of each key holds of those that are there
   pub each_key : IsTotalOrder R → IsAntisymmetric R → (es : List (K × X)) (Q : K → Type 0) → EachEntry (λ q x. Q q) es → (q : K) → contains_key (from_entries {R = R} es) q ≡ true → Q q
-  each_key o same es Q h q has = let found = found_key (get (from_entries es) q) has in each_entry o same es (λ k x. Q k) h q found.0 found.1
+  each_key o same es Q h q has = let found = is_found (get (from_entries es) q) has in each_entry o same es (λ k x. Q k) h q found.0 found.1
 
 -- ---- neighbours
 

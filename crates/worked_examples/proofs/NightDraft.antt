@@ -11,13 +11,13 @@ use Rattle.plan_basics.specs.Names.{IsName, IsResourceName, is_resource_byte}
 use Rattle.special_resources.specs.declared.Mode.TheVariants.{Exclusive}
 use Rattle.special_resources.specs.Holders.{Usage}
 use Rattle.workstations.specs.Workstations.{IsWorkstation, Workstation}
-use Rattle.plan_model.specs.Plan.{IsPairOf, Operation}
+use Rattle.plan_model.specs.Contents.{IsPairOf, Operation}
 use Rattle.plan_model.specs.Valid.{AreOccurrences, IsOccurrence, IsOperation, IsUntouched, IsValid}
-use Rattle.plan_records.specs.Drafts.{IsDraft}
+use Rattle.plan_drafts.specs.Drafts.{IsDraft}
 use Rattle.plan_laws.proofs.Decide.{pair_cmp_total}
-use Rattle.plan_laws.proofs.Looks.{none_is_not_some}
+use Rattle.std.proofs.lemmas.Option.{none-some}
 use Rattle.worked_examples.specs.Day.{cpu1, evening}
-use Rattle.worked_examples.specs.Night.{cpu1_station, custfile, dumm, dumm_station, end_of_night, needs_custfile, night, night_draft, night_occurrences, night_operations, night_pairs, night_resources, night_workstations, payroll, payroll_at, prt1, prt1_station, setp, setp_station, two_at_night}
+use Rattle.worked_examples.specs.Night.{cpu1_station, custfile, dumm, dumm_station, end_of_night, needs_custfile, night, night_occurrences, night_operations, night_pairs, night_resources, night_workstations, payroll, payroll_at, prt1, prt1_station, setp, setp_station, two_at_night}
 use Rattle.worked_examples.proofs.DayLoad.{cpu1_name}
 use Rattle.worked_examples.proofs.Literal.{each_entry, each_key}
 use Rattle.worked_examples.proofs.NightReports.{found_at, p5, p10, p20, p30, p40}
@@ -96,9 +96,8 @@ occurrences_are = record {
 abbrev NeedsThere : OpKey → Operation → Type 0
 NeedsThere o op = (r : Name) (usage : Usage) → get op.needs r ≡ Some usage → contains_key night.resources r ≡ true
 
-night_is_valid : IsValid night_draft
+night_is_valid : IsValid night
 night_is_valid = record {
-  clock = omega arith;
   workstations = of_stations (λ w ws. IsName 4 w × IsWorkstation ws)
       (cpu1_name, station_is attribute.Automatic (interval_by evening end_of_night 2 3 0) cpu1_interval)
       (setp_name, station_is attribute.StartAndCompletion (interval_by evening two_at_night 1 0 0) setp_interval)
@@ -125,7 +124,7 @@ night_is_valid = record {
 }
   where
     no_needs : (r : Name) (usage : Usage) → get (empty {R = name_cmp}) r ≡ Some usage → contains_key night.resources r ≡ true
-    no_needs r usage found = absurd (none_is_not_some usage (sym (get-empty name_cmp r) ∙ found))
+    no_needs r usage found = absurd (none-some usage (sym (get-empty name_cmp r) ∙ found))
 
-pub night_is_draft : IsDraft night_draft
-night_is_draft = record { valid = night_is_valid; loaded = refl; untouched = of_five (λ o op. IsUntouched op) (refl, refl, refl) (refl, refl, refl) (refl, refl, refl) (refl, refl, refl) (refl, refl, refl) }
+pub night_is_draft : IsDraft night
+night_is_draft = record { valid = night_is_valid; untouched = of_five (λ o op. IsUntouched op) (refl, refl, refl) (refl, refl, refl) (refl, refl, refl) (refl, refl, refl) (refl, refl, refl) }

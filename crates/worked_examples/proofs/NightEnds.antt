@@ -14,7 +14,7 @@ use Rattle.status_rules.specs.declared.Status.TheVariants as status
 use Rattle.ready_list.specs.declared.ReadyKey.{ReadyKey}
 use Rattle.ready_list.specs.Choice.{is_among}
 use Rattle.plan_model.specs.Holdings.{given_out, takes}
-use Rattle.plan_model.specs.Plan.{Operation, attribute_at}
+use Rattle.plan_model.specs.Contents.{Operation, attribute_at}
 use Rattle.plan_model.specs.Ready.{IsChosen, IsEntry, named, with_mark}
 use Rattle.plan_model.specs.Revise.{revise}
 use Rattle.plan_model.specs.Starts.{IsAllowedToStart, MayStart}
@@ -24,9 +24,10 @@ use Rattle.plan_records.specs.declared.What.TheVariants as what
 use Rattle.plan_records.specs.Acceptance.{MayBeAccepted, MayBeEnded}
 use Rattle.plan_records.specs.Changes.{is_at}
 use Rattle.plan_laws.proofs.Kept.{named_none}
-use Rattle.plan_laws.proofs.Looks.{get-named, none_is_not_some}
-use Rattle.worked_examples.specs.Day.{cpu1, evening, morning}
-use Rattle.worked_examples.specs.Night.{custfile, done, dumm, end_of_night, end_of_second, night, night_occurrences, night_operations, night_resources, payroll, payroll_at, prt1, second_ended, second_started, setp}
+use Rattle.plan_model.proofs.Looks.{get-named}
+use Rattle.std.proofs.lemmas.Option.{none-some}
+use Rattle.worked_examples.specs.Day.{cpu1, evening, loaded_at, morning}
+use Rattle.worked_examples.specs.Night.{custfile, done, dumm, end_of_night, end_of_second, loading, night, night_occurrences, night_operations, night_resources, payroll, payroll_at, prt1, second_ended, second_started, setp}
 use Rattle.worked_examples.specs.Statements.{EndOfTheSecond}
 use Rattle.worked_examples.proofs.Entries.{one_ready}
 use Rattle.worked_examples.proofs.Facts.{marked_is_not_ready, waiting_is_not_ready}
@@ -97,11 +98,11 @@ given_out_then = given_out_is second_ended cpu1 (Some attribute.Automatic) all_o
 -- no other operation needs the resource
 no_holder : (o : OpKey) (op : Operation) → get second_ended.operations o ≡ Some op → (held : Usage) → o ≢ payroll_at 20 → get op.needs custfile ≡ Some held → ⊥
 no_holder = of_five (λ o op. (held : Usage) → o ≢ payroll_at 20 → get op.needs custfile ≡ Some held → ⊥)
-    (λ held other found. none_is_not_some held (sym (get-empty name_cmp custfile) ∙ found))
-    (λ held other found. none_is_not_some held (sym (get-empty name_cmp custfile) ∙ found))
+    (λ held other found. none-some held (sym (get-empty name_cmp custfile) ∙ found))
+    (λ held other found. none-some held (sym (get-empty name_cmp custfile) ∙ found))
     (λ held other found. other refl)
-    (λ held other found. none_is_not_some held (sym (get-empty name_cmp custfile) ∙ found))
-    (λ held other found. none_is_not_some held (sym (get-empty name_cmp custfile) ∙ found))
+    (λ held other found. none-some held (sym (get-empty name_cmp custfile) ∙ found))
+    (λ held other found. none-some held (sym (get-empty name_cmp custfile) ∙ found))
 
 resource_is_free : MayStart second_ended (payroll_at 20) p20 end_of_second refusal.ResourceBusy
 resource_is_free r usage found = elim (entry_of name_cmp_total name_cmp-IsAntisymmetric ((custfile, record { mode = Exclusive; keep = true }) ∷ []) r usage found) [
@@ -139,10 +140,11 @@ at_second r h =
     found_alone second_started (payroll_at 10) (with_mark mark.Named p10) (λ op. MayBeEnded second_started (payroll_at 10) op (attribute_at second_started op.workstation) r) second_is
     (subst (λ a. MayBeEnded second_started (payroll_at 10) (with_mark mark.Named p10) a r) (sym on_cpu1) h)
 
-nothing_refuses : (r : Refusal) → MayBeAccepted second_started asking r
+nothing_refuses : (r : Refusal) → MayBeAccepted (loaded_at loading second_started) asking r
 nothing_refuses refusal.Past = search rules
 nothing_refuses refusal.MomentRange = (end_of_second, refl, omega arith)
 nothing_refuses refusal.NotLoaded = λ needs. refl
+nothing_refuses refusal.Loaded = λ loads. absurd loads
 nothing_refuses refusal.UnknownOperation = (with_mark mark.Named p10, second_is, tt)
 nothing_refuses refusal.WrongStatus = at_second refusal.WrongStatus (inl (with_mark mark.Named p10, second_is, refl))
 nothing_refuses r = at_second r tt
@@ -155,7 +157,7 @@ end_of_the_second = (
   record {
     none_refuses = nothing_refuses;
     is_request = tt;
-    changed = done 10 second_started;
+    changed = second_ended;
     changes = refl;
     is_chosen = third_chosen;
     is_after = refl;

@@ -5,13 +5,13 @@ use Rattle.plan_basics.specs.declared.Attr.TheVariants as attribute
 use Rattle.plan_basics.specs.declared.keys.OpKey.{OpKey}
 use Rattle.plan_basics.specs.Keys.{occurrence_cmp_total}
 use Rattle.ready_list.specs.declared.ReadyKey.{ReadyKey}
-use Rattle.plan_model.specs.Plan.{Operation, attribute_at}
+use Rattle.plan_model.specs.Contents.{Operation, attribute_at}
 use Rattle.plan_model.specs.Ready.{IsChosen, IsEntry, IsOnAutomatic, named}
 use Rattle.plan_model.specs.Starts.{IsAllowedToStart}
 use Rattle.plan_model.specs.Status.{IsReady}
-use Rattle.plan_laws.proofs.Looks.{same_some}
+use Rattle.std.proofs.lemmas.Option.{same_Some}
 use Rattle.worked_examples.specs.Day.{morning}
-use Rattle.worked_examples.specs.Night.{loading, night, night_draft, night_occurrences, payroll, payroll_at}
+use Rattle.worked_examples.specs.Night.{loading, night, night_occurrences, payroll, payroll_at}
 use Rattle.worked_examples.specs.Statements.{LoadOfTheNight}
 use Rattle.worked_examples.proofs.Entries.{one_ready}
 use Rattle.worked_examples.proofs.Facts.{waiting_is_not_ready}
@@ -40,8 +40,8 @@ only_first = of_five (λ o op. IsReady night o → o ≡ payroll_at 5)
 -- SETP isn't automatic
 not_automatic : IsOnAutomatic night (payroll_at 5) → ⊥
 not_automatic h =
-    let e : h.0 ≡ p5 = same_some h.0 p5 (sym h.1 ∙ found_at (payroll_at 5)) in
-    let a : attribute.StartAndCompletion ≡ attribute.Automatic = same_some attribute.StartAndCompletion attribute.Automatic (sym on_setp ∙ ap (λ op. attribute_at night op.workstation) (sym e) ∙ h.2) in
+    let e : h.0 ≡ p5 = same_Some h.0 p5 (sym h.1 ∙ found_at (payroll_at 5)) in
+    let a : attribute.StartAndCompletion ≡ attribute.Automatic = same_Some attribute.StartAndCompletion attribute.Automatic (sym on_setp ∙ ap (λ op. attribute_at night op.workstation) (sym e) ∙ h.2) in
     cc
 
 none_chosen : IsChosen night loading []
@@ -57,4 +57,4 @@ none_chosen = record {
 }
 
 pub load_of_the_night : LoadOfTheNight
-load_of_the_night = load_names night_draft loading (omega arith) [] none_chosen night_is_draft
+load_of_the_night = load_names night loading (omega arith) [] none_chosen night_is_draft

@@ -4,10 +4,10 @@ use Rattle.std.specs.FinMap.{empty, get, find, get-from_entries}
 use Rattle.plan_basics.specs.declared.keys.OpKey.{OpKey}
 use Rattle.plan_basics.specs.Keys.{operation_cmp, operation_cmp_total}
 use Rattle.status_rules.specs.declared.Mark.TheVariants as mark
-use Rattle.plan_model.specs.Plan.{Operation, Plan}
+use Rattle.plan_model.specs.Contents.{Contents, Operation}
 use Rattle.plan_model.specs.Ready.{with_mark}
 use Rattle.plan_records.specs.Changes.{is_at, revised}
-use Rattle.plan_laws.proofs.Looks.{get-revised}
+use Rattle.plan_laws.proofs.Revised.{get-revised}
 use Rattle.worked_examples.specs.Day.{cpu1}
 use Rattle.worked_examples.specs.Night.{night, night_operations, payroll_at, planned, setp, prt1, dumm, needs_custfile, done, passed_by, three_done, two_passed, fourth_held}
 use Rattle.worked_examples.specs.Statements.{StatusesWhenLoaded, StatusesAfterTheThird, StatusesOfHeld, StatusesOfPassed}
@@ -17,14 +17,14 @@ pub found_at : (o : OpKey) → get night.operations o ≡ find operation_cmp o n
 found_at o = get-from_entries operation_cmp_total night_operations o
 
 -- what is found where some operations were made anew
-pub found_revised : (test : OpKey → Bool) (f : Operation → Operation) (P : Plan) (o : OpKey) (op : Operation) → get P.operations o ≡ Some op → get (revised test f P).operations o ≡ Some (cond (test o) (f op) op)
+pub found_revised : (test : OpKey → Bool) (f : Operation → Operation) (P : Contents) (o : OpKey) (op : Operation) → get P.operations o ≡ Some op → get (revised test f P).operations o ≡ Some (cond (test o) (f op) op)
 found_revised test f P o op is = get-revised test f P o ∙ ap (option_map (λ x. cond (test o) (f x) x)) is
 
 -- what is found where one is done, or a NOP
-pub found_done : (n : ℕ) (P : Plan) (o : OpKey) (op : Operation) → get P.operations o ≡ Some op → get (done n P).operations o ≡ Some (cond (is_at (payroll_at n) o) (with_mark mark.Done op) op)
+pub found_done : (n : ℕ) (P : Contents) (o : OpKey) (op : Operation) → get P.operations o ≡ Some op → get (done n P).operations o ≡ Some (cond (is_at (payroll_at n) o) (with_mark mark.Done op) op)
 found_done n P o op is = found_revised (is_at (payroll_at n)) (with_mark mark.Done) P o op is
 
-pub found_passed : (n : ℕ) (P : Plan) (o : OpKey) (op : Operation) → get P.operations o ≡ Some op → get (passed_by n P).operations o ≡ Some (cond (is_at (payroll_at n) o) (record op { nop = true }) op)
+pub found_passed : (n : ℕ) (P : Contents) (o : OpKey) (op : Operation) → get P.operations o ≡ Some op → get (passed_by n P).operations o ≡ Some (cond (is_at (payroll_at n) o) (record op { nop = true }) op)
 found_passed n P o op is = found_revised (is_at (payroll_at n)) (λ x. record x { nop = true }) P o op is
 
 -- PAYROLL's operations as they were planned

@@ -9,7 +9,7 @@ use Rattle.status_rules.specs.Table.{reports, status_by}
 use Rattle.status_rules.specs.declared.Mark.TheVariants as mark
 use Rattle.status_rules.specs.declared.Preds.{Preds}
 use Rattle.status_rules.specs.declared.Status.{Status}
-use Rattle.plan_model.specs.Plan.{Operation, Operations, Plan, Precedes}
+use Rattle.plan_model.specs.Contents.{Contents, Operation, Operations, Precedes}
 use Rattle.plan_model.specs.Status.{HasStatus}
 use Rattle.plan_laws.proofs.Decide.{pair_cmp_total}
 use Rattle.worked_examples.specs.Night.{night, night_pairs, night_workstations, payroll_at, cpu1_station, setp_station, prt1_station, dumm_station}
@@ -27,7 +27,7 @@ abbrev pub status_on : Operation → Workstation → Preds → Status
 status_on op ws preds = status_by op.mark op.held op.nop ws.attribute preds
 
 -- the night's plan with these operations
-abbrev pub reported : Operations → Plan
+abbrev pub reported : Operations → Contents
 reported operations = record night { operations = operations }
 
 module _ (operations : Operations) where

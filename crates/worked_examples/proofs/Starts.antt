@@ -7,18 +7,18 @@ use Rattle.std.specs.List.{list_any}
 use Rattle.std.specs.Ordering.{eq_by_cmp}
 use Rattle.plan_basics.specs.declared.keys.OpKey.{OpKey}
 use Rattle.status_rules.specs.declared.Mark.TheVariants as mark
-use Rattle.plan_model.specs.Plan.{Operation, Plan, Precedes, pair_cmp}
+use Rattle.plan_model.specs.Contents.{Contents, Operation, Precedes, pair_cmp}
 use Rattle.plan_model.specs.Starts.{IsLatestStart}
 use Rattle.plan_laws.proofs.Pairs.{pair_cmp_total}
 use Rattle.worked_examples.proofs.Facts.{latest_of_last, latest_of_one}
 use Rattle.worked_examples.proofs.Literal.{OneOf, afters, one_after, only}
 
 -- without a successor
-pub starts_last : (P : Plan) (o : OpKey) (op : Operation) → get P.operations o ≡ Some op → ((b : OpKey) → Precedes P o b → ⊥) → IsLatestStart P o (pos op.deadline -ℤ pos op.duration)
+pub starts_last : (P : Contents) (o : OpKey) (op : Operation) → get P.operations o ≡ Some op → ((b : OpKey) → Precedes P o b → ⊥) → IsLatestStart P o (pos op.deadline -ℤ pos op.duration)
 starts_last P o op is never = latest_of_last o op.duration op.deadline _ never (rw is refl) (rw is refl) refl
 
 -- where the plan's pairs are written out
-module _ (P : Plan) (pairs : List (OpKey × OpKey)) (written : P.pairs ≡ from_list pairs) (o : OpKey) (op : Operation) (is : get P.operations o ≡ Some op) where
+module _ (P : Contents) (pairs : List (OpKey × OpKey)) (written : P.pairs ≡ from_list pairs) (o : OpKey) (op : Operation) (is : get P.operations o ≡ Some op) where
   after_by : (c : OpKey) → Precedes P o c → OneOf (λ q. c ≡ q) (afters pairs o)
   after_by c h = one_after pairs o c (ap (λ ps. contains ps (o, c)) (sym written) ∙ h)
 

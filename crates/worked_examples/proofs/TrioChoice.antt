@@ -3,10 +3,10 @@ use Rattle.std.proofs.Common.{ℕ, ◌≡◌, sym, ◌∙◌, Bool, true, false,
 use Rattle.plan_basics.specs.declared.keys.OpKey.{OpKey}
 use Rattle.ready_list.specs.declared.ReadyKey.{ReadyKey}
 use Rattle.ready_list.specs.Choice.{IsChoice, among, is_among, operations_of}
-use Rattle.plan_model.specs.Plan.{Plan}
+use Rattle.plan_model.specs.Contents.{Contents}
 use Rattle.plan_model.specs.Ready.{IsChosen, IsOnAutomatic, IsReadyList, named}
 use Rattle.plan_model.specs.Starts.{IsAllowedToStart}
-use Rattle.plan_laws.proofs.Looks.{split_at}
+use Rattle.plan_model.proofs.Looks.{split_at}
 use Rattle.worked_examples.proofs.Lists.{EachSplit, each_split}
 
 -- a choice from lists that are written out, member by member
@@ -20,7 +20,7 @@ choice_by automatic allowed ready chosen in_order on each others = record {
 }
 
 -- chosen from a ready list that is written out
-pub chosen_by : (P : Plan) (m : ℕ) (keys : List ReadyKey) (chosen : List OpKey) → IsReadyList P keys → chosen ≡ among chosen (operations_of keys) → EachSplit chosen (λ before o. IsOnAutomatic P o)
+pub chosen_by : (P : Contents) (m : ℕ) (keys : List ReadyKey) (chosen : List OpKey) → IsReadyList P keys → chosen ≡ among chosen (operations_of keys) → EachSplit chosen (λ before o. IsOnAutomatic P o)
     → EachSplit chosen (λ before o. IsAllowedToStart (named before P) o m)
     → EachSplit (operations_of keys) (λ before o. is_among chosen o ≡ false → IsAllowedToStart (named (among chosen before) P) o m → ⊥) → IsChosen P m chosen
 chosen_by P m keys chosen list in_order on each others = record {

@@ -14,11 +14,12 @@ use Rattle.ready_list.specs.declared.ReadyKey.{ReadyKey}
 use Rattle.ready_list.specs.Choice.{is_among}
 use Rattle.ready_list.specs.Order.{ready_cmp}
 use Rattle.plan_model.specs.Holdings.{given_out}
-use Rattle.plan_model.specs.Plan.{Precedes, pair_cmp}
+use Rattle.plan_model.specs.Contents.{Precedes, pair_cmp}
 use Rattle.plan_model.specs.Ready.{IsEntry, IsOnAutomatic, IsReadyList, named, with_mark}
 use Rattle.plan_model.specs.Starts.{IsAllowedToStart, IsLatestStart}
 use Rattle.plan_model.specs.Status.{HasStatus}
-use Rattle.plan_laws.proofs.Looks.{as_named, get-named, same_some}
+use Rattle.plan_model.proofs.Looks.{as_named, get-named}
+use Rattle.std.proofs.lemmas.Option.{same_Some}
 use Rattle.worked_examples.specs.Day.{evening, cpu1}
 use Rattle.worked_examples.specs.Night.{cpu1_station, end_of_night}
 use Rattle.worked_examples.specs.Trio.{Terms, aaa, bbb, ccc, occurrence_by, operation_by, trio, trio_occurrences, trio_operations}
@@ -58,9 +59,9 @@ module _ (a b c : Terms) where
     same_key : (k : ReadyKey) → IsEntry (trio a b c) k → k.op ≡ o → k ≡ key_of o t
     same_key k h e =
         let late : k.latest ≡ pos t.deadline -ℤ pos t.duration = one_latest o k.latest (pos t.deadline -ℤ pos t.duration) (subst (λ x. IsLatestStart (trio a b c) x k.latest) e h.1) latest in
-        let op : h.2.0 ≡ operation_by t = same_some h.2.0 (operation_by t) (sym h.2.1 ∙ ap (get (trio a b c).operations) e ∙ is) in
+        let op : h.2.0 ≡ operation_by t = same_Some h.2.0 (operation_by t) (sym h.2.1 ∙ ap (get (trio a b c).operations) e ∙ is) in
         let long : k.duration ≡ t.duration = h.2.2 ∙ ap (λ x. x.duration) op in
-        let occurrence : h.3.0 ≡ occurrence_by t = same_some h.3.0 (occurrence_by t) (sym h.3.1 ∙ ap (λ x. get (trio a b c).occurrences x.occurrence) e ∙ of) in
+        let occurrence : h.3.0 ≡ occurrence_by t = same_Some h.3.0 (occurrence_by t) (sym h.3.1 ∙ ap (λ x. get (trio a b c).occurrences x.occurrence) e ∙ of) in
         let urgent : k.priority ≡ t.priority = h.3.2 ∙ ap (λ x. x.priority) occurrence in
         λ i. record { latest = late i; priority = urgent i; duration = long i; op = e i }
 

@@ -43,4 +43,4 @@ choice_for_fixed_resource =
     (fixed_resource_chosen, arrives_then a b c (aaa ∷ ccc ∷ []) bbb b refl (found_at a b c bbb))
 
 pub tick_that_names : TickThatNames
-tick_that_names = tick_names by_latest_start evening (omega arith) (ccc ∷ bbb ∷ []) latest_start_chosen refl (omega arith)
+tick_that_names = tick_names by_latest_start evening (omega arith) (ccc ∷ bbb ∷ []) latest_start_chosen evening (omega arith)

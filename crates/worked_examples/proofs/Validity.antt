@@ -20,10 +20,10 @@ use Rattle.workstations.proofs.Lookups.{one_more}
 use Rattle.workstations.specs.Workstations.{IsWorkstation}
 use Rattle.operation_graph.specs.Paths.{IsAcyclicBy, IsRankBy, LeadsBy, by_edge, by_more}
 use Rattle.status_rules.specs.declared.Mark.TheVariants as mark
-use Rattle.plan_model.specs.Plan.{Operation, pair_cmp}
+use Rattle.plan_model.specs.Contents.{Operation, pair_cmp}
 use Rattle.plan_model.specs.Valid.{IsOperation}
 use Rattle.plan_laws.proofs.Decide.{pair_cmp_total, pair_same}
-use Rattle.plan_laws.proofs.Looks.{none_is_not_some}
+use Rattle.std.proofs.lemmas.Option.{none-some}
 use Rattle.worked_examples.specs.Night.{workstation_by}
 use Rattle.worked_examples.proofs.Literal.{EachEntry, OneOf, at_entry, entry_of}
 
@@ -98,8 +98,8 @@ module _ (a : Attr) (x : OpenInterval) (is : IsInterval x) where
 -- a workstation without intervals
 pub closed_is : (a : Attr) → IsWorkstation (workstation_by a [])
 closed_is a = record {
-  intervals = λ from y found. absurd (none_is_not_some y (sym (get-empty nat_cmp from) ∙ found));
-  disjoint = λ p q m y z is_p is_q in_y in_z. absurd (none_is_not_some y (sym (get-empty nat_cmp p) ∙ is_p));
+  intervals = λ from y found. absurd (none-some y (sym (get-empty nat_cmp from) ∙ found));
+  disjoint = λ p q m y z is_p is_q in_y in_z. absurd (none-some y (sym (get-empty nat_cmp p) ∙ is_p));
   few = len_at_most nat_cmp_total [] MOST_INTERVALS (omega arith);
 }
 
@@ -112,7 +112,7 @@ operation_is o op key name long fixed from till none unmarked = record {
   fixed = fixed;
   not_before = from;
   deadline = till;
-  needs = λ r usage found. absurd (none_is_not_some usage (sym (get-empty name_cmp r) ∙ ap (λ needs. get needs r) (sym none) ∙ found));
+  needs = λ r usage found. absurd (none-some usage (sym (get-empty name_cmp r) ∙ ap (λ needs. get needs r) (sym none) ∙ found));
   few_needs = let e = ap len none in let k = len-empty name_cmp Usage in omega arith;
   code = λ code is. absurd (let e = sym unmarked ∙ is in cc);
 }

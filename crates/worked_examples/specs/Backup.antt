@@ -4,10 +4,10 @@ use Rattle.std.specs.FinMap.{from_entries}
 use Rattle.std.specs.FinSet.{from_list}
 use Rattle.plan_basics.specs.declared.keys.OccKey.{OccKey}
 use Rattle.plan_basics.specs.declared.keys.OpKey.{OpKey}
-use Rattle.plan_model.specs.Plan.{Operation, Plan, AddedParts}
+use Rattle.plan_model.specs.Contents.{Contents, Operation, AddedParts}
 use Rattle.plan_model.specs.declared.Occurrence.{Occurrence}
 use Rattle.worked_examples.specs.Billing.{eleven}
-use Rattle.worked_examples.specs.Day.{daily, day, evening, first, lasting, occurrence, second}
+use Rattle.worked_examples.specs.Day.{daily, day, first, lasting, occurrence, second}
 
 -- BACKUP, of 23:00
 abbrev pub backup : OccKey
@@ -33,6 +33,6 @@ three_operations = (backup_key, lasting 30) ∷ (first, lasting 30) ∷ (second,
 abbrev pub two_pairs : List (OpKey × OpKey)
 two_pairs = (first, second) ∷ (second, backup_key) ∷ []
 
--- the small plan with it, at 22:00
-abbrev pub with_backup : Plan
-with_backup = record day { clock = evening; occurrences = from_entries two_occurrences; operations = from_entries three_operations; pairs = from_list two_pairs }
+-- the small plan with it
+abbrev pub with_backup : Contents
+with_backup = record day { occurrences = from_entries two_occurrences; operations = from_entries three_operations; pairs = from_list two_pairs }

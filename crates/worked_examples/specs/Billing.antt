@@ -8,7 +8,7 @@ use Rattle.plan_basics.specs.Keys.{name_cmp}
 use Rattle.special_resources.specs.declared.Mode.TheVariants.{Shared}
 use Rattle.special_resources.specs.Holders.{Usage}
 use Rattle.status_rules.specs.declared.Mark.TheVariants as mark
-use Rattle.plan_model.specs.Plan.{Operation, Plan, AddedParts}
+use Rattle.plan_model.specs.Contents.{Contents, Operation, AddedParts}
 use Rattle.plan_model.specs.declared.Occurrence.{Occurrence}
 use Rattle.plan_records.specs.Changes.{marked, with_added}
 use Rattle.worked_examples.specs.Day.{evening, lasting}
@@ -44,9 +44,9 @@ abbrev pub billing_addition : AddedParts
 billing_addition = record { occurrences = from_entries ((billing, billing_occurrence) ∷ []); operations = from_entries ((billing_key, billing_operation) ∷ []); pairs = set.empty }
 
 -- the night's plan with it
-abbrev pub with_billing : Plan
+abbrev pub with_billing : Contents
 with_billing = with_added (done 10 (done 5 night)) billing_addition
 
 -- and PAYROLL's 20 ended in error
-abbrev pub failed : Plan
+abbrev pub failed : Contents
 failed = marked (payroll_at 20) (mark.Error (codes "S0C7")) with_billing

@@ -9,7 +9,8 @@ use Rattle.plan_basics.specs.Intervals.{interval_by}
 use Rattle.plan_basics.specs.Keys.{Name}
 use Rattle.workstations.specs.Workstations.{Workstation}
 use Rattle.status_rules.specs.declared.Mark.TheVariants.{Unmarked}
-use Rattle.plan_model.specs.Plan.{Plan, Operation, no_plan}
+use Rattle.plan_model.specs.Plan.{Plan}
+use Rattle.plan_model.specs.Contents.{Contents, Operation, nothing}
 use Rattle.plan_model.specs.declared.Occurrence.{Occurrence}
 
 -- 2024-03-01 at 22:00: the minutes of its days from 1972-01-01 on, and of its hours; moments_of_the_night ties each such numeral to its date
@@ -49,10 +50,8 @@ abbrev pub occurrence : Occurrence
 occurrence = record { priority = 5; deadline = morning }
 
 -- the first lasts half an hour, the second an hour
-abbrev pub day : Plan
+abbrev pub day : Contents
 day = record {
-  loaded = true;
-  clock = 0;
   workstations = from_entries ((cpu1, always_open) ∷ []);
   resources = empty;
   occurrences = from_entries ((daily, occurrence) ∷ []);
@@ -60,6 +59,10 @@ day = record {
   pairs = from_list ((first, second) ∷ []);
 }
 
+-- a plan that holds this is loaded, and its clock is at minute m
+abbrev pub loaded_at : ℕ → Contents → Plan
+loaded_at m P = record { loaded = true; clock = m; contents = P }
+
 -- loaded, with nothing in it
 abbrev pub idle : Plan
-idle = record no_plan { loaded = true }
+idle = loaded_at 0 nothing

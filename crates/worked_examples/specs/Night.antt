@@ -1,4 +1,4 @@
--- The night's plan: PAYROLL, a chain of five operations on four workstations that report in four ways, as it is once it was loaded at 21:00.
+-- The night's plan: PAYROLL, a chain of five operations on four workstations that report in four ways, as it is once it was loaded.
 use Rattle.std.specs.Prelude.{ℕ, Bool, true, [], ◌∷◌, List, codes}
 use Rattle.std.specs.FinMap.{from_entries, empty, FinMap}
 use Rattle.std.specs.FinSet.{from_list}
@@ -12,7 +12,7 @@ use Rattle.special_resources.specs.declared.Mode.TheVariants.{Exclusive}
 use Rattle.special_resources.specs.Holders.{Usage}
 use Rattle.workstations.specs.Workstations.{Workstation}
 use Rattle.status_rules.specs.declared.Mark.TheVariants as mark
-use Rattle.plan_model.specs.Plan.{Plan, Operation}
+use Rattle.plan_model.specs.Contents.{Contents, Operation}
 use Rattle.plan_model.specs.declared.Occurrence.{Occurrence}
 use Rattle.plan_model.specs.Ready.{with_mark}
 use Rattle.ready_list.specs.Choice.{is_among}
@@ -109,11 +109,9 @@ night_occurrences = (payroll, record { priority = 5; deadline = morning }) ∷ [
 abbrev pub night_resources : List (Name × Bool)
 night_resources = (custfile, true) ∷ []
 
--- all of it, as it is once it was loaded
-abbrev pub night : Plan
+-- all of it, as it is loaded
+abbrev pub night : Contents
 night = record {
-  loaded = true;
-  clock = loading;
   workstations = from_entries night_workstations;
   resources = from_entries night_resources;
   occurrences = from_entries night_occurrences;
@@ -122,49 +120,45 @@ night = record {
 }
 
 -- a plan in which PAYROLL's operation of this number is done
-abbrev pub done : ℕ → Plan → Plan
+abbrev pub done : ℕ → Contents → Contents
 done number P = marked (payroll_at number) mark.Done P
 
 -- a plan in which it is a NOP
-abbrev pub passed_by : ℕ → Plan → Plan
+abbrev pub passed_by : ℕ → Contents → Contents
 passed_by number P = revised (is_at (payroll_at number)) (λ op. record op { nop = true }) P
 
 -- 5, 10 and 20 are done, one after the other
-abbrev pub three_done : Plan
+abbrev pub three_done : Contents
 three_done = done 20 (done 10 (done 5 night))
 
 -- the same, and 30 is held
-abbrev pub fourth_held : Plan
+abbrev pub fourth_held : Contents
 fourth_held = revised (is_at (payroll_at 30)) (λ op. record op { held = true }) three_done
 
 -- 10 and 20 are NOPs, and 5 is done
-abbrev pub two_passed : Plan
+abbrev pub two_passed : Contents
 two_passed = done 5 (passed_by 20 (passed_by 10 night))
 
 -- 5 and 10 are done, and 20 is started
-abbrev pub third_started : Plan
+abbrev pub third_started : Contents
 third_started = marked (payroll_at 20) mark.Named (done 10 (done 5 night))
-
--- the night's plan as its text denotes it, before it is loaded
-abbrev pub night_draft : Plan
-night_draft = record night { clock = 0 }
 
 -- 2024-03-01 at 22:40
 abbrev pub end_of_second : ℕ
 end_of_second = 27437680
 
 -- 5 is done, and 10 is started
-abbrev pub second_started : Plan
+abbrev pub second_started : Contents
 second_started = marked (payroll_at 10) mark.Named (done 5 night)
 
 -- and then 10 ended at 22:40, before anything else is named
-abbrev pub second_ended : Plan
-second_ended = record (done 10 second_started) { clock = end_of_second }
+abbrev pub second_ended : Contents
+second_ended = done 10 second_started
 
 -- 20 is run again after it was done, and with it what follows it
-abbrev pub from_third_again : Plan
+abbrev pub from_third_again : Contents
 from_third_again = revised (is_among (payroll_at 20 ∷ payroll_at 30 ∷ payroll_at 40 ∷ [])) (with_mark mark.Unmarked) three_done
 
 -- 5 is run again where 10 and 20 are NOPs, and with it all that follow
-abbrev pub from_first_again : Plan
+abbrev pub from_first_again : Contents
 from_first_again = revised (is_among (payroll_at 5 ∷ payroll_at 10 ∷ payroll_at 20 ∷ payroll_at 30 ∷ payroll_at 40 ∷ [])) (with_mark mark.Unmarked) two_passed

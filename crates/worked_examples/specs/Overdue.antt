@@ -1,12 +1,12 @@
 -- A plan with work that is long overdue: OLD, of 1972-01-01 at 00:00, with a deadline half an hour later.
-use Rattle.std.specs.Prelude.{ℕ, true, [], ◌∷◌, List, codes}
+use Rattle.std.specs.Prelude.{ℕ, [], ◌∷◌, List, codes}
 use Rattle.std.specs.FinMap.{from_entries, empty}
 use Rattle.std.specs.FinSet.{from_list}
 use Rattle.plan_basics.specs.declared.keys.OccKey.{OccKey}
 use Rattle.plan_basics.specs.declared.keys.OpKey.{OpKey}
-use Rattle.plan_model.specs.Plan.{Operation, Plan}
+use Rattle.plan_model.specs.Contents.{Contents, Operation}
 use Rattle.worked_examples.specs.Day.{cpu1}
-use Rattle.worked_examples.specs.Night.{cpu1_station, loading}
+use Rattle.worked_examples.specs.Night.{cpu1_station}
 use Rattle.worked_examples.specs.Trio.{aaa, four, occurrence_by, operation_by, terms}
 
 -- OLD, of the first minute
@@ -25,11 +25,9 @@ overdue_operations = (aaa, operation_by (terms 5 four 30 0)) ∷ (old_at 10, ope
 abbrev pub overdue_pairs : List (OpKey × OpKey)
 overdue_pairs = (old_at 10, old_at 20) ∷ []
 
--- both, at 21:00
-abbrev pub overdue : Plan
+-- both
+abbrev pub overdue : Contents
 overdue = record {
-  loaded = true;
-  clock = loading;
   workstations = from_entries ((cpu1, cpu1_station) ∷ []);
   resources = empty;
   occurrences = from_entries ((aaa.occurrence, occurrence_by (terms 5 four 30 0)) ∷ (old, occurrence_by (terms 5 30 20 0)) ∷ []);

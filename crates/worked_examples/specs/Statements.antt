@@ -4,7 +4,8 @@ use Rattle.plan_basics.specs.Minutes.{civil_minute}
 use Rattle.status_rules.specs.declared.Status.TheVariants as status
 use Rattle.plan_basics.specs.declared.Refusal.{Refusal}
 use Rattle.plan_basics.specs.declared.Refusal.TheVariants as refusal
-use Rattle.plan_model.specs.Plan.{Has, Plan, no_plan}
+use Rattle.plan_model.specs.Plan.{Plan, no_plan}
+use Rattle.plan_model.specs.Contents.{Contents, Has}
 use Rattle.plan_records.specs.declared.What.{What}
 use Rattle.plan_records.specs.declared.What.TheVariants as what
 use Rattle.plan_records.specs.Answer.{Answer, accepted, refused}
@@ -16,13 +17,13 @@ use Rattle.special_resources.specs.declared.Mode.TheVariants.{Exclusive}
 use Rattle.plan_model.specs.Holdings.{Holds}
 use Rattle.plan_model.specs.Ready.{IsChosen, named}
 use Rattle.plan_model.specs.Starts.{IsLatestStart, MayStart}
-use Rattle.worked_examples.specs.Day.{day, evening, first, morning, second}
+use Rattle.worked_examples.specs.Day.{day, evening, first, loaded_at, morning, second}
 use Rattle.worked_examples.specs.Overdue.{old_at, overdue}
 use Rattle.worked_examples.specs.Trio.{aaa, bbb, ccc, by_duration, by_fixed_resource, by_key, by_latest_start, by_priority, three, half_past_three, four, ten_past_four}
 use Rattle.worked_examples.specs.Tracker.{after_told, ended_told, failure_told, no_receipts, one_receipt}
 use Rattle.worked_examples.specs.Backup.{backup_addition, backup_key, with_backup}
 use Rattle.worked_examples.specs.Billing.{billing_key, eleven, failed}
-use Rattle.worked_examples.specs.Night.{fourth_held, from_first_again, from_third_again, custfile, end_of_second, night_draft, second_ended, second_started, night, payroll, third_started, three_done, two_passed, payroll_at, loading, two_at_night, end_of_night}
+use Rattle.worked_examples.specs.Night.{fourth_held, from_first_again, from_third_again, custfile, end_of_second, second_ended, second_started, night, payroll, third_started, three_done, two_passed, payroll_at, loading, two_at_night, end_of_night}
 
 -- the numerals are the minutes of these civil dates and times
 abbrev pub MomentsOfTheNight : Type 0
@@ -87,20 +88,20 @@ StepRefuses P m w r = Step P (record { at = pos m; what = w }) (refused r) P
 -- a start is refused while the workstation is closed: at 21:59, before it opens, and at 02:00, since an interval's end is outside
 abbrev pub StartsWhileClosed : Type 0
 StartsWhileClosed =
-    StepRefuses night 27437639 (what.Started (payroll_at 5)) refusal.Closed
-    × StepRefuses night two_at_night (what.Started (payroll_at 5)) refusal.Closed
+    StepRefuses (loaded_at loading night) 27437639 (what.Started (payroll_at 5)) refusal.Closed
+    × StepRefuses (loaded_at loading night) two_at_night (what.Started (payroll_at 5)) refusal.Closed
 
 -- the first can't be made to wait for the last: a path leads from it to the last
 abbrev pub PairThatLeadsBack : Type 0
-PairThatLeadsBack = StepRefuses night loading (what.AddDependency (payroll_at 40) (payroll_at 5)) refusal.Cycle
+PairThatLeadsBack = StepRefuses (loaded_at loading night) loading (what.AddDependency (payroll_at 40) (payroll_at 5)) refusal.Cycle
 
 -- an occurrence with a started operation isn't deleted
 abbrev pub DeletionWhileStarted : Type 0
-DeletionWhileStarted = StepRefuses third_started evening (what.DeleteOccurrence payroll) refusal.Running
+DeletionWhileStarted = StepRefuses (loaded_at loading third_started) evening (what.DeleteOccurrence payroll) refusal.Running
 
 -- whatever the text denotes, a plan isn't loaded over another
 abbrev pub SecondLoad : Type 0
-SecondLoad = (draft : Option Plan) → StepRefuses night loading (what.Load draft) refusal.Loaded
+SecondLoad = (draft : Option Contents) → StepRefuses (loaded_at loading night) loading (what.Load draft) refusal.Loaded
 
 -- three operations, two servers: CCC by its priority, and then BBB by latest start, AAA by duration, AAA by key, or BBB by its higher priority
 abbrev pub ChoicesForTwoServers : Type 0
@@ -118,11 +119,11 @@ ChoiceForFixedResource =
 
 -- the whole step: a tick names CCC and BBB, in this order
 abbrev pub TickThatNames : Type 0
-TickThatNames = Step by_latest_start (record { at = pos evening; what = what.Tick }) (accepted (ccc ∷ bbb ∷ [])) (named (ccc ∷ bbb ∷ []) by_latest_start)
+TickThatNames = Step (loaded_at evening by_latest_start) (record { at = pos evening; what = what.Tick }) (accepted (ccc ∷ bbb ∷ [])) (loaded_at evening (named (ccc ∷ bbb ∷ []) by_latest_start))
 
 -- the whole step: the small plan is loaded at 22:00, and its first operation is named
 abbrev pub LoadThatNames : Type 0
-LoadThatNames = Step no_plan (record { at = pos evening; what = what.Load (Some day) }) (accepted (first ∷ [])) (named (first ∷ []) (record day { clock = evening }))
+LoadThatNames = Step no_plan (record { at = pos evening; what = what.Load (Some day) }) (accepted (first ∷ [])) (loaded_at evening (named (first ∷ []) day))
 
 -- PAYROLL's 20 failed and keeps CUSTFILE alone: of all that BILLING's operation needs to start, that resource is what lacks
 abbrev pub KeptResource : Type 0
@@ -132,12 +133,12 @@ KeptResource =
 
 -- the whole step: the night's plan is loaded at 21:00, and nothing is named, since its one ready operation isn't for the desk to start
 abbrev pub LoadOfTheNight : Type 0
-LoadOfTheNight = Step no_plan (record { at = pos loading; what = what.Load (Some night_draft) }) (accepted []) (named [] night)
+LoadOfTheNight = Step no_plan (record { at = pos loading; what = what.Load (Some night) }) (accepted []) (loaded_at loading (named [] night))
 
 -- the whole step: 10 ends at 22:40, 20 is named, and then holds CUSTFILE alone
 abbrev pub EndOfTheSecond : Type 0
 EndOfTheSecond =
-    Step second_started (record { at = pos end_of_second; what = what.Ended (payroll_at 10) }) (accepted (payroll_at 20 ∷ [])) (named (payroll_at 20 ∷ []) second_ended)
+    Step (loaded_at loading second_started) (record { at = pos end_of_second; what = what.Ended (payroll_at 10) }) (accepted (payroll_at 20 ∷ [])) (loaded_at end_of_second (named (payroll_at 20 ∷ []) second_ended))
     × Holds (named (payroll_at 20 ∷ []) second_ended) (payroll_at 20) custfile (record { mode = Exclusive; keep = true })
 
 -- a rerun of 20 reaches 20, 30 and 40 alone: 20 is ready again, and 30 and 40 wait
@@ -162,7 +163,7 @@ RerunOfTheFirst =
 -- the whole step: BACKUP is added at 22:00, and DAILY's first is named; it has to start at 03:00 now, half an hour earlier than without BACKUP, which waits
 abbrev pub BackupAdded : Type 0
 BackupAdded =
-    Step day (record { at = pos evening; what = what.AddOccurrence (Some backup_addition) }) (accepted (first ∷ [])) (named (first ∷ []) with_backup)
+    Step (loaded_at 0 day) (record { at = pos evening; what = what.AddOccurrence (Some backup_addition) }) (accepted (first ∷ [])) (loaded_at evening (named (first ∷ []) with_backup))
     × IsLatestStart day first (pos half_past_three)
     × IsLatestStart with_backup first (pos three)
     × HasStatus (named (first ∷ []) with_backup) first status.Started
@@ -171,7 +172,7 @@ BackupAdded =
 
 -- the first request of a tracker is accepted, and leaves a receipt
 abbrev pub NumberedRequest : Type 0
-NumberedRequest = NumberedStep second_started no_receipts (ended_told 1) (accepted (payroll_at 20 ∷ [])) after_told one_receipt
+NumberedRequest = NumberedStep (loaded_at loading second_started) no_receipts (ended_told 1) (accepted (payroll_at 20 ∷ [])) after_told one_receipt
 
 -- with the receipt there, a numbered request is answered so, and nothing changes
 abbrev pub IsAnsweredThen : Numbered → Answer → Type 0
@@ -188,5 +189,5 @@ NumberedAgain =
 -- a whole run: the request, and the same once more, since its tracker heard no answer
 abbrev pub RunToldTwice : Type 0
 RunToldTwice =
-    Run (record { plan = second_started; receipts = no_receipts }) usable (numbered (ended_told 1) ∷ numbered (ended_told 1) ∷ [])
+    Run (record { plan = loaded_at loading second_started; receipts = no_receipts }) usable (numbered (ended_told 1) ∷ numbered (ended_told 1) ∷ [])
     (accepted (payroll_at 20 ∷ []) ∷ accepted (payroll_at 20 ∷ []) ∷ []) (record { plan = after_told; receipts = one_receipt }) usable

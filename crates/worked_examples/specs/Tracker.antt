@@ -7,6 +7,7 @@ use Rattle.plan_model.specs.Ready.{named}
 use Rattle.plan_records.specs.declared.What.{What}
 use Rattle.plan_records.specs.declared.What.TheVariants as what
 use Rattle.plan_records.specs.Step.{Numbered, Receipts}
+use Rattle.worked_examples.specs.Day.{loaded_at}
 use Rattle.worked_examples.specs.Night.{end_of_second, payroll_at, second_ended}
 
 -- the tracker
@@ -39,4 +40,4 @@ one_receipt = from_entries ((cputrk, record { number = 1; text = ended_text; nam
 
 -- the plan then: 10 is done and 20 is named
 abbrev pub after_told : Plan
-after_told = named (payroll_at 20 ∷ []) second_ended
+after_told = loaded_at end_of_second (named (payroll_at 20 ∷ []) second_ended)

@@ -1,11 +1,11 @@
 -- Three occurrences on one automatic workstation, each with one operation: they compete for its two servers and for R1.
-use Rattle.std.specs.Prelude.{ℕ, true, [], ◌∷◌, List, codes}
+use Rattle.std.specs.Prelude.{ℕ, [], ◌∷◌, List, codes}
 use Rattle.std.specs.FinMap.{from_entries, empty}
 use Rattle.std.specs.FinSet as set
 use Rattle.plan_basics.specs.declared.keys.OccKey.{OccKey}
 use Rattle.plan_basics.specs.declared.keys.OpKey.{OpKey}
 use Rattle.plan_basics.specs.Keys.{Name}
-use Rattle.plan_model.specs.Plan.{Operation, Plan}
+use Rattle.plan_model.specs.Contents.{Contents, Operation}
 use Rattle.plan_model.specs.declared.Occurrence.{Occurrence}
 use Rattle.worked_examples.specs.Day.{cpu1, evening, lasting, morning}
 use Rattle.worked_examples.specs.Night.{cpu1_station}
@@ -57,11 +57,9 @@ trio_operations a b c = (aaa, operation_by a) ∷ (bbb, operation_by b) ∷ (ccc
 abbrev pub trio_occurrences : Terms → Terms → Terms → List (OccKey × Occurrence)
 trio_occurrences a b c = (aaa.occurrence, occurrence_by a) ∷ (bbb.occurrence, occurrence_by b) ∷ (ccc.occurrence, occurrence_by c) ∷ []
 
--- AAA, BBB and CCC on these terms, at 22:00, when the workstation has just opened
-abbrev pub trio : Terms → Terms → Terms → Plan
+-- AAA, BBB and CCC on these terms
+abbrev pub trio : Terms → Terms → Terms → Contents
 trio a b c = record {
-  loaded = true;
-  clock = evening;
   workstations = from_entries ((cpu1, cpu1_station) ∷ []);
   resources = empty;
   occurrences = from_entries (trio_occurrences a b c);
@@ -86,21 +84,21 @@ abbrev pub ten_past_four : ℕ
 ten_past_four = 27438010
 
 -- CCC has the highest priority, and BBB the earlier latest start of the others
-abbrev pub by_latest_start : Plan
+abbrev pub by_latest_start : Contents
 by_latest_start = trio (terms 5 four 30 0) (terms 5 half_past_three 30 0) (terms 9 morning 30 0)
 
 -- AAA and BBB have to start at 03:30 both, and AAA is shorter
-abbrev pub by_duration : Plan
+abbrev pub by_duration : Contents
 by_duration = trio (terms 5 four 30 0) (terms 5 ten_past_four 40 0) (terms 9 morning 30 0)
 
 -- AAA and BBB have to start at 03:30 both, and BBB has the higher priority
-abbrev pub by_priority : Plan
+abbrev pub by_priority : Contents
 by_priority = trio (terms 4 four 30 0) (terms 6 four 30 0) (terms 9 morning 30 0)
 
 -- AAA and BBB differ in the key alone
-abbrev pub by_key : Plan
+abbrev pub by_key : Contents
 by_key = trio (terms 5 four 30 0) (terms 5 four 30 0) (terms 9 morning 30 0)
 
 -- BBB needs all of R1, of which AAA takes some
-abbrev pub by_fixed_resource : Plan
+abbrev pub by_fixed_resource : Contents
 by_fixed_resource = trio (terms 5 three 30 1) (terms 5 four 30 3) (terms 5 morning 30 1)

@@ -5,8 +5,8 @@
 ghost use Rattle.std.specs.Prelude.{pos, negsuc, None, []};
 ghost use Rattle.plan_model.specs.Plan.{no_plan};
 ghost use Rattle.plan_model.specs.Status.{HasStatus};
-ghost use Rattle.plan_records.specs.Drafts.{IsDraft};
-ghost use Rattle.plan_records.specs.Records.{Denotes};
+ghost use Rattle.plan_drafts.specs.Drafts.{IsDraft};
+ghost use Rattle.plan_drafts.specs.Records.{Denotes};
 ghost use Rattle.worked_examples.specs.DayText.{day_records};
 ghost use Rattle.plan_records.specs.Step.{Step};
 ghost use Rattle.plan_records.specs.declared.What.{What};
@@ -14,7 +14,7 @@ ghost use Rattle.plan_records.specs.Answer.{refused, accepted};
 ghost use Rattle.plan_basics.specs.declared.Refusal.{Refusal};
 ghost use Rattle.status_rules.specs.declared.Status.{Status};
 ghost use Rattle.worked_examples.specs.Statements.{MomentsOfTheNight, LatestStartsOfTheNight, StatusesWhenLoaded, StatusesAfterTheThird, StatusesOfHeld, StatusesOfPassed, StartsWhileClosed, PairThatLeadsBack, DeletionWhileStarted, SecondLoad, ChoicesForTwoServers, ChoiceForFixedResource, TickThatNames, LatestStartsOfOverdueWork, KeptResource, LoadThatNames, LoadOfTheNight, EndOfTheSecond, RerunOfTheThird, RerunOfTheFirst, BackupAdded, NumberedRequest, NumberedAgain, RunToldTwice};
-ghost use Rattle.worked_examples.specs.Day.{day, idle, first, second, evening};
+ghost use Rattle.worked_examples.specs.Day.{day, idle, loaded_at, first, second, evening};
 
 /// The first operation is arriving, the second waits for it.
 pub fn statuses()
@@ -32,7 +32,7 @@ pub fn before_load()
 
 /// An operation that waits can't be ended.
 pub fn end_of_waiting()
-    ensures { Step day (record { at = pos evening; what = What.Ended second }) (refused Refusal.WrongStatus) day }
+    ensures { Step (loaded_at 0 day) (record { at = pos evening; what = What.Ended second }) (refused Refusal.WrongStatus) (loaded_at 0 day) }
 {}
 
 /// A tick on a plan with nothing in it is accepted, names nothing and sets the clock.

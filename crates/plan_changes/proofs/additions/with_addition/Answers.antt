@@ -1,12 +1,13 @@
 use Rattle.std.proofs.Common.{◌∙◌, sym, subst, ap, List}
-use Rattle.std.specs.FinMap.{from_entries}
+use Rattle.std.specs.FinMap.{from_entries, insert, empty}
 use Rattle.std.specs.FinSet as set
-use Rattle.plan_basics.specs.Keys.{occurrence_cmp-IsAntisymmetric, operation_cmp, operation_cmp-IsAntisymmetric}
+use Rattle.plan_basics.specs.Keys.{name_cmp, name_cmp_total, name_cmp-IsAntisymmetric, occurrence_cmp, occurrence_cmp_total, occurrence_cmp-IsAntisymmetric, operation_cmp, operation_cmp_total, operation_cmp-IsAntisymmetric}
 use Rattle.plan_basics.specs.declared.keys.OpKey.{OpKey}
-use Rattle.plan_model.specs.Plan.{Operation, pair_cmp}
+use Rattle.plan_model.specs.Contents.{Operation, AddedParts, pair_cmp}
 use Rattle.plan_model.specs.Revise.{joined}
-use Rattle.plan_changes.specs.Additions.{ShareNoKey, ShareNoMember}
-use Rattle.plan_changes.proofs.AddedRows.{copy_apart, plan_added}
+use Rattle.plan_records.specs.Changes.{with_added}
+use Rattle.plan_model.proofs.Entries.{entries_are}
+use Rattle.plan_changes.specs.Additions.{HasNothingOf, ShareNoKey}
 use Rattle.plan_changes.proofs.Merging.{single_up}
 use Rattle.plan_changes.proofs.additions.with_addition.Goals as goal
 
@@ -16,47 +17,34 @@ add_rows-requires-clause-exact c = occurrence_cmp-IsAntisymmetric
 pub add_rows-requires-2-clause-exact : goal.add_rows-requires-2-clause-exact
 add_rows-requires-2-clause-exact c = operation_cmp-IsAntisymmetric
 
-pub add_rows-requires-clause-old : goal.add_rows-requires-clause-old
-add_rows-requires-clause-old c = ((c.in_ok-new.ensures 0).1 c.requires.in_order).occurrences
-
 pub add_rows-requires-clause-new : goal.add_rows-requires-clause-new
 add_rows-requires-clause-new c = single_up _ c.parts-parts.result.now.key
 
 pub add_rows-requires-clause-apart : goal.add_rows-requires-clause-apart
-add_rows-requires-clause-apart c = (copy_apart c.args.contents.now c.in_ok-new.new c.in_ok-new.ensures c.parts-parts.result.now c.args.addition.now c.parts-parts.ensures.view c.requires.apart).occurrences
-
-pub add_rows-requires-2-clause-old : goal.add_rows-requires-2-clause-old
-add_rows-requires-2-clause-old c = ((c.in_ok-new.ensures 0).1 c.requires.in_order).operations
+add_rows-requires-clause-apart c =
+    let old = c.args.contents.now in
+    let same = ap (from_entries {R = occurrence_cmp}) (c.in_ok-occurrences.ensures.items ∙ c.occurrences.ensures.rows) ∙ entries_are occurrence_cmp occurrence_cmp_total occurrence_cmp-IsAntisymmetric old.occurrences in
+    let apart = subst (λ (s : AddedParts). HasNothingOf old s) c.parts-parts.ensures.view c.requires in
+    subst (λ m. ShareNoKey m (insert empty c.parts-parts.result.now.key c.parts-parts.result.now.terms)) (sym same) apart.occurrences
 
 pub add_rows-requires-2-clause-apart : goal.add_rows-requires-2-clause-apart
 add_rows-requires-2-clause-apart c =
-    subst (λ (rows : List (OpKey × Operation)). ShareNoKey {R = operation_cmp} (from_entries c.in_ok-new.new.operations.items) (from_entries rows)) (sym c.deref.ensures.value)
-    (copy_apart c.args.contents.now c.in_ok-new.new c.in_ok-new.ensures c.parts-parts.result.now c.args.addition.now c.parts-parts.ensures.view c.requires.apart).operations
+    let old = c.args.contents.now in
+    let same = ap (from_entries {R = operation_cmp}) (c.in_ok-operations.ensures.items ∙ c.operations.ensures.rows) ∙ entries_are operation_cmp operation_cmp_total operation_cmp-IsAntisymmetric old.operations in
+    let apart = subst (λ (s : AddedParts). HasNothingOf old s) c.parts-parts.ensures.view c.requires in
+    subst (λ m. ShareNoKey m (from_entries c.deref.result.now)) (sym same) (subst (λ (rows : List (OpKey × Operation)). ShareNoKey {R = operation_cmp} old.operations (from_entries rows)) (sym c.deref.ensures.value) apart.operations)
 
-pub add_pairs-requires-clause-old : goal.add_pairs-requires-clause-old
-add_pairs-requires-clause-old c = ((c.in_ok-new.ensures 0).1 c.requires.in_order).pairs
-
-pub add_pairs-requires-clause-apart : goal.add_pairs-requires-clause-apart
-add_pairs-requires-clause-apart c =
-    subst (λ (pairs : List (OpKey × OpKey)). ShareNoMember {R = pair_cmp} (set.from_list c.in_ok-new.new.pairs.items) (set.from_list pairs)) (sym c.deref-2.ensures.value)
-    (copy_apart c.args.contents.now c.in_ok-new.new c.in_ok-new.ensures c.parts-parts.result.now c.args.addition.now c.parts-parts.ensures.view c.requires.apart).pairs
-
-pub returns-clause-plan : goal.returns-clause-plan
-returns-clause-plan c =
-    let copy = c.in_ok-new.new in
-    plan_added c.args.contents.now copy c.in_ok-new.ensures c.parts-parts.result.now c.args.addition.now c.parts-parts.ensures.view
-    (record { workstations = copy.workstations; resources = copy.resources; occurrences = c.add_rows.new.rows; operations = c.add_rows-2.new.rows; pairs = c.add_pairs.new.pairs })
-    c.in_ok-add_rows.ensures.both
-    (c.in_ok-add_rows-2.ensures.both ∙ ap (λ (rows : List (OpKey × Operation)). joined {R = operation_cmp} (from_entries copy.operations.items) (from_entries rows)) c.deref.ensures.value)
-    (c.in_ok-add_pairs.ensures.both ∙ ap (λ (pairs : List (OpKey × OpKey)). set.union {R = pair_cmp} (set.from_list copy.pairs.items) (set.from_list pairs)) c.deref-2.ensures.value)
-
-pub returns-clause-in_order : goal.returns-clause-in_order
-returns-clause-in_order c =
-    let copied = (c.in_ok-new.ensures 0).1 c.requires.in_order in
-    record {
-      workstations = copied.workstations;
-      resources = copied.resources;
-      occurrences = c.in_ok-add_rows.ensures.in_order;
-      operations = c.in_ok-add_rows-2.ensures.in_order;
-      pairs = c.in_ok-add_pairs.ensures.in_order;
-    }
+pub returns : goal.returns
+returns c =
+    let old = c.args.contents.now in
+    let ws = ap (from_entries {R = name_cmp}) (c.in_ok-workstations.ensures ∙ c.workstations.ensures.rows) ∙ entries_are name_cmp name_cmp_total name_cmp-IsAntisymmetric old.workstations in
+    let rs = ap (from_entries {R = name_cmp}) (c.in_ok-resources.ensures.items ∙ c.resources.ensures.rows) ∙ entries_are name_cmp name_cmp_total name_cmp-IsAntisymmetric old.resources in
+    let os = ap (from_entries {R = occurrence_cmp}) (c.in_ok-occurrences.ensures.items ∙ c.occurrences.ensures.rows) ∙ entries_are occurrence_cmp occurrence_cmp_total occurrence_cmp-IsAntisymmetric old.occurrences in
+    let ps = ap (from_entries {R = operation_cmp}) (c.in_ok-operations.ensures.items ∙ c.operations.ensures.rows) ∙ entries_are operation_cmp operation_cmp_total operation_cmp-IsAntisymmetric old.operations in
+    let qs = ap (set.from_list {R = pair_cmp}) c.in_ok-pairs.ensures.items ∙ c.pairs.ensures.pairs in
+    let new_os = c.in_ok-add_rows.ensures.both ∙ ap (λ m. joined m (insert empty c.parts-parts.result.now.key c.parts-parts.result.now.terms)) os in
+    let new_ps = c.in_ok-add_rows-2.ensures.both ∙ (λ i. joined (ps i) (from_entries (c.deref.ensures.value i))) in
+    let new_qs = c.in_ok-add_pairs.ensures.both ∙ (λ i. set.union (qs i) (set.from_list (c.deref-2.ensures.value i))) in
+    c.of_rows.ensures
+    ∙ (λ i. record { workstations = ws i; resources = rs i; occurrences = new_os i; operations = new_ps i; pairs = new_qs i })
+    ∙ ap (with_added old) (sym c.parts-parts.ensures.view)

@@ -3,7 +3,7 @@ use Rattle.std.proofs.lemmas.List.{take_all}
 use Rattle.std.specs.List.{filter}
 use Rattle.std.specs.Map.{keys_of}
 use Rattle.plan_basics.specs.declared.keys.OpKey.{OpKey}
-use Rattle.plan_model.specs.Plan.{Operation}
+use Rattle.plan_model.specs.Contents.{Operation}
 use Rattle.ready_list.specs.Choice.{is_among}
 use Rattle.plan_changes.proofs.InOccurrence.{found_more, found_other, is_in, occurrence_test, passed}
 use Rattle.plan_changes.proofs.commands.operations_of.Goals as goal
@@ -11,7 +11,7 @@ use Rattle.plan_changes.proofs.commands.operations_of.Goals.{then-eq+in_ok-push,
 
 pub loop-row-preserved : goal.loop-row-preserved
 loop-row-preserved c =
-    let rows = c.deref-row-items.result.now in
+    let rows = c.operations-row-items.result.now in
     let row = c.row-item.result in
     let test = c.eq.ensures ∙ occurrence_test row.0.occurrence c.args.occurrence.now in
     let before = c.loop-row.keys.items in
@@ -24,7 +24,7 @@ loop-row-preserved c =
 pub returns : goal.returns
 returns c o known =
     let occurrence = c.args.occurrence.now in
-    let rows = c.deref-row-items.result.now in
+    let rows = c.operations-row-items.result.now in
     ap (λ keys. is_among keys o)
-    (c.loop-row.invariant ∙ ap (λ (rs : List (OpKey × Operation)). filter (is_in occurrence) (keys_of rs)) (take_all c.loop-row.row-index rows c.loop-row-test.false ∙ c.deref-row-items.ensures.value))
-    ∙ passed (is_in occurrence) o c.args.contents.now.operations.items known.0 known.1
+    (c.loop-row.invariant ∙ ap (λ (rs : List (OpKey × Operation)). filter (is_in occurrence) (keys_of rs)) (take_all c.loop-row.row-index rows c.loop-row-test.false ∙ c.operations-row-items.ensures.rows))
+    ∙ passed (is_in occurrence) o c.args.contents.now.operations known.0 known.1

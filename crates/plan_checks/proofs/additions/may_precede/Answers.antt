@@ -1,13 +1,13 @@
 use Rattle.std.proofs.Common.{◌≡◌, ◌≢◌, rules}
 use Rattle.std.proofs.lemmas.Bool.{true_from_ne_false}
-use Rattle.plan_records.specs.Contents.{plan_of, added_of}
+use Rattle.plan_drafts.specs.Contents.{added_of}
 use Rattle.status_rules.specs.declared.Status.TheVariants as status
 use Rattle.plan_checks.proofs.OpenEnds.{deleted_bars, live_precedes}
 use Rattle.plan_checks.proofs.additions.may_precede.Goals as goal
 
 pub returns-in-Some : goal.returns-in-Some
 returns-in-Some c =
-    let P = plan_of 0 c.args.loaded.now.contents in
+    let P = c.args.loaded.now in
     let s = added_of c.args.parts.now in
     let o = c.args.key.now in
     let x = c.in-Some.status in (

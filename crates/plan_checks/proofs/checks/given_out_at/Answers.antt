@@ -1,27 +1,24 @@
-use Rattle.std.proofs.Common.{◌≡◌, ◌<◌, refl, sym, ap, subst, ◌∙◌, arith, Some, length, slice_get}
-use Rattle.std.proofs.lemmas.Option.{slice_get_read}
+use Rattle.std.proofs.Common.{◌≡◌, sym, ap, subst, ◌∙◌, arith, Some}
+use Rattle.std.specs.FinMap.{entries, get}
+use Rattle.plan_basics.specs.declared.keys.OpKey.{OpKey}
 use Rattle.plan_model.specs.Holdings.{given_out}
-use Rattle.plan_model.specs.Plan.{Operation}
-use Rattle.plan_records.specs.Contents.{plan_of}
-use Rattle.plan_status.proofs.Workplaces.{workplace_known}
-use Rattle.workstations.specs.Workstations.{Workstation}
+use Rattle.plan_model.specs.Contents.{Contents}
+use Rattle.plan_choice.proofs.GivenPlaces.{read_at}
 use Rattle.plan_checks.proofs.checks.given_out_at.Goals as goal
 
-pub known_workstation-place-requires-clause-known : goal.known_workstation-place-requires-clause-known
-known_workstation-place-requires-clause-known c = workplace_known c.args.contents.now c.requires.contents c.operation.view_is c.deref.ensures.value c.requires.operation
+pub workstation_place_of-place-requires : goal.workstation_place_of-place-requires
+workstation_place_of-place-requires c = subst (λ (R : Contents). (o : OpKey) × (get R.operations o ≡ Some c.args.operation.now)) (sym c.contents-contents.ensures.contents) c.requires
 
 pub index-requires : goal.index-requires
 index-requires c =
-    let found = c.in_ok-given_out.ensures 0 in
-    omega (arith, found.size, c.in_ok-given_out.given_out.ok.0, c.known_workstation-place.ensures.within, c.deref.ensures.len)
+    let found = c.in_ok-given_out.ensures in
+    omega (arith, found.size, c.in_ok-given_out.given_out.ok.0, c.workstation_place_of-place.ensures.within)
 
 pub returns : goal.returns
-returns c clock =
-    let rows = c.args.contents.now.workstations.items in
-    let place = c.known_workstation-place.result in
-    let name = c.operation.inside.workstation in
-    let at : (ws : Workstation) × (slice_get rows place ≡ Some (name, ws)) = subst (λ rs. (ws : Workstation) × (slice_get rs place ≡ Some (name, ws))) c.deref.ensures.value c.known_workstation-place.ensures.at in
-    let found = c.in_ok-given_out.ensures clock in
-    let within : place < length c.in_ok-given_out.given_out.items = omega (arith, found.size, c.in_ok-given_out.given_out.ok.0, c.known_workstation-place.ensures.within, c.deref.ensures.len) in
-    let given = slice_get_read c.in_ok-given_out.given_out.items _ place c.index.result.now refl within c.index.ensures in
-    ap (λ (op : Operation). given_out (plan_of clock c.args.contents.now) op.workstation) (sym c.operation.view_is) ∙ sym (found.each place name at.0 c.index.result.now at.1 given)
+returns c =
+    let Q = c.contents-contents.result.now in
+    let place = c.workstation_place_of-place.result in
+    let at = c.workstation_place_of-place.ensures.at in
+    let found = c.in_ok-given_out.ensures in
+    let there = read_at (entries Q.workstations) c.in_ok-given_out.given_out.items (given_out Q) found place c.index.result.now c.workstation_place_of-place.ensures.within c.index.ensures in
+    ap (λ (R : Contents). given_out R c.args.operation.now.workstation) (sym c.contents-contents.ensures.contents) ∙ sym (found.each place c.args.operation.now.workstation at.0 c.index.result.now at.1 there)

@@ -1,8 +1,9 @@
-use Rattle.plan_basics.specs.Keys.{name_cmp_total, name_cmp-IsAntisymmetric}
-use Rattle.plan_checks.proofs.ComingIn.{place_told}
+use Rattle.std.proofs.Common.{sym, ap, ◌∙◌, is_some}
+use Rattle.std.specs.FinMap.{contains_key}
+use Rattle.plan_model.specs.Contents.{Contents}
 use Rattle.plan_checks.proofs.known.has_resource.Goals as goal
 
 pub returns : goal.returns
 returns c =
-    place_told name_cmp_total name_cmp-IsAntisymmetric c.deref.result.now c.args.contents.now.resources.items c.deref.ensures.value c.requires.resources
-    c.args.name.now c.row_place.result c.row_place.ensures.found c.row_place.ensures.absent c.is_some.result c.is_some.ensures
+    let is = c.is_some.ensures ∙ ap is_some c.resource.ensures ∙ ap (λ (R : Contents). contains_key R.resources c.args.name.now) c.contents.ensures.contents in
+    (λ yes. sym is ∙ yes, λ has. is ∙ has)

@@ -1,15 +1,14 @@
 use Rattle.std.proofs.Common.{◌≡◌, sym, ap, ◌∙◌, true, rules, tests}
 use Rattle.std.proofs.lemmas.Iterator.{YieldsList-from_slice, cases_from_all}
 use Rattle.std.specs.FinMap.{contains_key}
-use Rattle.plan_model.specs.Plan.{Operation}
-use Rattle.plan_records.specs.Contents.{plan_of}
+use Rattle.plan_model.specs.Contents.{Operation}
 use Rattle.special_resources.specs.declared.Need.{Need}
 use Rattle.plan_checks.proofs.ComingIn.{resources_told}
 use Rattle.plan_checks.proofs.known.has_resources.Goals as goal
 
 pub returns : goal.returns
 returns c =
-    let P = plan_of 0 c.args.contents.now in
+    let P = c.args.loaded.now in
     let Q = λ (need : Need). contains_key P.resources need.name ≡ true in
     let needs = c.as_slice.result.now in
     let same = sym (ap (λ (op : Operation). op.needs) c.operation.view_is) ∙ c.as_slice.ensures.usages in

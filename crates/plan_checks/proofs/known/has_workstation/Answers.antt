@@ -1,14 +1,16 @@
 use Rattle.std.proofs.Common.{◌≡◌, ap, subst, true, Decides}
-use Rattle.std.specs.FinMap.{contains_key}
-use Rattle.plan_basics.specs.Keys.{Name, name_cmp_total, name_cmp-IsAntisymmetric}
-use Rattle.plan_model.specs.Plan.{Operation}
-use Rattle.plan_records.specs.Contents.{plan_of}
-use Rattle.plan_checks.proofs.ComingIn.{place_told}
+use Rattle.std.specs.FinMap.{contains_key, get}
+use Rattle.plan_basics.specs.Keys.{Name}
+use Rattle.plan_drafts.proofs.Tables.{some_is}
+use Rattle.plan_model.specs.Contents.{Contents, Operation}
+use Rattle.plan_checks.proofs.ComingIn.{found_told}
 use Rattle.plan_checks.proofs.known.has_workstation.Goals as goal
 
 pub returns : goal.returns
 returns c =
-    let P = plan_of 0 c.args.contents.now in
-    subst (λ (w : Name). Decides c.is_some.result (contains_key P.workstations w ≡ true)) (ap (λ (op : Operation). op.workstation) c.operation.view_is)
-    (place_told name_cmp_total name_cmp-IsAntisymmetric c.deref.result.now c.args.contents.now.workstations.items c.deref.ensures.value c.requires.workstations
-    c.operation.inside.workstation c.workstation_place.result c.workstation_place.ensures.found c.workstation_place.ensures.absent c.is_some.result c.is_some.ensures)
+    let Q = c.contents.result.now in
+    let name = c.operation.inside.workstation in
+    let has = c.is_some.result in
+    let told = found_told (get Q.workstations name) c.workstation.result _ c.workstation.ensures.found c.workstation.ensures.absent (λ ws at. some_is (get Q.workstations name) _ at.1) has c.is_some.ensures in
+    subst (λ (w : Name). Decides has (contains_key c.args.loaded.now.workstations w ≡ true)) (ap (λ (op : Operation). op.workstation) c.operation.view_is)
+    (subst (λ (R : Contents). Decides has (contains_key R.workstations name ≡ true)) c.contents.ensures.contents told)

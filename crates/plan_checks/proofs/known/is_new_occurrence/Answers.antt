@@ -1,16 +1,16 @@
-use Rattle.std.proofs.Common.{sym, not}
-use Rattle.std.specs.FinMap.{contains_key}
-use Rattle.plan_basics.specs.Keys.{occurrence_cmp_total, occurrence_cmp-IsAntisymmetric}
-use Rattle.plan_records.specs.Contents.{plan_of}
-use Rattle.plan_checks.proofs.ComingIn.{missing_told, new_told, place_told}
+use Rattle.std.proofs.Common.{◌≡◌, sym, subst, not, true, Decides}
+use Rattle.std.specs.FinMap.{contains_key, get}
+use Rattle.plan_drafts.proofs.Tables.{some_is}
+use Rattle.plan_model.specs.Contents.{Contents}
+use Rattle.plan_checks.proofs.ComingIn.{found_told, missing_told, new_told}
 use Rattle.plan_checks.proofs.known.is_new_occurrence.Goals as goal
 
 pub returns : goal.returns
 returns c =
-    let there = (plan_of 0 c.args.contents.now).occurrences in
+    let P = c.args.loaded.now in
+    let Q = c.contents.result.now in
     let parts = c.args.parts.now in
     let none = c.is_none.result in
-    new_told parts.key parts.terms there none
-    (missing_told none (contains_key there parts.key)
-    (place_told occurrence_cmp_total occurrence_cmp-IsAntisymmetric c.deref.result.now c.args.contents.now.occurrences.items c.deref.ensures.value c.requires.occurrences
-    parts.key c.row_place.result c.row_place.ensures.found c.row_place.ensures.absent (not none) (sym c.is_none.ensures)))
+    let told = found_told (get Q.occurrences parts.key) c.occurrence.result _ c.occurrence.ensures.found c.occurrence.ensures.absent (λ o at. some_is (get Q.occurrences parts.key) _ at) (not none) (sym c.is_none.ensures) in
+    new_told parts.key parts.terms P.occurrences none
+    (missing_told none (contains_key P.occurrences parts.key) (subst (λ (R : Contents). Decides (not none) (contains_key R.occurrences parts.key ≡ true)) c.contents.ensures.contents told))

@@ -1,7 +1,6 @@
 use Rattle.std.proofs.Common.{◌≡◌, refl, sym, subst, ap, ◌∙◌, arith, true, false, true≢false, Some, rules}
 use Rattle.std.proofs.lemmas.Option.{get_or_from_slice_get, slice_get-get_or}
-use Rattle.plan_model.specs.Plan.{IsInPlan}
-use Rattle.plan_records.specs.Contents.{plan_of}
+use Rattle.plan_model.specs.Contents.{IsInPlan}
 use Rattle.plan_checks.proofs.Searching.{none_more}
 use Rattle.plan_checks.proofs.under_way.is_another_under_way.Goals as goal
 use Rattle.plan_checks.specs.Commands.{IsOtherUnderWay}
@@ -9,9 +8,9 @@ use Rattle.plan_checks.specs.Commands.{IsOtherUnderWay}
 pub loop-other-init : goal.loop-other-init
 loop-other-init c = λ k q lt at. absurd (omega (arith, lt))
 
-pub is_other_under_way-requires-clause-known : goal.is_other_under_way-requires-clause-known
-is_other_under_way-requires-clause-known c =
-    subst (IsInPlan (plan_of 0 c.args.loaded.now.contents)) (sym c.other-item.is) (c.requires.known c.loop-other.other-index c.other-item.result c.loop-other-test.true)
+pub is_other_under_way-requires : goal.is_other_under_way-requires
+is_other_under_way-requires c =
+    subst (IsInPlan c.args.loaded.now) (sym c.other-item.is) (c.requires c.loop-other.other-index c.other-item.result c.loop-other-test.true)
 
 pub returns-then-is_other_under_way : goal.returns-then-is_other_under_way
 returns-then-is_other_under_way c =
@@ -20,7 +19,7 @@ returns-then-is_other_under_way c =
 
 pub loop-other-preserved : goal.loop-other-preserved
 loop-other-preserved c =
-    let Q = IsOtherUnderWay (plan_of 0 c.args.loaded.now.contents) c.args.key.now in
+    let Q = IsOtherUnderWay c.args.loaded.now c.args.key.now in
     let no : c.is_other_under_way.result ≡ false = search rules in
     none_more c.args.others.now Q c.loop-other.other-index c.loop-other.invariant (λ q at h.
     let same = c.other-item.is ∙ get_or_from_slice_get c.args.others.now c.loop-other.other-index q c.other-item.result at in

@@ -8,7 +8,7 @@ use Rattle.plan_choice.proofs.choice.chosen.Goals as goal
 use Rattle.plan_choice.proofs.choice.chosen.Goals.{In_ok-holdings_of}
 
 pub invariant_of-gate : goal.invariant_of-gate
-invariant_of-gate c = record { contents = c.requires.contents; by_place = (c.in_ok-given_out_of.ensures 0).size }
+invariant_of-gate c = c.in_ok-given_out_of.ensures.size
 
 -- what counts before any is named
 abbrev first : In_ok-holdings_of → Counted
@@ -20,8 +20,8 @@ returns-clause-chosen c =
     let m = c.args.at in
     let g = first ((goal.at.returns-clause-chosen c).In_ok-holdings_of) in
     IfOk-weaker c.choose.result _ _
-    (λ named run. chosen_by_gate contents c.requires.contents m c.args.ready.now.entries c.requires.ready g
-    (stands_first contents m g refl refl (c.in_ok-given_out_of.ensures m) (c.in_ok-holdings_of.ensures.held m)) named.items c.choose.new.gate run)
+    (λ named run. chosen_by_gate contents m c.args.ready.now.entries c.requires g
+    (stands_first contents m g refl refl c.in_ok-given_out_of.ensures c.in_ok-holdings_of.ensures.held) named.items c.choose.new.gate run)
     c.choose.ensures.named
 
 pub returns-clause-refused : goal.returns-clause-refused

@@ -1,6 +1,7 @@
+use Rattle.std.specs.FinMap.{entries}
 use Rattle.std.proofs.Common.{◌≡◌, arith, sym, ap, subst, ◌∙◌, ◌≤◌, Some, length, slice_get}
 use Rattle.special_resources.specs.Holdings.{HoldingState}
-use Rattle.plan_model.specs.Plan.{Operation}
+use Rattle.plan_model.specs.Contents.{Operation}
 use Rattle.plan_status.proofs.LoadedRows.{row_found}
 use Rattle.plan_status.proofs.RowKeys.{row_shown}
 use Rattle.plan_choice.specs.Takings.{HaveTaken}
@@ -9,11 +10,11 @@ use Rattle.plan_choice.proofs.holders.holdings_of.Goals as goal
 use Rattle.plan_choice.proofs.holders.holdings_of.Goals.{After-row-item, then-starts_are_known+in_ok-take_marked, else-starts_are_known}
 
 -- the row that is gone through
-row : (c : After-row-item) → slice_get c.args.contents.now.operations.items c.loop-row.row-index ≡ Some c.row-item.result
-row c = row_shown c.deref-row-items.result.now _ c.deref-row-items.ensures.value c.loop-row.row-index c.row-item.result c.loop-row-test.true c.row-item.is
+row : (c : After-row-item) → slice_get (entries c.args.contents.now.operations) c.loop-row.row-index ≡ Some c.row-item.result
+row c = row_shown c.operations-row-items.result.now _ c.operations-row-items.ensures.rows c.loop-row.row-index c.row-item.result c.loop-row-test.true c.row-item.is
 
-pub starts_are_known-requires-clause-operation : goal.starts_are_known-requires-clause-operation
-starts_are_known-requires-clause-operation c = (c.row-item.result.0, row_found c.args.contents.now c.requires c.loop-row.row-index c.row-item.result.0 c.row-item.result.1 (row c))
+pub starts_are_known-requires : goal.starts_are_known-requires
+starts_are_known-requires c = (c.row-item.result.0, row_found c.args.contents.now c.loop-row.row-index c.row-item.result.0 c.row-item.result.1 (row c))
 
 pub loop-row-init : goal.loop-row-init
 loop-row-init c = subst (λ (z : HoldingState). AreHeldAmong c.args.contents.now 0 z.held) (sym c.new-holdings.ensures) (none_held c.args.contents.now)
@@ -31,13 +32,13 @@ loop-row-preserved c =
           let its_mark : c.operation.inside.mark ≡ op.mark = ap (λ (op : Operation). op.mark) c.operation.view_is in
           let now = w.take_marked.new.holdings.held in
           let taken : HaveTaken held o op.needs op.mark now = subst (λ mark. HaveTaken held o op.needs mark now) its_mark w.in_ok-take_marked.ensures.taken in
-          rw w.holdings-is (row_takes contents c.requires i o op at_row held c.loop-row.invariant (sym c.starts_are_known.ensures ∙ w.if-starts_are_known.true) now taken)
+          rw w.holdings-is (row_takes contents c.operations-row-items.ensures.sound.valid i o op at_row held c.loop-row.invariant (sym c.starts_are_known.ensures ∙ w.if-starts_are_known.true) now taken)
       | else-starts_are_known w ↦
-          rw w.holdings-is (row_holds_none contents c.requires i o op at_row held c.loop-row.invariant (sym c.starts_are_known.ensures ∙ w.if-starts_are_known.false))
+          rw w.holdings-is (row_holds_none contents c.operations-row-items.ensures.sound.valid i o op at_row held c.loop-row.invariant (sym c.starts_are_known.ensures ∙ w.if-starts_are_known.false))
     ]
 
 pub returns-clause-held : goal.returns-clause-held
-returns-clause-held c clock =
-    let rows = c.args.contents.now.operations.items in
-    let past : length rows ≤ c.loop-row.row-index = omega (arith, c.loop-row-test.false, ap length c.deref-row-items.ensures.value) in
-    rows_held c.args.contents.now c.requires clock c.loop-row.row-index c.loop-row.holdings.held past c.loop-row.invariant
+returns-clause-held c =
+    let rows = (entries c.args.contents.now.operations) in
+    let past : length rows ≤ c.loop-row.row-index = omega (arith, c.loop-row-test.false, ap length c.operations-row-items.ensures.rows) in
+    rows_held c.args.contents.now c.operations-row-items.ensures.sound.valid c.loop-row.row-index c.loop-row.holdings.held past c.loop-row.invariant

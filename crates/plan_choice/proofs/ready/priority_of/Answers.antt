@@ -1,17 +1,14 @@
-use Rattle.std.proofs.Common.{◌≡◌, sym, ap, ◌∙◌}
-use Rattle.std.proofs.lemmas.Option.{get_or_from_slice_get}
-use Rattle.plan_basics.specs.Keys.{occurrence_cmp, occurrence_cmp_total, occurrence_cmp-IsAntisymmetric}
-use Rattle.plan_basics.specs.declared.keys.OccKey.{OccKey}
-use Rattle.plan_model.specs.declared.Occurrence.{Occurrence}
-use Rattle.plan_laws.proofs.Looks.{same_some}
-use Rattle.plan_records.proofs.RowPlaces.{get_at}
+use Rattle.std.proofs.Common.{refl}
+use Rattle.std.specs.FinMap.{get}
+use Rattle.plan_status.proofs.LoadedRows.{its_occurrence}
+use Rattle.plan_status.proofs.Workplaces.{there}
 use Rattle.plan_choice.proofs.ready.priority_of.Goals as goal
 
+pub unwrap-requires : goal.unwrap-requires
+unwrap-requires c =
+    let P = c.args.contents.now in
+    let key = c.args.key.now in
+    there c.occurrence.result (get P.occurrences key.occurrence) c.occurrence.ensures.absent (its_occurrence P c.occurrence.ensures.sound.valid key c.requires.0 c.requires.1)
+
 pub returns : goal.returns
-returns c x is =
-    let rows = c.args.rows.now in
-    let at = c.known_row-place.ensures.at in
-    let found = get_at occurrence_cmp occurrence_cmp_total occurrence_cmp-IsAntisymmetric rows c.requires.sorted c.known_row-place.result c.args.occurrence.now at.0 at.1 in
-    let same : at.0 ≡ x = same_some at.0 x (sym found ∙ is) in
-    ap (λ (z : OccKey × Occurrence). z.1.priority) (get_or_from_slice_get rows c.known_row-place.result (c.args.occurrence.now, at.0) c.index-rows-place.result at.1)
-    ∙ ap (λ (z : Occurrence). z.priority) same
+returns c = (c.unwrap.result.now, rw c.unwrap.ensures at c.occurrence.ensures.found, refl)

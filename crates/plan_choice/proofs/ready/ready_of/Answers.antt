@@ -1,8 +1,7 @@
-use Rattle.std.proofs.Common.{Result, Ok, Err, IfOk, IsPermutation, ℕ}
+use Rattle.std.proofs.Common.{Result, Ok, Err, IfOk, IsPermutation}
 use Rattle.ready_list.specs.Entries.{IsInOrder}
-use Rattle.plan_records.specs.Contents.{plan_of}
 use Rattle.plan_choice.specs.Choices.{AreReadyEntries}
-use Rattle.plan_choice.proofs.ReadyLists.{list_at, list_in_order}
+use Rattle.plan_choice.proofs.ReadyLists.{list_in_order}
 use Rattle.plan_choice.proofs.ready.ready_of.Goals as goal
 
 both_ok : {T E : Type 0} (r : Result T E) (A B C : T → Type 0) → ((x : T) → A x → B x → C x) → IfOk r A → IfOk r B → IfOk r C
@@ -13,6 +12,6 @@ pub returns-clause-list : goal.returns-clause-list
 returns-clause-list c =
     let contents = c.args.contents.now in
     let entries = c.in_ok-entries.entries.items in
-    both_ok c.build.result (λ list. IsPermutation entries list.entries) (λ list. IsInOrder list.entries) (λ list. (clock : ℕ) → AreReadyEntries (plan_of clock contents) list.entries)
-    (λ list moved in_order clock. list_at contents clock list.entries (list_in_order (plan_of 0 contents) c.requires.contents.valid entries list.entries c.in_ok-entries.ensures moved in_order))
+    both_ok c.build.result (λ list. IsPermutation entries list.entries) (λ list. IsInOrder list.entries) (λ list. AreReadyEntries contents list.entries)
+    (λ list moved in_order. list_in_order contents entries list.entries c.in_ok-entries.ensures moved in_order)
     c.build.ensures.entries c.build.ensures.in_order

@@ -4,27 +4,26 @@ use Rattle.std.proofs.lemmas.Int.{ints}
 use Rattle.std.specs.FinMap.{get}
 use Rattle.plan_basics.specs.Refusals.{number_of, IsLeastRefusal}
 use Rattle.plan_basics.specs.declared.Refusal.{Refusal}
-use Rattle.plan_model.specs.Plan.{Operation, Plan}
+use Rattle.plan_model.specs.Contents.{Contents, Operation}
 use Rattle.plan_model.specs.Starts.{MayStart}
-use Rattle.plan_records.specs.Contents.{plan_of}
 use Rattle.workstations.specs.Workstations.{HasRoom, Workstation}
 use Rattle.plan_choice.specs.Choices.{HasTaken, IsStartLine}
 use Rattle.plan_choice.proofs.StartLines.{before_busy, line_met, lower_met, no_room, not_free}
-use Rattle.plan_status.proofs.Workplaces.{workplace_known, workplace_read}
+use Rattle.plan_status.proofs.Workplaces.{workplace_found}
 use Rattle.plan_choice.proofs.taken.check_start.Goals as goal
 use Rattle.plan_choice.proofs.taken.check_start.Goals.{After-fits}
 
-pub known_workstation-place-requires-clause-known : goal.known_workstation-place-requires-clause-known
-known_workstation-place-requires-clause-known c = workplace_known c.args.contents.now c.requires.contents c.operation.view_is c.deref.ensures.value (c.args.key.now, c.requires.operation)
+pub unwrap-workstation-requires : goal.unwrap-workstation-requires
+unwrap-workstation-requires c = workplace_found c.args.contents.now c.workstation.ensures.sound.valid c.operation.view_is (c.args.key.now, c.requires) c.workstation.result c.workstation.ensures.absent
 
 module _ (c : After-fits) where
   abbrev workstation : Workstation
-  workstation = c.index-workstation.result.now.1
+  workstation = c.unwrap-workstation.result.now.1
 
-  its_workstation : get (plan_of 0 c.args.contents.now).workstations c.args.operation.now.workstation ≡ Some workstation
+  its_workstation : get c.args.contents.now.workstations c.args.operation.now.workstation ≡ Some workstation
   its_workstation =
-      let at = c.known_workstation-place in
-      workplace_read c.args.contents.now c.requires.contents c.operation.view_is c.deref.ensures.value at.result at.ensures.at c.index-workstation.result.now c.index-workstation.ensures
+      let found = rw c.unwrap-workstation.ensures at c.workstation.ensures.found in
+      ap (λ (op : Operation). get c.args.contents.now.workstations op.workstation) (sym c.operation.view_is) ∙ found.1
 
   same_needs : ◌≡◌ {A = ℕ × ℕ} (c.from.result, c.from-2.result) (c.args.operation.now.r1, c.args.operation.now.r2)
   same_needs = λ i. ((c.from.ensures ∙ ap (λ (op : Operation). op.r1) c.operation.view_is) i, (c.from-2.ensures ∙ ap (λ (op : Operation). op.r2) c.operation.view_is) i)
@@ -48,10 +47,10 @@ module _ (c : After-fits) where
     lacks : ¬ has_room (c.args.operation.now.r1, c.args.operation.now.r2) r
     lacks room = least.0 (subst (λ needs. has_room needs r) (sym same_needs) room)
 
-    cannot : (P : Plan) → HasTaken P c.args.contents.now c.args.operation.now c.args.taken.now c.args.holdings.now.held → ¬ MayStart P c.args.key.now c.args.operation.now c.args.at r
+    cannot : (P : Contents) → HasTaken P c.args.contents.now c.args.operation.now c.args.taken.now c.args.holdings.now.held → ¬ MayStart P c.args.key.now c.args.operation.now c.args.at r
     cannot P has = no_room c.args.contents.now c.args.operation.now workstation its_workstation c.args.at c.args.taken.now c.args.holdings.now.held P has c.args.key.now r lacks
 
-    may_lower : (P : Plan) → HasTaken P c.args.contents.now c.args.operation.now c.args.taken.now c.args.holdings.now.held
+    may_lower : (P : Contents) → HasTaken P c.args.contents.now c.args.operation.now c.args.taken.now c.args.holdings.now.held
         → (lower : Refusal) → IsStartLine lower → number_of lower < number_of r → MayStart P c.args.key.now c.args.operation.now c.args.at lower
     may_lower P has lower line less =
         lower_met c.args.contents.now c.args.operation.now workstation its_workstation c.args.at c.args.taken.now c.args.holdings.now.held P has free after c.args.key.now lower line

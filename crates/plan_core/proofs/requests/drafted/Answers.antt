@@ -1,9 +1,6 @@
+use Rattle.std.proofs.Common.{◌∙◌, ap, sym, Some}
 use Rattle.plan_changes.proofs.Answered.{if_ok}
-use Rattle.plan_core.proofs.Made.{made_drafted}
 use Rattle.plan_core.proofs.requests.drafted.Goals as goal
 
 pub returns : goal.returns
-returns c =
-    let contents = c.contents.result.now in
-    let is = c.contents.ensures in
-    if_ok c.copy_of.result (λ new h P. made_drafted contents new c.args.draft.now is.view is.draft (h 0).0 ((h 0).1 is.in_order) P) c.copy_of.ensures
+returns c = if_ok c.try_clone.result (λ new h P. record { is_request = c.contents.ensures.draft; changes = ap Some (sym (h ∙ c.contents.ensures.view)) }) c.try_clone.ensures

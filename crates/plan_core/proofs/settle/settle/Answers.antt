@@ -1,56 +1,47 @@
-use Rattle.std.proofs.Common.{◌≡◌, sym, ap, subst, ◌∙◌, ℕ}
-use Rattle.plan_model.specs.Ready.{named}
-use Rattle.plan_records.specs.Contents.{plan_of}
-use Rattle.plan_status.specs.Standings.{AreStandings}
-use Rattle.plan_core.proofs.Settling.{AreSettled, settled, valid_contents}
+use Rattle.std.proofs.Common.{◌≡◌, sym, ap, subst, ◌∙◌, Some}
+use Rattle.plan_core.proofs.Settling.{graph_stays, latest_stays, standings_stay}
 use Rattle.plan_core.proofs.settle.settle.Goals as goal
-use Rattle.plan_core.proofs.settle.settle.Goals.{In_ok-contents}
+use Rattle.plan_core.proofs.settle.settle.Goals.{In_ok-with_marks}
+use Rattle.plan_core.specs.Held.{plan_held}
+use Rattle.plan_choice.specs.Choices.{AreLatestStarts}
+use Rattle.plan_drafts.specs.PlanGraphs.{IsGraphFor}
+use Rattle.plan_laws.proofs.Kept.{choice_keeps_sound}
+use Rattle.plan_model.specs.Contents.{Contents}
+use Rattle.plan_model.specs.Ready.{named}
+use Rattle.plan_model.specs.Valid.{IsSound}
+use Rattle.plan_status.specs.Standings.{AreStandings}
 
--- the new contents are of the plan with what is named marked so
-plan_named : (c : In_ok-contents) (clock : ℕ) → plan_of clock c.in_ok-contents.contents ≡ named c.in_ok-named.named.items (plan_of clock c.args.contents.now)
-plan_named c clock = c.in_ok-contents.ensures.plan clock ∙ ap (λ os. named os (plan_of clock c.args.contents.now)) c.deref-2.ensures.value
+-- the new contents are those with what is named marked so
+marked : (c : In_ok-with_marks) → c.in_ok-with_marks.field-0 ≡ named c.in_ok-named.named.items c.args.contents.now
+marked c =
+    c.in_ok-with_marks.ensures
+    ∙ ap (λ os. named os c.rows.result.now) c.deref-2.ensures.value
+    ∙ ap (named c.in_ok-named.named.items) c.rows.ensures.contents
 
-are_settled : (c : In_ok-contents) → AreSettled c.args.at c.in_ok-contents.contents c.in_ok-graph.graph c.in_ok-standings.standings.items c.in_ok-latest.latest.starts
-are_settled c =
-    settled c.args.contents.now c.in_ok-contents.contents c.in_ok-named.named.items c.args.at
-    c.requires.in_order c.in_ok-contents.ensures.in_order c.in_ok-named.ensures.chosen (plan_named c)
-    c.in_ok-graph.graph c.in_ok-standings.standings.items c.in_ok-latest.latest.starts
-    c.requires.sound c.in_ok-graph.ensures c.in_ok-contents.ensures.keys c.in_ok-contents.ensures.pairs c.in_ok-standings.ensures.standings c.in_ok-latest.ensures.starts
-
-pub graph_for-requires : goal.graph_for-requires
-graph_for-requires c = valid_contents c.args.contents.now c.args.at c.requires.in_order c.requires.sound.valid
-
-pub standings_of-requires-clause-contents : goal.standings_of-requires-clause-contents
-standings_of-requires-clause-contents c = valid_contents c.args.contents.now c.args.at c.requires.in_order c.requires.sound.valid
-
-pub latest_of-requires-clause-contents : goal.latest_of-requires-clause-contents
-latest_of-requires-clause-contents c = valid_contents c.args.contents.now c.args.at c.requires.in_order c.requires.sound.valid
-
-pub named_at-requires-clause-contents : goal.named_at-requires-clause-contents
-named_at-requires-clause-contents c = valid_contents c.args.contents.now c.args.at c.requires.in_order c.requires.sound.valid
-
-pub named_at-requires-clause-standings : goal.named_at-requires-clause-standings
-named_at-requires-clause-standings c =
-    let contents = c.args.contents.now in
-    subst (AreStandings (plan_of 0 contents) contents.operations.items) (sym c.deref.ensures.value) (c.in_ok-standings.ensures.standings 0)
-
-pub named_at-requires-clause-latest : goal.named_at-requires-clause-latest
-named_at-requires-clause-latest c = c.in_ok-latest.ensures.starts 0
-
-pub loaded_with-requires-clause-contents : goal.loaded_with-requires-clause-contents
-loaded_with-requires-clause-contents c = (are_settled (goal.at.loaded_with-requires-clause-contents c).In_ok-contents).contents
+pub of-contents-requires : goal.of-contents-requires
+of-contents-requires c =
+    let a = (goal.at.of-contents-requires c).In_ok-with_marks in
+    subst IsSound (sym (marked a)) (choice_keeps_sound a.args.contents.now a.args.at a.in_ok-named.named.items c.rows.ensures.sound a.in_ok-named.ensures.chosen)
 
 pub loaded_with-requires-clause-graph : goal.loaded_with-requires-clause-graph
-loaded_with-requires-clause-graph c = (are_settled (goal.at.loaded_with-requires-clause-graph c).In_ok-contents).graph
+loaded_with-requires-clause-graph c =
+    let a = (goal.at.loaded_with-requires-clause-graph c).In_ok-with_marks in
+    subst (λ (P : Contents). IsGraphFor P c.in_ok-graph.graph) (sym (c.of-contents.ensures ∙ marked a))
+    (graph_stays c.args.contents.now c.args.at c.in_ok-named.named.items c.in_ok-named.ensures.chosen c.in_ok-graph.graph c.in_ok-graph.ensures)
 
 pub loaded_with-requires-clause-standings : goal.loaded_with-requires-clause-standings
-loaded_with-requires-clause-standings c = (are_settled (goal.at.loaded_with-requires-clause-standings c).In_ok-contents).standings
+loaded_with-requires-clause-standings c =
+    let a = (goal.at.loaded_with-requires-clause-standings c).In_ok-with_marks in
+    subst (λ (P : Contents). AreStandings P c.in_ok-standings.standings.items) (sym (c.of-contents.ensures ∙ marked a))
+    (standings_stay c.args.contents.now c.args.at c.in_ok-named.named.items c.in_ok-named.ensures.chosen c.in_ok-standings.standings.items c.in_ok-standings.ensures.standings)
 
 pub loaded_with-requires-clause-latest : goal.loaded_with-requires-clause-latest
-loaded_with-requires-clause-latest c = (are_settled (goal.at.loaded_with-requires-clause-latest c).In_ok-contents).latest
-
-pub invariant_of-result : goal.invariant_of-result
-invariant_of-result c = c.in_ok-loaded.ensures.held c.args.at (are_settled (goal.at.invariant_of-result c).In_ok-contents).sound
+loaded_with-requires-clause-latest c =
+    let a = (goal.at.loaded_with-requires-clause-latest c).In_ok-with_marks in
+    subst (λ (P : Contents). AreLatestStarts P c.in_ok-latest.latest.starts) (sym (c.of-contents.ensures ∙ marked a))
+    (latest_stays c.args.contents.now c.args.at c.in_ok-named.named.items c.in_ok-named.ensures.chosen c.in_ok-latest.latest.starts c.in_ok-latest.ensures.starts)
 
 pub returns-clause-plan : goal.returns-clause-plan
-returns-clause-plan c = ap (plan_of c.args.at) c.in_ok-loaded.ensures.contents ∙ plan_named (goal.at.returns-clause-plan c).In_ok-contents c.args.at
+returns-clause-plan c =
+    let a = (goal.at.returns-clause-plan c).In_ok-with_marks in
+    ap (λ (P : Contents). plan_held c.args.at (Some P)) (c.in_ok-loaded.ensures.contents ∙ c.of-contents.ensures ∙ marked a)

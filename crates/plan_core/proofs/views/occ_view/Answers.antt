@@ -1,13 +1,23 @@
-use Rattle.std.proofs.Common.{◌<◌, arith, length, refl}
-use Rattle.std.proofs.lemmas.Option.{slice_get_read}
+use Rattle.std.proofs.Common.{◌≡◌, ◌<◌, Some, length, slice_get, slice_index_or, sym, ap, subst, ◌∙◌, arith}
+use Rattle.std.proofs.lemmas.Option.{same_Some, slice_get-get_or}
+use Rattle.std.specs.FinMap.{entries}
+use Rattle.plan_basics.specs.declared.keys.OccKey.{OccKey}
+use Rattle.plan_model.specs.declared.Occurrence.{Occurrence}
+use Rattle.status_rules.specs.declared.Counts.{Counts}
 use Rattle.plan_core.proofs.OccViews.{occ_view_at}
 use Rattle.plan_core.proofs.views.occ_view.Goals as goal
 
 pub returns : goal.returns
 returns c =
-    let h = c.args.loaded.now in
-    let held = c.requires.held in
-    let row = slice_get_read h.contents.occurrences.items _ c.args.place c.index.result.now refl c.requires.within c.index.ensures in
-    let within : c.args.place < length h.tallies.items = omega (arith, c.requires.within, held.1.tallies.size) in
-    let numbers = slice_get_read h.tallies.items _ c.args.place c.index-counts.result.now refl within c.index-counts.ensures in
-    occ_view_at held.0 h held.1 c.args.place c.index.result.now.0 c.index.result.now.1 c.index-counts.result.now c.occurrence_status_with.result row numbers c.occurrence_status_with.ensures
+    let s = c.args.shown in
+    let i = c.args.place in
+    let rows = c.occurrences.result.now in
+    let within : i < length rows = subst (λ xs. i < length xs) (sym c.occurrences.ensures.rows) c.requires.within in
+    let x = slice_index_or rows i c.index-occurrences-place.result in
+    let y = slice_index_or rows i c.index-occurrences-place-2.result in
+    let one = slice_get-get_or rows i c.index-occurrences-place.result within in
+    let other = slice_get-get_or rows i c.index-occurrences-place-2.result within in
+    let row : slice_get (entries s.contents.now.occurrences) i ≡ Some (x.0, y.1) = subst (λ xs. slice_get xs i ≡ Some (x.0, y.1)) c.occurrences.ensures.rows (one ∙ ap (λ (z : OccKey × Occurrence). Some (x.0, z.1)) (same_Some x y (sym one ∙ other))) in
+    let none : Counts = record { all = 0; deleted = 0; error = 0; undecided = 0; complete = 0; started = 0 } in
+    let numbers = slice_get-get_or s.tallies.now i none (let size = c.requires.shown.tallies.size in let lt = c.requires.within in omega (arith, lt, size)) in
+    occ_view_at s c.requires.shown i x.0 y.1 (slice_index_or s.tallies.now i none) c.occurrence_status_with.result row numbers c.occurrence_status_with.ensures

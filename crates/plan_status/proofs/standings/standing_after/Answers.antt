@@ -2,8 +2,8 @@ use Rattle.std.proofs.Common.{◌≡◌, sym, ◌∙◌, ap, true, false, true�
 use Rattle.plan_basics.specs.declared.Attr.TheVariants.{Nonreporting}
 use Rattle.status_rules.proofs.Live.{live_mark, mark_live}
 use Rattle.status_rules.specs.Classes.{is_live}
-use Rattle.plan_model.specs.Plan.{Operation}
-use Rattle.plan_laws.proofs.Looks.{same_some}
+use Rattle.plan_model.specs.Contents.{Operation}
+use Rattle.std.proofs.lemmas.Option.{same_Some}
 use Rattle.plan_status.specs.Incoming.{with_pairs}
 use Rattle.plan_status.proofs.Alike.{decides_on}
 use Rattle.plan_status.proofs.Incoming.{dead_changes_nothing, stands_behind}
@@ -16,7 +16,7 @@ returns-then-not-is_live-clause-standing c P pairs pair on next its =
     let no : c.is_live.result ≡ false = search rules in
     let dead : is_live c.args.predecessor.now.mark ≡ false = ap is_live (sym same) ∙ sym c.is_live.ensures ∙ no in
     dead_changes_nothing P pairs pair next
-    (λ live. true≢false (sym (mark_live live.0.mark live.2) ∙ ap (λ (x : Operation). is_live x.mark) (same_some live.0 c.args.predecessor.now (sym live.1 ∙ on.0)) ∙ dead))
+    (λ live. true≢false (sym (mark_live live.0.mark live.2) ∙ ap (λ (x : Operation). is_live x.mark) (same_Some live.0 c.args.predecessor.now (sym live.1 ∙ on.0)) ∙ dead))
     c.args.standing.now
 
 pub returns-clause-standing : goal.returns-clause-standing

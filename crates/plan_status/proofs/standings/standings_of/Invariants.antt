@@ -1,4 +1,4 @@
-use Rattle.plan_records.specs.Contents.{plan_of}
+use Rattle.std.specs.FinMap.{entries}
 use Rattle.plan_status.specs.Incoming.{with_pairs}
 use Rattle.plan_status.specs.Standings.{AreStandings}
 use Rattle.plan_status.proofs.InTurn.{pairs_so_far}
@@ -8,6 +8,6 @@ use Rattle.plan_status.proofs.standings.standings_of.Given as goal
 -- the pairs of the edges so far have been added
 abbrev pub invariant-loop-before : goal.invariant-loop-before
 invariant-loop-before l = record {
-  so_far : AreStandings (with_pairs (pairs_so_far l.contents.operations.items l.before-items l.before-index) (plan_of 0 l.contents)) l.contents.operations.items l.standings.items;
+  so_far : AreStandings (with_pairs (pairs_so_far (entries l.contents.operations) l.before-items l.before-index) l.contents) l.standings.items;
   at_most : WaitForAtMost l.before-index l.standings.items;
 }

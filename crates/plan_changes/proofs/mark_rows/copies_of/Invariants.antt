@@ -1,6 +1,0 @@
-use Rattle.std.proofs.Common.{◌≡◌, take}
-use Rattle.plan_changes.proofs.mark_rows.copies_of.Given as goal
-
--- those before the index are copied
-abbrev pub invariant-loop-workstation : goal.invariant-loop-workstation
-invariant-loop-workstation l = l.copies.items ≡ take l.workstation-index l.workstations

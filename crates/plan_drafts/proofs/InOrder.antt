@@ -1,0 +1,195 @@
+-- Occurrences, operations and pairs of a plan, as they are said and in key order.
+use Rattle.std.proofs.Common.{arith, ◌≡◌, ◌↔◌, refl, true≢false, IsTrue, Option, is_some, sym, subst, ap, ap₂, ◌∙◌, ℕ, ◌<◌, ◌≤◌, true, false, List, [], ◌∷◌, map, length, inl, inr, All, Contains, Some, None, unwrap_or}
+use Rattle.std.specs.Prelude.{◌≢◌, MatchOption}
+use Rattle.std.specs.List.{AllPairs}
+use Rattle.std.specs.List.Sorted.{IsPermutation, IsStrictlySortedBy}
+use Rattle.std.specs.Map.{keys_of}
+use Rattle.std.specs.FinMap.{get, contains_key, entries, from_entries, keys}
+use Rattle.std.specs.FinSet as set
+use Rattle.std.specs.Ordering.{eq_by_cmp}
+use Rattle.std.proofs.lemmas.List.Elements.{All-contains, All-head, All-tail, All-weaker}
+use Rattle.std.proofs.lemmas.List.Sorted.{IsPermutation-sym, Contains-permutation, list_any-IsPermutation}
+use Rattle.plan_basics.specs.declared.limits.TheConstants.{MOST_NEEDS, MOST_OPERATIONS, MOST_PAIRS}
+use Rattle.plan_basics.specs.declared.keys.OccKey.{OccKey}
+use Rattle.plan_basics.specs.declared.keys.OpKey.{OpKey}
+use Rattle.plan_basics.specs.Keys.{Name, occurrence_cmp, occurrence_cmp_total, occurrence_cmp-IsAntisymmetric, operation_cmp, operation_cmp_total, operation_cmp-IsAntisymmetric}
+use Rattle.special_resources.specs.declared.Need.{Need}
+use Rattle.special_resources.specs.Needs.{Usages, usages_of}
+use Rattle.status_rules.specs.declared.Mark.TheVariants.{Unmarked}
+use Rattle.plan_model.specs.Contents.{Contents, Operation, IsPairOf, pair_cmp}
+use Rattle.plan_model.proofs.Entries.{entries_are}
+use Rattle.plan_model.specs.Valid.{IsAcyclic}
+use Rattle.plan_model.specs.declared.Occurrence.{Occurrence}
+use Rattle.plan_drafts.specs.PlanGraphs.{AreAmong, JoinOperations}
+use Rattle.plan_items.specs.declared.OperationItem.{OperationItem}
+use Rattle.plan_drafts.specs.PlanItems.{Fits, IsOneOf, BelongsTo, AreOperations, EachHasOperation, AreRowsOf, IsPairIn, ArePairsInOrder, keys_said, needs_of, occurrence_of, operation_of, row_of, terms_of}
+use Rattle.plan_drafts.proofs.Keyed.{key_to_row, row_to_key, said_apart}
+use Rattle.plan_drafts.proofs.Lists.{all_by_members, contains_cases, contains_head, contains_none, in_map, from_map}
+use Rattle.plan_drafts.proofs.Pairs.{pair_cmp_total, pair_cmp-IsAntisymmetric}
+use Rattle.plan_drafts.proofs.RowPlaces.{get_at}
+use Rattle.plan_drafts.proofs.Tables.{in_set, key_found}
+use Rattle.plan_drafts.proofs.Terms.{found_key, terms_there}
+use Rattle.plan_drafts.specs.AdditionItems.{ComesWith, new_row}
+use Rattle.plan_drafts.specs.KeyOrder.{AreInKeyOrder}
+use Rattle.std.proofs.lemmas.Option.{none-some}
+
+-- ---- the row of an operation
+
+-- an operation as its record says, with that deadline and those needs
+abbrev pub operation_with : OperationItem → ℕ → Usages → Operation
+operation_with said due own = record { workstation = said.workstation; duration = said.duration; r1 = said.r1; r2 = said.r2; not_before = said.not_before; deadline = due; needs = own; mark = Unmarked; held = false; nop = false }
+
+abbrev Terms : Type 0
+Terms = List (OccKey × Occurrence)
+
+abbrev Wants : Type 0
+Wants = List (OpKey × Need)
+
+abbrev due_of : Occurrence → ℕ
+due_of terms = terms.deadline
+
+-- the row that an operation makes of the terms and needs that are found
+pub row_made :
+    (occurrences : Terms) (needs : Wants) (said : OperationItem) (terms : Occurrence) (due : ℕ) (own : Usages) →
+    get {R = occurrence_cmp} (from_entries occurrences) said.key.occurrence ≡ Some terms → due ≡ unwrap_or said.deadline terms.deadline →
+    own ≡ usages_of (needs_of said.key needs) → (said.key, operation_with said due own) ≡ row_of occurrences needs said
+row_made occurrences needs said terms due own e is own_is =
+    let found = ap (λ o. unwrap_or said.deadline (due_of (unwrap_or o (record { priority = 0; deadline = 0 })))) e in
+    ap₂ (λ d u. (said.key, operation_with said d u)) (is ∙ sym found) own_is
+
+-- what its row shows of an operation whose occurrence is there
+pub row_told :
+    (occurrences : Terms) (needs : Wants) (said : OperationItem) (terms : Occurrence) (found : Option (OpKey × Operation)) →
+    get {R = occurrence_cmp} (from_entries occurrences) said.key.occurrence ≡ Some terms →
+    MatchOption found (MOST_NEEDS < length (needs_of said.key needs)) (λ row. (length (needs_of said.key needs) ≤ MOST_NEEDS) × (row ≡ new_row terms needs said)) →
+    MatchOption found (¬ BelongsTo occurrences needs said) (λ row. BelongsTo occurrences needs said × (row ≡ row_of occurrences needs said))
+row_told occurrences needs said terms None e many = λ belongs. let few = belongs.few_needs in absurd (omega (arith, many, few))
+row_told occurrences needs said terms (Some row) e own = (
+  record { occurrence = found_key occurrences said.key.occurrence terms e; few_needs = own.0 },
+  own.1 ∙ row_made occurrences needs said terms (unwrap_or said.deadline terms.deadline) (usages_of (needs_of said.key needs)) e refl refl,
+)
+
+-- an operation of no occurrence belongs to none
+pub unknown :
+    (occurrences : Terms) (needs : Wants) (said : OperationItem) → IsStrictlySortedBy occurrence_cmp (keys_of occurrences) →
+    None ≡ get {R = occurrence_cmp} (from_entries occurrences) said.key.occurrence → ¬ BelongsTo occurrences needs said
+unknown occurrences needs said up e belongs = none-some _ (e ∙ terms_there occurrences up said.key.occurrence belongs.occurrence)
+
+-- what fits is of one of the workstations, and belongs to one of the occurrences
+pub fitting :
+    (names : List Name) (occurrences : Terms) (needs : Wants) (said : List OperationItem) → All (IsOneOf names) said → All (BelongsTo occurrences needs) said →
+    All (Fits names occurrences needs) said
+fitting names occurrences needs said named belong = λ k d lt. let is = belong k d lt in record { workstation = named k d lt; occurrence = is.occurrence; few_needs = is.few_needs }
+
+pub named : (names : List Name) (occurrences : Terms) (needs : Wants) (said : List OperationItem) → All (Fits names occurrences needs) said → All (IsOneOf names) said
+named names occurrences needs said fit = λ k d lt. (fit k d lt).workstation
+
+pub belonging : (names : List Name) (occurrences : Terms) (needs : Wants) (said : List OperationItem) → All (Fits names occurrences needs) said → All (BelongsTo occurrences needs) said
+belonging names occurrences needs said fit = λ k d lt. let is = fit k d lt in record { occurrence = is.occurrence; few_needs = is.few_needs }
+
+-- ---- the rows of a sole occurrence
+module _ (c : OccKey) (terms : Occurrence) (needs : Wants) where
+  abbrev Sole : Terms
+  Sole = (c, terms) ∷ []
+
+  pub sole_in_order : IsStrictlySortedBy occurrence_cmp (keys_of Sole)
+  unfolding IsStrictlySortedBy
+  sole_in_order = (tt, tt)
+
+  pub comes : (said : OperationItem) → BelongsTo Sole needs said → ComesWith c needs said
+  comes said is = record { occurrence = elim (contains_cases c [] said.key.occurrence is.occurrence) [ inl e ↦ sym e | inr none ↦ absurd (contains_none _ none) ]; few_needs = is.few_needs }
+
+  pub belongs : (said : OperationItem) → ComesWith c needs said → BelongsTo Sole needs said
+  belongs said is = record { occurrence = subst (Contains (c ∷ [])) (sym is.occurrence) (contains_head c []); few_needs = is.few_needs }
+
+  -- they are as of an occurrence that is added
+  pub sole_rows : (said : List OperationItem) → All (BelongsTo Sole needs) said → map (row_of Sole needs) said ≡ map (new_row terms needs) said
+  sole_rows [] come = refl
+  sole_rows (s ∷ said) come =
+      let is = (comes s (All-head (BelongsTo Sole needs) s said come)).occurrence in
+      let own : terms_of Sole s.key.occurrence ≡ terms = ap (terms_of Sole) is ∙ ap (λ o. unwrap_or o (record { priority = 0; deadline = 0 })) (get_at occurrence_cmp occurrence_cmp_total occurrence_cmp-IsAntisymmetric Sole sole_in_order 0 c terms refl) in
+      ap₂ (λ t rows. new_row t needs s ∷ rows) own (sole_rows said (All-tail (BelongsTo Sole needs) s said come))
+
+-- ---- rows of operations
+-- an operation as its record says, with the terms of that one of these occurrences that it belongs to
+abbrev pub operation_in : Terms → Wants → OperationItem → Operation
+operation_in occurrences needs said = operation_of (terms_of occurrences said.key.occurrence) needs said
+
+-- each occurrence has one of more operations
+has_over :
+    (ks ls : List OpKey) (occurrences : Terms) → ((o : OpKey) → Contains ks o → Contains ls o) → EachHasOperation ks occurrences →
+    EachHasOperation ls occurrences
+has_over ks ls occurrences all has = All-weaker (λ row. Contains (map occurrence_of ks) row.0) (λ row. Contains (map occurrence_of ls) row.0)
+    (λ row is. let r = from_map occurrence_of ks row.0 is in subst (Contains (map occurrence_of ls)) r.2 (in_map occurrence_of ls r.0 (all r.0 r.1))) occurrences has
+
+pub rows_are :
+    (names : List Name) (occurrences : Terms) (needs : Wants) (said : List OperationItem) (rows : List (OpKey × Operation)) → length said ≤ MOST_OPERATIONS →
+    All (Fits names occurrences needs) said → AreInKeyOrder operation_cmp (λ row. row.0) (map (row_of occurrences needs) said) rows →
+    EachHasOperation (keys_of rows) occurrences → AreRowsOf names occurrences needs said rows
+rows_are names occurrences needs said rows few fit ordered has =
+    let make = operation_in occurrences needs in
+    record {
+      operations = record {
+        few = few;
+        fit = fit;
+        distinct = said_apart (λ (s : OperationItem). s.key) make said ordered.distinct;
+        not_empty = has_over (keys_of rows) (keys_said said) occurrences (row_to_key (λ (s : OperationItem). s.key) make said rows ordered.same) has;
+      };
+      same = ordered.same;
+      in_order = ordered.in_order;
+    }
+
+-- where the rows' keys leave out an occurrence, so do those that are said
+pub none_has :
+    (names : List Name) (occurrences : Terms) (needs : Wants) (said : List OperationItem) (rows : List (OpKey × Operation)) →
+    IsPermutation (map (row_of occurrences needs) said) rows → ¬ EachHasOperation (keys_of rows) occurrences → ¬ AreOperations names occurrences needs said
+none_has names occurrences needs said rows same none are = none (has_over (keys_said said) (keys_of rows) occurrences (key_to_row (λ (s : OperationItem). s.key) (operation_in occurrences needs) said rows same) are.not_empty)
+
+-- ---- pairs
+
+-- what is answered only where P is so shows whether it is
+pub told_by : {G : Type 0} (P : Type 0) (Q : G → Type 0) (found : Option G) → MatchOption found (¬ P) (λ g. Q g × P) → IsTrue (is_some found) ↔ P
+told_by P Q None h = (λ e. absurd (true≢false (sym e)), λ p. absurd (h p))
+told_by P Q (Some g) h = (λ _. h.1, λ _. refl)
+
+abbrev Pair : Type 0
+Pair = OpKey × OpKey
+
+-- the ends of pairs between operations that are there are among their keys
+pub ends_known :
+    (P : Contents) (ks : List OpKey) (pairs : List Pair) → ks ≡ keys P.operations → set.from_list pairs ≡ P.pairs → JoinOperations P.operations P.pairs → AreAmong ks pairs
+ends_known P ks pairs listed paired join = all_by_members (λ (p : Pair). Contains ks p.0 × Contains ks p.1) pairs (λ p has.
+    let both = join p.0 p.1 (subst (λ s. IsPairOf s p.0 p.1) paired (in_set pair_cmp_total pair_cmp-IsAntisymmetric pairs p has)) in
+    (known p.0 both.0, known p.1 both.1))
+  where
+    known : (o : OpKey) → contains_key P.operations o ≡ true → Contains ks o
+    known o e =
+        subst (λ ls. Contains ls o) (sym listed) (key_found operation_cmp_total operation_cmp-IsAntisymmetric (entries P.operations) o
+        (subst (λ m. contains_key m o ≡ true) (sym (entries_are operation_cmp operation_cmp_total operation_cmp-IsAntisymmetric P.operations)) e))
+
+module _ (ks : List OpKey) (pairs ordered : List Pair) (same : IsPermutation pairs ordered) where
+  -- between the keys in order too
+  pub ends_among : All (IsPairIn ks) pairs → AreAmong ks ordered
+  ends_among within =
+      all_by_members (λ (p : Pair). Contains ks p.0 × Contains ks p.1) ordered (λ p has.
+      let is = All-contains (IsPairIn ks) pairs p within (Contains-permutation ordered pairs p (IsPermutation-sym pairs ordered same) has) in
+      (is.first, is.second))
+
+  -- in any order they are the same set
+  pub same_pairs : ◌≡◌ {A = set.FinSet pair_cmp} (set.from_list pairs) (set.from_list ordered)
+  same_pairs = set.same_set pair_cmp_total pair_cmp-IsAntisymmetric (set.from_list pairs) (set.from_list ordered) (λ q.
+      set.contains-from_list pair_cmp_total pairs q ∙ list_any-IsPermutation (eq_by_cmp pair_cmp q) pairs ordered same ∙ sym (set.contains-from_list pair_cmp_total ordered q))
+
+  pub pairs_are :
+      length pairs ≤ MOST_PAIRS → All (IsPairIn ks) pairs → AllPairs (λ a b. a ≢ b) pairs → IsStrictlySortedBy pair_cmp ordered → IsAcyclic (set.from_list ordered) →
+      ArePairsInOrder ks pairs ordered
+  pairs_are few within distinct up acyclic = record {
+    are = record {
+      few = few;
+      within = within;
+      distinct = distinct;
+      acyclic = subst IsAcyclic (sym same_pairs) acyclic;
+    };
+    same = same;
+    in_order = up;
+  }

@@ -1,0 +1,110 @@
+// What texts denote: a plan to be loaded, or an addition to one.
+ghost use Rattle.std.specs.Prelude.{◌≡◌, IfOk, IfErr, MatchOption};
+ghost use Rattle.plan_drafts.specs.Drafts.{IsDraft};
+ghost use Rattle.plan_drafts.specs.Contents.{added_parts, AreAdditionParts};
+ghost use Rattle.plan_drafts.specs.Records.{records_of, Denotes, DenotesAddition};
+ghost use Rattle.plan_model.specs.Contents.{Contents, AddedParts};
+
+use super::additions::parts_of;
+use super::builder::{Record, contents_of, read_items};
+use super::contents::{AdditionParts, PlanContents};
+use plan_basics::Refusal;
+use std::marker::Model;
+
+/// What the plan holds that a text denotes. Contracts see it as those contents.
+#[derive(Debug, Drop)]
+pub struct PlanDraft {
+    contents: PlanContents,
+}
+
+impl Model for PlanDraft {
+    ghost use Rattle.plan_model.specs.Contents.{Contents};
+    ghost use Rattle.plan_model.specs.Code.{contents_code};
+    ghost use Rattle.plan_drafts.specs.Drafts.{IsDraft};
+
+    ghost Value = { Contents };
+
+    ghost coded = { contents_code };
+
+    ghost view = { λ d. d.contents };
+
+    ghost invariant = { λ d. IsDraft d.contents };
+}
+
+impl PlanDraft {
+    /// The draft that the records of a text denote; `None` where they denote none. There is at least one workstation, of
+    /// any attribute, each with intervals or without; intervals of one workstation may touch, but not overlap. There may be
+    /// special resources. There is at least one occurrence, each with its operations, and an operation may need R1, R2 and
+    /// special resources; pairs may lead from one occurrence to another, but no path of pairs returns to its start. How
+    /// many there may be of each is in `plan_basics::limits`. The records may come in any order. The error is always
+    /// `Memory`.
+    pub fn build(records: Vec<Record>) -> Result<Option<PlanDraft>, Refusal>
+        ensures denoted { IfOk result (λ found. MatchOption found ((P : Contents) → ¬ Denotes (records_of records.items) P) (λ draft. Denotes (records_of records.items) draft)) }
+        ensures memory { IfErr result (λ r. r ≡ Refusal.Memory) }
+    {
+        let alloc = *records.allocator();
+        let Some(items) = read_items(alloc, &records)? else {
+            return Ok(None);
+        };
+        let Some(contents) = contents_of(alloc, &items)? else {
+            return Ok(None);
+        };
+        Ok(Some(PlanDraft { contents }))
+    }
+
+    /// What it holds.
+    pub fn contents(&self) -> &PlanContents
+        ensures view { result.now ≡ self.now }
+        ensures draft { IsDraft self.now }
+    {
+        &self.contents
+    }
+}
+
+/// The occurrence that a text denotes, with its operations and pairs. Contracts see it as what is added.
+#[derive(Debug, Drop)]
+pub struct Addition {
+    parts: AdditionParts,
+}
+
+impl Model for Addition {
+    ghost use Rattle.plan_model.specs.Contents.{AddedParts};
+    ghost use Rattle.plan_model.specs.Code.{added_code};
+    ghost use Rattle.plan_drafts.specs.Contents.{added_of, AreAdditionParts};
+
+    ghost Value = { AddedParts };
+
+    ghost coded = { added_code };
+
+    ghost view = { λ a. added_of a.parts };
+
+    ghost invariant = { λ a. AreAdditionParts a.parts };
+}
+
+impl Addition {
+    /// The addition that the records of a text denote; `None` where they denote none. There is one occurrence with at least
+    /// one operation, each of which may need R1, R2 and up to `MOST_NEEDS` special resources. Each pair has an end in the
+    /// occurrence, and its ends there are operations of the text; whatever else is named is looked up in the plan when the
+    /// occurrence is added. The records may come in any order. The error is always `Memory`.
+    pub fn build(records: Vec<Record>) -> Result<Option<Addition>, Refusal>
+        ensures denoted { IfOk result (λ found. MatchOption found ((s : AddedParts) → ¬ DenotesAddition (records_of records.items) s) (λ a. DenotesAddition (records_of records.items) a)) }
+        ensures memory { IfErr result (λ r. r ≡ Refusal.Memory) }
+    {
+        let alloc = *records.allocator();
+        let Some(items) = read_items(alloc, &records)? else {
+            return Ok(None);
+        };
+        let Some(parts) = parts_of(alloc, &items)? else {
+            return Ok(None);
+        };
+        Ok(Some(Addition { parts }))
+    }
+
+    /// What is added.
+    pub fn parts(&self) -> &AdditionParts
+        ensures view { self.now ≡ added_parts result.now.key result.now.terms result.now.operations.items result.now.pairs.items }
+        ensures in_order { AreAdditionParts result.now }
+    {
+        &self.parts
+    }
+}

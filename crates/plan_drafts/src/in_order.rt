@@ -1,0 +1,231 @@
+// Occurrences, operations and pairs of a plan, put in key order.
+ghost use Rattle.std.specs.Prelude.{◌≡◌, ◌↔◌, ◌<◌, ◌≤◌, map, length, All, Contains, IsTrue, IfOk, MatchOption};
+ghost use Rattle.std.specs.FinMap.{get, from_entries};
+ghost use Rattle.std.specs.FinSet.{from_list};
+ghost use Rattle.std.specs.List.Sorted.{IsStrictlySortedBy};
+ghost use Rattle.std.specs.Map.{keys_of};
+ghost use Rattle.plan_basics.specs.declared.limits.TheConstants.{MOST_NEEDS};
+ghost use Rattle.plan_basics.specs.Keys.{name_cmp, occurrence_cmp, operation_cmp};
+ghost use Rattle.plan_model.specs.Contents.{pair_cmp};
+ghost use Rattle.plan_model.specs.Valid.{IsAcyclic};
+ghost use Rattle.plan_drafts.specs.PlanGraphs.{AreAmong};
+ghost use Rattle.plan_drafts.specs.AdditionItems.{new_row};
+ghost use Rattle.plan_drafts.specs.PlanItems.{row_of, occurrence_of, need_cmp, need_key, needs_of, IsOneOf, BelongsTo, AreOccurrenceRows, AreOccurrencesInOrder, AreOperations, EachHasOperation, AreRowsOf, IsPairIn, ArePairs, ArePairsInOrder};
+
+use super::graphs::graph_of;
+use super::intervals::is_named;
+use super::key_order::{in_key_order, keys};
+use super::needs::own_needs;
+use super::places::row_place;
+use plan_basics::limits::{MOST_OCCURRENCES, MOST_OPERATIONS, MOST_PAIRS};
+use plan_basics::{OccKey, OpKey};
+use plan_items::OperationItem;
+use plan_model::{Occurrence, OperationRecord};
+use special_resources::Need;
+use status_rules::Mark;
+use std::alloc::{AllocError, Global};
+use workstations::Workstation;
+
+// The occurrences in key order, where there is one at least, no more than a plan may hold, and none is repeated.
+pub fn occurrences_in_order(
+    said: Vec<(OccKey, Occurrence)>,
+) -> Result<Option<Vec<(OccKey, Occurrence)>>, AllocError>
+    ensures { IfOk result (λ found. MatchOption found (¬ AreOccurrenceRows said.items) (λ v. AreOccurrencesInOrder said.items v.items)) }
+{
+    if said.is_empty() || said.len() > MOST_OCCURRENCES {
+        return Ok(None);
+    }
+    in_key_order(said, |row| row.0)
+}
+
+// The priority and deadline of the occurrence of a key, if it is one of these.
+fn terms_of(occurrences: &[(OccKey, Occurrence)], key: &OccKey) -> Option<Occurrence>
+    requires { IsStrictlySortedBy occurrence_cmp (keys_of occurrences.now) }
+    ensures { result ≡ get {R = occurrence_cmp} (from_entries occurrences.now) key.now }
+{
+    let place = row_place(occurrences, key)?;
+    Some(occurrences[place].1)
+}
+
+// The row of an operation whose occurrence has these terms, with its own needs, which are no more than it may have:
+// nothing is reported of it, and its flags are clear.
+fn planned(
+    terms: &Occurrence,
+    needs: &[(OpKey, Need)],
+    said: &OperationItem,
+) -> Option<(OpKey, OperationRecord)>
+    requires { IsStrictlySortedBy need_cmp (map need_key needs.now) }
+    ensures { MatchOption result (MOST_NEEDS < length (needs_of said.now.key needs.now)) (λ row. (length (needs_of said.now.key needs.now) ≤ MOST_NEEDS) × (row ≡ new_row terms.now needs.now said.now)) }
+{
+    let needs = own_needs(needs, &said.key)?;
+    let operation = OperationRecord {
+        workstation: said.workstation,
+        duration: said.duration,
+        r1: said.r1,
+        r2: said.r2,
+        not_before: said.not_before,
+        deadline: said.deadline.unwrap_or(terms.deadline),
+        needs,
+        mark: Mark::Unmarked,
+        held: false,
+        nop: false,
+    };
+    Some((said.key, operation))
+}
+
+// The row of an operation of one of these occurrences, with its own needs.
+fn row(
+    occurrences: &[(OccKey, Occurrence)],
+    needs: &[(OpKey, Need)],
+    said: &OperationItem,
+) -> Option<(OpKey, OperationRecord)>
+    requires in_order { IsStrictlySortedBy occurrence_cmp (keys_of occurrences.now) }
+    requires needs { IsStrictlySortedBy need_cmp (map need_key needs.now) }
+    ensures { MatchOption result (¬ BelongsTo occurrences.now needs.now said.now) (λ row. BelongsTo occurrences.now needs.now said.now × (row ≡ row_of occurrences.now needs.now said.now)) }
+{
+    let terms = terms_of(occurrences, &said.key.occurrence)?;
+    planned(&terms, needs, said)
+}
+
+// The operations' rows, where each is of one of these occurrences and has no more needs than it may have.
+pub fn rows(
+    alloc: Global,
+    occurrences: &[(OccKey, Occurrence)],
+    needs: &[(OpKey, Need)],
+    said: &[OperationItem],
+) -> Result<Option<Vec<(OpKey, OperationRecord)>>, AllocError>
+    requires in_order { IsStrictlySortedBy occurrence_cmp (keys_of occurrences.now) }
+    requires needs { IsStrictlySortedBy need_cmp (map need_key needs.now) }
+    ensures { IfOk result (λ found. MatchOption found (¬ All (BelongsTo occurrences.now needs.now) said.now) (λ v. All (BelongsTo occurrences.now needs.now) said.now × (v.items ≡ map (row_of occurrences.now needs.now) said.now))) }
+{
+    let mut rows = Vec::new(alloc);
+    for said in said {
+        let Some(row) = row(occurrences, needs, said) else {
+            return Ok(None);
+        };
+        rows.push(row)?;
+    }
+    Ok(Some(rows))
+}
+
+// Whether each operation is of one of these workstations.
+fn are_named(workstations: &[Workstation], said: &[OperationItem]) -> bool
+    requires { IsStrictlySortedBy name_cmp (keys_of workstations.now) }
+    ensures { IsTrue result ↔ All (IsOneOf (keys_of workstations.now)) said.now }
+{
+    said.iter()
+        .all(|said| is_named(workstations, &said.workstation))
+}
+
+// Whether one of these operations is of an occurrence.
+fn has_operation(keys: &[OpKey], occurrence: &OccKey) -> bool
+    requires { IsStrictlySortedBy operation_cmp keys.now }
+    ensures { IsTrue result ↔ Contains (map occurrence_of keys.now) occurrence.now }
+{
+    keys.binary_search_by_key(occurrence, |key| key.occurrence)
+        .is_ok()
+}
+
+// Whether each occurrence has one.
+fn each_has_operation(keys: &[OpKey], occurrences: &[(OccKey, Occurrence)]) -> bool
+    requires { IsStrictlySortedBy operation_cmp keys.now }
+    ensures { IsTrue result ↔ EachHasOperation keys.now occurrences.now }
+{
+    occurrences.iter().all(|row| has_operation(keys, &row.0))
+}
+
+// The operations' rows in key order, where they are few enough, each fits, none is repeated, each occurrence has one.
+pub fn operations_in_order(
+    alloc: Global,
+    workstations: &[Workstation],
+    occurrences: &[(OccKey, Occurrence)],
+    needs: &[(OpKey, Need)],
+    said: &[OperationItem],
+) -> Result<Option<Vec<(OpKey, OperationRecord)>>, AllocError>
+    requires named { IsStrictlySortedBy name_cmp (keys_of workstations.now) }
+    requires in_order { IsStrictlySortedBy occurrence_cmp (keys_of occurrences.now) }
+    requires needs { IsStrictlySortedBy need_cmp (map need_key needs.now) }
+    ensures { IfOk result (λ found. MatchOption found (¬ AreOperations (keys_of workstations.now) occurrences.now needs.now said.now) (λ v. AreRowsOf (keys_of workstations.now) occurrences.now needs.now said.now v.items)) }
+{
+    if said.len() > MOST_OPERATIONS {
+        return Ok(None);
+    }
+    if !are_named(workstations, said) {
+        return Ok(None);
+    }
+    let Some(rows) = rows(alloc, occurrences, needs, said)? else {
+        return Ok(None);
+    };
+    let Some(rows) = in_key_order(rows, |row| row.0)? else {
+        return Ok(None);
+    };
+    let keys = keys(alloc, &rows)?;
+    if !each_has_operation(&keys, occurrences) {
+        return Ok(None);
+    }
+    Ok(Some(rows))
+}
+
+// Whether a key is among keys in order.
+pub fn is_among(keys: &[OpKey], key: &OpKey) -> bool
+    requires { IsStrictlySortedBy operation_cmp keys.now }
+    ensures { IsTrue result ↔ Contains keys.now key.now }
+{
+    keys.binary_search(key).is_ok()
+}
+
+// Whether both ends of a pair are among keys in order.
+fn is_pair_in(keys: &[OpKey], pair: &(OpKey, OpKey)) -> bool
+    requires { IsStrictlySortedBy operation_cmp keys.now }
+    ensures { IsTrue result ↔ IsPairIn keys.now pair.now }
+{
+    is_among(keys, &pair.0) && is_among(keys, &pair.1)
+}
+
+// Whether those of all pairs are.
+fn are_pairs_in(keys: &[OpKey], pairs: &[(OpKey, OpKey)]) -> bool
+    requires { IsStrictlySortedBy operation_cmp keys.now }
+    ensures { IsTrue result ↔ All (IsPairIn keys.now) pairs.now }
+{
+    pairs.iter().all(|pair| is_pair_in(keys, pair))
+}
+
+// Whether no path of these pairs returns to its start.
+pub fn are_pairs_acyclic(
+    alloc: Global,
+    keys: &[OpKey],
+    pairs: &[(OpKey, OpKey)],
+) -> Result<bool, AllocError>
+    requires keys { IsStrictlySortedBy operation_cmp keys.now }
+    requires pairs { IsStrictlySortedBy pair_cmp pairs.now }
+    requires ends { AreAmong keys.now pairs.now }
+    ensures { IfOk result (λ told. IsTrue told ↔ IsAcyclic (from_list pairs.now)) }
+{
+    let graph = graph_of(alloc, keys, pairs)?;
+    Ok(graph.is_some())
+}
+
+// The pairs by predecessor and then successor, where each is between these keys, none is repeated and no path of them
+// returns to its start.
+pub fn pairs_in_order(
+    alloc: Global,
+    keys: &[OpKey],
+    pairs: Vec<(OpKey, OpKey)>,
+) -> Result<Option<Vec<(OpKey, OpKey)>>, AllocError>
+    requires { IsStrictlySortedBy operation_cmp keys.now }
+    ensures { IfOk result (λ found. MatchOption found (¬ ArePairs keys.now pairs.items) (λ v. ArePairsInOrder keys.now pairs.items v.items)) }
+{
+    if pairs.len() > MOST_PAIRS {
+        return Ok(None);
+    }
+    if !are_pairs_in(keys, &pairs) {
+        return Ok(None);
+    }
+    let Some(pairs) = in_key_order(pairs, |pair| *pair)? else {
+        return Ok(None);
+    };
+    if !are_pairs_acyclic(alloc, keys, &pairs)? {
+        return Ok(None);
+    }
+    Ok(Some(pairs))
+}

@@ -1,5 +1,0 @@
-use Rattle.plan_records.proofs.Unique.{one_plan, one_addition}
-use Rattle.plan_records.proofs.one_denotation.Goals as goal
-
-pub returns : goal.returns
-returns c = record { plan = one_plan; addition = one_addition }

@@ -1,0 +1,190 @@
+// What a loaded plan holds, and what is read off it.
+ghost use Rattle.std.specs.Prelude.{◌≡◌, ◌<◌, true, None, Some, IfSome, IsNone, IsSome, length, slice_get};
+ghost use Rattle.std.specs.FinMap.{contains_key, entries, get};
+ghost use Rattle.plan_basics.specs.declared.keys.OpKey.{OpKey as OpKeyValue};
+ghost use Rattle.plan_choice.specs.Choices.{AreLatestStarts, AreReadyEntries};
+ghost use Rattle.plan_drafts.specs.Places.{AreStatuses};
+ghost use Rattle.plan_drafts.specs.PlanGraphs.{IsGraphFor};
+ghost use Rattle.plan_model.specs.Contents.{Operation};
+ghost use Rattle.plan_model.specs.Status.{HasOccurrenceStatus, HasStatus};
+ghost use Rattle.plan_state.specs.Reports.{IsReported};
+ghost use Rattle.plan_status.specs.Standings.{AreStandings, AreTallies};
+
+use latest_start::Latest;
+use operation_graph::Graph;
+use plan_basics::{Attr, OccKey, OpKey};
+use plan_model::OperationRecord;
+use plan_status::{SoundContents, Standing, attribute_of, occurrence_status_with};
+use ready_list::ReadyList;
+use status_rules::{Counts, OccStatus, Status};
+use std::marker::Model;
+
+/// An operation of which something is reported, with what is read off the plan for it.
+#[derive(Clone, Copy)]
+pub struct Reported {
+    pub operation: OperationRecord,
+    /// How its workstation reports.
+    pub attribute: Attr,
+    pub status: Status,
+}
+
+/// What a loaded plan holds, with what is read off it: the graph of its pairs, the standing, the status and the latest
+/// start of each operation and the numbers of each occurrence's operations, in key order, and the ready list. Contracts
+/// see it as its contents.
+#[derive(Drop)]
+pub struct LoadedPlan {
+    contents: SoundContents,
+    graph: Graph,
+    standings: Vec<Standing>,
+    statuses: Vec<Status>,
+    tallies: Vec<Counts>,
+    latest: Latest,
+    ready: ReadyList,
+}
+
+impl Model for LoadedPlan {
+    ghost use Rattle.plan_model.specs.Contents.{Contents};
+    ghost use Rattle.plan_model.specs.Code.{contents_code};
+
+    ghost Value = { Contents };
+
+    ghost coded = { contents_code };
+
+    ghost use Rattle.plan_state.specs.Held.{IsHeld};
+
+    ghost view = { λ p. p.contents };
+
+    ghost invariant = { IsHeld };
+}
+
+impl LoadedPlan {
+    /// The plan of these contents, with what is read off them.
+    pub fn of(
+        contents: SoundContents,
+        graph: Graph,
+        standings: Vec<Standing>,
+        statuses: Vec<Status>,
+        tallies: Vec<Counts>,
+        latest: Latest,
+        ready: ReadyList,
+    ) -> LoadedPlan
+        requires graph { IsGraphFor contents graph }
+        requires standings { AreStandings contents standings.items }
+        requires statuses { AreStatuses contents statuses.items }
+        requires tallies { AreTallies contents tallies.items }
+        requires latest { AreLatestStarts contents latest.starts }
+        requires ready { AreReadyEntries contents ready.entries }
+        ensures { result ≡ contents }
+    {
+        LoadedPlan {
+            contents,
+            graph,
+            standings,
+            statuses,
+            tallies,
+            latest,
+            ready,
+        }
+    }
+
+    /// What it holds.
+    pub fn contents(&self) -> &SoundContents
+        ensures contents { result.now ≡ self.now }
+    {
+        &self.contents
+    }
+
+    /// The graph of its operations and pairs: a node is the index of an operation.
+    pub fn graph(&self) -> &Graph
+        ensures { IsGraphFor self.now result.now }
+    {
+        &self.graph
+    }
+
+    /// What is known of each operation's predecessors, in key order.
+    pub fn standings(&self) -> &[Standing]
+        ensures { AreStandings self.now result.now }
+    {
+        &self.standings
+    }
+
+    /// The status of each operation, in key order.
+    pub fn statuses(&self) -> &[Status]
+        ensures { AreStatuses self.now result.now }
+    {
+        &self.statuses
+    }
+
+    /// The numbers of each occurrence's operations, in key order.
+    pub fn tallies(&self) -> &[Counts]
+        ensures { AreTallies self.now result.now }
+    {
+        &self.tallies
+    }
+
+    /// The latest start of each operation, in key order.
+    pub fn latest(&self) -> &Latest
+        ensures { AreLatestStarts self.now result.now.starts }
+    {
+        &self.latest
+    }
+
+    /// What is ready, in the order in which it is to start.
+    pub fn ready(&self) -> &ReadyList
+        ensures { AreReadyEntries self.now result.now.entries }
+    {
+        &self.ready
+    }
+
+    /// The index of the operation of a key, if there is one.
+    pub fn place_of(&self, key: &OpKey) -> Option<usize>
+        ensures found { IfSome result (λ i. (op : Operation) × (slice_get (entries self.now.operations) i ≡ Some (key.now, op))) }
+        ensures absent { IsNone result → get self.now.operations key.now ≡ None }
+    {
+        self.contents.operation_place(key)
+    }
+
+    /// The operation at an index, with what is read off the plan for it.
+    pub fn reported_at(&self, place: usize) -> Reported
+        requires { place < length (entries self.now.operations) }
+        ensures { (o : OpKeyValue) → (op : Operation) → slice_get (entries self.now.operations) place ≡ Some (o, op) → IsReported self.now o result }
+    {
+        let operation = self.contents.operations()[place].1;
+        Reported {
+            operation,
+            attribute: attribute_of(&self.contents, &operation),
+            status: self.status_at(place),
+        }
+    }
+
+    /// The status of the operation at an index.
+    pub fn status_at(&self, place: usize) -> Status
+        requires { place < length (entries self.now.operations) }
+        ensures { (o : OpKeyValue) → (op : Operation) → slice_get (entries self.now.operations) place ≡ Some (o, op) → HasStatus self.now o result }
+    {
+        self.statuses[place]
+    }
+
+    /// The operation of a key, if there is one, with what is read off the plan for it.
+    pub fn reported(&self, key: &OpKey) -> Option<Reported>
+        ensures found { IfSome result (IsReported self.now key.now) }
+        ensures absent { IsNone result → get self.now.operations key.now ≡ None }
+    {
+        match self.place_of(key) {
+            Some(place) => Some(self.reported_at(place)),
+            None => None,
+        }
+    }
+
+    /// The status of the occurrence of a key, if there is one.
+    pub fn occurrence_status(&self, key: &OccKey) -> Option<OccStatus>
+        ensures known { IsSome result → contains_key self.now.occurrences key.now ≡ true }
+        ensures found { IfSome result (HasOccurrenceStatus self.now key.now) }
+        ensures absent { IsNone result → get self.now.occurrences key.now ≡ None }
+    {
+        match self.contents.occurrence_place(key) {
+            Some(place) => Some(occurrence_status_with(self.tallies[place])),
+            None => None,
+        }
+    }
+}

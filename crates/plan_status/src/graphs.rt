@@ -1,0 +1,17 @@
+// The graph of what a loaded plan holds.
+ghost use Rattle.std.specs.Prelude.{IfOk};
+ghost use Rattle.plan_drafts.specs.PlanGraphs.{IsGraphFor};
+
+use super::sound::SoundContents;
+use operation_graph::Graph;
+use plan_drafts::{graph_of, keys};
+use std::alloc::{AllocError, Global};
+
+/// The graph of the operations and pairs of a loaded plan: a node is the index of an operation.
+pub fn graph_for(alloc: Global, contents: &SoundContents) -> Result<Graph, AllocError>
+    ensures { IfOk result (IsGraphFor contents.now) }
+{
+    let keys = keys(alloc, contents.operations())?;
+    let graph = graph_of(alloc, &keys, contents.pairs())?;
+    Ok(graph.unwrap())
+}
