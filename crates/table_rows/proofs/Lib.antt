@@ -1,0 +1,9 @@
+pub mod Rowids
+pub mod Queries
+pub mod Keys
+pub mod Writes
+pub mod Statements
+pub mod Creation
+pub mod Catalogs
+pub mod Stored
+pub mod Inside

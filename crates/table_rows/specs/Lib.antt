@@ -1,0 +1,4 @@
+pub mod Tables
+pub mod Commands
+pub mod Rows
+pub mod Stored
