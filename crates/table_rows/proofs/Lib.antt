@@ -7,3 +7,4 @@ pub mod Creation
 pub mod Catalogs
 pub mod Stored
 pub mod Inside
+pub mod ByRowid

@@ -9,7 +9,7 @@ use Rattle.sqlite.specs.Table.{Table}
 use Rattle.sqlite.specs.Schema.{Schema}
 use Rattle.sqlite.specs.Command.{Command}
 use Rattle.sqlite.specs.Source.TheVariants.{Values}
-use Rattle.sqlite.specs.Rows.{Written, Task, InsertsOr, Upserts, Tries, Judged, TriesEach, shown, nothing, count_of, rowids_for}
+use Rattle.sqlite.specs.Rows.{Written, Task, InsertsOr, Upserts, Tries, Judged, TriesEach, shown, nothing, count_of}
 use Rattle.sqlite.specs.Does.{Does, AtPlace, Tally, OnRows, WritesRows}
 use Rattle.sqlite.specs.Edit.{with_rowid, next_rowid}
 use Rattle.sqlite.specs.Effect.{Database, value_rows}
@@ -18,6 +18,10 @@ use Rattle.sqlite.specs.State.{State, mode_of, Executes}
 use Rattle.sqlite.specs.declared.run.Mode.{Mode}
 use Rattle.sqlite.proofs.Callers.{IsPlain, command_of, statement_of, runs_as}
 use Rattle.sqlite_schema.specs.declared.schema.Keys.TheVariants.{Enforced}
+use Rattle.sqlite_rules.specs.declared.error.Rowids.TheVariants.{Chosen}
+use Rattle.sqlite_value.specs.declared.keys.Order.{Order}
+use Rattle.sqlite_value.specs.Keys.{plain}
+use Rattle.std.specs.List.{range_with_len}
 use Rattle.sqlite_schema.specs.declared.schema.Column.{Column}
 use Rattle.sqlite_schema.specs.declared.command.Upsert.{Upsert}
 use Rattle.sqlite_schema.specs.declared.command.Conflict.TheVariants.{Abort}
@@ -25,32 +29,32 @@ use Rattle.sqlite_rules.specs.Cast.{cast_row}
 use Rattle.sqlite_rules.specs.Lists.{Has}
 use Rattle.sqlite_rules.specs.declared.error.Refusal.{Refusal}
 use Rattle.table_rows.specs.Commands.{upsert, upsert_clauses, pass_clauses, insert_or_pass, delete, key_terms, row_terms, update_terms}
-use Rattle.table_rows.specs.Tables.{placed}
+use Rattle.table_rows.specs.Tables.{bare_table, placed}
 use Rattle.table_rows.specs.Rows.{AreNumbered, same_key, Puts, Passes, Drops, OthersStay, Leaves}
 use Rattle.table_rows.proofs.Writes.{Fits, went, same_value, upserted, passed, dropped}
 
-module _ (schema : Schema) (limit : Option ℕ) (v : Row) (name : List ℕ) (columns : List Column) (key tree : ℕ) (fits : Fits schema Enforced (placed name columns key tree) key) where
+module _ (schema : Schema) (limit : Option ℕ) (params : Row) (name : List ℕ) (columns : List Column) (rowid_column : Option ℕ) (primary : List ℕ) (uniques : List (List ℕ)) (orders : List Order) (tree : ℕ) where
   abbrev t : Table
-  t = placed name columns key tree
+  t = bare_table name columns rowid_column primary uniques orders tree
 
   abbrev task : Task
-  task = record { limit = limit; keys = Enforced; schema = schema; table = t; params = v }
+  task = record { limit = limit; keys = Enforced; schema = schema; table = t; params = params }
 
-  -- a row of values is tried under a new rowid
-  inserted : (db : Trees) (clauses : List Upsert) (terms : List Term) (width : ℕ) (w : Written) → value_rows v width (length terms / width) terms ≡ (Null ∷ v) ∷ [] → cast_row t (Null ∷ v) ≡ Null ∷ v
-      → InsertsOr task Abort clauses (Values terms width) db (Ok w) → (id : ℤ) × (one : Written) × Upserts task Abort (Int id ∷ v) db clauses (Ok one) × (w.trees ≡ one.trees)
-  inserted db clauses terms width w source_is fresh h =
+  -- a row of values is tried, under a new rowid where it gives none
+  pub inserted : (db : Trees) (clauses : List Upsert) (terms : List Term) (width : ℕ) (w : Written) (row : Row) → value_rows params width (length terms / width) terms ≡ row ∷ [] → cast_row t row ≡ row
+      → InsertsOr task Abort clauses (Values terms width) db (Ok w) → (one : Written) × Upserts task Abort (with_rowid Chosen (db tree) row) db clauses (Ok one) × (w.trees ≡ one.trees)
+  inserted db clauses terms width w row source_is fresh h =
       let given = went h in
-      let rows : given.0 ≡ (Null ∷ v) ∷ [] = given.1.1 ∙ ap (λ p. value_rows p width (length terms / width) terms) (append-nil v) ∙ source_is in
+      let rows : given.0 ≡ row ∷ [] = given.1.1 ∙ ap (λ p. value_rows p width (length terms / width) terms) (append-nil params) ∙ source_is in
       let counter = went given.2 in
       let tried = went counter.2 in
       let each = subst (λ rs. TriesEach task Abort clauses rs (count_of counter.0) (nothing db) (Ok tried.0)) rows tried.1 in
       let first = went each in
-      let new = subst (λ row. Tries task Abort clauses (with_rowid (rowids_for t (count_of counter.0)) (db tree) row) db (Ok first.0)) fresh first.1 in
+      let new = subst (λ r. Tries task Abort clauses (with_rowid Chosen (db tree) r) db (Ok first.0)) fresh first.1 in
       let counted = went tried.2 in
       let done : tried.0.0.trees ≡ first.0.trees = ap (λ (p : Written × ℤ). p.0.trees) (same_value first.2) in
       let next : counted.0 ≡ tried.0.0.trees = same_value counted.1 in
-      (next_rowid (db tree), first.0, judged (Int (next_rowid (db tree)) ∷ v) db clauses first.0 new, ap (λ (x : Written). x.trees) (same_value counted.2) ∙ next ∙ done)
+      (first.0, judged (with_rowid Chosen (db tree) row) db clauses first.0 new, ap (λ (x : Written). x.trees) (same_value counted.2) ∙ next ∙ done)
     where
       judged : (new : Row) (db : Trees) (clauses : List Upsert) (one : Written) → Tries task Abort clauses new db (Ok one) → Upserts task Abort new db clauses (Ok one)
       judged new db clauses one (inl stopped) = absurd (let e = stopped.1 in cc)
@@ -64,11 +68,11 @@ module _ (schema : Schema) (limit : Option ℕ) (v : Row) (name : List ℕ) (col
   mode = record { keys = Enforced; in_doubt = false; may_wait = false }
 
   -- a write in a schema that has the table at this place
-  did : (at : ℕ) (listed : slice_get schema.tables at ≡ Some t) (db : Trees) (k : Command) (tally : Tally) (after : Database)
-      → AtPlace (λ x. OnRows (record { limit = limit; keys = Enforced; schema = schema; table = x; params = v }) mode None k db) (slice_get schema.tables at) (Ok (tally, after))
+  pub did : (at : ℕ) (listed : slice_get schema.tables at ≡ Some t) (db : Trees) (k : Command) (tally : Tally) (after : Database)
+      → AtPlace (λ x. OnRows (record { limit = limit; keys = Enforced; schema = schema; table = x; params = params }) mode None k db) (slice_get schema.tables at) (Ok (tally, after))
       → (w : Written) × WritesRows task db k (Ok w) × (after ≡ record { schema = schema; trees = w.trees })
   did at listed db k tally after h =
-      let done = went (subst (λ o. AtPlace (λ x. OnRows (record { limit = limit; keys = Enforced; schema = schema; table = x; params = v }) mode None k db) o (Ok (tally, after))) listed h) in
+      let done = went (subst (λ o. AtPlace (λ x. OnRows (record { limit = limit; keys = Enforced; schema = schema; table = x; params = params }) mode None k db) o (Ok (tally, after))) listed h) in
       let now = ap (λ (p : Tally × Database). p.1) (same_value (went (went done.2).2).2) in
       (done.0, done.1, now)
 
@@ -79,7 +83,7 @@ pub record Takes (name : List ℕ) (columns : List Column) (key tree : ℕ) (v :
   pub stays : (n : ℤ) → cast_row (placed name columns key tree) (Int n ∷ v) ≡ Int n ∷ v
 
 module _ (schema : Schema) (name : List ℕ) (columns : List Column) (key tree at : ℕ) (fits : Fits schema Enforced (placed name columns key tree) key) (listed : slice_get schema.tables at ≡ Some (placed name columns key tree))
-    (sql : List ℕ) (v : Row) (old new : State) (has : old.now.schema ≡ schema) (plain : IsPlain (understood schema sql)) (count : ℕ) (numbered : AreNumbered (old.now.trees tree)) where
+    (sql : List ℕ) (v : Row) (old new : State) (has : old.now.schema ≡ schema) (is_plain : IsPlain (understood schema sql)) (count : ℕ) (numbered : AreNumbered (old.now.trees tree)) where
   pub upserts : command_of (understood schema sql) ≡ upsert at tree (length columns) key → Takes name columns key tree v
       → ((id : ℤ) (r : Row) → same_key key r (Null ∷ v) ≡ true → Has (old.now.trees tree) r
       → (column (v ++ rowid r ∷ shown (placed name columns key tree) (Int id ∷ v)) (length columns) ≡ rowid r)
@@ -87,12 +91,12 @@ module _ (schema : Schema) (name : List ℕ) (columns : List Column) (key tree a
       → Executes sql v old new (Ok count) → Puts key v (old.now.trees tree) (new.now.trees tree) × Leaves schema tree old.now new.now
   upserts is takes update h =
       let k = upsert at tree (length columns) key in
-      let w = runs_as sql v old new schema has k is plain count h in
+      let w = runs_as sql v old new schema has k is is_plain count h in
       let made = subst (λ s. Does old.step_limit (mode_of old) v (record old.now { schema = s }) (statement_of sql (understood schema sql)) None k (Ok (w.tally, new.now))) has w.changed in
-      let it = did schema old.step_limit v name columns key tree fits at listed old.now.trees k w.tally new.now made in
-      let one = inserted schema old.step_limit v name columns key tree fits old.now.trees (upsert_clauses tree (length columns) key) (row_terms (length columns)) (length columns + 1) it.0 takes.source takes.fresh it.1 in
-      let put = upserted schema Enforced old.step_limit v (placed name columns key tree) key fits v takes.stays old.now.trees numbered (length columns) (update_terms (length columns) key) (λ id r there same. update id r same there) one.0 one.1 one.2 in
-      let trees : new.now.trees ≡ one.1.trees = ap (λ (d : Database). d.trees) it.2 ∙ one.3 in (
+      let it = did schema old.step_limit v name columns None (range_with_len 1 key) (range_with_len 1 key ∷ []) (plain ∷ []) tree at listed old.now.trees k w.tally new.now made in
+      let one = inserted schema old.step_limit v name columns None (range_with_len 1 key) (range_with_len 1 key ∷ []) (plain ∷ []) tree old.now.trees (upsert_clauses tree (length columns) key) (row_terms (length columns)) (length columns + 1) it.0 (Null ∷ v) takes.source takes.fresh it.1 in
+      let put = upserted schema Enforced old.step_limit v (placed name columns key tree) key fits v takes.stays old.now.trees numbered (length columns) (update_terms (length columns) key) (λ id r there same. update id r same there) (next_rowid (old.now.trees tree)) one.0 one.1 in
+      let trees : new.now.trees ≡ one.0.trees = ap (λ (d : Database). d.trees) it.2 ∙ one.2 in (
         subst (λ (x : Trees). Puts key v (old.now.trees tree) (x tree)) (sym trees) put.0,
         record { schema_is = ap (λ (d : Database). d.schema) it.2; others = subst (OthersStay schema tree old.now.trees) (sym trees) put.1 },
       )
@@ -101,12 +105,12 @@ module _ (schema : Schema) (name : List ℕ) (columns : List Column) (key tree a
       → Passes key v (old.now.trees tree) (new.now.trees tree) × Leaves schema tree old.now new.now
   passes is takes h =
       let k = insert_or_pass at (length columns) key in
-      let w = runs_as sql v old new schema has k is plain count h in
+      let w = runs_as sql v old new schema has k is is_plain count h in
       let made = subst (λ s. Does old.step_limit (mode_of old) v (record old.now { schema = s }) (statement_of sql (understood schema sql)) None k (Ok (w.tally, new.now))) has w.changed in
-      let it = did schema old.step_limit v name columns key tree fits at listed old.now.trees k w.tally new.now made in
-      let one = inserted schema old.step_limit v name columns key tree fits old.now.trees (pass_clauses key) (row_terms (length columns)) (length columns + 1) it.0 takes.source takes.fresh it.1 in
-      let put = passed schema Enforced old.step_limit v (placed name columns key tree) key fits v takes.stays old.now.trees numbered one.0 one.1 one.2 in
-      let trees : new.now.trees ≡ one.1.trees = ap (λ (d : Database). d.trees) it.2 ∙ one.3 in (
+      let it = did schema old.step_limit v name columns None (range_with_len 1 key) (range_with_len 1 key ∷ []) (plain ∷ []) tree at listed old.now.trees k w.tally new.now made in
+      let one = inserted schema old.step_limit v name columns None (range_with_len 1 key) (range_with_len 1 key ∷ []) (plain ∷ []) tree old.now.trees (pass_clauses key) (row_terms (length columns)) (length columns + 1) it.0 (Null ∷ v) takes.source takes.fresh it.1 in
+      let put = passed schema Enforced old.step_limit v (placed name columns key tree) key fits v takes.stays old.now.trees numbered (next_rowid (old.now.trees tree)) one.0 one.1 in
+      let trees : new.now.trees ≡ one.0.trees = ap (λ (d : Database). d.trees) it.2 ∙ one.2 in (
         subst (λ (x : Trees). Passes key v (old.now.trees tree) (x tree)) (sym trees) put.0,
         record { schema_is = ap (λ (d : Database). d.schema) it.2; others = subst (OthersStay schema tree old.now.trees) (sym trees) put.1 },
       )
@@ -116,9 +120,9 @@ module _ (schema : Schema) (name : List ℕ) (columns : List Column) (key tree a
       → Drops (λ r. list_all (holds (v ∷ r ∷ [])) (key_terms 0 key)) (old.now.trees tree) (new.now.trees tree) × Leaves schema tree old.now new.now
   drops is h =
       let k = delete at tree key in
-      let w = runs_as sql v old new schema has k is plain count h in
+      let w = runs_as sql v old new schema has k is is_plain count h in
       let made = subst (λ s. Does old.step_limit (mode_of old) v (record old.now { schema = s }) (statement_of sql (understood schema sql)) None k (Ok (w.tally, new.now))) has w.changed in
-      let it = did schema old.step_limit v name columns key tree fits at listed old.now.trees k w.tally new.now made in
+      let it = did schema old.step_limit v name columns None (range_with_len 1 key) (range_with_len 1 key ∷ []) (plain ∷ []) tree at listed old.now.trees k w.tally new.now made in
       let gone = dropped schema Enforced old.step_limit v (placed name columns key tree) key fits old.now.trees (key_terms 0 key) it.0 numbered it.1 in
       let trees : new.now.trees ≡ it.0.trees = ap (λ (d : Database). d.trees) it.2 in (
         subst (λ (x : Trees). Drops (λ r. list_all (holds (v ∷ r ∷ [])) (key_terms 0 key)) (old.now.trees tree) (x tree)) (sym trees) gone.0,

@@ -36,7 +36,8 @@ either : (b : Bool) (x : Value) → cond b x x ≡ x
 either true x = refl
 either false x = refl
 
-cast_null : cast kind.Integer Null ≡ Null
+-- NULL stands where the rowid is the first column
+pub cast_null : cast kind.Integer Null ≡ Null
 unfolding unary
 cast_null = either _ Null
 

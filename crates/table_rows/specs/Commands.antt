@@ -68,6 +68,21 @@ upsert at tree width key = InsertOr at Abort (Values (row_terms width) (width + 
 abbrev pub insert_or_pass : ℕ → ℕ → ℕ → Command
 insert_or_pass at width key = InsertOr at Abort (Values (row_terms width) (width + 1)) (pass_clauses key)
 
+-- INSERT of one row whose first value is its rowid, with ON CONFLICT on it DO UPDATE: NULL stands in the first column
+abbrev pub row_terms_by_rowid : ℕ → List Term
+row_terms_by_rowid width = col 0 0 ∷ lit Null ∷ map (col 0) (range_with_len 1 (width - 1))
+
+-- the old rowid, and then each column behind the first as it would have been inserted
+abbrev pub update_terms_by_rowid : ℕ → List Term
+update_terms_by_rowid width = col 1 0 ∷ col 1 0 ∷ lit Null ∷ map (col 0) (range_with_len (width + 3) (width - 1))
+
+-- where a row has the rowid of the new one, it takes the new one's columns
+abbrev pub clauses_by_rowid : ℕ → ℕ → List Upsert
+clauses_by_rowid tree width = record { target = Some (0 ∷ []); update = Some (program (simple tree (equal_at 0 width ∷ []) (update_terms_by_rowid width))) } ∷ []
+
+abbrev pub upsert_by_rowid : ℕ → ℕ → ℕ → Command
+upsert_by_rowid at tree width = InsertOr at Abort (Values (row_terms_by_rowid width) (width + 1)) (clauses_by_rowid tree width)
+
 -- ---- DELETE
 
 -- the columns of the key, from one on, equal the parameters
@@ -88,3 +103,7 @@ by_rowid = (col 1 0, ascending Binary) ∷ []
 -- SELECT of all rows, each with its rowid first, in the order of the rowids
 abbrev pub select : ℕ → List (List ℕ) → Command
 select tree names = Select (program (ordered tree [] (map (col 1) (range_with_len 0 (length names))) by_rowid)) names
+
+-- the same where the first column is the rowid
+abbrev pub select_by_rowid : ℕ → List (List ℕ) → Command
+select_by_rowid tree names = Select (program (ordered tree [] (col 1 0 ∷ col 1 0 ∷ map (col 1) (range_with_len 2 (length names - 2))) by_rowid)) names

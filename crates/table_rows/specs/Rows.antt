@@ -1,5 +1,5 @@
 -- A table as a set of rows, and what INSERT and DELETE make of it.
-use Rattle.std.specs.Prelude.{◌≡◌, ◌≢◌, ◌⊎◌, ℕ, ℤ, Bool, true, false, List, ◌∷◌, IsTrue}
+use Rattle.std.specs.Prelude.{◌≡◌, ◌≢◌, ◌⊎◌, ℕ, ℤ, Bool, true, false, List, [], ◌∷◌, IsTrue}
 use Rattle.std.specs.List.{AllByRecursion, range_with_len}
 use Rattle.sqlite.specs.Effect.{Database}
 use Rattle.sqlite.specs.Order.{Row}
@@ -51,3 +51,8 @@ OthersStay schema tree before after = AllByRecursion (λ t. t.tree ≢ tree → 
 pub record Leaves (schema : Schema) (tree : ℕ) (before after : Database) : Type 0 where
   pub schema_is : after.schema ≡ schema
   pub others : OthersStay schema tree before.trees after.trees
+
+-- the database has this schema, and no table has a row
+pub record IsEmpty (schema : Schema) (db : Database) : Type 0 where
+  pub schema_is : db.schema ≡ schema
+  pub empty : AllByRecursion (λ t. db.trees t.tree ≡ []) schema.tables

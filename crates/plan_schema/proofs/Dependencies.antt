@@ -1,0 +1,52 @@
+-- The table `dependency` after each text.
+use Rattle.std.proofs.Common.{ℕ, ◌∷◌, [], inl, inr, refl, arith, Result, OnOk}
+use Rattle.sqlite.specs.State.{State, ExecutesInside}
+use Rattle.sqlite.specs.declared.error.Error.{Error}
+use Rattle.sqlite.specs.declared.types.Value.TheVariants.{Text}
+use Rattle.sqlite_schema.specs.declared.schema.Keys.TheVariants.{Enforced}
+use Rattle.table_rows.specs.Rows.{IsEmpty}
+use Rattle.table_rows.specs.Stored.{AreRowsOf}
+use Rattle.table_rows.specs.Tables.{placed}
+use Rattle.table_rows.proofs.Creation.{created_empty}
+use Rattle.table_rows.proofs.Inside.{ran_inside}
+use Rattle.table_rows.proofs.Stored.{cast_int, or_no, value_passed}
+use Rattle.table_rows.proofs.Writes.{Fits}
+use Rattle.plan_schema.specs.Schema.{dependency, schema_6, schema_7, schema_9}
+use Rattle.plan_schema.specs.Stored.{StoredDependency, dependency_row, with_dependency, Turns}
+use Rattle.plan_schema.specs.declared.TheConstants.{CREATE_DEPENDENCY, PUT_DEPENDENCY}
+use Rattle.plan_schema.proofs.DependencyTexts.{create_is, create_plain, put_is, put_plain}
+use Rattle.plan_schema.proofs.Others.{kept}
+
+fits : Fits schema_9 Enforced (placed dependency.name dependency.columns 6 11) 6
+fits = record { low = refl; listed = inr (inr (inr (inr (inr (inr (inl refl)))))); still = λ olds news. refl; met = λ new r. or_no _; index = (_, inr (inr (inr (inr (inr (inl refl))))), refl, refl, refl); blind = λ x y r v. refl }
+
+rows : AreRowsOf dependency.name dependency.columns 6 11 dependency_row
+rows = record {
+  cast = λ x i. Text x.papp ∷ cast_int x.pia i ∷ cast_int x.pnum i ∷ Text x.sapp ∷ cast_int x.sia i ∷ cast_int x.snum i ∷ [];
+  exact = λ x. (tt, (tt, (tt, (tt, (tt, (tt, tt))))));
+  inserted = λ x. refl;
+  found = λ x id more. refl;
+  updated = λ x y id n. refl;
+}
+
+-- a row is put in
+pub dependency_put : (old new : State) (x : StoredDependency) (r : Result ℕ Error) → ExecutesInside 0 PUT_DEPENDENCY.now (dependency_row x) old new r → OnOk r (Turns (with_dependency x) old.now new.now)
+dependency_put old new x r = ran_inside old new PUT_DEPENDENCY.now (dependency_row x) r (Turns (with_dependency x) old.now new.now) (λ count ran held was.
+    let it = value_passed schema_9 dependency.name dependency.columns 6 11 6 fits refl dependency_row rows PUT_DEPENDENCY.now put_plain put_is (λ x y same. same) old new x held.dependencies count was.schema_is was.dependencies ran in
+    let others = kept 11 old.now new.now held it.1 was in
+    record {
+      schema_is = it.1.schema_is;
+      metas = others.metas (λ e. omega (arith, e));
+      workstations = others.workstations (λ e. omega (arith, e));
+      intervals = others.intervals (λ e. omega (arith, e));
+      resources = others.resources (λ e. omega (arith, e));
+      occurrences = others.occurrences (λ e. omega (arith, e));
+      operations = others.operations (λ e. omega (arith, e));
+      dependencies = it.0;
+      needs = others.needs (λ e. omega (arith, e));
+      receipts = others.receipts (λ e. omega (arith, e));
+    })
+
+-- the table is made
+pub dependency_made : (old new : State) (r : Result ℕ Error) → ExecutesInside 0 CREATE_DEPENDENCY.now [] old new r → OnOk r (IsEmpty schema_6 old.now → IsEmpty schema_7 new.now)
+dependency_made old new r = ran_inside old new CREATE_DEPENDENCY.now [] r (IsEmpty schema_6 old.now → IsEmpty schema_7 new.now) (λ count ran was. created_empty schema_6 CREATE_DEPENDENCY.now dependency old new count create_is create_plain refl was ran)

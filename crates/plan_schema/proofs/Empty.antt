@@ -1,0 +1,25 @@
+-- A database in which the tables were made holds nothing.
+use Rattle.std.proofs.Common.{◌≡◌, List, [], sym, subst}
+use Rattle.sqlite.specs.Effect.{Database}
+use Rattle.sqlite.specs.Order.{Row}
+use Rattle.table_rows.specs.Rows.{IsEmpty}
+use Rattle.table_rows.specs.Stored.{Holds, HoldsByRowid}
+use Rattle.plan_schema.specs.Schema.{schema_9}
+use Rattle.plan_schema.specs.Stored.{Stores, none_held, meta_row, workstation_row, interval_row, resource_row, occurrence_row, operation_row, dependency_row, need_row, receipt_row}
+
+none : {X : Type 0} (row : X → Row) (rows : List Row) → rows ≡ [] → Holds row rows []
+none row rows empty = subst (λ rows. Holds row rows []) (sym empty) (record { numbered = (tt, tt); sound = λ r there. absurd there; complete = λ x there. absurd there })
+
+pub stores_none : (db : Database) → IsEmpty schema_9 db → Stores db none_held
+stores_none db h = record {
+  schema_is = h.schema_is;
+  metas = subst (λ rows. HoldsByRowid meta_row rows []) (sym h.empty.0) (record { numbered = (tt, tt); sound = λ r there. absurd there; complete = λ x there. absurd there });
+  workstations = none workstation_row (db.trees 1) h.empty.1.0;
+  intervals = none interval_row (db.trees 3) h.empty.1.1.0;
+  resources = none resource_row (db.trees 5) h.empty.1.1.1.0;
+  occurrences = none occurrence_row (db.trees 7) h.empty.1.1.1.1.0;
+  operations = none operation_row (db.trees 9) h.empty.1.1.1.1.1.0;
+  dependencies = none dependency_row (db.trees 11) h.empty.1.1.1.1.1.1.0;
+  needs = none need_row (db.trees 13) h.empty.1.1.1.1.1.1.1.0;
+  receipts = none receipt_row (db.trees 15) h.empty.1.1.1.1.1.1.1.1.0;
+}

@@ -1,0 +1,43 @@
+-- The table `meta` after each text.
+use Rattle.std.proofs.Common.{ℕ, ◌∷◌, [], refl, arith, Result, OnOk}
+use Rattle.sqlite.specs.State.{State, ExecutesInside}
+use Rattle.sqlite.specs.declared.error.Error.{Error}
+use Rattle.sqlite.specs.declared.types.Value.TheVariants.{Null, Int}
+use Rattle.table_rows.specs.Rows.{IsEmpty}
+use Rattle.table_rows.specs.Tables.{no_schema, placed_by_rowid}
+use Rattle.table_rows.proofs.ByRowid.{FitsByRowid, put_at, holds_put_at}
+use Rattle.table_rows.proofs.Creation.{created_empty}
+use Rattle.table_rows.proofs.Inside.{ran_inside}
+use Rattle.table_rows.proofs.Stored.{cast_int, cast_null, or_no}
+use Rattle.plan_schema.specs.Schema.{meta, schema_1, schema_9}
+use Rattle.plan_schema.specs.Stored.{StoredMeta, meta_row, meta_values, with_meta, Turns}
+use Rattle.plan_schema.specs.declared.TheConstants.{CREATE_META, PUT_META}
+use Rattle.plan_schema.proofs.MetaTexts.{create_is, create_plain, put_is, put_plain}
+use Rattle.plan_schema.proofs.Others.{kept}
+
+fits : FitsByRowid schema_9 (placed_by_rowid meta.name meta.columns 0)
+fits = record { low = refl; still = λ olds news. refl; met = λ new r. or_no _ }
+
+-- a row is put in
+pub meta_put : (old new : State) (x : StoredMeta) (r : Result ℕ Error) → ExecutesInside 0 PUT_META.now (meta_values x) old new r → OnOk r (Turns (with_meta x) old.now new.now)
+meta_put old new x r = ran_inside old new PUT_META.now (meta_values x) r (Turns (with_meta x) old.now new.now) (λ count ran held was.
+    let v = Null ∷ Int x.version ∷ Int x.loaded ∷ Int x.clock ∷ [] in
+    let it = put_at schema_9 meta.name meta.columns 0 0 fits refl PUT_META.now put_plain (meta_values x) x.id v refl (λ n i. cast_int n i ∷ cast_null i ∷ cast_int x.version i ∷ cast_int x.loaded i ∷ cast_int x.clock i ∷ []) (λ y more. refl) (λ y r. refl)
+    put_is old new count was.schema_is was.metas.numbered ran in
+    let others = kept 0 old.now new.now held it.1 was in
+    record {
+      schema_is = it.1.schema_is;
+      metas = holds_put_at (λ y. y.id) meta_row (old.now.trees 0) (new.now.trees 0) x v held.metas refl was.metas it.0;
+      workstations = others.workstations (λ e. omega (arith, e));
+      intervals = others.intervals (λ e. omega (arith, e));
+      resources = others.resources (λ e. omega (arith, e));
+      occurrences = others.occurrences (λ e. omega (arith, e));
+      operations = others.operations (λ e. omega (arith, e));
+      dependencies = others.dependencies (λ e. omega (arith, e));
+      needs = others.needs (λ e. omega (arith, e));
+      receipts = others.receipts (λ e. omega (arith, e));
+    })
+
+-- the table is made
+pub meta_made : (old new : State) (r : Result ℕ Error) → ExecutesInside 0 CREATE_META.now [] old new r → OnOk r (IsEmpty no_schema old.now → IsEmpty schema_1 new.now)
+meta_made old new r = ran_inside old new CREATE_META.now [] r (IsEmpty no_schema old.now → IsEmpty schema_1 new.now) (λ count ran was. created_empty no_schema CREATE_META.now meta old new count create_is create_plain refl was ran)

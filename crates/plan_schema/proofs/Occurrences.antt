@@ -1,0 +1,52 @@
+-- The table `occurrence` after each text.
+use Rattle.std.proofs.Common.{ℕ, ◌∷◌, [], inl, inr, refl, arith, Result, OnOk}
+use Rattle.sqlite.specs.State.{State, ExecutesInside}
+use Rattle.sqlite.specs.declared.error.Error.{Error}
+use Rattle.sqlite.specs.declared.types.Value.TheVariants.{Text}
+use Rattle.sqlite_schema.specs.declared.schema.Keys.TheVariants.{Enforced}
+use Rattle.table_rows.specs.Rows.{IsEmpty}
+use Rattle.table_rows.specs.Stored.{AreRowsOf}
+use Rattle.table_rows.specs.Tables.{placed}
+use Rattle.table_rows.proofs.Creation.{created_empty}
+use Rattle.table_rows.proofs.Inside.{ran_inside}
+use Rattle.table_rows.proofs.Stored.{cast_int, or_no, value_put}
+use Rattle.table_rows.proofs.Writes.{Fits}
+use Rattle.plan_schema.specs.Schema.{occurrence, schema_4, schema_5, schema_9}
+use Rattle.plan_schema.specs.Stored.{StoredOccurrence, occurrence_row, with_occurrence, Turns}
+use Rattle.plan_schema.specs.declared.TheConstants.{CREATE_OCCURRENCE, PUT_OCCURRENCE}
+use Rattle.plan_schema.proofs.OccurrenceTexts.{create_is, create_plain, put_is, put_plain}
+use Rattle.plan_schema.proofs.Others.{kept}
+
+fits : Fits schema_9 Enforced (placed occurrence.name occurrence.columns 2 7) 2
+fits = record { low = refl; listed = inr (inr (inr (inr (inl refl)))); still = λ olds news. refl; met = λ new r. or_no _; index = (_, inr (inr (inr (inl refl))), refl, refl, refl); blind = λ x y r v. refl }
+
+rows : AreRowsOf occurrence.name occurrence.columns 2 7 occurrence_row
+rows = record {
+  cast = λ x i. Text x.app ∷ cast_int x.ia i ∷ cast_int x.priority i ∷ cast_int x.deadline i ∷ Text x.status ∷ [];
+  exact = λ x. (tt, (tt, tt));
+  inserted = λ x. refl;
+  found = λ x id more. refl;
+  updated = λ x y id n. refl;
+}
+
+-- a row is put in
+pub occurrence_put : (old new : State) (x : StoredOccurrence) (r : Result ℕ Error) → ExecutesInside 0 PUT_OCCURRENCE.now (occurrence_row x) old new r → OnOk r (Turns (with_occurrence x) old.now new.now)
+occurrence_put old new x r = ran_inside old new PUT_OCCURRENCE.now (occurrence_row x) r (Turns (with_occurrence x) old.now new.now) (λ count ran held was.
+    let it = value_put schema_9 occurrence.name occurrence.columns 2 7 4 fits refl occurrence_row rows PUT_OCCURRENCE.now put_plain put_is old new x held.occurrences count was.schema_is was.occurrences ran in
+    let others = kept 7 old.now new.now held it.1 was in
+    record {
+      schema_is = it.1.schema_is;
+      metas = others.metas (λ e. omega (arith, e));
+      workstations = others.workstations (λ e. omega (arith, e));
+      intervals = others.intervals (λ e. omega (arith, e));
+      resources = others.resources (λ e. omega (arith, e));
+      occurrences = it.0;
+      operations = others.operations (λ e. omega (arith, e));
+      dependencies = others.dependencies (λ e. omega (arith, e));
+      needs = others.needs (λ e. omega (arith, e));
+      receipts = others.receipts (λ e. omega (arith, e));
+    })
+
+-- the table is made
+pub occurrence_made : (old new : State) (r : Result ℕ Error) → ExecutesInside 0 CREATE_OCCURRENCE.now [] old new r → OnOk r (IsEmpty schema_4 old.now → IsEmpty schema_5 new.now)
+occurrence_made old new r = ran_inside old new CREATE_OCCURRENCE.now [] r (IsEmpty schema_4 old.now → IsEmpty schema_5 new.now) (λ count ran was. created_empty schema_4 CREATE_OCCURRENCE.now occurrence old new count create_is create_plain refl was ran)
