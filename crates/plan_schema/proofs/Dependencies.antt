@@ -1,5 +1,6 @@
 -- The table `dependency` after each text.
-use Rattle.std.proofs.Common.{ℕ, ◌∷◌, [], inl, inr, refl, arith, Result, OnOk}
+use Rattle.std.proofs.Common.{◌≡◌, ℕ, ◌∷◌, [], inl, inr, refl, arith, Ok, Result, OnOk}
+use Rattle.sqlite.specs.Effect.{IsDatabase}
 use Rattle.sqlite.specs.State.{State, ExecutesInside}
 use Rattle.sqlite.specs.declared.error.Error.{Error}
 use Rattle.sqlite.specs.declared.types.Value.TheVariants.{Text}
@@ -35,6 +36,7 @@ dependency_put old new x r = ran_inside old new PUT_DEPENDENCY.now (dependency_r
     let it = value_passed schema_9 dependency.name dependency.columns 6 11 6 fits refl dependency_row rows PUT_DEPENDENCY.now put_plain put_is (λ x y same. same) old new x held.dependencies count was.schema_is was.dependencies ran in
     let others = kept 11 old.now new.now held it.1 was in
     record {
+      sound = it.1.sound;
       schema_is = it.1.schema_is;
       metas = others.metas (λ e. omega (arith, e));
       workstations = others.workstations (λ e. omega (arith, e));
@@ -48,5 +50,5 @@ dependency_put old new x r = ran_inside old new PUT_DEPENDENCY.now (dependency_r
     })
 
 -- the table is made
-pub dependency_made : (old new : State) (r : Result ℕ Error) → ExecutesInside 0 CREATE_DEPENDENCY.now [] old new r → OnOk r (IsEmpty schema_6 old.now → IsEmpty schema_7 new.now)
-dependency_made old new r = ran_inside old new CREATE_DEPENDENCY.now [] r (IsEmpty schema_6 old.now → IsEmpty schema_7 new.now) (λ count ran was. created_empty schema_6 CREATE_DEPENDENCY.now dependency old new count create_is create_plain refl was ran)
+pub dependency_made : (old new : State) (r : Result ℕ Error) → ExecutesInside 0 CREATE_DEPENDENCY.now [] old new r → OnOk r (IsEmpty schema_6 old.now → IsEmpty schema_7 new.now × IsDatabase new.now)
+dependency_made old new r = ran_inside old new CREATE_DEPENDENCY.now [] r (IsEmpty schema_6 old.now → IsEmpty schema_7 new.now × IsDatabase new.now) (λ count ran was. created_empty schema_6 CREATE_DEPENDENCY.now dependency old new count create_is create_plain refl was ran)

@@ -1,6 +1,6 @@
 -- A database in which the tables were made holds nothing.
 use Rattle.std.proofs.Common.{◌≡◌, List, [], sym, subst}
-use Rattle.sqlite.specs.Effect.{Database}
+use Rattle.sqlite.specs.Effect.{Database, IsDatabase}
 use Rattle.sqlite.specs.Order.{Row}
 use Rattle.table_rows.specs.Rows.{IsEmpty}
 use Rattle.table_rows.specs.Stored.{Holds, HoldsByRowid}
@@ -10,8 +10,9 @@ use Rattle.plan_schema.specs.Stored.{Stores, none_held, meta_row, workstation_ro
 none : {X : Type 0} (row : X → Row) (rows : List Row) → rows ≡ [] → Holds row rows []
 none row rows empty = subst (λ rows. Holds row rows []) (sym empty) (record { numbered = (tt, tt); sound = λ r there. absurd there; complete = λ x there. absurd there })
 
-pub stores_none : (db : Database) → IsEmpty schema_9 db → Stores db none_held
-stores_none db h = record {
+pub stores_none : (db : Database) → IsEmpty schema_9 db → IsDatabase db → Stores db none_held
+stores_none db h sound = record {
+  sound = sound;
   schema_is = h.schema_is;
   metas = subst (λ rows. HoldsByRowid meta_row rows []) (sym h.empty.0) (record { numbered = (tt, tt); sound = λ r there. absurd there; complete = λ x there. absurd there });
   workstations = none workstation_row (db.trees 1) h.empty.1.0;

@@ -1,5 +1,6 @@
 -- The table `interval` after each text.
-use Rattle.std.proofs.Common.{ℕ, ◌∷◌, [], inl, inr, refl, arith, Result, OnOk, ℤ, List}
+use Rattle.std.proofs.Common.{◌≡◌, ℕ, ◌∷◌, [], inl, inr, refl, arith, Ok, Result, OnOk, ℤ, List}
+use Rattle.sqlite.specs.Effect.{IsDatabase}
 use Rattle.sqlite.specs.State.{State, ExecutesInside}
 use Rattle.sqlite.specs.declared.error.Error.{Error}
 use Rattle.sqlite.specs.declared.types.Value.TheVariants.{Text, Int}
@@ -35,6 +36,7 @@ interval_put old new x r = ran_inside old new PUT_INTERVAL.now (interval_row x) 
     let it = value_put schema_9 interval.name interval.columns 2 3 2 fits refl interval_row rows PUT_INTERVAL.now put_plain put_is old new x held.intervals count was.schema_is was.intervals ran in
     let others = kept 3 old.now new.now held it.1 was in
     record {
+      sound = it.1.sound;
       schema_is = it.1.schema_is;
       metas = others.metas (λ e. omega (arith, e));
       workstations = others.workstations (λ e. omega (arith, e));
@@ -53,6 +55,7 @@ interval_dropped old new ws start r = ran_inside old new DROP_INTERVAL.now (Text
     let it = value_dropped schema_9 interval.name interval.columns 2 3 2 fits refl interval_row rows DROP_INTERVAL.now drop_plain drop_is old new (Text ws ∷ Int start ∷ []) held.intervals count was.schema_is was.intervals ran in
     let others = kept 3 old.now new.now held it.1 was in
     record {
+      sound = it.1.sound;
       schema_is = it.1.schema_is;
       metas = others.metas (λ e. omega (arith, e));
       workstations = others.workstations (λ e. omega (arith, e));
@@ -66,5 +69,5 @@ interval_dropped old new ws start r = ran_inside old new DROP_INTERVAL.now (Text
     })
 
 -- the table is made
-pub interval_made : (old new : State) (r : Result ℕ Error) → ExecutesInside 0 CREATE_INTERVAL.now [] old new r → OnOk r (IsEmpty schema_2 old.now → IsEmpty schema_3 new.now)
-interval_made old new r = ran_inside old new CREATE_INTERVAL.now [] r (IsEmpty schema_2 old.now → IsEmpty schema_3 new.now) (λ count ran was. created_empty schema_2 CREATE_INTERVAL.now interval old new count create_is create_plain refl was ran)
+pub interval_made : (old new : State) (r : Result ℕ Error) → ExecutesInside 0 CREATE_INTERVAL.now [] old new r → OnOk r (IsEmpty schema_2 old.now → IsEmpty schema_3 new.now × IsDatabase new.now)
+interval_made old new r = ran_inside old new CREATE_INTERVAL.now [] r (IsEmpty schema_2 old.now → IsEmpty schema_3 new.now × IsDatabase new.now) (λ count ran was. created_empty schema_2 CREATE_INTERVAL.now interval old new count create_is create_plain refl was ran)

@@ -1,5 +1,6 @@
 -- The table `meta` after each text.
-use Rattle.std.proofs.Common.{ℕ, ◌∷◌, [], refl, arith, Result, OnOk}
+use Rattle.std.proofs.Common.{◌≡◌, ℕ, ◌∷◌, [], refl, arith, Ok, Result, OnOk}
+use Rattle.sqlite.specs.Effect.{IsDatabase}
 use Rattle.sqlite.specs.State.{State, ExecutesInside}
 use Rattle.sqlite.specs.declared.error.Error.{Error}
 use Rattle.sqlite.specs.declared.types.Value.TheVariants.{Null, Int}
@@ -26,6 +27,7 @@ meta_put old new x r = ran_inside old new PUT_META.now (meta_values x) r (Turns 
     put_is old new count was.schema_is was.metas.numbered ran in
     let others = kept 0 old.now new.now held it.1 was in
     record {
+      sound = it.1.sound;
       schema_is = it.1.schema_is;
       metas = holds_put_at (λ y. y.id) meta_row (old.now.trees 0) (new.now.trees 0) x v held.metas refl was.metas it.0;
       workstations = others.workstations (λ e. omega (arith, e));
@@ -39,5 +41,5 @@ meta_put old new x r = ran_inside old new PUT_META.now (meta_values x) r (Turns 
     })
 
 -- the table is made
-pub meta_made : (old new : State) (r : Result ℕ Error) → ExecutesInside 0 CREATE_META.now [] old new r → OnOk r (IsEmpty no_schema old.now → IsEmpty schema_1 new.now)
-meta_made old new r = ran_inside old new CREATE_META.now [] r (IsEmpty no_schema old.now → IsEmpty schema_1 new.now) (λ count ran was. created_empty no_schema CREATE_META.now meta old new count create_is create_plain refl was ran)
+pub meta_made : (old new : State) (r : Result ℕ Error) → ExecutesInside 0 CREATE_META.now [] old new r → OnOk r (IsEmpty no_schema old.now → IsEmpty schema_1 new.now × IsDatabase new.now)
+meta_made old new r = ran_inside old new CREATE_META.now [] r (IsEmpty no_schema old.now → IsEmpty schema_1 new.now × IsDatabase new.now) (λ count ran was. created_empty no_schema CREATE_META.now meta old new count create_is create_plain refl was ran)

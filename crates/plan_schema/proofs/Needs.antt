@@ -1,5 +1,6 @@
 -- The table `need` after each text.
-use Rattle.std.proofs.Common.{ℕ, ◌∷◌, [], inl, inr, refl, arith, Result, OnOk}
+use Rattle.std.proofs.Common.{◌≡◌, ℕ, ◌∷◌, [], inl, inr, refl, arith, Ok, Result, OnOk}
+use Rattle.sqlite.specs.Effect.{IsDatabase}
 use Rattle.sqlite.specs.State.{State, ExecutesInside}
 use Rattle.sqlite.specs.declared.error.Error.{Error}
 use Rattle.sqlite.specs.declared.types.Value.TheVariants.{Text}
@@ -35,6 +36,7 @@ need_put old new x r = ran_inside old new PUT_NEED.now (need_row x) r (Turns (wi
     let it = value_put schema_9 need.name need.columns 4 13 7 fits refl need_row rows PUT_NEED.now put_plain put_is old new x held.needs count was.schema_is was.needs ran in
     let others = kept 13 old.now new.now held it.1 was in
     record {
+      sound = it.1.sound;
       schema_is = it.1.schema_is;
       metas = others.metas (λ e. omega (arith, e));
       workstations = others.workstations (λ e. omega (arith, e));
@@ -48,5 +50,5 @@ need_put old new x r = ran_inside old new PUT_NEED.now (need_row x) r (Turns (wi
     })
 
 -- the table is made
-pub need_made : (old new : State) (r : Result ℕ Error) → ExecutesInside 0 CREATE_NEED.now [] old new r → OnOk r (IsEmpty schema_7 old.now → IsEmpty schema_8 new.now)
-need_made old new r = ran_inside old new CREATE_NEED.now [] r (IsEmpty schema_7 old.now → IsEmpty schema_8 new.now) (λ count ran was. created_empty schema_7 CREATE_NEED.now need old new count create_is create_plain refl was ran)
+pub need_made : (old new : State) (r : Result ℕ Error) → ExecutesInside 0 CREATE_NEED.now [] old new r → OnOk r (IsEmpty schema_7 old.now → IsEmpty schema_8 new.now × IsDatabase new.now)
+need_made old new r = ran_inside old new CREATE_NEED.now [] r (IsEmpty schema_7 old.now → IsEmpty schema_8 new.now × IsDatabase new.now) (λ count ran was. created_empty schema_7 CREATE_NEED.now need old new count create_is create_plain refl was ran)

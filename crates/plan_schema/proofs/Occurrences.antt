@@ -1,5 +1,6 @@
 -- The table `occurrence` after each text.
-use Rattle.std.proofs.Common.{ℕ, ◌∷◌, [], inl, inr, refl, arith, Result, OnOk}
+use Rattle.std.proofs.Common.{◌≡◌, ℕ, ◌∷◌, [], inl, inr, refl, arith, Ok, Result, OnOk}
+use Rattle.sqlite.specs.Effect.{IsDatabase}
 use Rattle.sqlite.specs.State.{State, ExecutesInside}
 use Rattle.sqlite.specs.declared.error.Error.{Error}
 use Rattle.sqlite.specs.declared.types.Value.TheVariants.{Text}
@@ -35,6 +36,7 @@ occurrence_put old new x r = ran_inside old new PUT_OCCURRENCE.now (occurrence_r
     let it = value_put schema_9 occurrence.name occurrence.columns 2 7 4 fits refl occurrence_row rows PUT_OCCURRENCE.now put_plain put_is old new x held.occurrences count was.schema_is was.occurrences ran in
     let others = kept 7 old.now new.now held it.1 was in
     record {
+      sound = it.1.sound;
       schema_is = it.1.schema_is;
       metas = others.metas (λ e. omega (arith, e));
       workstations = others.workstations (λ e. omega (arith, e));
@@ -48,5 +50,5 @@ occurrence_put old new x r = ran_inside old new PUT_OCCURRENCE.now (occurrence_r
     })
 
 -- the table is made
-pub occurrence_made : (old new : State) (r : Result ℕ Error) → ExecutesInside 0 CREATE_OCCURRENCE.now [] old new r → OnOk r (IsEmpty schema_4 old.now → IsEmpty schema_5 new.now)
-occurrence_made old new r = ran_inside old new CREATE_OCCURRENCE.now [] r (IsEmpty schema_4 old.now → IsEmpty schema_5 new.now) (λ count ran was. created_empty schema_4 CREATE_OCCURRENCE.now occurrence old new count create_is create_plain refl was ran)
+pub occurrence_made : (old new : State) (r : Result ℕ Error) → ExecutesInside 0 CREATE_OCCURRENCE.now [] old new r → OnOk r (IsEmpty schema_4 old.now → IsEmpty schema_5 new.now × IsDatabase new.now)
+occurrence_made old new r = ran_inside old new CREATE_OCCURRENCE.now [] r (IsEmpty schema_4 old.now → IsEmpty schema_5 new.now × IsDatabase new.now) (λ count ran was. created_empty schema_4 CREATE_OCCURRENCE.now occurrence old new count create_is create_plain refl was ran)

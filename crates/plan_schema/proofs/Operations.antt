@@ -1,5 +1,6 @@
 -- The table `operation` after each text.
-use Rattle.std.proofs.Common.{ℕ, ◌∷◌, [], inl, inr, refl, arith, Result, OnOk}
+use Rattle.std.proofs.Common.{◌≡◌, ℕ, ◌∷◌, [], inl, inr, refl, arith, Ok, Result, OnOk}
+use Rattle.sqlite.specs.Effect.{IsDatabase}
 use Rattle.sqlite.specs.State.{State, ExecutesInside}
 use Rattle.sqlite.specs.declared.error.Error.{Error}
 use Rattle.sqlite.specs.declared.types.Value.TheVariants.{Text}
@@ -35,6 +36,7 @@ operation_put old new x r = ran_inside old new PUT_OPERATION.now (operation_row 
     let it = value_put schema_9 operation.name operation.columns 3 9 5 fits refl operation_row rows PUT_OPERATION.now put_plain put_is old new x held.operations count was.schema_is was.operations ran in
     let others = kept 9 old.now new.now held it.1 was in
     record {
+      sound = it.1.sound;
       schema_is = it.1.schema_is;
       metas = others.metas (λ e. omega (arith, e));
       workstations = others.workstations (λ e. omega (arith, e));
@@ -48,5 +50,5 @@ operation_put old new x r = ran_inside old new PUT_OPERATION.now (operation_row 
     })
 
 -- the table is made
-pub operation_made : (old new : State) (r : Result ℕ Error) → ExecutesInside 0 CREATE_OPERATION.now [] old new r → OnOk r (IsEmpty schema_5 old.now → IsEmpty schema_6 new.now)
-operation_made old new r = ran_inside old new CREATE_OPERATION.now [] r (IsEmpty schema_5 old.now → IsEmpty schema_6 new.now) (λ count ran was. created_empty schema_5 CREATE_OPERATION.now operation old new count create_is create_plain refl was ran)
+pub operation_made : (old new : State) (r : Result ℕ Error) → ExecutesInside 0 CREATE_OPERATION.now [] old new r → OnOk r (IsEmpty schema_5 old.now → IsEmpty schema_6 new.now × IsDatabase new.now)
+operation_made old new r = ran_inside old new CREATE_OPERATION.now [] r (IsEmpty schema_5 old.now → IsEmpty schema_6 new.now × IsDatabase new.now) (λ count ran was. created_empty schema_5 CREATE_OPERATION.now operation old new count create_is create_plain refl was ran)

@@ -1,5 +1,6 @@
 -- The table `receipt` after each text.
-use Rattle.std.proofs.Common.{ℕ, ◌∷◌, [], inl, inr, refl, arith, Result, OnOk}
+use Rattle.std.proofs.Common.{◌≡◌, ℕ, ◌∷◌, [], inl, inr, refl, arith, Ok, Result, OnOk}
+use Rattle.sqlite.specs.Effect.{IsDatabase}
 use Rattle.sqlite.specs.State.{State, ExecutesInside}
 use Rattle.sqlite.specs.declared.error.Error.{Error}
 use Rattle.sqlite.specs.declared.types.Value.TheVariants.{Blob, Text}
@@ -35,6 +36,7 @@ receipt_put old new x r = ran_inside old new PUT_RECEIPT.now (receipt_row x) r (
     let it = value_put schema_9 receipt.name receipt.columns 1 15 8 fits refl receipt_row rows PUT_RECEIPT.now put_plain put_is old new x held.receipts count was.schema_is was.receipts ran in
     let others = kept 15 old.now new.now held it.1 was in
     record {
+      sound = it.1.sound;
       schema_is = it.1.schema_is;
       metas = others.metas (λ e. omega (arith, e));
       workstations = others.workstations (λ e. omega (arith, e));
@@ -48,5 +50,5 @@ receipt_put old new x r = ran_inside old new PUT_RECEIPT.now (receipt_row x) r (
     })
 
 -- the table is made
-pub receipt_made : (old new : State) (r : Result ℕ Error) → ExecutesInside 0 CREATE_RECEIPT.now [] old new r → OnOk r (IsEmpty schema_8 old.now → IsEmpty schema_9 new.now)
-receipt_made old new r = ran_inside old new CREATE_RECEIPT.now [] r (IsEmpty schema_8 old.now → IsEmpty schema_9 new.now) (λ count ran was. created_empty schema_8 CREATE_RECEIPT.now receipt old new count create_is create_plain refl was ran)
+pub receipt_made : (old new : State) (r : Result ℕ Error) → ExecutesInside 0 CREATE_RECEIPT.now [] old new r → OnOk r (IsEmpty schema_8 old.now → IsEmpty schema_9 new.now × IsDatabase new.now)
+receipt_made old new r = ran_inside old new CREATE_RECEIPT.now [] r (IsEmpty schema_8 old.now → IsEmpty schema_9 new.now × IsDatabase new.now) (λ count ran was. created_empty schema_8 CREATE_RECEIPT.now receipt old new count create_is create_plain refl was ran)

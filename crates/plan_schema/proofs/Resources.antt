@@ -1,5 +1,6 @@
 -- The table `resource` after each text.
-use Rattle.std.proofs.Common.{ℕ, ◌∷◌, [], inl, inr, refl, arith, Result, OnOk}
+use Rattle.std.proofs.Common.{◌≡◌, ℕ, ◌∷◌, [], inl, inr, refl, arith, Ok, Result, OnOk}
+use Rattle.sqlite.specs.Effect.{IsDatabase}
 use Rattle.sqlite.specs.State.{State, ExecutesInside}
 use Rattle.sqlite.specs.declared.error.Error.{Error}
 use Rattle.sqlite.specs.declared.types.Value.TheVariants.{Text}
@@ -35,6 +36,7 @@ resource_put old new x r = ran_inside old new PUT_RESOURCE.now (resource_row x) 
     let it = value_put schema_9 resource.name resource.columns 1 5 3 fits refl resource_row rows PUT_RESOURCE.now put_plain put_is old new x held.resources count was.schema_is was.resources ran in
     let others = kept 5 old.now new.now held it.1 was in
     record {
+      sound = it.1.sound;
       schema_is = it.1.schema_is;
       metas = others.metas (λ e. omega (arith, e));
       workstations = others.workstations (λ e. omega (arith, e));
@@ -48,5 +50,5 @@ resource_put old new x r = ran_inside old new PUT_RESOURCE.now (resource_row x) 
     })
 
 -- the table is made
-pub resource_made : (old new : State) (r : Result ℕ Error) → ExecutesInside 0 CREATE_RESOURCE.now [] old new r → OnOk r (IsEmpty schema_3 old.now → IsEmpty schema_4 new.now)
-resource_made old new r = ran_inside old new CREATE_RESOURCE.now [] r (IsEmpty schema_3 old.now → IsEmpty schema_4 new.now) (λ count ran was. created_empty schema_3 CREATE_RESOURCE.now resource old new count create_is create_plain refl was ran)
+pub resource_made : (old new : State) (r : Result ℕ Error) → ExecutesInside 0 CREATE_RESOURCE.now [] old new r → OnOk r (IsEmpty schema_3 old.now → IsEmpty schema_4 new.now × IsDatabase new.now)
+resource_made old new r = ran_inside old new CREATE_RESOURCE.now [] r (IsEmpty schema_3 old.now → IsEmpty schema_4 new.now × IsDatabase new.now) (λ count ran was. created_empty schema_3 CREATE_RESOURCE.now resource old new count create_is create_plain refl was ran)

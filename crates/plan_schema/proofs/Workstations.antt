@@ -1,5 +1,6 @@
 -- The table `workstation` after each text.
-use Rattle.std.proofs.Common.{ℕ, ◌∷◌, [], inl, inr, refl, arith, Result, OnOk}
+use Rattle.std.proofs.Common.{◌≡◌, ℕ, ◌∷◌, [], inl, inr, refl, arith, Ok, Result, OnOk}
+use Rattle.sqlite.specs.Effect.{IsDatabase}
 use Rattle.sqlite.specs.State.{State, ExecutesInside}
 use Rattle.sqlite.specs.declared.error.Error.{Error}
 use Rattle.sqlite.specs.declared.types.Value.TheVariants.{Text}
@@ -35,6 +36,7 @@ workstation_put old new x r = ran_inside old new PUT_WORKSTATION.now (workstatio
     let it = value_put schema_9 workstation.name workstation.columns 1 1 1 fits refl workstation_row rows PUT_WORKSTATION.now put_plain put_is old new x held.workstations count was.schema_is was.workstations ran in
     let others = kept 1 old.now new.now held it.1 was in
     record {
+      sound = it.1.sound;
       schema_is = it.1.schema_is;
       metas = others.metas (λ e. omega (arith, e));
       workstations = it.0;
@@ -48,5 +50,5 @@ workstation_put old new x r = ran_inside old new PUT_WORKSTATION.now (workstatio
     })
 
 -- the table is made
-pub workstation_made : (old new : State) (r : Result ℕ Error) → ExecutesInside 0 CREATE_WORKSTATION.now [] old new r → OnOk r (IsEmpty schema_1 old.now → IsEmpty schema_2 new.now)
-workstation_made old new r = ran_inside old new CREATE_WORKSTATION.now [] r (IsEmpty schema_1 old.now → IsEmpty schema_2 new.now) (λ count ran was. created_empty schema_1 CREATE_WORKSTATION.now workstation old new count create_is create_plain refl was ran)
+pub workstation_made : (old new : State) (r : Result ℕ Error) → ExecutesInside 0 CREATE_WORKSTATION.now [] old new r → OnOk r (IsEmpty schema_1 old.now → IsEmpty schema_2 new.now × IsDatabase new.now)
+workstation_made old new r = ran_inside old new CREATE_WORKSTATION.now [] r (IsEmpty schema_1 old.now → IsEmpty schema_2 new.now × IsDatabase new.now) (λ count ran was. created_empty schema_1 CREATE_WORKSTATION.now workstation old new count create_is create_plain refl was ran)

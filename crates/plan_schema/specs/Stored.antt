@@ -1,6 +1,6 @@
 -- What the tables hold: a record for each row, with a field for each column.
 use Rattle.std.specs.Prelude.{◌≡◌, ℕ, ℤ, List, [], ◌∷◌}
-use Rattle.sqlite.specs.Effect.{Database}
+use Rattle.sqlite.specs.Effect.{Database, IsDatabase}
 use Rattle.sqlite.specs.Order.{Row}
 use Rattle.sqlite.specs.declared.types.Value.TheVariants.{Null, Int, Text, Blob}
 use Rattle.table_rows.specs.Stored.{Holds, HoldsByRowid, with_value, without_key, with_value_at}
@@ -135,8 +135,9 @@ pub record Held : Type 0 where
 abbrev pub none_held : Held
 none_held = record { metas = []; workstations = []; intervals = []; resources = []; occurrences = []; operations = []; dependencies = []; needs = []; receipts = [] }
 
--- the database has the nine tables, and they hold these values and no others
+-- the database is sound and has the nine tables, and they hold these values and no others
 pub record Stores (db : Database) (held : Held) : Type 0 where
+  pub sound : IsDatabase db
   pub schema_is : db.schema ≡ schema_9
   pub metas : HoldsByRowid meta_row (db.trees 0) held.metas
   pub workstations : Holds workstation_row (db.trees 1) held.workstations

@@ -98,7 +98,7 @@ module _ (schema : Schema) (name : List ℕ) (columns : List Column) (tree at : 
         let put = upserted old.step_limit old.now.trees numbered one.0 one.1 in
         let trees : new.now.trees ≡ one.0.trees = ap (λ (d : Database). d.trees) it.2 ∙ one.2 in (
           subst (λ (x : Trees). PutsAt id v (old.now.trees tree) (x tree)) (sym trees) put.0,
-          record { schema_is = ap (λ (d : Database). d.schema) it.2; others = subst (OthersStay schema tree old.now.trees) (sym trees) put.1 },
+          record { sound = w.sound; schema_is = ap (λ (d : Database). d.schema) it.2; others = subst (OthersStay schema tree old.now.trees) (sym trees) put.1 },
         )
 
 -- the value is put in

@@ -98,7 +98,7 @@ module _ (schema : Schema) (name : List ℕ) (columns : List Column) (key tree a
       let put = upserted schema Enforced old.step_limit v (placed name columns key tree) key fits v takes.stays old.now.trees numbered (length columns) (update_terms (length columns) key) (λ id r there same. update id r same there) (next_rowid (old.now.trees tree)) one.0 one.1 in
       let trees : new.now.trees ≡ one.0.trees = ap (λ (d : Database). d.trees) it.2 ∙ one.2 in (
         subst (λ (x : Trees). Puts key v (old.now.trees tree) (x tree)) (sym trees) put.0,
-        record { schema_is = ap (λ (d : Database). d.schema) it.2; others = subst (OthersStay schema tree old.now.trees) (sym trees) put.1 },
+        record { sound = w.sound; schema_is = ap (λ (d : Database). d.schema) it.2; others = subst (OthersStay schema tree old.now.trees) (sym trees) put.1 },
       )
 
   pub passes : command_of (understood schema sql) ≡ insert_or_pass at (length columns) key → Takes name columns key tree v → Executes sql v old new (Ok count)
@@ -112,7 +112,7 @@ module _ (schema : Schema) (name : List ℕ) (columns : List Column) (key tree a
       let put = passed schema Enforced old.step_limit v (placed name columns key tree) key fits v takes.stays old.now.trees numbered (next_rowid (old.now.trees tree)) one.0 one.1 in
       let trees : new.now.trees ≡ one.0.trees = ap (λ (d : Database). d.trees) it.2 ∙ one.2 in (
         subst (λ (x : Trees). Passes key v (old.now.trees tree) (x tree)) (sym trees) put.0,
-        record { schema_is = ap (λ (d : Database). d.schema) it.2; others = subst (OthersStay schema tree old.now.trees) (sym trees) put.1 },
+        record { sound = w.sound; schema_is = ap (λ (d : Database). d.schema) it.2; others = subst (OthersStay schema tree old.now.trees) (sym trees) put.1 },
       )
 
   -- the parameters are the key
@@ -126,5 +126,5 @@ module _ (schema : Schema) (name : List ℕ) (columns : List Column) (key tree a
       let gone = dropped schema Enforced old.step_limit v (placed name columns key tree) key fits old.now.trees (key_terms 0 key) it.0 numbered it.1 in
       let trees : new.now.trees ≡ it.0.trees = ap (λ (d : Database). d.trees) it.2 in (
         subst (λ (x : Trees). Drops (λ r. list_all (holds (v ∷ r ∷ [])) (key_terms 0 key)) (old.now.trees tree) (x tree)) (sym trees) gone.0,
-        record { schema_is = ap (λ (d : Database). d.schema) it.2; others = subst (OthersStay schema tree old.now.trees) (sym trees) gone.1 },
+        record { sound = w.sound; schema_is = ap (λ (d : Database). d.schema) it.2; others = subst (OthersStay schema tree old.now.trees) (sym trees) gone.1 },
       )

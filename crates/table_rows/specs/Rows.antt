@@ -1,7 +1,7 @@
 -- A table as a set of rows, and what INSERT and DELETE make of it.
 use Rattle.std.specs.Prelude.{◌≡◌, ◌≢◌, ◌⊎◌, ℕ, ℤ, Bool, true, false, List, [], ◌∷◌, IsTrue}
 use Rattle.std.specs.List.{AllByRecursion, range_with_len}
-use Rattle.sqlite.specs.Effect.{Database}
+use Rattle.sqlite.specs.Effect.{Database, IsDatabase}
 use Rattle.sqlite.specs.Order.{Row}
 use Rattle.sqlite.specs.Schema.{Schema}
 use Rattle.sqlite.specs.Tree.{Trees, rowid, has_rowid, IsAscending}
@@ -47,8 +47,9 @@ pub record Drops (finds : Row → Bool) (before after : List Row) : Type 0 where
 abbrev pub OthersStay : Schema → ℕ → Trees → Trees → Type 0
 OthersStay schema tree before after = AllByRecursion (λ t. t.tree ≢ tree → after t.tree ≡ before t.tree) schema.tables
 
--- the schema stays, and so do the tables in other trees
+-- the database is sound, its schema stays, and so do the tables in other trees
 pub record Leaves (schema : Schema) (tree : ℕ) (before after : Database) : Type 0 where
+  pub sound : IsDatabase after
   pub schema_is : after.schema ≡ schema
   pub others : OthersStay schema tree before.trees after.trees
 
