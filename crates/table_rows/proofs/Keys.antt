@@ -27,7 +27,7 @@ unfolding first_key
 agree_first p places a b = refl
 
 -- a column behind the first
-behind : (x : Value) (r : Row) (at : ℕ) → column (x ∷ r) (at + 1) ≡ column r at
+pub behind : (x : Value) (r : Row) (at : ℕ) → column (x ∷ r) (at + 1) ≡ column r at
 behind x r at = ap (column (x ∷ r)) (add-one at)
 
 -- from a column on, two rows agree in so many

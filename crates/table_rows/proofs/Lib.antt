@@ -8,3 +8,4 @@ pub mod Catalogs
 pub mod Stored
 pub mod Inside
 pub mod ByRowid
+pub mod Reading

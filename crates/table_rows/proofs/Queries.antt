@@ -10,30 +10,31 @@ use Rattle.sqlite.specs.Term.{Term, eval_all, holds}
 use Rattle.sqlite.specs.Query.{IsAnswer, output, Output}
 use Rattle.sqlite.specs.Program.{overlay}
 use Rattle.sqlite.specs.Effect.{Database, Answers}
+use Rattle.sqlite_value.specs.declared.keys.Key.{Key}
 use Rattle.sqlite_rules.specs.Lists.{Has}
 use Rattle.sqlite_rules.proofs.ListLemmas.{has_contained, contains_had}
-use Rattle.table_rows.specs.Commands.{simple, program}
+use Rattle.table_rows.specs.Commands.{ordered, program}
 
 -- what passes, shown
-shown_rows : (params : Row) (filt project : List Term) (tree : ℕ) (rows : List Row) →
-    map (λ (o : Output). o.1) (map (output (simple tree filt project)) (flat_map (λ r. cond (list_all (holds (params ∷ r ∷ [])) filt) ((params ∷ r ∷ []) ∷ []) []) rows))
+shown_rows : (params : Row) (filt project : List Term) (order : List (Term × Key)) (tree : ℕ) (rows : List Row) →
+    map (λ (o : Output). o.1) (map (output (ordered tree filt project order)) (flat_map (λ r. cond (list_all (holds (params ∷ r ∷ [])) filt) ((params ∷ r ∷ []) ∷ []) []) rows))
     ≡ map (λ r. eval_all project (params ∷ r ∷ [])) (filter (λ r. list_all (holds (params ∷ r ∷ [])) filt) rows)
-shown_rows params filt project tree [] = refl
-shown_rows params filt project tree (r ∷ rows) = elim (cases_Bool (list_all (holds (params ∷ r ∷ [])) filt)) [
-  | inl passes ↦ rw passes (ap (λ l. eval_all project (params ∷ r ∷ []) ∷ l) (shown_rows params filt project tree rows))
-  | inr fails ↦ rw fails (shown_rows params filt project tree rows)
+shown_rows params filt project order tree [] = refl
+shown_rows params filt project order tree (r ∷ rows) = elim (cases_Bool (list_all (holds (params ∷ r ∷ [])) filt)) [
+  | inl passes ↦ rw passes (ap (λ l. eval_all project (params ∷ r ∷ []) ∷ l) (shown_rows params filt project order tree rows))
+  | inr fails ↦ rw fails (shown_rows params filt project order tree rows)
 ]
 
-pub answered : (db : Database) (tree : ℕ) (filt project : List Term) (params : Row) (rows : List Row) → nat_le (2 ^ 31) tree ≡ false
-    → Answers db (program (simple tree filt project)) params rows
+pub answered : (db : Database) (tree : ℕ) (filt project : List Term) (order : List (Term × Key)) (params : Row) (rows : List Row) → nat_le (2 ^ 31) tree ≡ false
+    → Answers db (program (ordered tree filt project order)) params rows
     → IsPermutation (map (λ r. eval_all project (params ∷ r ∷ [])) (filter (λ r. list_all (holds (params ∷ r ∷ [])) filt) (db.trees tree))) rows
-answered db tree filt project params rows low h =
-    let a : IsAnswer (simple tree filt project) (overlay db.trees []) params rows = h.answer Null in
+answered db tree filt project order params rows low h =
+    let a : IsAnswer (ordered tree filt project order) (overlay db.trees []) params rows = h.answer Null in
     let at : overlay db.trees [] tree ≡ db.trees tree = rw low refl in
     let shown = IsPermutation-map (λ (o : Output). o.1) a.kept a.ordered a.same in
     let all : map (λ (o : Output). o.1) a.kept ≡ map (λ r. eval_all project (params ∷ r ∷ [])) (filter (λ r. list_all (holds (params ∷ r ∷ [])) filt) (db.trees tree)) =
-    ap (map (λ (o : Output). o.1)) (a.distinct ∙ ap (map (output (simple tree filt project))) a.grouped)
-    ∙ shown_rows params filt project tree (overlay db.trees [] tree)
+    ap (map (λ (o : Output). o.1)) (a.distinct ∙ ap (map (output (ordered tree filt project order))) a.grouped)
+    ∙ shown_rows params filt project order tree (overlay db.trees [] tree)
     ∙ ap (λ l. map (λ r. eval_all project (params ∷ r ∷ [])) (filter (λ r. list_all (holds (params ∷ r ∷ [])) filt) l)) at in
     subst (λ l. IsPermutation l rows) all (subst (IsPermutation (map (λ (o : Output). o.1) a.kept)) (sym a.shown) shown)
 

@@ -126,7 +126,7 @@ module _ (schema : Schema) (keys : Keys) (limit : Option ℕ) (params : Row) (ta
       let id = id_in (rowid r) in
       let int : rowid r ≡ Int id = numbered_has (db table.tree) r numbered there in
       let asked = went h in
-      let perm = answered (record { schema = schema; trees = db }) table.tree (at_rowid n) project given asked.0 low asked.1 in
+      let perm = answered (record { schema = schema; trees = db }) table.tree (at_rowid n) project [] given asked.0 low asked.1 in
       let matched = found_alone (db table.tree) r given n numbered there given_is in
       let one : asked.0 ≡ (rowid r ∷ rowid r ∷ v) ∷ [] =
       one_permutation _ asked.0 (subst (λ l. IsPermutation l asked.0) (ap (map (λ x. eval_all project (given ∷ x ∷ []))) matched ∙ ap (λ x. x ∷ []) shown_is) perm) in
@@ -289,7 +289,7 @@ module _ (schema : Schema) (keys : Keys) (limit : Option ℕ) (params : Row) (ta
       let p = λ (r : Row). list_all (holds (params ∷ r ∷ [])) filt in
       let ids = ids_of asked.0 in
       let shows = λ (r : Row). eval_all (col 1 0 ∷ []) (params ∷ r ∷ []) in
-      let perm = answered (record { schema = schema; trees = db }) table.tree filt (col 1 0 ∷ []) params asked.0 fits.low asked.1 in
+      let perm = answered (record { schema = schema; trees = db }) table.tree filt (col 1 0 ∷ []) [] params asked.0 fits.low asked.1 in
       let it = went asked.2 in
       let next = it.0 in
       let edit = edit_of db table ids Given 0 [] in

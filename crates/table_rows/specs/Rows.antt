@@ -1,8 +1,8 @@
 -- A table as a set of rows, and what INSERT and DELETE make of it.
-use Rattle.std.specs.Prelude.{◌≡◌, ◌≢◌, ◌⊎◌, ℕ, ℤ, Bool, true, false, List, [], ◌∷◌, IsTrue}
+use Rattle.std.specs.Prelude.{◌≡◌, ◌≢◌, ◌⊎◌, ℕ, ℤ, Bool, true, false, List, [], ◌∷◌, map, IsTrue}
 use Rattle.std.specs.List.{AllByRecursion, range_with_len}
 use Rattle.sqlite.specs.Effect.{Database, IsDatabase}
-use Rattle.sqlite.specs.Order.{Row}
+use Rattle.sqlite.specs.Order.{Row, column}
 use Rattle.sqlite.specs.Schema.{Schema}
 use Rattle.sqlite.specs.Tree.{Trees, rowid, has_rowid, IsAscending}
 use Rattle.sqlite.specs.declared.types.Value.TheVariants.{Null, Int}
@@ -57,3 +57,7 @@ pub record Leaves (schema : Schema) (tree : ℕ) (before after : Database) : Typ
 pub record IsEmpty (schema : Schema) (db : Database) : Type 0 where
   pub schema_is : db.schema ≡ schema
   pub empty : AllByRecursion (λ t. db.trees t.tree ≡ []) schema.tables
+
+-- what a SELECT of so many columns, the rowid first, gives of a row
+abbrev pub shown_row : ℕ → Row → Row
+shown_row width r = map (column r) (range_with_len 0 width)
