@@ -1,5 +1,5 @@
 -- What a SELECT of all rows of a table gives.
-use Rattle.std.proofs.Common.{◌≡◌, ◌≢◌, ℕ, zero, suc, ◌+◌, ◌<◌, ◌≤◌, le_refl, ne_eqb, ◌^◌, add-one, arith, List, [], ◌∷◌, map, filter, length, drop, drop-drop, Option, true, false, not, ◌||◌, refl, sym, ap, ap₂, subst, ◌∙◌, inl, inr, None, Some, nat_le}
+use Rattle.std.proofs.Common.{◌≡◌, ◌≢◌, ℕ, zero, suc, ◌+◌, ◌-◌, ◌<◌, ◌≤◌, le_refl, ne_eqb, ◌^◌, add-one, arith, List, [], ◌∷◌, map, filter, length, drop, drop-drop, Option, true, false, not, ◌||◌, refl, sym, ap, ap₂, subst, ◌∙◌, inl, inr, None, Some, nat_le}
 use Rattle.std.specs.List.{AllByRecursion, range_with_len}
 use Rattle.std.specs.List.Sorted.{IsPermutation}
 use Rattle.std.proofs.lemmas.Bool.{and_parts, true≢false}
@@ -24,8 +24,8 @@ use Rattle.sqlite_schema.specs.declared.schema.Column.{Column}
 use Rattle.sqlite_schema.specs.declared.schema.Constraint.TheVariants.{Datatype, NotNull}
 use Rattle.sqlite_trees.specs.View.{is_int}
 use Rattle.sqlite_trees.proofs.ListLemmas.{along_permutation}
-use Rattle.table_rows.specs.Commands.{select, by_rowid}
-use Rattle.table_rows.specs.Rows.{AreNumbered, shown_row}
+use Rattle.table_rows.specs.Commands.{select, select_by_rowid, by_rowid}
+use Rattle.table_rows.specs.Rows.{AreNumbered, shown_row, shown_by_rowid}
 use Rattle.table_rows.specs.Stored.{Holds, HoldsByRowid}
 use Rattle.table_rows.specs.Tables.{placed, placed_by_rowid}
 use Rattle.table_rows.proofs.Keys.{behind}
@@ -160,4 +160,15 @@ rows_read schema sql tree names low is is_plain unlisted old new rows has wide s
     let each : map (λ r. eval_all (map (col 1) (range_with_len 0 (length names))) ([] ∷ r ∷ [])) (filter (λ r. true) (old.now.trees tree)) ≡ old.now.trees tree =
     ap (map (λ r. eval_all (map (col 1) (range_with_len 0 (length names))) ([] ∷ r ∷ []))) (filter_all (old.now.trees tree))
     ∙ map_same _ (shown_row (length names)) (old.now.trees tree) (λ r. shown_terms r (range_with_len 0 (length names))) ∙ all_shown (length names) (old.now.trees tree) wide in
+    subst (λ l. IsPermutation l rows) each perm
+
+pub rows_read_by_rowid : (schema : Schema) (sql : List ℕ) (tree : ℕ) (names : List (List ℕ)) → nat_le (2 ^ 31) tree ≡ false → command_of (understood schema sql) ≡ select_by_rowid tree names → IsPlain (understood schema sql) → reads_listing schema sql ≡ false
+    → (old new : State) (rows : List Row) → old.now.schema ≡ schema → Shown sql [] old new rows → IsPermutation (map (shown_by_rowid (length names)) (old.now.trees tree)) rows
+rows_read_by_rowid schema sql tree names low is is_plain unlisted old new rows has shown =
+    let terms = col 1 0 ∷ col 1 0 ∷ map (col 1) (range_with_len 2 (length names - 2)) in
+    let got = reads_as sql [] old new schema has (select_by_rowid tree names) is is_plain unlisted rows shown in
+    let perm = answered old.now tree [] terms by_rowid [] rows low got in
+    let each : map (λ r. eval_all terms ([] ∷ r ∷ [])) (filter (λ r. true) (old.now.trees tree)) ≡ map (shown_by_rowid (length names)) (old.now.trees tree) =
+    ap (map (λ r. eval_all terms ([] ∷ r ∷ []))) (filter_all (old.now.trees tree))
+    ∙ map_same (λ r. eval_all terms ([] ∷ r ∷ [])) (shown_by_rowid (length names)) (old.now.trees tree) (λ r. ap (λ l. rowid r ∷ rowid r ∷ l) (shown_terms r (range_with_len 2 (length names - 2)))) in
     subst (λ l. IsPermutation l rows) each perm

@@ -1,5 +1,5 @@
 -- A table as a set of rows, and what INSERT and DELETE make of it.
-use Rattle.std.specs.Prelude.{◌≡◌, ◌≢◌, ◌⊎◌, ℕ, ℤ, Bool, true, false, List, [], ◌∷◌, map, IsTrue}
+use Rattle.std.specs.Prelude.{◌≡◌, ◌≢◌, ◌⊎◌, ℕ, ℤ, Bool, true, false, List, [], ◌∷◌, map, ◌-◌, IsTrue}
 use Rattle.std.specs.List.{AllByRecursion, range_with_len}
 use Rattle.sqlite.specs.Effect.{Database, IsDatabase}
 use Rattle.sqlite.specs.Order.{Row, column}
@@ -61,3 +61,7 @@ pub record IsEmpty (schema : Schema) (db : Database) : Type 0 where
 -- what a SELECT of so many columns, the rowid first, gives of a row
 abbrev pub shown_row : ℕ → Row → Row
 shown_row width r = map (column r) (range_with_len 0 width)
+
+-- the same where the first column is the rowid
+abbrev pub shown_by_rowid : ℕ → Row → Row
+shown_by_rowid width r = rowid r ∷ rowid r ∷ map (column r) (range_with_len 2 (width - 2))
