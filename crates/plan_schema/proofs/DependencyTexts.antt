@@ -1,5 +1,5 @@
 -- What the texts on the table `dependency` mean.
-use Rattle.std.proofs.Common.{◌≡◌, codes, Ok, refl, ◌∷◌, [], false}
+use Rattle.std.proofs.Common.{◌≡◌, ℕ, List, codes, Ok, refl, ◌∷◌, [], false}
 use Rattle.sqlite.specs.Command.TheVariants.{CreateTable}
 use Rattle.sqlite.specs.Compile.{table_defined_by}
 use Rattle.sqlite.specs.Listing.{understood, reads_listing}
@@ -25,7 +25,11 @@ pub put_plain : IsPlain (understood schema_9 PUT_DEPENDENCY.now)
 unfolding understood everything
 put_plain = (refl, refl)
 
-pub read_is : command_of (understood schema_9 READ_DEPENDENCY.now) ≡ select 11 (codes "rowid" ∷ codes "papp" ∷ codes "pia" ∷ codes "pnum" ∷ codes "sapp" ∷ codes "sia" ∷ codes "snum" ∷ [])
+-- what a read of it calls its columns
+abbrev pub names : List (List ℕ)
+names = codes "rowid" ∷ codes "papp" ∷ codes "pia" ∷ codes "pnum" ∷ codes "sapp" ∷ codes "sia" ∷ codes "snum" ∷ []
+
+pub read_is : command_of (understood schema_9 READ_DEPENDENCY.now) ≡ select 11 names
 unfolding understood everything
 read_is = refl
 

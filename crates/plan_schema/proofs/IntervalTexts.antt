@@ -1,5 +1,5 @@
 -- What the texts on the table `interval` mean.
-use Rattle.std.proofs.Common.{◌≡◌, codes, Ok, refl, ◌∷◌, [], false}
+use Rattle.std.proofs.Common.{◌≡◌, ℕ, List, codes, Ok, refl, ◌∷◌, [], false}
 use Rattle.sqlite.specs.Command.TheVariants.{CreateTable}
 use Rattle.sqlite.specs.Compile.{table_defined_by}
 use Rattle.sqlite.specs.Listing.{understood, reads_listing}
@@ -33,7 +33,11 @@ pub drop_plain : IsPlain (understood schema_9 DROP_INTERVAL.now)
 unfolding understood everything
 drop_plain = (refl, refl)
 
-pub read_is : command_of (understood schema_9 READ_INTERVAL.now) ≡ select 3 (codes "rowid" ∷ codes "ws" ∷ codes "start" ∷ codes "stop" ∷ codes "servers" ∷ codes "r1" ∷ codes "r2" ∷ [])
+-- what a read of it calls its columns
+abbrev pub names : List (List ℕ)
+names = codes "rowid" ∷ codes "ws" ∷ codes "start" ∷ codes "stop" ∷ codes "servers" ∷ codes "r1" ∷ codes "r2" ∷ []
+
+pub read_is : command_of (understood schema_9 READ_INTERVAL.now) ≡ select 3 names
 unfolding understood everything
 read_is = refl
 

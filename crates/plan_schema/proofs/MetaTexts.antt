@@ -1,5 +1,5 @@
 -- What the texts on the table `meta` mean.
-use Rattle.std.proofs.Common.{◌≡◌, codes, Ok, refl, ◌∷◌, [], false}
+use Rattle.std.proofs.Common.{◌≡◌, ℕ, List, codes, Ok, refl, ◌∷◌, [], false}
 use Rattle.sqlite.specs.Command.TheVariants.{CreateTable}
 use Rattle.sqlite.specs.Compile.{table_defined_by}
 use Rattle.sqlite.specs.Listing.{understood, reads_listing}
@@ -26,7 +26,11 @@ pub put_plain : IsPlain (understood schema_9 PUT_META.now)
 unfolding understood everything
 put_plain = (refl, refl)
 
-pub read_is : command_of (understood schema_9 READ_META.now) ≡ select_by_rowid 0 (codes "id" ∷ codes "id" ∷ codes "version" ∷ codes "loaded" ∷ codes "clock" ∷ [])
+-- what a read of it calls its columns
+abbrev pub names : List (List ℕ)
+names = codes "id" ∷ codes "id" ∷ codes "version" ∷ codes "loaded" ∷ codes "clock" ∷ []
+
+pub read_is : command_of (understood schema_9 READ_META.now) ≡ select_by_rowid 0 names
 unfolding understood everything
 read_is = refl
 

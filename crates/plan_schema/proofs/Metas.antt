@@ -1,19 +1,22 @@
 -- The table `meta` after each text.
-use Rattle.std.proofs.Common.{◌≡◌, ℕ, ◌∷◌, [], refl, arith, Ok, Result, OnOk}
+use Rattle.std.proofs.Common.{◌≡◌, ℕ, ◌∷◌, [], refl, arith, Result, OnOk, List, map}
 use Rattle.sqlite.specs.Effect.{IsDatabase}
-use Rattle.sqlite.specs.State.{State, ExecutesInside}
+use Rattle.sqlite.specs.State.{State, ExecutesInside, Shown}
+use Rattle.sqlite.specs.Order.{Row}
 use Rattle.sqlite.specs.declared.error.Error.{Error}
 use Rattle.sqlite.specs.declared.types.Value.TheVariants.{Null, Int}
-use Rattle.table_rows.specs.Rows.{IsEmpty}
+use Rattle.std.specs.List.Sorted.{IsPermutation}
+use Rattle.table_rows.specs.Rows.{IsEmpty, shown_by_rowid}
 use Rattle.table_rows.specs.Tables.{no_schema, placed_by_rowid}
 use Rattle.table_rows.proofs.ByRowid.{FitsByRowid, put_at, holds_put_at}
 use Rattle.table_rows.proofs.Creation.{created_empty}
 use Rattle.table_rows.proofs.Inside.{ran_inside}
+use Rattle.table_rows.proofs.Reading.{rows_read_by_rowid}
 use Rattle.table_rows.proofs.Stored.{cast_int, cast_null, or_no}
 use Rattle.plan_schema.specs.Schema.{meta, schema_1, schema_9}
 use Rattle.plan_schema.specs.Stored.{StoredMeta, meta_row, meta_values, with_meta, Turns}
-use Rattle.plan_schema.specs.declared.TheConstants.{CREATE_META, PUT_META}
-use Rattle.plan_schema.proofs.MetaTexts.{create_is, create_plain, put_is, put_plain}
+use Rattle.plan_schema.specs.declared.TheConstants.{CREATE_META, PUT_META, READ_META}
+use Rattle.plan_schema.proofs.MetaTexts.{create_is, create_plain, put_is, put_plain, names, read_is, read_plain, read_listing}
 use Rattle.plan_schema.proofs.Others.{kept}
 
 fits : FitsByRowid schema_9 (placed_by_rowid meta.name meta.columns 0)
@@ -43,3 +46,7 @@ meta_put old new x r = ran_inside old new PUT_META.now (meta_values x) r (Turns 
 -- the table is made
 pub meta_made : (old new : State) (r : Result ℕ Error) → ExecutesInside 0 CREATE_META.now [] old new r → OnOk r (IsEmpty no_schema old.now → IsEmpty schema_1 new.now × IsDatabase new.now)
 meta_made old new r = ran_inside old new CREATE_META.now [] r (IsEmpty no_schema old.now → IsEmpty schema_1 new.now × IsDatabase new.now) (λ count ran was. created_empty no_schema CREATE_META.now meta old new count create_is create_plain refl was ran)
+
+-- all rows are read, each once, with the rowid as the first column
+pub meta_read : (old new : State) (rows : List Row) → old.now.schema ≡ schema_9 → Shown READ_META.now [] old new rows → IsPermutation (map (shown_by_rowid 5) (old.now.trees 0)) rows
+meta_read old new rows has shown = rows_read_by_rowid schema_9 READ_META.now 0 names refl read_is read_plain read_listing old new rows has shown

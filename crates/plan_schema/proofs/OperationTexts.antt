@@ -1,5 +1,5 @@
 -- What the texts on the table `operation` mean.
-use Rattle.std.proofs.Common.{◌≡◌, codes, Ok, refl, ◌∷◌, [], false}
+use Rattle.std.proofs.Common.{◌≡◌, ℕ, List, codes, Ok, refl, ◌∷◌, [], false}
 use Rattle.sqlite.specs.Command.TheVariants.{CreateTable}
 use Rattle.sqlite.specs.Compile.{table_defined_by}
 use Rattle.sqlite.specs.Listing.{understood, reads_listing}
@@ -25,7 +25,11 @@ pub put_plain : IsPlain (understood schema_9 PUT_OPERATION.now)
 unfolding understood everything
 put_plain = (refl, refl)
 
-pub read_is : command_of (understood schema_9 READ_OPERATION.now) ≡ select 9 (codes "rowid" ∷ codes "app" ∷ codes "ia" ∷ codes "num" ∷ codes "ws" ∷ codes "duration" ∷ codes "r1" ∷ codes "r2" ∷ codes "not_before" ∷ codes "deadline" ∷ codes "mark" ∷ codes "code" ∷ codes "held" ∷ codes "nop" ∷ codes "status" ∷ codes "latest" ∷ codes "waiting" ∷ [])
+-- what a read of it calls its columns
+abbrev pub names : List (List ℕ)
+names = codes "rowid" ∷ codes "app" ∷ codes "ia" ∷ codes "num" ∷ codes "ws" ∷ codes "duration" ∷ codes "r1" ∷ codes "r2" ∷ codes "not_before" ∷ codes "deadline" ∷ codes "mark" ∷ codes "code" ∷ codes "held" ∷ codes "nop" ∷ codes "status" ∷ codes "latest" ∷ codes "waiting" ∷ []
+
+pub read_is : command_of (understood schema_9 READ_OPERATION.now) ≡ select 9 names
 unfolding understood everything
 read_is = refl
 

@@ -44,29 +44,38 @@ receipt = table (codes "receipt") (field (codes "tracker") Text ∷ field (codes
 
 -- ---- the schema after each
 
+-- the table `meta` alone
 abbrev pub schema_1 : Schema
 schema_1 = created no_schema meta
 
+-- with `workstation` besides
 abbrev pub schema_2 : Schema
 schema_2 = created schema_1 workstation
 
+-- with `interval` besides
 abbrev pub schema_3 : Schema
 schema_3 = created schema_2 interval
 
+-- with `resource` besides
 abbrev pub schema_4 : Schema
 schema_4 = created schema_3 resource
 
+-- with `occurrence` besides
 abbrev pub schema_5 : Schema
 schema_5 = created schema_4 occurrence
 
+-- with `operation` besides
 abbrev pub schema_6 : Schema
 schema_6 = created schema_5 operation
 
+-- with `dependency` besides
 abbrev pub schema_7 : Schema
 schema_7 = created schema_6 dependency
 
+-- with `need` besides
 abbrev pub schema_8 : Schema
 schema_8 = created schema_7 need
 
+-- all nine tables
 abbrev pub schema_9 : Schema
 schema_9 = created schema_8 receipt

@@ -94,27 +94,35 @@ meta_values x = Int x.id ∷ Int x.version ∷ Int x.loaded ∷ Int x.clock ∷ 
 abbrev pub meta_row : StoredMeta → Row
 meta_row x = Int x.id ∷ Null ∷ Int x.version ∷ Int x.loaded ∷ Int x.clock ∷ []
 
+-- the columns of `workstation`, in their order
 abbrev pub workstation_row : StoredWorkstation → Row
 workstation_row x = Text x.name ∷ Text x.attr ∷ []
 
+-- the columns of `interval`, in their order
 abbrev pub interval_row : StoredInterval → Row
 interval_row x = Text x.ws ∷ Int x.start ∷ Int x.stop ∷ Int x.servers ∷ Int x.r1 ∷ Int x.r2 ∷ []
 
+-- the columns of `resource`, in their order
 abbrev pub resource_row : StoredResource → Row
 resource_row x = Text x.name ∷ Int x.available ∷ []
 
+-- the columns of `occurrence`, in their order
 abbrev pub occurrence_row : StoredOccurrence → Row
 occurrence_row x = Text x.app ∷ Int x.ia ∷ Int x.priority ∷ Int x.deadline ∷ Text x.status ∷ []
 
+-- the columns of `operation`, in their order
 abbrev pub operation_row : StoredOperation → Row
 operation_row x = Text x.app ∷ Int x.ia ∷ Int x.num ∷ Text x.ws ∷ Int x.duration ∷ Int x.r1 ∷ Int x.r2 ∷ Int x.not_before ∷ Int x.deadline ∷ Text x.mark ∷ Text x.code ∷ Int x.held ∷ Int x.nop ∷ Text x.status ∷ Int x.latest ∷ Int x.waiting ∷ []
 
+-- the columns of `dependency`, in their order
 abbrev pub dependency_row : StoredDependency → Row
 dependency_row x = Text x.papp ∷ Int x.pia ∷ Int x.pnum ∷ Text x.sapp ∷ Int x.sia ∷ Int x.snum ∷ []
 
+-- the columns of `need`, in their order
 abbrev pub need_row : StoredNeed → Row
 need_row x = Text x.app ∷ Int x.ia ∷ Int x.num ∷ Text x.resource ∷ Text x.mode ∷ Text x.keep ∷ []
 
+-- the columns of `receipt`, in their order
 abbrev pub receipt_row : StoredReceipt → Row
 receipt_row x = Text x.tracker ∷ Int x.number ∷ Blob x.request ∷ Text x.reply ∷ []
 
@@ -132,6 +140,7 @@ pub record Held : Type 0 where
   pub needs : List StoredNeed
   pub receipts : List StoredReceipt
 
+-- no value in any table
 abbrev pub none_held : Held
 none_held = record { metas = []; workstations = []; intervals = []; resources = []; occurrences = []; operations = []; dependencies = []; needs = []; receipts = [] }
 

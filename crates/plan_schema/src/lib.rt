@@ -17,74 +17,88 @@
 #![tactic(auto)]
 
 /// Makes the table `meta`. Whether a plan is loaded, and the clock.
-pub const CREATE_META: &str = "CREATE TABLE meta (id INTEGER NOT NULL, version INTEGER NOT NULL, loaded INTEGER NOT NULL, \
+pub const CREATE_META: &str =
+    "CREATE TABLE meta (id INTEGER NOT NULL, version INTEGER NOT NULL, loaded INTEGER NOT NULL, \
      clock INTEGER NOT NULL, PRIMARY KEY (id)) STRICT";
 
 /// Puts a row into `meta`, in place of the one that has its key.
-pub const PUT_META: &str = "INSERT INTO meta (id, version, loaded, clock) VALUES (?1, ?2, ?3, ?4) ON CONFLICT (id) \
+pub const PUT_META: &str =
+    "INSERT INTO meta (id, version, loaded, clock) VALUES (?1, ?2, ?3, ?4) ON CONFLICT (id) \
      DO UPDATE SET version = excluded.version, loaded = excluded.loaded, clock = excluded.clock";
 
 /// Reads the rows of `meta`.
 pub const READ_META: &str = "SELECT rowid, id, version, loaded, clock FROM meta ORDER BY rowid";
 
 /// Makes the table `workstation`. Workstations, each with its reporting attribute.
-pub const CREATE_WORKSTATION: &str = "CREATE TABLE workstation (name TEXT NOT NULL, attr TEXT NOT NULL, PRIMARY KEY (name)) STRICT";
+pub const CREATE_WORKSTATION: &str =
+    "CREATE TABLE workstation (name TEXT NOT NULL, attr TEXT NOT NULL, PRIMARY KEY (name)) STRICT";
 
 /// Puts a row into `workstation`, in place of the one that has its key.
-pub const PUT_WORKSTATION: &str = "INSERT INTO workstation (name, attr) VALUES (?1, ?2) ON CONFLICT (name) \
+pub const PUT_WORKSTATION: &str =
+    "INSERT INTO workstation (name, attr) VALUES (?1, ?2) ON CONFLICT (name) \
      DO UPDATE SET attr = excluded.attr";
 
 /// Reads the rows of `workstation`.
 pub const READ_WORKSTATION: &str = "SELECT rowid, name, attr FROM workstation ORDER BY rowid";
 
 /// Makes the table `interval`. Open intervals of workstations.
-pub const CREATE_INTERVAL: &str = "CREATE TABLE interval (ws TEXT NOT NULL, start INTEGER NOT NULL, stop INTEGER NOT NULL, \
+pub const CREATE_INTERVAL: &str =
+    "CREATE TABLE interval (ws TEXT NOT NULL, start INTEGER NOT NULL, stop INTEGER NOT NULL, \
      servers INTEGER NOT NULL, r1 INTEGER NOT NULL, r2 INTEGER NOT NULL, PRIMARY KEY (ws, \
      start)) STRICT";
 
 /// Puts a row into `interval`, in place of the one that has its key.
-pub const PUT_INTERVAL: &str = "INSERT INTO interval (ws, start, stop, servers, r1, r2) VALUES (?1, ?2, ?3, ?4, ?5, ?6) \
+pub const PUT_INTERVAL: &str =
+    "INSERT INTO interval (ws, start, stop, servers, r1, r2) VALUES (?1, ?2, ?3, ?4, ?5, ?6) \
      ON CONFLICT (ws, start) DO UPDATE SET stop = excluded.stop, servers = excluded.servers, \
      r1 = excluded.r1, r2 = excluded.r2";
 
 /// Reads the rows of `interval`.
-pub const READ_INTERVAL: &str = "SELECT rowid, ws, start, stop, servers, r1, r2 FROM interval ORDER BY rowid";
+pub const READ_INTERVAL: &str =
+    "SELECT rowid, ws, start, stop, servers, r1, r2 FROM interval ORDER BY rowid";
 
 /// Takes the row out of `interval` that has this key.
 pub const DROP_INTERVAL: &str = "DELETE FROM interval WHERE ws = ?1 AND start = ?2";
 
 /// Makes the table `resource`. Special resources, and whether each is available.
-pub const CREATE_RESOURCE: &str = "CREATE TABLE resource (name TEXT NOT NULL, available INTEGER NOT NULL, \
+pub const CREATE_RESOURCE: &str =
+    "CREATE TABLE resource (name TEXT NOT NULL, available INTEGER NOT NULL, \
      PRIMARY KEY (name)) STRICT";
 
 /// Puts a row into `resource`, in place of the one that has its key.
-pub const PUT_RESOURCE: &str = "INSERT INTO resource (name, available) VALUES (?1, ?2) ON CONFLICT (name) \
+pub const PUT_RESOURCE: &str =
+    "INSERT INTO resource (name, available) VALUES (?1, ?2) ON CONFLICT (name) \
      DO UPDATE SET available = excluded.available";
 
 /// Reads the rows of `resource`.
 pub const READ_RESOURCE: &str = "SELECT rowid, name, available FROM resource ORDER BY rowid";
 
 /// Makes the table `occurrence`. Occurrences of applications, each with its status.
-pub const CREATE_OCCURRENCE: &str = "CREATE TABLE occurrence (app TEXT NOT NULL, ia INTEGER NOT NULL, priority INTEGER NOT NULL, \
+pub const CREATE_OCCURRENCE: &str =
+    "CREATE TABLE occurrence (app TEXT NOT NULL, ia INTEGER NOT NULL, priority INTEGER NOT NULL, \
      deadline INTEGER NOT NULL, status TEXT NOT NULL, PRIMARY KEY (app, ia)) STRICT";
 
 /// Puts a row into `occurrence`, in place of the one that has its key.
-pub const PUT_OCCURRENCE: &str = "INSERT INTO occurrence (app, ia, priority, deadline, status) VALUES (?1, ?2, ?3, ?4, ?5) \
+pub const PUT_OCCURRENCE: &str =
+    "INSERT INTO occurrence (app, ia, priority, deadline, status) VALUES (?1, ?2, ?3, ?4, ?5) \
      ON CONFLICT (app, ia) DO UPDATE SET priority = excluded.priority, \
      deadline = excluded.deadline, status = excluded.status";
 
 /// Reads the rows of `occurrence`.
-pub const READ_OCCURRENCE: &str = "SELECT rowid, app, ia, priority, deadline, status FROM occurrence ORDER BY rowid";
+pub const READ_OCCURRENCE: &str =
+    "SELECT rowid, app, ia, priority, deadline, status FROM occurrence ORDER BY rowid";
 
 /// Makes the table `operation`. Operations, each with its mark, its status and what is read off the plan for it.
-pub const CREATE_OPERATION: &str = "CREATE TABLE operation (app TEXT NOT NULL, ia INTEGER NOT NULL, num INTEGER NOT NULL, \
+pub const CREATE_OPERATION: &str =
+    "CREATE TABLE operation (app TEXT NOT NULL, ia INTEGER NOT NULL, num INTEGER NOT NULL, \
      ws TEXT NOT NULL, duration INTEGER NOT NULL, r1 INTEGER NOT NULL, r2 INTEGER NOT NULL, \
      not_before INTEGER NOT NULL, deadline INTEGER NOT NULL, mark TEXT NOT NULL, \
      code TEXT NOT NULL, held INTEGER NOT NULL, nop INTEGER NOT NULL, status TEXT NOT NULL, \
      latest INTEGER NOT NULL, waiting INTEGER NOT NULL, PRIMARY KEY (app, ia, num)) STRICT";
 
 /// Puts a row into `operation`, in place of the one that has its key.
-pub const PUT_OPERATION: &str = "INSERT INTO operation (app, ia, num, ws, duration, r1, r2, not_before, deadline, mark, \
+pub const PUT_OPERATION: &str =
+    "INSERT INTO operation (app, ia, num, ws, duration, r1, r2, not_before, deadline, mark, \
      code, held, nop, status, latest, waiting) VALUES (?1, ?2, ?3, ?4, ?5, ?6, ?7, ?8, ?9, ?10, \
      ?11, ?12, ?13, ?14, ?15, ?16) ON CONFLICT (app, ia, num) DO UPDATE SET ws = excluded.ws, \
      duration = excluded.duration, r1 = excluded.r1, r2 = excluded.r2, \
@@ -93,42 +107,52 @@ pub const PUT_OPERATION: &str = "INSERT INTO operation (app, ia, num, ws, durati
      latest = excluded.latest, waiting = excluded.waiting";
 
 /// Reads the rows of `operation`.
-pub const READ_OPERATION: &str = "SELECT rowid, app, ia, num, ws, duration, r1, r2, not_before, deadline, mark, code, held, \
+pub const READ_OPERATION: &str =
+    "SELECT rowid, app, ia, num, ws, duration, r1, r2, not_before, deadline, mark, code, held, \
      nop, status, latest, waiting FROM operation ORDER BY rowid";
 
 /// Makes the table `dependency`. Pairs of operations of which the first precedes the second.
-pub const CREATE_DEPENDENCY: &str = "CREATE TABLE dependency (papp TEXT NOT NULL, pia INTEGER NOT NULL, pnum INTEGER NOT NULL, \
+pub const CREATE_DEPENDENCY: &str =
+    "CREATE TABLE dependency (papp TEXT NOT NULL, pia INTEGER NOT NULL, pnum INTEGER NOT NULL, \
      sapp TEXT NOT NULL, sia INTEGER NOT NULL, snum INTEGER NOT NULL, PRIMARY KEY (papp, pia, \
      pnum, sapp, sia, snum)) STRICT";
 
 /// Puts a row into `dependency`, unless it is there.
-pub const PUT_DEPENDENCY: &str = "INSERT INTO dependency (papp, pia, pnum, sapp, sia, snum) VALUES (?1, ?2, ?3, ?4, ?5, ?6) \
+pub const PUT_DEPENDENCY: &str =
+    "INSERT INTO dependency (papp, pia, pnum, sapp, sia, snum) VALUES (?1, ?2, ?3, ?4, ?5, ?6) \
      ON CONFLICT (papp, pia, pnum, sapp, sia, snum) DO NOTHING";
 
 /// Reads the rows of `dependency`.
-pub const READ_DEPENDENCY: &str = "SELECT rowid, papp, pia, pnum, sapp, sia, snum FROM dependency ORDER BY rowid";
+pub const READ_DEPENDENCY: &str =
+    "SELECT rowid, papp, pia, pnum, sapp, sia, snum FROM dependency ORDER BY rowid";
 
 /// Makes the table `need`. Special resources that operations need.
-pub const CREATE_NEED: &str = "CREATE TABLE need (app TEXT NOT NULL, ia INTEGER NOT NULL, num INTEGER NOT NULL, \
+pub const CREATE_NEED: &str =
+    "CREATE TABLE need (app TEXT NOT NULL, ia INTEGER NOT NULL, num INTEGER NOT NULL, \
      resource TEXT NOT NULL, mode TEXT NOT NULL, keep TEXT NOT NULL, PRIMARY KEY (app, ia, num, \
      resource)) STRICT";
 
 /// Puts a row into `need`, in place of the one that has its key.
-pub const PUT_NEED: &str = "INSERT INTO need (app, ia, num, resource, mode, keep) VALUES (?1, ?2, ?3, ?4, ?5, ?6) \
+pub const PUT_NEED: &str =
+    "INSERT INTO need (app, ia, num, resource, mode, keep) VALUES (?1, ?2, ?3, ?4, ?5, ?6) \
      ON CONFLICT (app, ia, num, resource) DO UPDATE SET mode = excluded.mode, \
      keep = excluded.keep";
 
 /// Reads the rows of `need`.
-pub const READ_NEED: &str = "SELECT rowid, app, ia, num, resource, mode, keep FROM need ORDER BY rowid";
+pub const READ_NEED: &str =
+    "SELECT rowid, app, ia, num, resource, mode, keep FROM need ORDER BY rowid";
 
 /// Makes the table `receipt`. The last request of each tracker that was accepted, and its reply.
-pub const CREATE_RECEIPT: &str = "CREATE TABLE receipt (tracker TEXT NOT NULL, number INTEGER NOT NULL, \
+pub const CREATE_RECEIPT: &str =
+    "CREATE TABLE receipt (tracker TEXT NOT NULL, number INTEGER NOT NULL, \
      request BLOB NOT NULL, reply TEXT NOT NULL, PRIMARY KEY (tracker)) STRICT";
 
 /// Puts a row into `receipt`, in place of the one that has its key.
-pub const PUT_RECEIPT: &str = "INSERT INTO receipt (tracker, number, request, reply) VALUES (?1, ?2, ?3, ?4) \
+pub const PUT_RECEIPT: &str =
+    "INSERT INTO receipt (tracker, number, request, reply) VALUES (?1, ?2, ?3, ?4) \
      ON CONFLICT (tracker) DO UPDATE SET number = excluded.number, request = excluded.request, \
      reply = excluded.reply";
 
 /// Reads the rows of `receipt`.
-pub const READ_RECEIPT: &str = "SELECT rowid, tracker, number, request, reply FROM receipt ORDER BY rowid";
+pub const READ_RECEIPT: &str =
+    "SELECT rowid, tracker, number, request, reply FROM receipt ORDER BY rowid";
