@@ -1,13 +1,13 @@
 -- What a SELECT of all rows of a table gives.
 use Rattle.std.proofs.Common.{◌≡◌, ◌≢◌, ℕ, zero, suc, ◌+◌, ◌-◌, ◌<◌, ◌≤◌, le_refl, ne_eqb, ◌^◌, add-one, arith, List, [], ◌∷◌, map, filter, length, drop, drop-drop, Option, true, false, not, ◌||◌, refl, sym, ap, ap₂, subst, ◌∙◌, inl, inr, None, Some, nat_le}
 use Rattle.std.specs.List.{AllByRecursion, range_with_len}
-use Rattle.std.specs.List.Sorted.{IsPermutation}
+use Rattle.std.specs.List.Sorted.{IsPermutation, IsSorted}
 use Rattle.std.proofs.lemmas.Bool.{and_parts, true≢false}
 use Rattle.std.proofs.lemmas.List.Sorted.{IsPermutation-sym}
 use Rattle.sqlite.specs.Effect.{Database, IsDatabase}
 use Rattle.sqlite.specs.Listing.{understood, reads_listing}
 use Rattle.sqlite.specs.Ops.{is_null}
-use Rattle.sqlite.specs.Order.{Row, column}
+use Rattle.sqlite.specs.Order.{Row, column, value_cmp}
 use Rattle.sqlite.specs.Schema.{Schema}
 use Rattle.sqlite.specs.State.{State, Shown}
 use Rattle.sqlite.specs.Tree.{rowid, IsAscending}
@@ -29,7 +29,7 @@ use Rattle.table_rows.specs.Rows.{AreNumbered, shown_row, shown_by_rowid}
 use Rattle.table_rows.specs.Stored.{Holds, HoldsByRowid}
 use Rattle.table_rows.specs.Tables.{placed, placed_by_rowid}
 use Rattle.table_rows.proofs.Keys.{behind}
-use Rattle.table_rows.proofs.Queries.{answered, has_permuted}
+use Rattle.table_rows.proofs.Queries.{answered, answered_in_order, has_permuted}
 
 -- ---- rows in another order
 
@@ -172,3 +172,9 @@ rows_read_by_rowid schema sql tree names low is is_plain unlisted old new rows h
     ap (map (λ r. eval_all terms ([] ∷ r ∷ []))) (filter_all (old.now.trees tree))
     ∙ map_same (λ r. eval_all terms ([] ∷ r ∷ [])) (shown_by_rowid (length names)) (old.now.trees tree) (λ r. ap (λ l. rowid r ∷ rowid r ∷ l) (shown_terms r (range_with_len 2 (length names - 2)))) in
     subst (λ l. IsPermutation l rows) each perm
+
+-- the rowids don't fall
+pub rows_rise : (schema : Schema) (sql : List ℕ) (tree : ℕ) (first : List ℕ) (others : List (List ℕ)) → command_of (understood schema sql) ≡ select tree (first ∷ others) → IsPlain (understood schema sql) → reads_listing schema sql ≡ false
+    → (old new : State) (rows : List Row) → old.now.schema ≡ schema → Shown sql [] old new rows → IsSorted (λ a b. value_cmp (rowid a) (rowid b)) rows
+rows_rise schema sql tree first others is is_plain unlisted old new rows has shown =
+    answered_in_order old.now tree [] (map (col 1) (range_with_len 1 (length others))) [] rows (reads_as sql [] old new schema has (select tree (first ∷ others)) is is_plain unlisted rows shown)
