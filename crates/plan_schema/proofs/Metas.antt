@@ -1,17 +1,20 @@
 -- The table `meta` after each text.
-use Rattle.std.proofs.Common.{◌≡◌, ℕ, ◌∷◌, [], refl, arith, Result, OnOk, List, map}
-use Rattle.sqlite.specs.Effect.{IsDatabase}
+use Rattle.std.proofs.Common.{◌≡◌, ℕ, ◌∷◌, [], refl, arith, Result, OnOk, List, map, length, drop, codes, sym, subst, ap, inl}
+use Rattle.sqlite.specs.Effect.{Database, IsDatabase}
 use Rattle.sqlite.specs.State.{State, ExecutesInside, Shown}
-use Rattle.sqlite.specs.Order.{Row}
+use Rattle.sqlite.specs.Order.{Row, column}
+use Rattle.sqlite.specs.Tree.{rowid}
+use Rattle.sqlite.specs.Kind.TheVariants.{Integer}
+use Rattle.sqlite_rules.specs.Lists.{Has}
 use Rattle.sqlite.specs.declared.error.Error.{Error}
 use Rattle.sqlite.specs.declared.types.Value.TheVariants.{Null, Int}
 use Rattle.std.specs.List.Sorted.{IsPermutation}
 use Rattle.table_rows.specs.Rows.{IsEmpty, shown_by_rowid}
-use Rattle.table_rows.specs.Tables.{no_schema, placed_by_rowid}
+use Rattle.table_rows.specs.Tables.{field, no_schema, placed_by_rowid}
 use Rattle.table_rows.proofs.ByRowid.{FitsByRowid, put_at, holds_put_at}
 use Rattle.table_rows.proofs.Creation.{created_empty}
 use Rattle.table_rows.proofs.Inside.{ran_inside}
-use Rattle.table_rows.proofs.Reading.{rows_read_by_rowid}
+use Rattle.table_rows.proofs.Reading.{rows_read_by_rowid, row_width_by_rowid, null_in_place}
 use Rattle.table_rows.proofs.Stored.{cast_int, cast_null, or_no}
 use Rattle.plan_schema.specs.Schema.{meta, schema_1, schema_9}
 use Rattle.plan_schema.specs.Stored.{StoredMeta, meta_row, meta_values, with_meta, Turns}
@@ -50,3 +53,21 @@ meta_made old new r = ran_inside old new CREATE_META.now [] r (IsEmpty no_schema
 -- all rows are read, each once, with the rowid as the first column
 pub meta_read : (old new : State) (rows : List Row) → old.now.schema ≡ schema_9 → Shown READ_META.now [] old new rows → IsPermutation (map (shown_by_rowid 5) (old.now.trees 0)) rows
 meta_read old new rows has shown = rows_read_by_rowid schema_9 READ_META.now 0 names refl read_is read_plain read_listing old new rows has shown
+
+five : (r : Row) → length r ≡ 5 → column r 1 ≡ Null → r ≡ rowid r ∷ Null ∷ column r 2 ∷ column r 3 ∷ column r 4 ∷ []
+five (a ∷ b ∷ c ∷ d ∷ e ∷ []) long null = ap (λ x. a ∷ x ∷ c ∷ d ∷ e ∷ []) null
+five [] long null = absurd (omega (arith, long))
+five (a ∷ []) long null = absurd (omega (arith, long))
+five (a ∷ b ∷ []) long null = absurd (omega (arith, long))
+five (a ∷ b ∷ c ∷ []) long null = absurd (omega (arith, long))
+five (a ∷ b ∷ c ∷ d ∷ []) long null = absurd (omega (arith, long))
+five (a ∷ b ∷ c ∷ d ∷ e ∷ f ∷ r) long null = absurd (omega (arith, long))
+
+-- a stored row, by what is read of it
+pub meta_stored : (db : Database) → IsDatabase db → db.schema ≡ schema_9 → (r : Row) → Has (db.trees 0) r → r ≡ rowid r ∷ Null ∷ column r 2 ∷ column r 3 ∷ column r 4 ∷ []
+meta_stored db sound has r there =
+    let listed : Has db.schema.tables meta = subst (λ s. Has s.tables meta) (sym has) (inl refl) in
+    let rest = drop 1 meta.columns in
+    five r
+    (row_width_by_rowid db sound meta.name (field (codes "id") Integer) rest 0 listed (refl, (refl, (refl, tt))) (omega arith) r there)
+    (null_in_place db sound meta.name (field (codes "id") Integer) rest 0 listed r there)

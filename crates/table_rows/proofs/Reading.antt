@@ -13,7 +13,7 @@ use Rattle.sqlite.specs.State.{State, Shown}
 use Rattle.sqlite.specs.Tree.{rowid, IsAscending}
 use Rattle.sqlite.specs.Term.{col, eval_all}
 use Rattle.sqlite.specs.declared.types.Value.{Value}
-use Rattle.sqlite.specs.declared.types.Value.TheVariants.{Null}
+use Rattle.sqlite.specs.declared.types.Value.TheVariants.{Null, Int, Real, Text, Blob}
 use Rattle.sqlite.proofs.Callers.{IsPlain, command_of, reads_as}
 use Rattle.sqlite_rules.specs.Lists.{Has}
 use Rattle.sqlite_rules.proofs.ListLemmas.{all_from, all_has}
@@ -178,3 +178,21 @@ pub rows_rise : (schema : Schema) (sql : List ℕ) (tree : ℕ) (first : List �
     → (old new : State) (rows : List Row) → old.now.schema ≡ schema → Shown sql [] old new rows → IsSorted (λ a b. value_cmp (rowid a) (rowid b)) rows
 rows_rise schema sql tree first others is is_plain unlisted old new rows has shown =
     answered_in_order old.now tree [] (map (col 1) (range_with_len 1 (length others))) [] rows (reads_as sql [] old new schema has (select tree (first ∷ others)) is is_plain unlisted rows shown)
+
+null_is : (v : Value) → is_null v ≡ true → v ≡ Null
+null_is Null h = refl
+null_is (Int n) h = absurd (true≢false (sym h))
+null_is (Real x) h = absurd (true≢false (sym h))
+null_is (Text s) h = absurd (true≢false (sym h))
+null_is (Blob b) h = absurd (true≢false (sym h))
+
+-- where the first column is the rowid, NULL stands in its place
+pub null_in_place : (db : Database) → IsDatabase db → (name : List ℕ) (first : Column) (columns : List Column) (tree : ℕ) → Has db.schema.tables (placed_by_rowid name (first ∷ columns) tree) → (r : Row) → Has (db.trees tree) r → column r 1 ≡ Null
+null_in_place db sound name first columns tree listed r there =
+    let t = placed_by_rowid name (first ∷ columns) tree in
+    in_place r (and_parts _ _ (keeps_at Datatype db.schema db.trees t r (sound.obeys.rules Datatype) listed there)).0
+  where
+    in_place : (r : Row) → are_typed (Some 0) 0 (first ∷ columns) (drop 1 r) ≡ true → column r 1 ≡ Null
+    in_place [] typed = refl
+    in_place (id ∷ []) typed = refl
+    in_place (id ∷ x ∷ values) typed = null_is x (and_parts _ _ typed).0
