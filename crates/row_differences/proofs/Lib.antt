@@ -1,2 +1,4 @@
 mod Numbers
 mod Merging
+mod Picked
+pub mod RowsChanged

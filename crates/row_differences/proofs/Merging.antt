@@ -29,7 +29,7 @@ key_within (x ∷ ks) zero lt = (x, refl)
 key_within (x ∷ ks) (suc i) lt = key_within ks i (omega (arith, lt))
 
 -- of two keys in ascending order the earlier one is the lower
-lower : {K : Type 0} (R : K → K → Ordering) (ks : List K) (i j : ℕ) (k l : K) → IsStrictlySortedBy R ks → i < j → slice_get ks i ≡ Some k → slice_get ks j ≡ Some l → R k l ≡ Less
+pub lower : {K : Type 0} (R : K → K → Ordering) (ks : List K) (i j : ℕ) (k l : K) → IsStrictlySortedBy R ks → i < j → slice_get ks i ≡ Some k → slice_get ks j ≡ Some l → R k l ≡ Less
 unfolding IsStrictlySortedBy
 lower R [] i j k l up lt e f = cc
 lower R (x ∷ ks) i zero k l up lt e f = absurd (omega (arith, lt))

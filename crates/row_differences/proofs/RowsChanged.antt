@@ -1,0 +1,67 @@
+-- From the indices of what differs to the rows that change and the keys that are gone.
+use Rattle.std.proofs.Common.{◌≡◌, ◌↔◌, refl, sym, subst, ap, ◌∙◌, ℕ, List, map, slice_get, Contains, Some}
+use Rattle.std.specs.List.Sorted.{IsStrictlySortedBy}
+use Rattle.std.specs.declared.cmp.Ordering.{Ordering}
+use Rattle.std.proofs.lemmas.Option.{slice_get-map, slice_get_within}
+use Rattle.std.specs.Option.{option_map}
+use Rattle.plan_basics.proofs.Members.{at_place, contains_mapped, mapped_contains, place_of}
+use Rattle.row_differences.specs.Changes.{AreAt, AreRowChanges}
+use Rattle.row_differences.specs.Differences.{AreDifferences, HaveOneKey}
+use Rattle.row_differences.proofs.Picked.{made_at, made_from, names_ascend, picked_at, picked_from, picks_ascend}
+
+-- a table's keys are of one type, and all tables' of another: `name` leads from the former to the latter
+module _ {K L Row : Type 0} (S : K → K → Ordering) (R : L → L → Ordering) (key_of : Row → L) (name : K → L) (in_order : (a b : K) → R (name a) (name b) ≡ S a b) (one_name : (a b : K) → name a ≡ name b → a ≡ b)
+    (before after : List K) (up_before : IsStrictlySortedBy S before) (up_after : IsStrictlySortedBy S after)
+    (olds news : List Row) (old_keys : map key_of olds ≡ map name before) (new_keys : map key_of news ≡ map name after)
+    (IsAlike : ℕ → ℕ → Type 0) (alike : (i j : ℕ) → HaveOneKey before after i j → IsAlike i j ↔ (slice_get olds i ≡ slice_get news j)) where
+  -- the key of the row at an index is the one that is there
+  key_at : (keys : List K) (rows : List Row) → map key_of rows ≡ map name keys → (i : ℕ) (r : Row) → slice_get rows i ≡ Some r → (k : K) × (slice_get keys i ≡ Some k) × (name k ≡ key_of r)
+  key_at keys rows same i r e = made_from name keys i (key_of r) (sym (ap (λ ls. slice_get ls i) same) ∙ (slice_get-map key_of rows i ∙ ap (option_map key_of) e))
+
+  one_key_at : (i j : ℕ) (r s : Row) → slice_get olds i ≡ Some r → slice_get news j ≡ Some s → key_of r ≡ key_of s → HaveOneKey before after i j
+  one_key_at i j r s e f same =
+      let (k, at, of_r) = key_at before olds old_keys i r e in
+      let (l, to, of_s) = key_at after news new_keys j s f in
+      (k, at, to ∙ ap Some (one_name l k (of_s ∙ sym same ∙ sym of_r)))
+
+  pub row_changes : (changed gone : List ℕ) (rows : List Row) (keys : List K) → AreDifferences before after IsAlike changed gone → AreAt news changed rows → AreAt before gone keys → AreRowChanges R key_of olds news rows (map name keys)
+  row_changes changed gone rows keys d at_changed at_gone = record {
+    rows_ascend = picks_ascend R (map key_of news) (subst (IsStrictlySortedBy R) (sym new_keys) (names_ascend S R name in_order after up_after)) changed (map key_of rows) d.changed_ascend (made_at key_of news changed rows at_changed);
+    has_rows = λ r. (told r, all r);
+    gone_ascend = names_ascend S R name in_order keys (picks_ascend S before up_before gone keys d.gone_ascend at_gone);
+    has_gone = λ q. (
+      λ has. let h = left q has in (subst (λ ls. Contains ls q) (sym old_keys) h.0, λ there. h.1 (subst (λ ls. Contains ls q) new_keys there)),
+      λ h. away q (subst (λ ls. Contains ls q) old_keys h.0) (λ there. h.1 (subst (λ ls. Contains ls q) (sym new_keys) there)),
+    );
+  }
+    where
+      told : (r : Row) → Contains rows r → Contains news r × ¬ Contains olds r
+      told r has =
+          let (j, in_changed, f) = picked_from news changed rows r at_changed has in
+          (at_place news j r f, λ there.
+            let (i, e) = place_of olds r there in
+            let one = one_key_at i j r r e f refl in
+            ((d.has_changed j).0 in_changed).1 i one ((alike i j one).1 (e ∙ sym f)))
+
+      all : (r : Row) → Contains news r × ¬ Contains olds r → Contains rows r
+      all r (has, away) =
+          let (j, f) = place_of news r has in
+          let key = key_at after news new_keys j r f in
+          picked_at news changed rows j r at_changed ((d.has_changed j).1 (slice_get_within after j key.0 key.1, λ i one is. away (at_place olds i r ((alike i j one).0 is ∙ f)))) f
+
+      left : (q : L) → Contains (map name keys) q → Contains (map name before) q × ¬ Contains (map name after) q
+      left q has =
+          let (k, is, in_keys) = mapped_contains name keys q has in
+          let (i, in_gone, e) = picked_from before gone keys k at_gone in_keys in
+          (subst (Contains (map name before)) is (contains_mapped name before k (at_place before i k e)), λ there.
+            let (l, named, in_after) = mapped_contains name after q there in
+            let (j, f) = place_of after l in_after in
+            ((d.has_gone i).0 in_gone).1 j (k, e, f ∙ ap Some (one_name l k (named ∙ sym is))))
+
+      away : (q : L) → Contains (map name before) q → ¬ Contains (map name after) q → Contains (map name keys) q
+      away q has none =
+          let (k, is, in_before) = mapped_contains name before q has in
+          let (i, e) = place_of before k in_before in
+          let in_keys = picked_at before gone keys i k at_gone ((d.has_gone i).1 (slice_get_within before i k e, λ j one.
+            none (subst (Contains (map name after)) is (contains_mapped name after k (at_place after j k (one.2 ∙ (sym one.1 ∙ e))))))) e in
+          subst (Contains (map name keys)) is (contains_mapped name keys k in_keys)
