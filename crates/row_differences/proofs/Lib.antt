@@ -2,3 +2,4 @@ mod Numbers
 mod Merging
 mod Picked
 pub mod RowsChanged
+mod EqualValues

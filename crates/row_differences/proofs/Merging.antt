@@ -23,7 +23,7 @@ all_at P (x ∷ ks) zero k all e = let same : x ≡ k = cc in subst P same all.0
 all_at P (x ∷ ks) (suc i) k all e = all_at P ks i k all.1 e
 
 -- at each index within there is a key
-key_within : {K : Type 0} (ks : List K) (i : ℕ) → i < length ks → (k : K) × (slice_get ks i ≡ Some k)
+pub key_within : {K : Type 0} (ks : List K) (i : ℕ) → i < length ks → (k : K) × (slice_get ks i ≡ Some k)
 key_within [] i lt = absurd (omega (arith, lt))
 key_within (x ∷ ks) zero lt = (x, refl)
 key_within (x ∷ ks) (suc i) lt = key_within ks i (omega (arith, lt))

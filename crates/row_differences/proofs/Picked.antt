@@ -1,5 +1,5 @@
 -- Elements of a list, taken at indices.
-use Rattle.std.proofs.Common.{◌≡◌, ◌⊎◌, inl, inr, refl, sym, subst, ap, ◌∙◌, arith, ℕ, ◌<◌, List, [], ◌∷◌, map, slice_get, Contains, Option, Some, None}
+use Rattle.std.proofs.Common.{◌≡◌, inl, inr, refl, sym, subst, ap, ◌∙◌, ℕ, ◌<◌, List, [], ◌∷◌, map, slice_get, Contains, Option, Some, None}
 use Rattle.std.specs.List.{AllByRecursion}
 use Rattle.std.specs.List.Sorted.{IsStrictlySortedBy}
 use Rattle.std.specs.Option.{option_map}
@@ -11,7 +11,6 @@ use Rattle.std.proofs.lemmas.Option.{slice_get-map}
 use Rattle.plan_basics.proofs.Members.{contains_head, contains_later, contains_cases, contains_none}
 use Rattle.row_differences.specs.Changes.{AreAt}
 use Rattle.row_differences.proofs.Merging.{lower}
-
 
 module _ {X : Type 0} (xs : List X) where
   first_at : (i : ℕ) (places : List ℕ) (y : X) (ys : List X) → AreAt xs (i ∷ places) (y ∷ ys) → slice_get xs i ≡ Some y

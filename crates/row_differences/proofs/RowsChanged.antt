@@ -37,11 +37,13 @@ module _ {K L Row : Type 0} (S : K → K → Ordering) (R : L → L → Ordering
     where
       told : (r : Row) → Contains rows r → Contains news r × ¬ Contains olds r
       told r has =
-          let (j, in_changed, f) = picked_from news changed rows r at_changed has in
-          (at_place news j r f, λ there.
-            let (i, e) = place_of olds r there in
-            let one = one_key_at i j r r e f refl in
-            ((d.has_changed j).0 in_changed).1 i one ((alike i j one).1 (e ∙ sym f)))
+          let (j, in_changed, f) = picked_from news changed rows r at_changed has in (
+            at_place news j r f,
+            λ there.
+                let (i, e) = place_of olds r there in
+                let one = one_key_at i j r r e f refl in
+                ((d.has_changed j).0 in_changed).1 i one ((alike i j one).1 (e ∙ sym f)),
+          )
 
       all : (r : Row) → Contains news r × ¬ Contains olds r → Contains rows r
       all r (has, away) =
@@ -52,16 +54,21 @@ module _ {K L Row : Type 0} (S : K → K → Ordering) (R : L → L → Ordering
       left : (q : L) → Contains (map name keys) q → Contains (map name before) q × ¬ Contains (map name after) q
       left q has =
           let (k, is, in_keys) = mapped_contains name keys q has in
-          let (i, in_gone, e) = picked_from before gone keys k at_gone in_keys in
-          (subst (Contains (map name before)) is (contains_mapped name before k (at_place before i k e)), λ there.
-            let (l, named, in_after) = mapped_contains name after q there in
-            let (j, f) = place_of after l in_after in
-            ((d.has_gone i).0 in_gone).1 j (k, e, f ∙ ap Some (one_name l k (named ∙ sym is))))
+          let (i, in_gone, e) = picked_from before gone keys k at_gone in_keys in (
+            subst (Contains (map name before)) is (contains_mapped name before k (at_place before i k e)),
+            λ there.
+                let (l, named, in_after) = mapped_contains name after q there in
+                let (j, f) = place_of after l in_after in
+                ((d.has_gone i).0 in_gone).1 j (k, e, f ∙ ap Some (one_name l k (named ∙ sym is))),
+          )
 
       away : (q : L) → Contains (map name before) q → ¬ Contains (map name after) q → Contains (map name keys) q
       away q has none =
           let (k, is, in_before) = mapped_contains name before q has in
           let (i, e) = place_of before k in_before in
-          let in_keys = picked_at before gone keys i k at_gone ((d.has_gone i).1 (slice_get_within before i k e, λ j one.
-            none (subst (Contains (map name after)) is (contains_mapped name after k (at_place after j k (one.2 ∙ (sym one.1 ∙ e))))))) e in
+          let in_keys = picked_at before gone keys i k at_gone ((d.has_gone i).1 (
+            slice_get_within before i k e,
+            λ j one.
+                none (subst (Contains (map name after)) is (contains_mapped name after k (at_place after j k (one.2 ∙ (sym one.1 ∙ e))))),
+          )) e in
           subst (Contains (map name keys)) is (contains_mapped name keys k in_keys)

@@ -1,3 +1,4 @@
 pub mod Differences
 pub mod Fronts
 pub mod Changes
+pub mod Rows

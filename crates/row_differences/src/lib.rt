@@ -8,6 +8,11 @@ ghost use Rattle.std.specs.declared.cmp.Ordering.TheVariants.{Less, Equal, Great
 ghost use Rattle.row_differences.specs.Differences.{AreDifferences, HaveOneKey};
 ghost use Rattle.row_differences.specs.Fronts.{IsFirst};
 
+mod rows;
+#[cfg(test)]
+mod tests;
+
+pub use rows::KeyedRows;
 use std::alloc::{AllocError, Global};
 use std::cmp::Ordering;
 
@@ -40,7 +45,9 @@ pub trait TwoTables {
 
     /// Whether a row before and a row after, which have one key, are alike.
     fn is_alike(&self, old: usize, new: usize) -> bool
-        requires { HaveOneKey (before self.now) (after self.now) old new }
+        requires old { old < length (before self.now) }
+        requires new { new < length (after self.now) }
+        requires one_key { HaveOneKey (before self.now) (after self.now) old new }
         ensures { IsTrue result ↔ IsAlike self.now old new };
 }
 
@@ -98,7 +105,8 @@ pub fn differences<T: TwoTables>(alloc: Global, tables: &T) -> Result<DifferentR
                 new += 1;
             }
             Ordering::Equal => {
-                if !tables.is_alike(old, new) {
+                let alike = tables.is_alike(old, new);
+                if !alike {
                     changed.push(new)?;
                 }
                 old += 1;

@@ -2,7 +2,7 @@ use Rattle.std.proofs.Common.{rules, ◌<◌, sym, ap, ◌∙◌, refl, arith, t
 use Rattle.std.proofs.lemmas.Option.{slice_get_within}
 use Rattle.row_differences.proofs.Merging.{begun, passed_gone, passed_new, passed_alike, passed_changed, merged}
 use Rattle.row_differences.proofs.differences.Goals as goal
-use Rattle.row_differences.proofs.differences.Goals.{then-not-is_alike+in_ok-push-in-Equal, else-not-is_alike}
+use Rattle.row_differences.proofs.differences.Goals.{then-not-alike+in_ok-push-in-Equal, else-not-alike}
 
 pub loop-old-init : goal.loop-old-init
 loop-old-init g c =
@@ -75,17 +75,17 @@ loop-old-smaller g c =
     omega (arith, within, all)
 
 pub loop-old-preserved : goal.loop-old-preserved
-loop-old-preserved g c = elim c.if-not-is_alike.branch [
-  | then-not-is_alike+in_ok-push-in-Equal w ↦
+loop-old-preserved g c = elim c.if-not-alike.branch [
+  | then-not-alike+in_ok-push-in-Equal w ↦
       rw (ap (λ xs. xs.items) w.changed-is ∙ w.in_ok-push-in-Equal.ensures.items)
       (passed_changed g.met.T.Key.Ord.total (g.T.TwoTables.before c.args.tables.now) (g.T.TwoTables.after c.args.tables.now) (g.T.TwoTables.IsAlike c.args.tables.now) c.requires.before c.requires.after
       c.loop-old.old c.loop-old.new c.loop-old.changed.items c.loop-old.gone.items c.loop-old.invariant (c.in-Equal.ensures.equal refl)
-      (λ alike. true≢false (sym (c.is_alike.ensures.1 alike) ∙ w.if-not-is_alike.true)))
-  | else-not-is_alike w ↦
+      (λ alike. true≢false (sym (c.is_alike-alike.ensures.1 alike) ∙ w.if-not-alike.true)))
+  | else-not-alike w ↦
       rw (ap (λ xs. xs.items) w.changed-is)
       (passed_alike g.met.T.Key.Ord.total (g.T.TwoTables.before c.args.tables.now) (g.T.TwoTables.after c.args.tables.now) (g.T.TwoTables.IsAlike c.args.tables.now) c.requires.before c.requires.after
       c.loop-old.old c.loop-old.new c.loop-old.changed.items c.loop-old.gone.items c.loop-old.invariant (c.in-Equal.ensures.equal refl)
-      (c.is_alike.ensures.0 w.if-not-is_alike.false))
+      (c.is_alike-alike.ensures.0 w.if-not-alike.false))
 ]
 
 pub returns : goal.returns
