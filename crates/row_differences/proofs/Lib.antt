@@ -2,4 +2,5 @@ mod Numbers
 mod Merging
 mod Picked
 pub mod RowsChanged
+pub mod Joined
 mod EqualValues

@@ -5,7 +5,7 @@ use Rattle.std.specs.declared.cmp.Ordering.{Ordering}
 use Rattle.std.proofs.lemmas.Option.{slice_get-map, slice_get_within}
 use Rattle.std.specs.Option.{option_map}
 use Rattle.plan_basics.proofs.Members.{at_place, contains_mapped, mapped_contains, place_of}
-use Rattle.row_differences.specs.Changes.{AreAt, AreRowChanges}
+use Rattle.row_differences.specs.Changes.{AreAt, AreRowChanges, HasRowOf}
 use Rattle.row_differences.specs.Differences.{AreDifferences, HaveOneKey}
 use Rattle.row_differences.proofs.Picked.{made_at, made_from, names_ascend, picked_at, picked_from, picks_ascend}
 
@@ -13,6 +13,7 @@ use Rattle.row_differences.proofs.Picked.{made_at, made_from, names_ascend, pick
 module _ {K L Row : Type 0} (S : K → K → Ordering) (R : L → L → Ordering) (key_of : Row → L) (name : K → L) (in_order : (a b : K) → R (name a) (name b) ≡ S a b) (one_name : (a b : K) → name a ≡ name b → a ≡ b)
     (before after : List K) (up_before : IsStrictlySortedBy S before) (up_after : IsStrictlySortedBy S after)
     (olds news : List Row) (old_keys : map key_of olds ≡ map name before) (new_keys : map key_of news ≡ map name after)
+    (WasRow IsRow : Row → Type 0) (were : (r : Row) → Contains olds r ↔ WasRow r) (are : (r : Row) → Contains news r ↔ IsRow r)
     (IsAlike : ℕ → ℕ → Type 0) (alike : (i j : ℕ) → HaveOneKey before after i j → IsAlike i j ↔ (slice_get olds i ≡ slice_get news j)) where
   -- the key of the row at an index is the one that is there
   key_at : (keys : List K) (rows : List Row) → map key_of rows ≡ map name keys → (i : ℕ) (r : Row) → slice_get rows i ≡ Some r → (k : K) × (slice_get keys i ≡ Some k) × (name k ≡ key_of r)
@@ -24,14 +25,24 @@ module _ {K L Row : Type 0} (S : K → K → Ordering) (R : L → L → Ordering
       let (l, to, of_s) = key_at after news new_keys j s f in
       (k, at, to ∙ ap Some (one_name l k (of_s ∙ sym same ∙ sym of_r)))
 
-  pub row_changes : (changed gone : List ℕ) (rows : List Row) (keys : List K) → AreDifferences before after IsAlike changed gone → AreAt news changed rows → AreAt before gone keys → AreRowChanges R key_of olds news rows (map name keys)
+  row_of : (keys : List K) (rows : List Row) → map key_of rows ≡ map name keys → (IsIn : Row → Type 0) → ((r : Row) → Contains rows r → IsIn r) → (q : L) → Contains (map name keys) q → HasRowOf key_of IsIn q
+  row_of keys rows same IsIn each q has = let (r, is, in_rows) = mapped_contains key_of rows q (subst (λ ls. Contains ls q) (sym same) has) in (r, each r in_rows, is)
+
+  key_among : (keys : List K) (rows : List Row) → map key_of rows ≡ map name keys → (IsIn : Row → Type 0) → ((r : Row) → IsIn r → Contains rows r) → (q : L) → HasRowOf key_of IsIn q → Contains (map name keys) q
+  key_among keys rows same IsIn each q (r, is, e) = subst (λ ls. Contains ls q) same (subst (Contains (map key_of rows)) e (contains_mapped key_of rows r (each r is)))
+
+  -- the rows at the indices of what changed, and the keys at those of what is gone, are all that change
+  pub row_changes : (changed gone : List ℕ) (rows : List Row) (keys : List K) → AreDifferences before after IsAlike changed gone → AreAt news changed rows → AreAt before gone keys → AreRowChanges R key_of WasRow IsRow rows (map name keys)
   row_changes changed gone rows keys d at_changed at_gone = record {
     rows_ascend = picks_ascend R (map key_of news) (subst (IsStrictlySortedBy R) (sym new_keys) (names_ascend S R name in_order after up_after)) changed (map key_of rows) d.changed_ascend (made_at key_of news changed rows at_changed);
-    has_rows = λ r. (told r, all r);
+    has_rows = λ r. (
+      λ has. let h = told r has in ((are r).0 h.0, λ was. h.1 ((were r).1 was)),
+      λ h. all r ((are r).1 h.0, λ there. h.1 ((were r).0 there)),
+    );
     gone_ascend = names_ascend S R name in_order keys (picks_ascend S before up_before gone keys d.gone_ascend at_gone);
     has_gone = λ q. (
-      λ has. let h = left q has in (subst (λ ls. Contains ls q) (sym old_keys) h.0, λ there. h.1 (subst (λ ls. Contains ls q) new_keys there)),
-      λ h. away q (subst (λ ls. Contains ls q) old_keys h.0) (λ there. h.1 (subst (λ ls. Contains ls q) (sym new_keys) there)),
+      λ has. let h = left q has in (row_of before olds old_keys WasRow (λ r. (were r).0) q h.0, λ there. h.1 (key_among after news new_keys IsRow (λ r. (are r).1) q there)),
+      λ h. away q (key_among before olds old_keys WasRow (λ r. (were r).1) q h.0) (λ there. h.1 (row_of after news new_keys IsRow (λ r. (are r).0) q there)),
     );
   }
     where
