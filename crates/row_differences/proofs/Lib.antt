@@ -4,3 +4,4 @@ mod Picked
 pub mod RowsChanged
 pub mod Joined
 mod EqualValues
+mod Making

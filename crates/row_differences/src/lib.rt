@@ -12,7 +12,7 @@ mod rows;
 #[cfg(test)]
 mod tests;
 
-pub use rows::KeyedRows;
+pub use rows::{KeyedRows, push_made};
 use std::alloc::{AllocError, Global};
 use std::cmp::Ordering;
 
