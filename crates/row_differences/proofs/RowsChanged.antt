@@ -32,14 +32,14 @@ module _ {K L Row : Type 0} (S : K → K → Ordering) (R : L → L → Ordering
   key_among keys rows same IsIn each q (r, is, e) = subst (λ ls. Contains ls q) same (subst (Contains (map key_of rows)) e (contains_mapped key_of rows r (each r is)))
 
   -- the rows at the indices of what changed, and the keys at those of what is gone, are all that change
-  pub row_changes : (changed gone : List ℕ) (rows : List Row) (keys : List K) → AreDifferences before after IsAlike changed gone → AreAt news changed rows → AreAt before gone keys → AreRowChanges R key_of WasRow IsRow rows (map name keys)
+  pub row_changes : (changed gone : List ℕ) (rows : List Row) (keys : List L) → AreDifferences before after IsAlike changed gone → AreAt news changed rows → AreAt (map name before) gone keys → AreRowChanges R key_of WasRow IsRow rows keys
   row_changes changed gone rows keys d at_changed at_gone = record {
     rows_ascend = picks_ascend R (map key_of news) (subst (IsStrictlySortedBy R) (sym new_keys) (names_ascend S R name in_order after up_after)) changed (map key_of rows) d.changed_ascend (made_at key_of news changed rows at_changed);
     has_rows = λ r. (
       λ has. let h = told r has in ((are r).0 h.0, λ was. h.1 ((were r).1 was)),
       λ h. all r ((are r).1 h.0, λ there. h.1 ((were r).0 there)),
     );
-    gone_ascend = names_ascend S R name in_order keys (picks_ascend S before up_before gone keys d.gone_ascend at_gone);
+    gone_ascend = picks_ascend R (map name before) (names_ascend S R name in_order before up_before) gone keys d.gone_ascend at_gone;
     has_gone = λ q. (
       λ has. let h = left q has in (row_of before olds old_keys WasRow (λ r. (were r).0) q h.0, λ there. h.1 (key_among after news new_keys IsRow (λ r. (are r).1) q there)),
       λ h. away q (key_among before olds old_keys WasRow (λ r. (were r).1) q h.0) (λ there. h.1 (row_of after news new_keys IsRow (λ r. (are r).0) q there)),
@@ -62,24 +62,19 @@ module _ {K L Row : Type 0} (S : K → K → Ordering) (R : L → L → Ordering
           let key = key_at after news new_keys j r f in
           picked_at news changed rows j r at_changed ((d.has_changed j).1 (slice_get_within after j key.0 key.1, λ i one is. away (at_place olds i r ((alike i j one).0 is ∙ f)))) f
 
-      left : (q : L) → Contains (map name keys) q → Contains (map name before) q × ¬ Contains (map name after) q
+      left : (q : L) → Contains keys q → Contains (map name before) q × ¬ Contains (map name after) q
       left q has =
-          let (k, is, in_keys) = mapped_contains name keys q has in
-          let (i, in_gone, e) = picked_from before gone keys k at_gone in_keys in (
-            subst (Contains (map name before)) is (contains_mapped name before k (at_place before i k e)),
-            λ there.
-                let (l, named, in_after) = mapped_contains name after q there in
-                let (j, f) = place_of after l in_after in
-                ((d.has_gone i).0 in_gone).1 j (k, e, f ∙ ap Some (one_name l k (named ∙ sym is))),
-          )
+          let (i, in_gone, at) = picked_from (map name before) gone keys q at_gone has in
+          let (k, e, is) = made_from name before i q at in
+          (at_place (map name before) i q at, λ there.
+            let (l, named, in_after) = mapped_contains name after q there in
+            let (j, f) = place_of after l in_after in
+            ((d.has_gone i).0 in_gone).1 j (k, e, f ∙ ap Some (one_name l k (named ∙ sym is))))
 
-      away : (q : L) → Contains (map name before) q → ¬ Contains (map name after) q → Contains (map name keys) q
+      away : (q : L) → Contains (map name before) q → ¬ Contains (map name after) q → Contains keys q
       away q has none =
           let (k, is, in_before) = mapped_contains name before q has in
           let (i, e) = place_of before k in_before in
-          let in_keys = picked_at before gone keys i k at_gone ((d.has_gone i).1 (
-            slice_get_within before i k e,
-            λ j one.
-                none (subst (Contains (map name after)) is (contains_mapped name after k (at_place after j k (one.2 ∙ (sym one.1 ∙ e))))),
-          )) e in
-          subst (Contains (map name keys)) is (contains_mapped name keys k in_keys)
+          let at : slice_get (map name before) i ≡ Some q = slice_get-map name before i ∙ (ap (option_map name) e ∙ ap Some is) in
+          picked_at (map name before) gone keys i q at_gone ((d.has_gone i).1 (slice_get_within before i k e, λ j one.
+            none (subst (Contains (map name after)) is (contains_mapped name after k (at_place after j k (one.2 ∙ (sym one.1 ∙ e))))))) at
