@@ -20,8 +20,7 @@ module _ {Row : Type 0} (Made : ℕ → Row → Type 0) (places : List ℕ) wher
       let i = get_or places k 0 in
       let next : slice_get all i ≡ Some r = gives i r (Contains-get_or places k 0 lt) made in
       let more_by_one : k + 1 ≡ suc k = omega arith in
-      let taken : take (k + 1) places ≡ take k places ++ i ∷ [] = ap (λ n. take n places) more_by_one ∙ take-suc places k 0 lt in
-      (
+      let taken : take (k + 1) places ≡ take k places ++ i ∷ [] = ap (λ n. take n places) more_by_one ∙ take-suc places k 0 lt in (
         more ++ r ∷ [],
         ap (map (slice_get all)) taken ∙ (map_joined (slice_get all) (take k places) (i ∷ []) ∙ (ap₂ (λ a b. a ++ b ∷ []) at next ∙ sym (map_joined Some more (r ∷ [])))),
         ap (λ xs. xs ++ r ∷ []) is ∙ append_assoc old more (r ∷ []),

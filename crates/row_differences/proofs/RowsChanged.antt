@@ -65,16 +65,21 @@ module _ {K L Row : Type 0} (S : K → K → Ordering) (R : L → L → Ordering
       left : (q : L) → Contains keys q → Contains (map name before) q × ¬ Contains (map name after) q
       left q has =
           let (i, in_gone, at) = picked_from (map name before) gone keys q at_gone has in
-          let (k, e, is) = made_from name before i q at in
-          (at_place (map name before) i q at, λ there.
-            let (l, named, in_after) = mapped_contains name after q there in
-            let (j, f) = place_of after l in_after in
-            ((d.has_gone i).0 in_gone).1 j (k, e, f ∙ ap Some (one_name l k (named ∙ sym is))))
+          let (k, e, is) = made_from name before i q at in (
+            at_place (map name before) i q at,
+            λ there.
+                let (l, named, in_after) = mapped_contains name after q there in
+                let (j, f) = place_of after l in_after in
+                ((d.has_gone i).0 in_gone).1 j (k, e, f ∙ ap Some (one_name l k (named ∙ sym is))),
+          )
 
       away : (q : L) → Contains (map name before) q → ¬ Contains (map name after) q → Contains keys q
       away q has none =
           let (k, is, in_before) = mapped_contains name before q has in
           let (i, e) = place_of before k in_before in
           let at : slice_get (map name before) i ≡ Some q = slice_get-map name before i ∙ (ap (option_map name) e ∙ ap Some is) in
-          picked_at (map name before) gone keys i q at_gone ((d.has_gone i).1 (slice_get_within before i k e, λ j one.
-            none (subst (Contains (map name after)) is (contains_mapped name after k (at_place after j k (one.2 ∙ (sym one.1 ∙ e))))))) at
+          picked_at (map name before) gone keys i q at_gone ((d.has_gone i).1 (
+            slice_get_within before i k e,
+            λ j one.
+                none (subst (Contains (map name after)) is (contains_mapped name after k (at_place after j k (one.2 ∙ (sym one.1 ∙ e))))),
+          )) at

@@ -3,7 +3,7 @@ ghost use Rattle.std.specs.List.Sorted.{IsStrictlySortedBy};
 ghost use Rattle.std.specs.Map.{keys_of};
 ghost use Rattle.std.specs.Ordering.{nat_cmp};
 
-use super::{KeyedRows, differences};
+use super::{KeyedRows, differences, push_made};
 use std::alloc::Global;
 use std::process::Abort;
 
@@ -59,4 +59,11 @@ fn what_differs_from_three_rows(rt: HostRuntime) {
         ),
         "other keys"
     );
+}
+
+#[test]
+fn adds_what_is_made_at_two_indices(rt: HostRuntime) {
+    let mut rows = Vec::from_array(rt.alloc(), [7]).expect(&rt, "room");
+    push_made(&mut rows, &[4, 9], |place| place / 2).expect(&rt, "room");
+    assert!(rt; rows.as_slice() == [7, 2, 4].as_slice());
 }

@@ -1,5 +1,5 @@
-use Rattle.std.proofs.Common.{◌≡◌, ◌+◌, ◌<◌, ◌≤◌, ◌++◌, [], ◌∷◌, arith, get_or, length}
-use Rattle.row_differences.proofs.Making.{IsMadeTo, made_all, made_next}
+use Rattle.std.proofs.Common.{arith}
+use Rattle.row_differences.proofs.Making.{made_all, made_next}
 use Rattle.row_differences.proofs.rows.push_made.Goals as goal
 
 pub loop-place-preserved : goal.loop-place-preserved
