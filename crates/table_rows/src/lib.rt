@@ -18,6 +18,13 @@ pub fn text<'a>(value: &'a str) -> ValueRef<'a>
     ValueRef::Text(value.as_bytes())
 }
 
+/// A text that is given as its bytes, as a parameter.
+pub fn letters<'a>(value: &'a [u8]) -> ValueRef<'a>
+    ensures { owned result ≡ Text value.now }
+{
+    ValueRef::Text(value)
+}
+
 /// A whole number as a parameter. It is taken by reference, so that a caller's proof reads it as it is.
 pub fn int<'a>(value: &i64) -> ValueRef<'a>
     ensures { owned result ≡ Int value.now }

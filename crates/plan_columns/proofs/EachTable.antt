@@ -1,0 +1,262 @@
+-- The eight tables of a plan: which rows have columns in each, and which of them have one key.
+use Rattle.std.proofs.Common.{◌≡◌, ◌↔◌, refl, sym, ◌∙◌, ap, ap₂, subst, ℕ, Bool, pos, [], ◌∷◌, take, Option, Some, None, is_some, ◌==◌}
+use Rattle.std.proofs.lemmas.Option.{none-some, same_Some}
+use Rattle.plan_basics.specs.Intervals.{OpenInterval}
+use Rattle.plan_basics.specs.Keys.{Name}
+use Rattle.plan_basics.specs.declared.Attr.{Attr}
+use Rattle.plan_basics.specs.declared.keys.OccKey.{OccKey}
+use Rattle.plan_basics.specs.declared.keys.OpKey.{OpKey}
+use Rattle.special_resources.specs.declared.Need.{Need}
+use Rattle.status_rules.specs.declared.OccStatus.{OccStatus}
+use Rattle.plan_drafts.specs.declared.RowKey.TheVariants as key
+use Rattle.plan_records.specs.Rows.{key_of, table_of}
+use Rattle.plan_records.specs.declared.OperationRow.{OperationRow}
+use Rattle.plan_records.specs.declared.PlanRow.{PlanRow}
+use Rattle.plan_records.specs.declared.PlanRow.TheVariants as row
+use Rattle.sqlite.specs.Order.{Row}
+use Rattle.sqlite.specs.declared.types.Value.TheVariants.{Int, Text}
+use Rattle.plan_schema.specs.Stored.{StoredMeta, StoredWorkstation, StoredInterval, StoredResource, StoredOccurrence, StoredOperation, StoredDependency, StoredNeed, workstation_row, interval_row, resource_row, occurrence_row, operation_row, dependency_row, need_row}
+use Rattle.plan_columns.specs.Columns.{meta_columns, workstation_columns, interval_columns, resource_columns, occurrence_columns, operation_columns, dependency_columns, need_columns}
+use Rattle.plan_columns.proofs.OneTable.{IsTable}
+
+-- ---- the columns of a row, where it is of the table
+
+abbrev pub meta_of : PlanRow → Option StoredMeta
+meta_of (row.Meta version loaded clock) = Some (meta_columns version loaded clock)
+meta_of _ = None
+
+abbrev pub workstation_of : PlanRow → Option StoredWorkstation
+workstation_of (row.Workstation name a) = Some (workstation_columns name a)
+workstation_of _ = None
+
+abbrev pub interval_of : PlanRow → Option StoredInterval
+interval_of (row.Interval w i) = Some (interval_columns w i)
+interval_of _ = None
+
+abbrev pub resource_of : PlanRow → Option StoredResource
+resource_of (row.Resource name available) = Some (resource_columns name available)
+resource_of _ = None
+
+abbrev pub occurrence_of : PlanRow → Option StoredOccurrence
+occurrence_of (row.Occurrence c priority deadline status) = Some (occurrence_columns c priority deadline status)
+occurrence_of _ = None
+
+abbrev pub operation_of : PlanRow → Option StoredOperation
+operation_of (row.Operation r) = Some (operation_columns r)
+operation_of _ = None
+
+abbrev pub dependency_of : PlanRow → Option StoredDependency
+dependency_of (row.Dependency p s) = Some (dependency_columns p s)
+dependency_of _ = None
+
+abbrev pub need_of : PlanRow → Option StoredNeed
+need_of (row.Need o n) = Some (need_columns o n)
+need_of _ = None
+
+-- ---- which row it is that has such columns
+
+pub meta_is : (r : PlanRow) (x : StoredMeta) → meta_of r ≡ Some x → (version : ℕ) × (loaded : Bool) × (clock : ℕ) × (r ≡ row.Meta version loaded clock) × (x ≡ meta_columns version loaded clock)
+meta_is (row.Meta version loaded clock) x e = (version, loaded, clock, refl, sym (same_Some _ x e))
+meta_is r x e = absurd (none-some x e)
+
+pub workstation_is : (r : PlanRow) (x : StoredWorkstation) → workstation_of r ≡ Some x → (name : Name) × (a : Attr) × (r ≡ row.Workstation name a) × (x ≡ workstation_columns name a)
+workstation_is (row.Workstation name a) x e = (name, a, refl, sym (same_Some _ x e))
+workstation_is r x e = absurd (none-some x e)
+
+pub interval_is : (r : PlanRow) (x : StoredInterval) → interval_of r ≡ Some x → (w : Name) × (i : OpenInterval) × (r ≡ row.Interval w i) × (x ≡ interval_columns w i)
+interval_is (row.Interval w i) x e = (w, i, refl, sym (same_Some _ x e))
+interval_is r x e = absurd (none-some x e)
+
+pub resource_is : (r : PlanRow) (x : StoredResource) → resource_of r ≡ Some x → (name : Name) × (available : Bool) × (r ≡ row.Resource name available) × (x ≡ resource_columns name available)
+resource_is (row.Resource name available) x e = (name, available, refl, sym (same_Some _ x e))
+resource_is r x e = absurd (none-some x e)
+
+pub occurrence_is : (r : PlanRow) (x : StoredOccurrence) → occurrence_of r ≡ Some x → (c : OccKey) × (priority : ℕ) × (deadline : ℕ) × (status : OccStatus) × (r ≡ row.Occurrence c priority deadline status) × (x ≡ occurrence_columns c priority deadline status)
+occurrence_is (row.Occurrence c priority deadline status) x e = (c, priority, deadline, status, refl, sym (same_Some _ x e))
+occurrence_is r x e = absurd (none-some x e)
+
+pub operation_is : (r : PlanRow) (x : StoredOperation) → operation_of r ≡ Some x → (o : OperationRow) × (r ≡ row.Operation o) × (x ≡ operation_columns o)
+operation_is (row.Operation o) x e = (o, refl, sym (same_Some _ x e))
+operation_is r x e = absurd (none-some x e)
+
+pub dependency_is : (r : PlanRow) (x : StoredDependency) → dependency_of r ≡ Some x → (p : OpKey) × (s : OpKey) × (r ≡ row.Dependency p s) × (x ≡ dependency_columns p s)
+dependency_is (row.Dependency p s) x e = (p, s, refl, sym (same_Some _ x e))
+dependency_is r x e = absurd (none-some x e)
+
+pub need_is : (r : PlanRow) (x : StoredNeed) → need_of r ≡ Some x → (o : OpKey) × (n : Need) × (r ≡ row.Need o n) × (x ≡ need_columns o n)
+need_is (row.Need o n) x e = (o, n, refl, sym (same_Some _ x e))
+need_is r x e = absurd (none-some x e)
+
+-- ---- rows with columns in a table, as the tables' definition names them
+
+pub meta_rows : (IsIn : PlanRow → Type 0) (x : StoredMeta) → ((version : ℕ) × (loaded : Bool) × (clock : ℕ) × IsIn (row.Meta version loaded clock) × (x ≡ meta_columns version loaded clock)) ↔ ((r : PlanRow) × IsIn r × (meta_of r ≡ Some x))
+meta_rows IsIn x = (λ it. (row.Meta it.0 it.1 it.2, it.3, ap Some (sym it.4)), λ it. let is = meta_is it.0 x it.2 in (is.0, is.1, is.2, subst IsIn is.3 it.1, is.4))
+
+pub workstation_rows : (IsIn : PlanRow → Type 0) (x : StoredWorkstation) → ((name : Name) × (a : Attr) × IsIn (row.Workstation name a) × (x ≡ workstation_columns name a)) ↔ ((r : PlanRow) × IsIn r × (workstation_of r ≡ Some x))
+workstation_rows IsIn x = (λ it. (row.Workstation it.0 it.1, it.2, ap Some (sym it.3)), λ it. let is = workstation_is it.0 x it.2 in (is.0, is.1, subst IsIn is.2 it.1, is.3))
+
+pub interval_rows : (IsIn : PlanRow → Type 0) (x : StoredInterval) → ((w : Name) × (i : OpenInterval) × IsIn (row.Interval w i) × (x ≡ interval_columns w i)) ↔ ((r : PlanRow) × IsIn r × (interval_of r ≡ Some x))
+interval_rows IsIn x = (λ it. (row.Interval it.0 it.1, it.2, ap Some (sym it.3)), λ it. let is = interval_is it.0 x it.2 in (is.0, is.1, subst IsIn is.2 it.1, is.3))
+
+pub resource_rows : (IsIn : PlanRow → Type 0) (x : StoredResource) → ((name : Name) × (available : Bool) × IsIn (row.Resource name available) × (x ≡ resource_columns name available)) ↔ ((r : PlanRow) × IsIn r × (resource_of r ≡ Some x))
+resource_rows IsIn x = (λ it. (row.Resource it.0 it.1, it.2, ap Some (sym it.3)), λ it. let is = resource_is it.0 x it.2 in (is.0, is.1, subst IsIn is.2 it.1, is.3))
+
+pub occurrence_rows : (IsIn : PlanRow → Type 0) (x : StoredOccurrence) → ((c : OccKey) × (priority : ℕ) × (deadline : ℕ) × (status : OccStatus) × IsIn (row.Occurrence c priority deadline status) × (x ≡ occurrence_columns c priority deadline status)) ↔ ((r : PlanRow) × IsIn r × (occurrence_of r ≡ Some x))
+occurrence_rows IsIn x = (λ it. (row.Occurrence it.0 it.1 it.2 it.3, it.4, ap Some (sym it.5)), λ it. let is = occurrence_is it.0 x it.2 in (is.0, is.1, is.2, is.3, subst IsIn is.4 it.1, is.5))
+
+pub operation_rows : (IsIn : PlanRow → Type 0) (x : StoredOperation) → ((r : OperationRow) × IsIn (row.Operation r) × (x ≡ operation_columns r)) ↔ ((r : PlanRow) × IsIn r × (operation_of r ≡ Some x))
+operation_rows IsIn x = (λ it. (row.Operation it.0, it.1, ap Some (sym it.2)), λ it. let is = operation_is it.0 x it.2 in (is.0, subst IsIn is.1 it.1, is.2))
+
+pub dependency_rows : (IsIn : PlanRow → Type 0) (x : StoredDependency) → ((p : OpKey) × (s : OpKey) × IsIn (row.Dependency p s) × (x ≡ dependency_columns p s)) ↔ ((r : PlanRow) × IsIn r × (dependency_of r ≡ Some x))
+dependency_rows IsIn x = (λ it. (row.Dependency it.0 it.1, it.2, ap Some (sym it.3)), λ it. let is = dependency_is it.0 x it.2 in (is.0, is.1, subst IsIn is.2 it.1, is.3))
+
+pub need_rows : (IsIn : PlanRow → Type 0) (x : StoredNeed) → ((o : OpKey) × (n : Need) × IsIn (row.Need o n) × (x ≡ need_columns o n)) ↔ ((r : PlanRow) × IsIn r × (need_of r ≡ Some x))
+need_rows IsIn x = (λ it. (row.Need it.0 it.1, it.2, ap Some (sym it.3)), λ it. let is = need_is it.0 x it.2 in (is.0, is.1, subst IsIn is.2 it.1, is.3))
+
+-- ---- rows of one key
+
+-- two values of a table begin with one key
+abbrev pub BeginAlike : {X : Type 0} → ℕ → (X → Row) → X → X → Type 0
+BeginAlike key row x y = take key (row x) ≡ take key (row y)
+
+-- the keys of two rows, and of their columns, by what the rows are
+keys_by : {X : Type 0} (Alike : X → X → Type 0) {r s r' s' : PlanRow} {x y x' y' : X} → r ≡ r' → s ≡ s' → x ≡ x' → y ≡ y' → (key_of r' ≡ key_of s') ↔ Alike x' y' → (key_of r ≡ key_of s) ↔ Alike x y
+keys_by Alike p q u v h = (
+  λ same. subst (λ z. z) (λ i. Alike (sym u i) (sym v i)) (h.0 (sym (ap key_of p) ∙ same ∙ ap key_of q)),
+  λ same. ap key_of p ∙ h.1 (subst (λ z. z) (λ i. Alike (u i) (v i)) same) ∙ sym (ap key_of q),
+)
+
+-- an operation's key by its first columns
+same_operation : (o p : OpKey) → o.occurrence.app ≡ p.occurrence.app → o.occurrence.arrival ≡ p.occurrence.arrival → o.number ≡ p.number → o ≡ p
+same_operation o p a b c = λ i. record { occurrence = record { app = a i; arrival = b i }; number = c i }
+
+same_occurrence : (c d : OccKey) → c.app ≡ d.app → c.arrival ≡ d.arrival → c ≡ d
+same_occurrence c d a b = λ i. record { app = a i; arrival = b i }
+
+workstation_keys : (v w : Name) → (key.Workstation v ≡ key.Workstation w) ↔ (Text v ∷ [] ≡ Text w ∷ [])
+workstation_keys v w = (λ e. let same : v ≡ w = cc in ap (λ z. Text z ∷ []) same, λ e. let same : v ≡ w = cc in ap key.Workstation same)
+
+pub interval_keys : (v w : Name) (m n : ℕ) → (key.Interval v m ≡ key.Interval w n) ↔ (Text v ∷ Int (pos m) ∷ [] ≡ Text w ∷ Int (pos n) ∷ [])
+interval_keys v w m n = (
+  λ e. let name : v ≡ w = cc in let minute : m ≡ n = cc in ap₂ (λ z k. Text z ∷ Int (pos k) ∷ []) name minute,
+  λ e. let name : v ≡ w = cc in let minute : m ≡ n = cc in ap₂ key.Interval name minute,
+)
+
+resource_keys : (v w : Name) → (key.Resource v ≡ key.Resource w) ↔ (Text v ∷ [] ≡ Text w ∷ [])
+resource_keys v w = (λ e. let same : v ≡ w = cc in ap (λ z. Text z ∷ []) same, λ e. let same : v ≡ w = cc in ap key.Resource same)
+
+occurrence_keys : (c d : OccKey) → (key.Occurrence c ≡ key.Occurrence d) ↔ (Text c.app ∷ Int (pos c.arrival) ∷ [] ≡ Text d.app ∷ Int (pos d.arrival) ∷ [])
+occurrence_keys c d = (
+  λ e. let same : c ≡ d = cc in ap (λ z. Text z.app ∷ Int (pos z.arrival) ∷ []) same,
+  λ e. let app : c.app ≡ d.app = cc in let arrival : c.arrival ≡ d.arrival = cc in ap key.Occurrence (same_occurrence c d app arrival),
+)
+
+operation_keys : (o p : OpKey) → (key.Operation o ≡ key.Operation p) ↔ (Text o.occurrence.app ∷ Int (pos o.occurrence.arrival) ∷ Int (pos o.number) ∷ [] ≡ Text p.occurrence.app ∷ Int (pos p.occurrence.arrival) ∷ Int (pos p.number) ∷ [])
+operation_keys o p = (
+  λ e. let same : o ≡ p = cc in ap (λ z. Text z.occurrence.app ∷ Int (pos z.occurrence.arrival) ∷ Int (pos z.number) ∷ []) same,
+  λ e. let app : o.occurrence.app ≡ p.occurrence.app = cc in let arrival : o.occurrence.arrival ≡ p.occurrence.arrival = cc in let number : o.number ≡ p.number = cc in ap key.Operation (same_operation o p app arrival number),
+)
+
+dependency_keys : (p s q t : OpKey) → (key.Dependency p s ≡ key.Dependency q t)
+    ↔ (Text p.occurrence.app ∷ Int (pos p.occurrence.arrival) ∷ Int (pos p.number) ∷ Text s.occurrence.app ∷ Int (pos s.occurrence.arrival) ∷ Int (pos s.number) ∷ []
+    ≡ Text q.occurrence.app ∷ Int (pos q.occurrence.arrival) ∷ Int (pos q.number) ∷ Text t.occurrence.app ∷ Int (pos t.occurrence.arrival) ∷ Int (pos t.number) ∷ [])
+dependency_keys p s q t = (
+  λ e.
+      let first : p ≡ q = cc in
+      let second : s ≡ t = cc in
+      ap₂ (λ y z. Text y.occurrence.app ∷ Int (pos y.occurrence.arrival) ∷ Int (pos y.number) ∷ Text z.occurrence.app ∷ Int (pos z.occurrence.arrival) ∷ Int (pos z.number) ∷ []) first second,
+  λ e. ap₂ key.Dependency (same_operation p q (cc) (cc) (cc)) (same_operation s t (cc) (cc) (cc)),
+)
+
+need_keys : (o p : OpKey) (v w : Name) → (key.Need o v ≡ key.Need p w)
+    ↔ (Text o.occurrence.app ∷ Int (pos o.occurrence.arrival) ∷ Int (pos o.number) ∷ Text v ∷ [] ≡ Text p.occurrence.app ∷ Int (pos p.occurrence.arrival) ∷ Int (pos p.number) ∷ Text w ∷ [])
+need_keys o p v w = (
+  λ e. let op : o ≡ p = cc in let name : v ≡ w = cc in ap₂ (λ y z. Text y.occurrence.app ∷ Int (pos y.occurrence.arrival) ∷ Int (pos y.number) ∷ Text z ∷ []) op name,
+  λ e. let name : v ≡ w = cc in ap₂ key.Need (same_operation o p (cc) (cc) (cc)) name,
+)
+
+-- ---- each is a table
+
+-- the id of the one row of `meta`
+abbrev pub HaveOneId : StoredMeta → StoredMeta → Type 0
+HaveOneId x y = x.id ≡ y.id
+
+pub meta_table : IsTable 0 meta_of HaveOneId
+meta_table = record {
+  place = λ r. place r;
+  keys = λ r s x y e f. let a = meta_is r x e in let b = meta_is s y f in keys_by HaveOneId a.3 b.3 a.4 b.4 (λ _. refl, λ _. refl);
+}
+  where
+    place : (r : PlanRow) → is_some (meta_of r) ≡ (table_of (key_of r) == 0)
+    place (row.Meta version loaded clock) = refl
+    place _ = refl
+
+pub workstation_table : IsTable 1 workstation_of (BeginAlike 1 workstation_row)
+workstation_table = record {
+  place = λ r. place r;
+  keys = λ r s x y e f. let a = workstation_is r x e in let b = workstation_is s y f in keys_by (BeginAlike 1 workstation_row) a.2 b.2 a.3 b.3 (workstation_keys a.0 b.0);
+}
+  where
+    place : (r : PlanRow) → is_some (workstation_of r) ≡ (table_of (key_of r) == 1)
+    place (row.Workstation name a) = refl
+    place _ = refl
+
+pub interval_table : IsTable 2 interval_of (BeginAlike 2 interval_row)
+interval_table = record {
+  place = λ r. place r;
+  keys = λ r s x y e f. let a = interval_is r x e in let b = interval_is s y f in keys_by (BeginAlike 2 interval_row) a.2 b.2 a.3 b.3 (interval_keys a.0 b.0 a.1.from b.1.from);
+}
+  where
+    place : (r : PlanRow) → is_some (interval_of r) ≡ (table_of (key_of r) == 2)
+    place (row.Interval w i) = refl
+    place _ = refl
+
+pub resource_table : IsTable 3 resource_of (BeginAlike 1 resource_row)
+resource_table = record {
+  place = λ r. place r;
+  keys = λ r s x y e f. let a = resource_is r x e in let b = resource_is s y f in keys_by (BeginAlike 1 resource_row) a.2 b.2 a.3 b.3 (resource_keys a.0 b.0);
+}
+  where
+    place : (r : PlanRow) → is_some (resource_of r) ≡ (table_of (key_of r) == 3)
+    place (row.Resource name available) = refl
+    place _ = refl
+
+pub occurrence_table : IsTable 4 occurrence_of (BeginAlike 2 occurrence_row)
+occurrence_table = record {
+  place = λ r. place r;
+  keys = λ r s x y e f. let a = occurrence_is r x e in let b = occurrence_is s y f in keys_by (BeginAlike 2 occurrence_row) a.4 b.4 a.5 b.5 (occurrence_keys a.0 b.0);
+}
+  where
+    place : (r : PlanRow) → is_some (occurrence_of r) ≡ (table_of (key_of r) == 4)
+    place (row.Occurrence c priority deadline status) = refl
+    place _ = refl
+
+pub operation_table : IsTable 5 operation_of (BeginAlike 3 operation_row)
+operation_table = record {
+  place = λ r. place r;
+  keys = λ r s x y e f. let a = operation_is r x e in let b = operation_is s y f in keys_by (BeginAlike 3 operation_row) a.1 b.1 a.2 b.2 (operation_keys a.0.op b.0.op);
+}
+  where
+    place : (r : PlanRow) → is_some (operation_of r) ≡ (table_of (key_of r) == 5)
+    place (row.Operation o) = refl
+    place _ = refl
+
+pub dependency_table : IsTable 6 dependency_of (BeginAlike 6 dependency_row)
+dependency_table = record {
+  place = λ r. place r;
+  keys = λ r s x y e f. let a = dependency_is r x e in let b = dependency_is s y f in keys_by (BeginAlike 6 dependency_row) a.2 b.2 a.3 b.3 (dependency_keys a.0 a.1 b.0 b.1);
+}
+  where
+    place : (r : PlanRow) → is_some (dependency_of r) ≡ (table_of (key_of r) == 6)
+    place (row.Dependency p s) = refl
+    place _ = refl
+
+pub need_table : IsTable 7 need_of (BeginAlike 4 need_row)
+need_table = record {
+  place = λ r. place r;
+  keys = λ r s x y e f. let a = need_is r x e in let b = need_is s y f in keys_by (BeginAlike 4 need_row) a.2 b.2 a.3 b.3 (need_keys a.0 b.0 a.1.name b.1.name);
+}
+  where
+    place : (r : PlanRow) → is_some (need_of r) ≡ (table_of (key_of r) == 7)
+    place (row.Need o n) = refl
+    place _ = refl

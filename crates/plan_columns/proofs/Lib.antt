@@ -1,0 +1,5 @@
+mod OneTable
+mod EachTable
+mod RowPut
+pub mod RowsWritten
+pub mod SameColumns

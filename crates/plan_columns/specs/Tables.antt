@@ -1,0 +1,58 @@
+-- Which rows of a plan the tables hold, and what writing rows makes of them.
+use Rattle.std.specs.Prelude.{◌≡◌, ◌↔◌, ℕ, pos, Bool, List, [], ◌∷◌}
+use Rattle.sqlite_rules.specs.Lists.{Has}
+use Rattle.plan_basics.specs.Intervals.{OpenInterval}
+use Rattle.plan_basics.specs.Keys.{Name}
+use Rattle.plan_basics.specs.declared.Attr.{Attr}
+use Rattle.plan_basics.specs.declared.keys.OccKey.{OccKey}
+use Rattle.plan_basics.specs.declared.keys.OpKey.{OpKey}
+use Rattle.special_resources.specs.declared.Need.{Need}
+use Rattle.status_rules.specs.declared.OccStatus.{OccStatus}
+use Rattle.plan_drafts.specs.declared.RowKey.{RowKey}
+use Rattle.plan_drafts.specs.declared.RowKey.TheVariants as key
+use Rattle.plan_records.specs.declared.OperationRow.{OperationRow}
+use Rattle.plan_records.specs.declared.PlanRow.{PlanRow}
+use Rattle.plan_records.specs.declared.PlanRow.TheVariants as row
+use Rattle.plan_schema.specs.Stored.{Held, StoredMeta, StoredWorkstation, StoredInterval, StoredResource, StoredOccurrence, StoredOperation, StoredDependency, StoredNeed, with_meta, with_workstation, with_interval, with_resource, with_occurrence, with_operation, with_dependency, with_need, without_interval}
+use Rattle.plan_columns.specs.Columns.{meta_columns, workstation_columns, interval_columns, resource_columns, occurrence_columns, operation_columns, dependency_columns, need_columns}
+
+-- the tables of a plan hold these rows and no others; the receipts are a table of their own
+pub record HoldRows (IsIn : PlanRow → Type 0) (held : Held) : Type 0 where
+  pub metas : (x : StoredMeta) → Has held.metas x ↔ ((version : ℕ) × (loaded : Bool) × (clock : ℕ) × IsIn (row.Meta version loaded clock) × (x ≡ meta_columns version loaded clock))
+  pub workstations : (x : StoredWorkstation) → Has held.workstations x ↔ ((name : Name) × (a : Attr) × IsIn (row.Workstation name a) × (x ≡ workstation_columns name a))
+  pub intervals : (x : StoredInterval) → Has held.intervals x ↔ ((w : Name) × (i : OpenInterval) × IsIn (row.Interval w i) × (x ≡ interval_columns w i))
+  pub resources : (x : StoredResource) → Has held.resources x ↔ ((name : Name) × (available : Bool) × IsIn (row.Resource name available) × (x ≡ resource_columns name available))
+  pub occurrences : (x : StoredOccurrence) → Has held.occurrences x ↔ ((c : OccKey) × (priority : ℕ) × (deadline : ℕ) × (status : OccStatus) × IsIn (row.Occurrence c priority deadline status) × (x ≡ occurrence_columns c priority deadline status))
+  pub operations : (x : StoredOperation) → Has held.operations x ↔ ((r : OperationRow) × IsIn (row.Operation r) × (x ≡ operation_columns r))
+  pub dependencies : (x : StoredDependency) → Has held.dependencies x ↔ ((p : OpKey) × (s : OpKey) × IsIn (row.Dependency p s) × (x ≡ dependency_columns p s))
+  pub needs : (x : StoredNeed) → Has held.needs x ↔ ((o : OpKey) × (n : Need) × IsIn (row.Need o n) × (x ≡ need_columns o n))
+
+-- the tables with this row, in place of the one that has its key
+abbrev pub with_row : PlanRow → Held → Held
+with_row (row.Meta version loaded clock) = with_meta (meta_columns version loaded clock)
+with_row (row.Workstation name a) = with_workstation (workstation_columns name a)
+with_row (row.Interval w i) = with_interval (interval_columns w i)
+with_row (row.Resource name available) = with_resource (resource_columns name available)
+with_row (row.Occurrence c priority deadline status) = with_occurrence (occurrence_columns c priority deadline status)
+with_row (row.Operation r) = with_operation (operation_columns r)
+with_row (row.Dependency p s) = with_dependency (dependency_columns p s)
+with_row (row.Need o n) = with_need (need_columns o n)
+
+-- the tables without the row of this key: an interval goes; from the other tables nothing is taken
+abbrev pub without_row : RowKey → Held → Held
+without_row (key.Interval w from) held = without_interval w (pos from) held
+without_row _ held = held
+
+-- with all of these rows, the first first
+abbrev pub with_rows : List PlanRow → Held → Held
+with_rows [] held = held
+with_rows (r ∷ rows) held = with_rows rows (with_row r held)
+
+-- without the rows of any of these keys
+abbrev pub without_rows : List RowKey → Held → Held
+without_rows [] held = held
+without_rows (k ∷ keys) held = without_rows keys (without_row k held)
+
+-- what changed rows and gone keys make of the tables
+abbrev pub written : List PlanRow → List RowKey → Held → Held
+written rows gone held = without_rows gone (with_rows rows held)

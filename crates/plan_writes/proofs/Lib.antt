@@ -1,0 +1,3 @@
+pub mod Within
+pub mod Lists
+pub mod Whole

@@ -1,0 +1,43 @@
+-- What a call makes of a database, within a transaction.
+use Rattle.std.specs.Prelude.{◌≡◌, false, OnOk, IsTrue, Result}
+use Rattle.sqlite.specs.Effect.{Database, IsDatabase}
+use Rattle.sqlite.specs.State.{State, HasCleanDisk, KeepsCommit, Survives}
+use Rattle.sqlite.specs.Tree.{Trees}
+use Rattle.sqlite.specs.Schema.{Schema}
+use Rattle.sqlite.specs.declared.error.Error.{Error}
+use Rattle.table_rows.specs.Rows.{IsEmpty}
+use Rattle.table_rows.specs.Tables.{no_schema}
+use Rattle.plan_records.specs.declared.PlanRow.TheVariants as row
+use Rattle.plan_schema.specs.Stored.{Held, Stores, none_held}
+use Rattle.plan_columns.specs.Tables.{with_row}
+
+-- a call within a transaction: what it makes is seen inside, nothing is committed, and no crash finds it
+pub record RunsWithin {X : Type 0} (Makes : Database → Database → Type 0) (old new : State) (r : Result X Error) : Type 0 where
+  pub made : HasCleanDisk new → IsTrue old.in_transaction → OnOk r (Makes old.now new.now)
+  pub inside : HasCleanDisk new → IsTrue old.in_transaction → OnOk r (IsTrue new.in_transaction × (new.committed ≡ old.committed))
+  pub kept : HasCleanDisk new → IsTrue old.in_transaction → KeepsCommit old new
+  pub survives : Survives old new (λ _. ⊥)
+
+-- at Ok: it is committed, and the connection is open and shows it
+abbrev pub IsCommitted : (Database → Database → Type 0) → State → State → Type 0
+IsCommitted Makes old new = IsTrue new.is_open × (new.now ≡ new.committed) × Makes old.now new.committed
+
+-- at Err: all is as it was last committed
+abbrev pub IsUndone : State → State → Type 0
+IsUndone old new = (new.now ≡ old.committed) × (new.committed ≡ old.committed)
+
+-- what a crash leaves is what the call makes
+abbrev pub LeavesMade : (Database → Database → Type 0) → State → Trees → Type 0
+LeavesMade Makes old trees = (db : Database) × Makes old.now db × (trees ≡ db.trees)
+
+-- a sound database of the one schema without rows becomes such a one of the other
+abbrev pub Grows : Schema → Schema → Database → Database → Type 0
+Grows from to before after = IsEmpty from before → IsEmpty to after × IsDatabase after
+
+-- what the tables hold before a plan is loaded: that none is, and a clock at the first minute
+abbrev pub first_held : Held
+first_held = with_row (row.Meta 1 false 0) none_held
+
+-- a database without tables becomes one with the nine tables, before a plan is loaded
+abbrev pub Begins : Database → Database → Type 0
+Begins before after = IsEmpty no_schema before → Stores after first_held

@@ -1,0 +1,53 @@
+// The nine tables of a desk at which nothing is loaded.
+ghost use Rattle.std.specs.Prelude.{◌≡◌, false, IsTrue, OnErr, OnOk};
+ghost use Rattle.sqlite.specs.Held.{state};
+ghost use Rattle.sqlite.specs.State.{HasCleanDisk, Survives};
+ghost use Rattle.table_rows.specs.Tables.{no_schema};
+ghost use Rattle.plan_schema.specs.Schema.{schema_9};
+ghost use Rattle.plan_writes.specs.Within.{Begins, Grows, IsCommitted, IsUndone, LeavesMade, RunsWithin};
+
+use crate::creation_first::create_first;
+use crate::creation_second::create_second;
+use crate::creation_third::create_third;
+use crate::resource_rows::put_meta;
+use plan_basics::Moment;
+use sqlite::{Alter, Connection, Error, Transaction};
+
+// The nine tables are made in a database that has none.
+fn create_nine<S: Alter>(tx: &mut Transaction<'_, S>) -> Result<usize, Error>
+    ensures same_reference { tx.new.conn.ghost_name ≡ tx.old.conn.ghost_name }
+    ensures made { RunsWithin (Grows no_schema schema_9) (state S.Store tx.old.conn.now) (state S.Store tx.new.conn.now) result }
+{
+    create_first(tx)?;
+    create_second(tx)?;
+    create_third(tx)
+}
+
+// The first minute that a plan can name, at which a clock begins.
+fn first_minute() -> Moment
+    ensures { result ≡ 0 }
+{
+    Moment::new(0).unwrap()
+}
+
+// The nine tables are made, with the one row that there is before a plan is loaded.
+fn create_all<S: Alter>(tx: &mut Transaction<'_, S>) -> Result<usize, Error>
+    ensures same_reference { tx.new.conn.ghost_name ≡ tx.old.conn.ghost_name }
+    ensures made { RunsWithin Begins (state S.Store tx.old.conn.now) (state S.Store tx.new.conn.now) result }
+{
+    create_nine(tx)?;
+    put_meta(tx, 1, false, first_minute())
+}
+
+/// Makes the nine tables of a desk at which nothing is loaded, in one transaction: wholly or not at all.
+pub fn create_tables<S: Alter>(conn: &mut Connection<S>) -> Result<(), Error>
+    requires { conn.old.in_transaction ≡ false }
+    ensures idle { conn.new.in_transaction ≡ false }
+    ensures ok { HasCleanDisk (state S.Store conn.new) → OnOk result (IsCommitted Begins (state S.Store conn.old) (state S.Store conn.new)) }
+    ensures err { HasCleanDisk (state S.Store conn.new) → IsTrue (state S.Store conn.new).is_open → OnErr result (IsUndone (state S.Store conn.old) (state S.Store conn.new)) }
+    ensures crash { Survives (state S.Store conn.old) (state S.Store conn.new) (LeavesMade Begins (state S.Store conn.old)) }
+{
+    let mut tx = conn.transaction();
+    create_all(&mut tx)?;
+    tx.commit()
+}

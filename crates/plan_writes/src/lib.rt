@@ -1,0 +1,17 @@
+//! A plan's rows, written into its tables within a transaction: what changed is put in, and what is gone is taken out.
+#![tactic(auto)]
+
+mod changes;
+mod columns;
+mod creation;
+mod creation_first;
+mod creation_second;
+mod creation_third;
+mod operation_rows;
+mod resource_rows;
+mod rows;
+mod workstation_rows;
+
+pub use changes::write_changes;
+pub use creation::create_tables;
+pub use rows::write_and_drop;

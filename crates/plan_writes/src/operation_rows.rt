@@ -1,0 +1,92 @@
+// The tables `occurrence`, `operation` and `dependency`.
+ghost use Rattle.std.specs.Prelude.{◌≡◌};
+ghost use Rattle.sqlite.specs.Held.{state};
+ghost use Rattle.plan_schema.specs.Stored.{Turns, with_occurrence, with_operation, with_dependency};
+ghost use Rattle.plan_columns.specs.Columns.{occurrence_columns, operation_columns, dependency_columns};
+ghost use Rattle.plan_writes.specs.Within.{RunsWithin};
+
+use crate::columns::{flag, minute, number};
+use plan_basics::{Moment, OccKey, OpKey};
+use plan_records::OperationRow;
+use plan_schema::{PUT_DEPENDENCY, PUT_OCCURRENCE, PUT_OPERATION};
+use sqlite::{Alter, Error, Transaction};
+use status_rules::OccStatus;
+use table_rows::{int, letters, text};
+
+/// Puts an occurrence in, in place of the one with its key.
+pub fn put_occurrence<S: Alter>(
+    tx: &mut Transaction<'_, S>,
+    occurrence: &OccKey,
+    priority: u8,
+    deadline: Moment,
+    status: OccStatus,
+) -> Result<usize, Error>
+    ensures same_reference { tx.new.conn.ghost_name ≡ tx.old.conn.ghost_name }
+    ensures written { RunsWithin (Turns (with_occurrence (occurrence_columns occurrence.now priority deadline status))) (state S.Store tx.old.conn.now) (state S.Store tx.new.conn.now) result }
+{
+    let letter = [status.letter()];
+    tx.execute(
+        PUT_OCCURRENCE,
+        &[
+            letters(occurrence.app.as_bytes()),
+            minute(occurrence.arrival),
+            number(u32::from(priority)),
+            minute(deadline),
+            letters(&letter),
+        ],
+    )
+}
+
+/// Puts an operation in, in place of the one with its key.
+pub fn put_operation<S: Alter>(
+    tx: &mut Transaction<'_, S>,
+    row: &OperationRow,
+) -> Result<usize, Error>
+    ensures same_reference { tx.new.conn.ghost_name ≡ tx.old.conn.ghost_name }
+    ensures written { RunsWithin (Turns (with_operation (operation_columns row.now))) (state S.Store tx.old.conn.now) (state S.Store tx.new.conn.now) result }
+{
+    let letter = [row.status.letter()];
+    tx.execute(
+        PUT_OPERATION,
+        &[
+            letters(row.op.occurrence.app.as_bytes()),
+            minute(row.op.occurrence.arrival),
+            number(u32::from(row.op.number)),
+            letters(row.ws.as_bytes()),
+            number(u32::from(row.duration)),
+            number(u32::from(row.r1)),
+            number(u32::from(row.r2)),
+            minute(row.not_before),
+            minute(row.deadline),
+            text(row.mark.text()),
+            letters(row.mark.code_text()),
+            flag(row.held),
+            flag(row.nop),
+            letters(&letter),
+            int(&row.latest),
+            number(row.waiting),
+        ],
+    )
+}
+
+/// Puts a pair of operations in, of which the first precedes the second.
+pub fn put_dependency<S: Alter>(
+    tx: &mut Transaction<'_, S>,
+    predecessor: &OpKey,
+    successor: &OpKey,
+) -> Result<usize, Error>
+    ensures same_reference { tx.new.conn.ghost_name ≡ tx.old.conn.ghost_name }
+    ensures written { RunsWithin (Turns (with_dependency (dependency_columns predecessor.now successor.now))) (state S.Store tx.old.conn.now) (state S.Store tx.new.conn.now) result }
+{
+    tx.execute(
+        PUT_DEPENDENCY,
+        &[
+            letters(predecessor.occurrence.app.as_bytes()),
+            minute(predecessor.occurrence.arrival),
+            number(u32::from(predecessor.number)),
+            letters(successor.occurrence.app.as_bytes()),
+            minute(successor.occurrence.arrival),
+            number(u32::from(successor.number)),
+        ],
+    )
+}

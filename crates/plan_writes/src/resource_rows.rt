@@ -1,0 +1,63 @@
+// The tables `meta`, `resource` and `need`.
+ghost use Rattle.std.specs.Prelude.{◌≡◌};
+ghost use Rattle.sqlite.specs.Held.{state};
+ghost use Rattle.plan_schema.specs.Stored.{Turns, with_meta, with_resource, with_need};
+ghost use Rattle.plan_columns.specs.Columns.{meta_columns, resource_columns, need_columns};
+ghost use Rattle.plan_writes.specs.Within.{RunsWithin};
+
+use crate::columns::{flag, keeping, minute, mode, number};
+use plan_basics::{Moment, OpKey, ResName};
+use plan_schema::{PUT_META, PUT_NEED, PUT_RESOURCE};
+use special_resources::Need;
+use sqlite::{Alter, Error, Transaction};
+use table_rows::letters;
+
+/// Puts the one row of `meta` in: the version of the tables, whether a plan is loaded, and the clock.
+pub fn put_meta<S: Alter>(
+    tx: &mut Transaction<'_, S>,
+    version: u32,
+    loaded: bool,
+    clock: Moment,
+) -> Result<usize, Error>
+    ensures same_reference { tx.new.conn.ghost_name ≡ tx.old.conn.ghost_name }
+    ensures written { RunsWithin (Turns (with_meta (meta_columns version loaded clock))) (state S.Store tx.old.conn.now) (state S.Store tx.new.conn.now) result }
+{
+    tx.execute(
+        PUT_META,
+        &[number(1), number(version), flag(loaded), minute(clock)],
+    )
+}
+
+/// Puts a special resource in, in place of the one with its name.
+pub fn put_resource<S: Alter>(
+    tx: &mut Transaction<'_, S>,
+    name: &ResName,
+    available: bool,
+) -> Result<usize, Error>
+    ensures same_reference { tx.new.conn.ghost_name ≡ tx.old.conn.ghost_name }
+    ensures written { RunsWithin (Turns (with_resource (resource_columns name.now available))) (state S.Store tx.old.conn.now) (state S.Store tx.new.conn.now) result }
+{
+    tx.execute(PUT_RESOURCE, &[letters(name.as_bytes()), flag(available)])
+}
+
+/// Puts an operation's need in, in place of its need of the same special resource.
+pub fn put_need<S: Alter>(
+    tx: &mut Transaction<'_, S>,
+    op: &OpKey,
+    need: &Need,
+) -> Result<usize, Error>
+    ensures same_reference { tx.new.conn.ghost_name ≡ tx.old.conn.ghost_name }
+    ensures written { RunsWithin (Turns (with_need (need_columns op.now need.now))) (state S.Store tx.old.conn.now) (state S.Store tx.new.conn.now) result }
+{
+    tx.execute(
+        PUT_NEED,
+        &[
+            letters(op.occurrence.app.as_bytes()),
+            minute(op.occurrence.arrival),
+            number(u32::from(op.number)),
+            letters(need.name.as_bytes()),
+            mode(need.mode),
+            keeping(need.keep),
+        ],
+    )
+}

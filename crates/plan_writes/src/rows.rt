@@ -1,0 +1,87 @@
+// Rows of any table, and lists of them.
+ghost use Rattle.std.specs.Prelude.{◌≡◌};
+ghost use Rattle.sqlite.specs.Held.{state};
+ghost use Rattle.plan_schema.specs.Stored.{Turns};
+ghost use Rattle.plan_columns.specs.Tables.{with_row, without_row, with_rows, without_rows, written};
+ghost use Rattle.plan_writes.specs.Within.{RunsWithin};
+
+use crate::operation_rows::{put_dependency, put_occurrence, put_operation};
+use crate::resource_rows::{put_meta, put_need, put_resource};
+use crate::workstation_rows::{drop_interval, put_interval, put_workstation};
+use plan_records::{PlanRow, RowKey};
+use sqlite::{Alter, Error, Transaction};
+
+/// Puts a row into its table, in place of the one with its key.
+pub fn write_row<S: Alter>(tx: &mut Transaction<'_, S>, row: &PlanRow) -> Result<usize, Error>
+    ensures same_reference { tx.new.conn.ghost_name ≡ tx.old.conn.ghost_name }
+    ensures written { RunsWithin (Turns (with_row row.now)) (state S.Store tx.old.conn.now) (state S.Store tx.new.conn.now) result }
+{
+    match row {
+        PlanRow::Meta {
+            version,
+            loaded,
+            clock,
+        } => put_meta(tx, *version, *loaded, *clock),
+        PlanRow::Workstation { name, attr } => put_workstation(tx, name, *attr),
+        PlanRow::Interval { ws, interval } => put_interval(tx, ws, interval),
+        PlanRow::Resource { name, available } => put_resource(tx, name, *available),
+        PlanRow::Occurrence {
+            occurrence,
+            priority,
+            deadline,
+            status,
+        } => put_occurrence(tx, occurrence, *priority, *deadline, *status),
+        PlanRow::Operation(row) => put_operation(tx, row),
+        PlanRow::Dependency {
+            predecessor,
+            successor,
+        } => put_dependency(tx, predecessor, successor),
+        PlanRow::Need { op, need } => put_need(tx, op, need),
+    }
+}
+
+/// Takes the row with this key out of its table. Only intervals ever go; for a key of another table nothing is done.
+pub fn drop_row<S: Alter>(tx: &mut Transaction<'_, S>, key: &RowKey) -> Result<usize, Error>
+    ensures same_reference { tx.new.conn.ghost_name ≡ tx.old.conn.ghost_name }
+    ensures written { RunsWithin (Turns (without_row key.now)) (state S.Store tx.old.conn.now) (state S.Store tx.new.conn.now) result }
+{
+    match key {
+        RowKey::Interval(ws, from) => drop_interval(tx, ws, *from),
+        _ => Ok(0),
+    }
+}
+
+/// Puts rows into their tables, one after another.
+pub fn write_rows<S: Alter>(tx: &mut Transaction<'_, S>, rows: &[PlanRow]) -> Result<(), Error>
+    ensures same_reference { tx.new.conn.ghost_name ≡ tx.old.conn.ghost_name }
+    ensures written { RunsWithin (Turns (with_rows rows.now)) (state S.Store tx.old.conn.now) (state S.Store tx.new.conn.now) result }
+{
+    for row in rows {
+        write_row(tx, row)?;
+    }
+    Ok(())
+}
+
+/// Takes the rows with these keys out of their tables, one after another.
+pub fn drop_rows<S: Alter>(tx: &mut Transaction<'_, S>, gone: &[RowKey]) -> Result<(), Error>
+    ensures same_reference { tx.new.conn.ghost_name ≡ tx.old.conn.ghost_name }
+    ensures written { RunsWithin (Turns (without_rows gone.now)) (state S.Store tx.old.conn.now) (state S.Store tx.new.conn.now) result }
+{
+    for key in gone {
+        drop_row(tx, key)?;
+    }
+    Ok(())
+}
+
+/// Puts the rows in, and takes those out whose keys are gone.
+pub fn write_and_drop<S: Alter>(
+    tx: &mut Transaction<'_, S>,
+    rows: &[PlanRow],
+    gone: &[RowKey],
+) -> Result<(), Error>
+    ensures same_reference { tx.new.conn.ghost_name ≡ tx.old.conn.ghost_name }
+    ensures written { RunsWithin (Turns (written rows.now gone.now)) (state S.Store tx.old.conn.now) (state S.Store tx.new.conn.now) result }
+{
+    write_rows(tx, rows)?;
+    drop_rows(tx, gone)
+}

@@ -1,0 +1,62 @@
+// The tables `workstation` and `interval`.
+ghost use Rattle.std.specs.Prelude.{◌≡◌, pos};
+ghost use Rattle.sqlite.specs.Held.{state};
+ghost use Rattle.plan_schema.specs.Stored.{Turns, with_workstation, with_interval, without_interval};
+ghost use Rattle.plan_columns.specs.Columns.{workstation_columns, interval_columns};
+ghost use Rattle.plan_writes.specs.Within.{RunsWithin};
+
+use crate::columns::{minute, number};
+use plan_basics::{Attr, Interval, Moment, WsName};
+use plan_schema::{DROP_INTERVAL, PUT_INTERVAL, PUT_WORKSTATION};
+use sqlite::{Alter, Error, Transaction};
+use table_rows::letters;
+
+/// Puts a workstation in, in place of the one with its name.
+pub fn put_workstation<S: Alter>(
+    tx: &mut Transaction<'_, S>,
+    name: &WsName,
+    attr: Attr,
+) -> Result<usize, Error>
+    ensures same_reference { tx.new.conn.ghost_name ≡ tx.old.conn.ghost_name }
+    ensures written { RunsWithin (Turns (with_workstation (workstation_columns name.now attr))) (state S.Store tx.old.conn.now) (state S.Store tx.new.conn.now) result }
+{
+    let letter = [attr.letter()];
+    tx.execute(
+        PUT_WORKSTATION,
+        &[letters(name.as_bytes()), letters(&letter)],
+    )
+}
+
+/// Puts an interval of a workstation in, in place of the one with its first minute.
+pub fn put_interval<S: Alter>(
+    tx: &mut Transaction<'_, S>,
+    ws: &WsName,
+    interval: &Interval,
+) -> Result<usize, Error>
+    ensures same_reference { tx.new.conn.ghost_name ≡ tx.old.conn.ghost_name }
+    ensures written { RunsWithin (Turns (with_interval (interval_columns ws.now interval.now))) (state S.Store tx.old.conn.now) (state S.Store tx.new.conn.now) result }
+{
+    tx.execute(
+        PUT_INTERVAL,
+        &[
+            letters(ws.as_bytes()),
+            minute(interval.from()),
+            minute(interval.end()),
+            number(u32::from(interval.servers())),
+            number(u32::from(interval.r1())),
+            number(u32::from(interval.r2())),
+        ],
+    )
+}
+
+/// Takes the interval out that a workstation has from this minute.
+pub fn drop_interval<S: Alter>(
+    tx: &mut Transaction<'_, S>,
+    ws: &WsName,
+    from: Moment,
+) -> Result<usize, Error>
+    ensures same_reference { tx.new.conn.ghost_name ≡ tx.old.conn.ghost_name }
+    ensures written { RunsWithin (Turns (without_interval ws.now (pos from))) (state S.Store tx.old.conn.now) (state S.Store tx.new.conn.now) result }
+{
+    tx.execute(DROP_INTERVAL, &[letters(ws.as_bytes()), minute(from)])
+}
