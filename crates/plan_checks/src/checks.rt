@@ -79,7 +79,7 @@ fn check_started(
         Attr::StartAndCompletion => {
             let taken = given_out_at(alloc, loaded, &reported.operation)?;
             let contents = loaded.contents();
-            let holdings = holdings_of(alloc, contents)?;
+            let holdings = holdings_of(alloc, contents.valid())?;
             check_start(contents, key, &reported.operation, &taken, &holdings, at)
         }
         Attr::CompletionOnly | Attr::Nonreporting => Err(Refusal::WrongWorkstation),

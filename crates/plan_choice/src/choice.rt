@@ -78,7 +78,7 @@ pub fn chosen(
         contents,
         at,
         given: given_out_of(alloc, contents)?,
-        holdings: holdings_of(alloc, contents)?,
+        holdings: holdings_of(alloc, contents.valid())?,
     };
     ready.choose(&mut gate)
 }

@@ -8,7 +8,7 @@ ghost use Rattle.plan_choice.specs.Takings.{HaveTaken};
 use super::taken::starts_are_known;
 use plan_basics::{OpKey, Refusal};
 use plan_model::OperationRecord;
-use plan_status::SoundContents;
+use plan_status::ValidContents;
 use special_resources::Holdings;
 use status_rules::Mark;
 use std::alloc::Global;
@@ -48,7 +48,7 @@ pub fn take_needs(
 
 /// Who holds what of special resources: an operation on a workstation where starts are known that is started, undecided or
 /// interrupted holds what it needs; one that ended in error holds what an error keeps. The error is always `Memory`.
-pub fn holdings_of(alloc: Global, contents: &SoundContents) -> Result<Holdings, Refusal>
+pub fn holdings_of(alloc: Global, contents: &ValidContents) -> Result<Holdings, Refusal>
     ensures held { IfOk result (λ found. AreHeldIn contents.now found.held) }
     ensures refused { IfErr result (λ r. r ≡ Refusal.Memory) }
 {

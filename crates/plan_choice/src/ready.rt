@@ -40,7 +40,7 @@ fn ready_entry(contents: &SoundContents, row: &(OpKey, OperationRecord), latest:
             op: row.0,
         },
         ws: row.1.workstation,
-        attr: attribute_of(contents, &row.1),
+        attr: attribute_of(contents.valid(), &row.1),
     }
 }
 

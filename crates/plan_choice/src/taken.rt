@@ -11,7 +11,7 @@ ghost use Rattle.plan_choice.specs.Takings.{CanMeetNeed, CanMeetNeeds, CanStart,
 
 use plan_basics::{Attr, Moment, OpKey, Refusal, ResName};
 use plan_model::OperationRecord;
-use plan_status::{SoundContents, attribute_of};
+use plan_status::{SoundContents, ValidContents, attribute_of};
 use special_resources::{Holdings, Need};
 use std::alloc::{AllocError, Global};
 use workstations::Capacity;
@@ -24,7 +24,7 @@ const NOTHING: Capacity = Capacity {
 };
 
 /// Whether starts are known on the workstation of an operation of the plan: there it takes servers and special resources.
-pub fn starts_are_known(contents: &SoundContents, operation: &OperationRecord) -> bool
+pub fn starts_are_known(contents: &ValidContents, operation: &OperationRecord) -> bool
     requires { (o : OpKey) × (get contents.now.operations o ≡ Some operation.now) }
     ensures { result ≡ takes (attribute_at contents.now operation.now.workstation) }
 {
@@ -39,7 +39,7 @@ fn holds_a_server(contents: &SoundContents, operation: &OperationRecord) -> bool
     requires { (o : OpKey) × (get contents.now.operations o ≡ Some operation.now) }
     ensures { result ≡ takes_server contents.now operation.now }
 {
-    starts_are_known(contents, operation) && operation.mark.holds_server()
+    starts_are_known(contents.valid(), operation) && operation.mark.holds_server()
 }
 
 // What is given out, with this much more.

@@ -1,17 +1,20 @@
 -- What records denote, from what each of them says.
-use Rattle.std.proofs.Common.{◌≡◌, refl, sym, subst, ap₂, arith, ℕ, zero, suc, ◌+◌, ◌<◌, List, [], ◌∷◌, ◌++◌, length, get_or, take, All, Vec}
+use Rattle.std.proofs.Common.{◌≡◌, refl, sym, subst, ap₂, arith, ℕ, zero, suc, ◌+◌, ◌<◌, List, [], ◌∷◌, ◌++◌, length, get_or, take, All, Vec, true, false, eqb}
 use Rattle.std.specs.List.{AllZip}
+use Rattle.std.specs.declared.cmp.Ordering.{Ordering}
+use Rattle.std.specs.FinMap.{FinMap, entries, len, len-entries}
+use Rattle.std.proofs.lemmas.Bool.{eqb-true}
 use Rattle.std.specs.declared.alloc.Global.{Global}
 use Rattle.std.proofs.lemmas.List.Elements.{All-nil, All-cons}
 use Rattle.plan_model.specs.Contents.{Contents}
 use Rattle.plan_items.specs.declared.Item.{Item}
 use Rattle.plan_items.specs.Items.{Fields, fields_of, IsItem, Says}
 use Rattle.plan_items.proofs.ItemLaws.{one_item}
-use Rattle.plan_drafts.specs.Drafts.{IsDraft}
 use Rattle.plan_drafts.specs.PlanItems.{CanBeLoaded, AreContentsOf}
-use Rattle.plan_drafts.specs.Records.{records_of, StandsIn, IsItemOfPlan, AreItems, Denotes}
+use Rattle.plan_drafts.specs.Records.{records_of, StandsIn, IsItemOfPlan, AreItems, AreItemsOf, Denotes}
+use Rattle.plan_drafts.proofs.Lists.{some_from_test}
 use Rattle.plan_drafts.proofs.Needed.{needed}
-use Rattle.plan_drafts.proofs.Made.{are_items, some_workstation, some_occurrence, is_draft}
+use Rattle.plan_drafts.proofs.Made.{are_items, is_draft}
 
 -- ---- one record after another
 abbrev Records : Type 0
@@ -56,21 +59,31 @@ items_legal (r ∷ rs) [] h = absurd h
 items_legal (r ∷ rs) (y ∷ ys) h = All-cons IsItem y ys h.0.0 (items_legal rs ys h.1)
 
 -- ---- the plan
+-- what is made of items in range is the plan that has them
+pub made_of : (items : List Item) → All IsItem items → (P : Contents) → AreContentsOf items P → AreItemsOf items P
+made_of items legal P (rows, made, is) = subst (AreItemsOf items) (sym is) (record { draft = is_draft items rows legal made; are = are_items items rows legal made })
+
+-- items of which nothing can be made are those of no plan
+pub none_made : (items : List Item) → ¬ CanBeLoaded items → (P : Contents) → ¬ AreItemsOf items P
+none_made items none P is = none (needed P is.draft items is.are)
+
+-- whether a map is empty, by the list of its entries
+module _ {K V : Type 0} {R : K → K → Ordering} (m : FinMap R V) where
+  pub no_entry : true ≡ eqb (length (entries m)) 0 → ¬ (0 < len m)
+  no_entry e some = let none = eqb-true (length (entries m)) 0 (sym e) in omega (arith, len-entries m, none, some)
+
+  pub some_entry : false ≡ eqb (length (entries m)) 0 → 0 < len m
+  some_entry e = let some = some_from_test (entries m) e in omega (arith, len-entries m, some)
+
 module _ (records : List Fields) (items : List Item) (said : AllZip Says records items) where
-  pub is_draft_of : (P : Contents) → AreContentsOf items P → IsDraft P
-  is_draft_of P made = subst IsDraft (sym made.2) (is_draft items made.0 (items_legal records items said) made.1)
+  pub are_denoted : (P : Contents) → AreItemsOf items P → 0 < len P.workstations → 0 < len P.occurrences → Denotes records P
+  are_denoted P is some_workstation some_occurrence = record {
+    draft = is.draft;
+    some_workstation = some_workstation;
+    some_occurrence = some_occurrence;
+    described = record { items = items; said = said; are = is.are };
+  }
 
-  pub are_denoted : (P : Contents) → AreContentsOf items P → Denotes records P
-  are_denoted P (rows, made, is) =
-      let legal = items_legal records items said in
-      subst (Denotes records) (sym is) (record {
-        draft = is_draft items rows legal made;
-        some_workstation = some_workstation items rows legal made;
-        some_occurrence = some_occurrence items rows legal made;
-        described = record { items = items; said = said; are = are_items items rows legal made };
-      })
-
-  pub none_denoted : ¬ CanBeLoaded items → (P : Contents) → ¬ Denotes records P
-  none_denoted none P d =
-      let same = same_items records d.described.items items d.described.said said in
-      none (needed P d.draft d.some_workstation d.some_occurrence items (subst (AreItems (StandsIn P) (IsItemOfPlan P)) same d.described.are))
+  -- the items of a plan that the records denote
+  pub denoted_items : (P : Contents) → Denotes records P → AreItemsOf items P
+  denoted_items P d = let same = same_items records d.described.items items d.described.said said in record { draft = d.draft; are = subst (AreItems (StandsIn P) (IsItemOfPlan P)) same d.described.are }

@@ -1,5 +1,5 @@
 -- Rows of what items say are those of a draft, the plan of these items.
-use Rattle.std.proofs.Common.{◌≡◌, ◌≢◌, Bool, refl, sym, subst, ap, ◌∙◌, true, List, map, length, All, Contains, Some, option_map, arith, ◌<◌, ◌≤◌}
+use Rattle.std.proofs.Common.{◌≡◌, ◌≢◌, Bool, refl, sym, subst, ap, ◌∙◌, true, List, map, length, All, Contains, Some, option_map, arith, ◌≤◌}
 use Rattle.std.specs.List.{AllPairs}
 use Rattle.std.specs.FinMap.{get, contains_key, len}
 use Rattle.std.specs.FinSet as set
@@ -206,12 +206,6 @@ module _ (items : List Item) (c : Rows) (legal_items : All items_of.IsItem items
     acyclic = acyclic;
     limits = limits;
   }
-
-  pub some_workstation : 0 < len P.workstations
-  some_workstation = let some : 0 < length (workstations_in items) = made.items_are.workstations.some in omega (arith, workstations_count)
-
-  pub some_occurrence : 0 < len P.occurrences
-  some_occurrence = let some : 0 < length (occurrences_in items) = made.items_are.occurrences.some in omega (arith, occurrences_count)
 
   pub is_draft : IsDraft P
   is_draft = record { valid = valid; untouched = made_parts.untouched parts }

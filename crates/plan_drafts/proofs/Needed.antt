@@ -1,5 +1,5 @@
 -- Where items are those of a plan, they can be loaded, kind by kind.
-use Rattle.std.proofs.Common.{◌≡◌, ◌≢◌, refl, sym, subst, ap, ◌∙◌, arith, ℕ, ◌<◌, ◌≤◌, true, List, map, length, Contains, Option, Some, None, option_map}
+use Rattle.std.proofs.Common.{◌≡◌, ◌≢◌, refl, sym, subst, ap, ◌∙◌, arith, ℕ, ◌≤◌, true, List, map, length, Contains, Option, Some, None, option_map}
 use Rattle.std.specs.Cmp.{nat_cmp_total, both_ways}
 use Rattle.std.specs.FinMap.{get, contains_key, len, nat_cmp-IsAntisymmetric}
 use Rattle.std.specs.FinSet as set
@@ -37,7 +37,7 @@ pub mapped : {A B : Type 0} (f : A → B) (x : Option A) (b : B) → option_map 
 mapped f None b e = absurd (none-some b e)
 mapped f (Some a) b e = (a, refl, same_Some (f a) b e)
 
-module _ (P : Contents) (draft : IsDraft P) (some_station : 0 < len P.workstations) (some : 0 < len P.occurrences) (items : List Item) (are : AreItems (StandsIn P) (IsItemOfPlan P) items) where
+module _ (P : Contents) (draft : IsDraft P) (items : List Item) (are : AreItems (StandsIn P) (IsItemOfPlan P) items) where
   held : Holds items (entered P)
   held = held_by_plan P draft items are
 
@@ -94,7 +94,6 @@ module _ (P : Contents) (draft : IsDraft P) (some_station : 0 < len P.workstatio
 
   are_workstations : AreWorkstations (workstations_in items) (intervals_in items)
   are_workstations = record {
-    some = omega (arith, some_station, workstations_count);
     few = let most : len P.workstations ≤ MOST_WORKSTATIONS = draft.valid.limits.workstations in omega (arith, workstations_count);
     distinct = read_distinct kinds.workstations items are.distinct;
     opening = all_by_members (CanOpen (intervals_in items)) (workstations_in items) (λ y has. let ws = workstation_is y has in is_opening y.0 ws.0 ws.1);
@@ -119,7 +118,6 @@ module _ (P : Contents) (draft : IsDraft P) (some_station : 0 < len P.workstatio
   -- ---- occurrences, operations, needs and pairs
   are_occurrences : AreOccurrenceRows (occurrences_in items)
   are_occurrences = record {
-    some = omega (arith, some, occurrences_count held);
     few = let most : len P.occurrences ≤ MOST_OCCURRENCES = draft.valid.limits.occurrences in omega (arith, occurrences_count held);
     distinct = read_distinct kinds.occurrences items are.distinct;
   }

@@ -76,15 +76,14 @@ module _ (intervals : List (Name × OpenInterval)) where
       none (all_by_members (λ y. Contains (keys_of opened) y.0) intervals (λ y has. key_to_row (λ (row : Name × Attr). row.0) (station_in intervals) said opened moved y.0 (All-contains (λ z. Contains (keys_of said) z.0) intervals y are.no_others has)))
 
   pub stations_are :
-      (said rows : List (Name × Attr)) (opened : List NamedWorkstation) → 0 < length said → length said ≤ MOST_WORKSTATIONS → AreInKeyOrder name_cmp (λ row. row.0) said rows →
+      (said rows : List (Name × Attr)) (opened : List NamedWorkstation) → length said ≤ MOST_WORKSTATIONS → AreInKeyOrder name_cmp (λ row. row.0) said rows →
       All (CanOpen intervals) rows → opened ≡ map (opened_in intervals) rows → AreOfThese (keys_of opened) intervals → AreWorkstationsInOrder said intervals opened
-  stations_are said rows opened some few ordered opening is these =
+  stations_are said rows opened few ordered opening is these =
       let same : IsPermutation said rows = ordered.same in
       let back : IsPermutation rows said = IsPermutation-sym said rows same in
       let moved : IsPermutation (map (opened_in intervals) said) opened = subst (IsPermutation (map (opened_in intervals) said)) (sym is) (IsPermutation-map (opened_in intervals) said rows same) in
       record {
         are = record {
-          some = some;
           few = few;
           distinct = ordered.distinct;
           opening = opening_permuted rows said back opening;

@@ -14,11 +14,11 @@ use Rattle.plan_model.specs.Contents.{Contents, Operation, AddedParts}
 use Rattle.plan_model.specs.declared.Occurrence.{Occurrence}
 use Rattle.plan_items.specs.declared.Item.{Item}
 use Rattle.plan_drafts.specs.declared.RowKey.TheVariants as key
-use Rattle.plan_drafts.specs.Records.{entered, StandsInAdded, StandsIn, IsItemOf, IsItemOfPlan, AreItems, OnePlan, OneAddition}
+use Rattle.plan_drafts.specs.Records.{entered, StandsInAdded, StandsIn, IsItemOf, IsItemOfPlan, AreItems, OnePlan, OnePlanOfItems, OneAddition}
 use Rattle.plan_drafts.proofs.Tables.{some_is, same_entries}
 use Rattle.plan_drafts.proofs.Needed.{mapped}
 use Rattle.plan_drafts.proofs.Pairs.{pair_cmp_total, pair_cmp-IsAntisymmetric}
-use Rattle.plan_drafts.proofs.Denoting.{same_items}
+use Rattle.plan_drafts.proofs.Denoting.{same_items, denoted_items}
 use Rattle.plan_drafts.proofs.ItemKinds as kinds
 use Rattle.plan_drafts.proofs.ItemKinds.{read_in, read_stands}
 use Rattle.plan_drafts.proofs.ItemsHeld.{Holds, held_by_addition, held_by_plan, need_is, occurrence_is, operation_is, pair_is}
@@ -119,15 +119,19 @@ same_workstation items P Q a b w ws e =
     let same : other ≡ ws = λ i. record { attribute = attribute i; intervals = intervals i } in
     found ∙ ap (λ z. Some z) same
 
-pub one_plan : OnePlan
-one_plan records P Q d e =
-    let items = d.described.items in
-    let a = d.described.are in
-    let b : AreItems (StandsIn Q) (IsItemOfPlan Q) items = subst (AreItems (StandsIn Q) (IsItemOfPlan Q)) (same_items records e.described.items items e.described.said d.described.said) e.described.are in
+pub one_plan_of_items : OnePlanOfItems
+one_plan_of_items items P Q d e =
+    let a = d.are in
+    let b = e.are in
     let s : entered P ≡ entered Q = same_added (held_by_plan P d.draft items a) (held_by_plan Q e.draft items b) in
     let workstations = same_entries name_cmp_total name_cmp-IsAntisymmetric P.workstations Q.workstations (same_workstation items P Q a b) (same_workstation items Q P b a) in
     let resources = same_entries name_cmp_total name_cmp-IsAntisymmetric P.resources Q.resources (same_resource items P Q a b) (same_resource items Q P b a) in
     λ i. record { workstations = workstations i; resources = resources i; occurrences = (s i).occurrences; operations = (s i).operations; pairs = (s i).pairs }
+
+pub one_plan : OnePlan
+one_plan records P Q d e =
+    let items = d.described.items in
+    one_plan_of_items items P Q (denoted_items records items d.described.said P d) (denoted_items records items d.described.said Q e)
 
 pub one_addition : OneAddition
 one_addition records s t d e =

@@ -4,5 +4,6 @@ pub mod Places
 pub mod PlanGraphs
 pub mod Records
 pub mod KeyOrder
+pub mod RowKeys
 pub mod PlanItems
 pub mod AdditionItems

@@ -1,5 +1,5 @@
 -- What lists of items say of a plan, kind by kind.
-use Rattle.std.specs.Prelude.{◌≡◌, ◌≢◌, ◌<◌, ◌≤◌, List, length, map, All, Contains, Option, Some, None, cond, unwrap_or, Bool, false}
+use Rattle.std.specs.Prelude.{◌≡◌, ◌≢◌, ◌≤◌, List, length, map, All, Contains, Option, Some, None, cond, unwrap_or, Bool, false}
 use Rattle.std.specs.List.{AllPairs, filter_map}
 use Rattle.std.specs.declared.cmp.Ordering.{Ordering}
 use Rattle.std.specs.FinSet.{from_list}
@@ -136,9 +136,8 @@ opened_in intervals said = workstation_by said.0 said.1 (intervals_of said.0 int
 abbrev pub AreOfThese : List Name → List (Name × OpenInterval) → Type 0
 AreOfThese names intervals = All (λ said. Contains names said.0) intervals
 
--- at least one workstation, no more than a plan may hold, no two have one name, and each can be open in its intervals; there are no others
+-- no more workstations than a plan may hold, no two have one name, and each can be open in its intervals; there are no others
 pub record AreWorkstations (said : List (Name × Attr)) (intervals : List (Name × OpenInterval)) : Type 0 where
-  pub some : 0 < length said
   pub few : length said ≤ MOST_WORKSTATIONS
   pub distinct : AllPairs (λ a b. a.0 ≢ b.0) said
   pub opening : All (CanOpen intervals) said
@@ -155,9 +154,8 @@ pub record AreResources (said : List (Name × Bool)) : Type 0 where
   pub few : length said ≤ MOST_RESOURCES
   pub distinct : AllPairs (λ a b. a.0 ≢ b.0) said
 
--- at least one occurrence, no more than a plan may hold, and no two have one key
+-- no more occurrences than a plan may hold, and no two have one key
 pub record AreOccurrenceRows (said : List (OccKey × Occurrence)) : Type 0 where
-  pub some : 0 < length said
   pub few : length said ≤ MOST_OCCURRENCES
   pub distinct : AllPairs (λ a b. a.0 ≢ b.0) said
 

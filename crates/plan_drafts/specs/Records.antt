@@ -76,6 +76,11 @@ pub record AreItems (stands : Item → Type 0) (is_item : RowKey → Type 0) (it
   pub stand : All stands items
   pub all : (k : RowKey) → is_item k → (i : Item) × Contains items i × (key_of i ≡ k)
 
+-- the items are all that a valid plan holds of which nothing is reported yet
+pub record AreItemsOf (items : List Item) (P : Contents) : Type 0 where
+  pub draft : IsDraft P
+  pub are : AreItems (StandsIn P) (IsItemOfPlan P) items
+
 -- each record says an item, and these items are all that is there
 pub record AreDescriptions (stands : Item → Type 0) (is_item : RowKey → Type 0) (records : List Fields) : Type 0 where
   pub items : List Item
@@ -93,6 +98,10 @@ pub record Denotes (records : List Fields) (P : Contents) : Type 0 where
 pub record DenotesAddition (records : List Fields) (s : AddedParts) : Type 0 where
   pub addition : IsAddition s
   pub described : AreDescriptions (StandsInAdded s) (IsItemOf s) records
+
+-- items are those of one plan at most
+abbrev pub OnePlanOfItems : Type 0
+OnePlanOfItems = (items : List Item) (P Q : Contents) → AreItemsOf items P → AreItemsOf items Q → P ≡ Q
 
 -- records denote one plan at most
 abbrev pub OnePlan : Type 0

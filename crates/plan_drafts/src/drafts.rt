@@ -1,15 +1,27 @@
 // What texts denote: a plan to be loaded, or an addition to one.
-ghost use Rattle.std.specs.Prelude.{◌≡◌, IfOk, IfErr, MatchOption};
+ghost use Rattle.std.specs.Prelude.{◌≡◌, All, IfOk, IfErr, MatchOption};
 ghost use Rattle.plan_drafts.specs.Drafts.{IsDraft};
 ghost use Rattle.plan_drafts.specs.Contents.{added_parts, AreAdditionParts};
-ghost use Rattle.plan_drafts.specs.Records.{records_of, Denotes, DenotesAddition};
+ghost use Rattle.plan_items.specs.Items.{IsItem};
+ghost use Rattle.plan_drafts.specs.Records.{records_of, AreItemsOf, Denotes, DenotesAddition};
 ghost use Rattle.plan_model.specs.Contents.{Contents, AddedParts};
 
 use super::additions::parts_of;
 use super::builder::{Record, contents_of, read_items};
 use super::contents::{AdditionParts, PlanContents};
 use plan_basics::Refusal;
+use plan_items::Item;
+use std::alloc::{AllocError, Global};
 use std::marker::Model;
+
+/// The contents of the plan whose items these are, in any order; `None` where they are those of no plan. It is valid,
+/// it may be without workstation or occurrence, and nothing is reported of its operations.
+pub fn contents_of_items(alloc: Global, items: &[Item]) -> Result<Option<PlanContents>, AllocError>
+    requires { All IsItem items.now }
+    ensures { IfOk result (λ found. MatchOption found ((P : Contents) → ¬ AreItemsOf items.now P) (λ c. AreItemsOf items.now c)) }
+{
+    contents_of(alloc, items)
+}
 
 /// What the plan holds that a text denotes. Contracts see it as those contents.
 #[derive(Debug, Drop)]
@@ -46,9 +58,12 @@ impl PlanDraft {
         let Some(items) = read_items(alloc, &records)? else {
             return Ok(None);
         };
-        let Some(contents) = contents_of(alloc, &items)? else {
+        let Some(contents) = contents_of_items(alloc, &items)? else {
             return Ok(None);
         };
+        if contents.workstations().is_empty() || contents.occurrences().is_empty() {
+            return Ok(None);
+        }
         Ok(Some(PlanDraft { contents }))
     }
 

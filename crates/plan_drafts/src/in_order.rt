@@ -26,13 +26,13 @@ use status_rules::Mark;
 use std::alloc::{AllocError, Global};
 use workstations::Workstation;
 
-// The occurrences in key order, where there is one at least, no more than a plan may hold, and none is repeated.
+// The occurrences in key order, where there are no more than a plan may hold, and none is repeated.
 pub fn occurrences_in_order(
     said: Vec<(OccKey, Occurrence)>,
 ) -> Result<Option<Vec<(OccKey, Occurrence)>>, AllocError>
     ensures { IfOk result (λ found. MatchOption found (¬ AreOccurrenceRows said.items) (λ v. AreOccurrencesInOrder said.items v.items)) }
 {
-    if said.is_empty() || said.len() > MOST_OCCURRENCES {
+    if said.len() > MOST_OCCURRENCES {
         return Ok(None);
     }
     in_key_order(said, |row| row.0)

@@ -79,8 +79,8 @@ fn are_of_these(workstations: &[Workstation], intervals: &[(WsName, Interval)]) 
     intervals.iter().all(|said| is_named(workstations, &said.0))
 }
 
-// The workstations by name, each open in its intervals, where there is one at least, none is repeated, each can be
-// open, no interval is of another, and a plan may hold as many.
+// The workstations by name, each open in its intervals, where none is repeated, each can be open, no interval is of
+// another, and a plan may hold as many.
 pub fn workstations_in_order(
     alloc: Global,
     said: Vec<(WsName, Attr)>,
@@ -88,7 +88,7 @@ pub fn workstations_in_order(
 ) -> Result<Option<Vec<Workstation>>, AllocError>
     ensures { IfOk result (λ found. MatchOption found (¬ AreWorkstations said.items intervals.now) (λ v. AreWorkstationsInOrder said.items intervals.now v.items)) }
 {
-    if said.is_empty() || said.len() > MOST_WORKSTATIONS {
+    if said.len() > MOST_WORKSTATIONS {
         return Ok(None);
     }
     let Some(said) = in_key_order(said, |row| row.0)? else {

@@ -7,7 +7,9 @@ ghost use Rattle.std.specs.Map.{keys_of};
 ghost use Rattle.std.specs.Ordering.{is_lt};
 ghost use Rattle.plan_basics.specs.Keys.{name_cmp-IsAntisymmetric, occurrence_cmp-IsAntisymmetric, operation_cmp-IsAntisymmetric, then_IsAntisymmetric};
 ghost use Rattle.plan_drafts.specs.KeyOrder.{AreInKeyOrder};
+ghost use Rattle.plan_drafts.specs.RowKeys.{derived_exact};
 
+use super::RowKey;
 use plan_basics::{OccKey, OpKey, ResName, WsName};
 use std::alloc::{AllocError, Global};
 
@@ -32,6 +34,10 @@ impl ExactKey for OpKey {
     ghost exact = { operation_cmp-IsAntisymmetric };
 }
 
+impl ExactKey for RowKey {
+    ghost exact = { derived_exact };
+}
+
 impl<A: ExactKey, B: ExactKey> ExactKey for (A, B) {
     ghost exact = { then_IsAntisymmetric (λ x. x.0) (λ x. x.1) (λ x y p q i. (p i, q i)) A.exact B.exact };
 }
@@ -43,7 +49,7 @@ pub fn keys<K: Copy, V>(alloc: Global, rows: &[(K, V)]) -> Result<Vec<K>, AllocE
     rows.iter().map(|row| row.0).collect(alloc)
 }
 
-// What is said in order of its keys, where no two have one key.
+/// What is said in order of its keys, where no two have one key; `None` where two have one.
 pub fn in_key_order<T: Drop, K: ExactKey, F: Fn(&T) -> K + Drop>(
     mut said: Vec<T>,
     key: F,

@@ -2,7 +2,9 @@
 //! operations by their pairs.
 #![tactic(auto)]
 
-ghost use Rattle.plan_drafts.specs.Records.{OnePlan, OneAddition};
+ghost use Rattle.std.specs.Prelude.{◌≡◌};
+ghost use Rattle.plan_drafts.specs.Records.{OnePlan, OnePlanOfItems, OneAddition};
+ghost use Rattle.plan_drafts.specs.RowKeys.{row_cmp};
 
 mod additions;
 mod builder;
@@ -17,14 +19,15 @@ mod places;
 
 pub use builder::Record;
 pub use contents::{AdditionParts, PlanContents, copies_of};
-pub use drafts::{Addition, PlanDraft};
+pub use drafts::{Addition, PlanDraft, contents_of_items};
 pub use graphs::{graph_of, is_acyclic};
-pub use key_order::{ExactKey, keys};
+pub use key_order::{ExactKey, in_key_order, keys};
 pub use places::row_place;
 use plan_basics::{Moment, OccKey, OpKey, ResName, WsName};
+use std::cmp::Ordering;
 
-/// A row's key columns.
-#[derive(Clone, Copy)]
+/// A row's key columns. Ordered by table, in the order of the variants, then by the columns.
+#[derive(Clone, Copy, Debug, PartialEq, Eq, PartialOrd, Ord)]
 pub enum RowKey {
     Meta,
     Workstation(WsName),
@@ -36,8 +39,18 @@ pub enum RowKey {
     Need(OpKey, ResName),
 }
 
-/// The law that records denote one plan at most, and one addition at most. It does nothing.
+impl RowKey {
+    /// How two keys are ordered: by table, then by the key columns.
+    pub fn order(&self, other: &RowKey) -> Ordering
+        ensures { result ≡ row_cmp self.now other.now }
+    {
+        self.cmp(other)
+    }
+}
+
+/// The law that records denote one plan at most, and so do items; and one addition at most. It does nothing.
 pub fn one_denotation()
     ensures plan { OnePlan }
+    ensures items { OnePlanOfItems }
     ensures addition { OneAddition }
 {}

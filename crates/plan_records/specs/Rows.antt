@@ -1,12 +1,9 @@
 -- The tables' rows for a plan, and those that change from one plan to the next.
 use Rattle.std.specs.Prelude.{◌≡◌, ◌≢◌, ◌↔◌, ℕ, List, length, map, Contains, AllPairs, Some}
 use Rattle.std.specs.List.Sorted.{IsStrictlySortedBy}
-use Rattle.std.specs.declared.cmp.Ordering.{Ordering}
-use Rattle.std.specs.declared.cmp.Ordering.TheVariants.{Equal}
-use Rattle.std.specs.Ordering.{nat_cmp, ordering_then}
 use Rattle.std.specs.FinMap.{get}
 use Rattle.plan_basics.specs.declared.keys.OpKey.{OpKey}
-use Rattle.plan_basics.specs.Keys.{name_cmp, occurrence_cmp, operation_cmp}
+use Rattle.plan_basics.specs.Keys.{operation_cmp}
 use Rattle.workstations.specs.Workstations.{Workstation}
 use Rattle.plan_model.specs.Plan.{Plan}
 use Rattle.plan_model.specs.Contents.{Contents, Operation, Has, HasAttribute, Precedes, LivePredecessor}
@@ -17,6 +14,7 @@ use Rattle.plan_records.specs.declared.PlanRow.TheVariants as row
 use Rattle.plan_records.specs.declared.OperationRow.{OperationRow}
 use Rattle.plan_drafts.specs.declared.RowKey.{RowKey}
 use Rattle.plan_drafts.specs.declared.RowKey.TheVariants as key
+pub use Rattle.plan_drafts.specs.RowKeys.{table_of, key_cmp, row_cmp}
 
 -- the operations of which S holds are this many
 abbrev pub IsCount : (OpKey → Type 0) → ℕ → Type 0
@@ -58,32 +56,6 @@ key_of (row.Occurrence c priority deadline status) = key.Occurrence c
 key_of (row.Operation r) = key.Operation r.op
 key_of (row.Dependency p s) = key.Dependency p s
 key_of (row.Need o n) = key.Need o n.name
-
--- the tables in their order
-abbrev pub table_of : RowKey → ℕ
-table_of key.Meta = 0
-table_of (key.Workstation w) = 1
-table_of (key.Interval w from) = 2
-table_of (key.Resource r) = 3
-table_of (key.Occurrence c) = 4
-table_of (key.Operation o) = 5
-table_of (key.Dependency p s) = 6
-table_of (key.Need o r) = 7
-
--- in one table
-abbrev pub key_cmp : RowKey → RowKey → Ordering
-key_cmp (key.Workstation a) (key.Workstation b) = name_cmp a b
-key_cmp (key.Interval a m) (key.Interval b n) = ordering_then (name_cmp a b) (nat_cmp m n)
-key_cmp (key.Resource a) (key.Resource b) = name_cmp a b
-key_cmp (key.Occurrence a) (key.Occurrence b) = occurrence_cmp a b
-key_cmp (key.Operation a) (key.Operation b) = operation_cmp a b
-key_cmp (key.Dependency p s) (key.Dependency q t) = ordering_then (operation_cmp p q) (operation_cmp s t)
-key_cmp (key.Need a m) (key.Need b n) = ordering_then (operation_cmp a b) (name_cmp m n)
-key_cmp a b = Equal
-
--- by table, then key
-abbrev pub row_cmp : RowKey → RowKey → Ordering
-row_cmp a b = ordering_then (nat_cmp (table_of a) (table_of b)) (key_cmp a b)
 
 -- the tables for P have a row of this key
 abbrev pub HasKey : Plan → RowKey → Type 0

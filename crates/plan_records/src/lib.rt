@@ -1,6 +1,9 @@
 //! Requests and their answers, and the rows of the tables. What texts denote comes from `plan_drafts`.
 #![tactic(auto)]
 
+ghost use Rattle.std.specs.Prelude.{◌≡◌};
+ghost use Rattle.plan_records.specs.Rows.{key_of};
+
 use plan_basics::{Attr, ErrCode, Interval, Moment, OccKey, OpKey, Refusal, ResName, WsName};
 pub use plan_drafts::{
     Addition, AdditionParts, ExactKey, PlanContents, PlanDraft, Record, RowKey, is_acyclic,
@@ -50,7 +53,7 @@ pub enum Reply {
 }
 
 /// A row of the tables, with its columns.
-#[derive(Clone, Copy)]
+#[derive(Clone, Copy, Debug, PartialEq, Eq)]
 pub enum PlanRow {
     Meta {
         version: u32,
@@ -86,8 +89,29 @@ pub enum PlanRow {
     },
 }
 
+impl PlanRow {
+    /// Its key columns.
+    pub fn key(&self) -> RowKey
+        ensures { result ≡ key_of self.now }
+    {
+        match *self {
+            PlanRow::Meta { .. } => RowKey::Meta,
+            PlanRow::Workstation { name, .. } => RowKey::Workstation(name),
+            PlanRow::Interval { ws, interval } => RowKey::Interval(ws, interval.from()),
+            PlanRow::Resource { name, .. } => RowKey::Resource(name),
+            PlanRow::Occurrence { occurrence, .. } => RowKey::Occurrence(occurrence),
+            PlanRow::Operation(row) => RowKey::Operation(row.op),
+            PlanRow::Dependency {
+                predecessor,
+                successor,
+            } => RowKey::Dependency(predecessor, successor),
+            PlanRow::Need { op, need } => RowKey::Need(op, need.name),
+        }
+    }
+}
+
 /// A row of the table `operation`.
-#[derive(Clone, Copy)]
+#[derive(Clone, Copy, Debug, PartialEq, Eq)]
 pub struct OperationRow {
     pub op: OpKey,
     pub ws: WsName,
@@ -102,4 +126,12 @@ pub struct OperationRow {
     pub status: Status,
     pub latest: i64,
     pub waiting: u32,
+}
+
+/// Which rows of the tables change: the rows that are new or differ, and the keys of those that are gone. Both are in the
+/// order of the tables, and of each table in key order.
+#[derive(Drop)]
+pub struct Changes {
+    pub rows: Vec<PlanRow>,
+    pub gone: Vec<RowKey>,
 }

@@ -152,7 +152,7 @@ impl LoadedPlan {
         let operation = self.contents.operations()[place].1;
         Reported {
             operation,
-            attribute: attribute_of(&self.contents, &operation),
+            attribute: attribute_of(self.contents.valid(), &operation),
             status: self.status_at(place),
         }
     }

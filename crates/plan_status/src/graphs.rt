@@ -1,14 +1,14 @@
-// The graph of what a loaded plan holds.
+// The graph of what a plan holds.
 ghost use Rattle.std.specs.Prelude.{IfOk};
 ghost use Rattle.plan_drafts.specs.PlanGraphs.{IsGraphFor};
 
-use super::sound::SoundContents;
+use super::valid::ValidContents;
 use operation_graph::Graph;
 use plan_drafts::{graph_of, keys};
 use std::alloc::{AllocError, Global};
 
-/// The graph of the operations and pairs of a loaded plan: a node is the index of an operation.
-pub fn graph_for(alloc: Global, contents: &SoundContents) -> Result<Graph, AllocError>
+/// The graph of the operations and pairs of a plan: a node is the index of an operation.
+pub fn graph_for(alloc: Global, contents: &ValidContents) -> Result<Graph, AllocError>
     ensures { IfOk result (IsGraphFor contents.now) }
 {
     let keys = keys(alloc, contents.operations())?;

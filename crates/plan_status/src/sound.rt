@@ -11,6 +11,7 @@ ghost use Rattle.plan_model.specs.declared.Occurrence.{Occurrence as OccurrenceV
 ghost use Rattle.workstations.specs.Workstations.{Workstation as WorkstationValue};
 ghost use Rattle.plan_model.specs.Valid.{IsSound};
 
+use super::valid::ValidContents;
 use plan_basics::{OccKey, OpKey, ResName, WsName};
 use plan_model::{Occurrence, OperationRecord};
 use plan_records::PlanContents;
@@ -21,7 +22,7 @@ use workstations::Workstation;
 /// hold, and its marks and flags fit together. Contracts see it as what it holds.
 #[derive(Drop)]
 pub struct SoundContents {
-    contents: PlanContents,
+    contents: ValidContents,
 }
 
 impl Model for SoundContents {
@@ -45,7 +46,25 @@ impl SoundContents {
         requires { IsSound contents }
         ensures { result ≡ contents }
     {
+        SoundContents {
+            contents: ValidContents::of(contents),
+        }
+    }
+
+    /// These valid contents, which are sound.
+    pub fn of_valid(contents: ValidContents) -> SoundContents
+        requires { IsSound contents }
+        ensures { result ≡ contents }
+    {
         SoundContents { contents }
+    }
+
+    /// The same, as contents of which no more than that they are valid is known.
+    pub fn valid(&self) -> &ValidContents
+        ensures contents { result.now ≡ self.now }
+        ensures sound { IsSound self.now }
+    {
+        &self.contents
     }
 
     /// Its rows, of which others may be made.
@@ -53,7 +72,7 @@ impl SoundContents {
         ensures contents { result.now ≡ self.now }
         ensures sound { IsSound self.now }
     {
-        &self.contents
+        self.contents.rows()
     }
 
     /// Its workstations by name.
@@ -62,7 +81,7 @@ impl SoundContents {
         ensures in_order { IsStrictlySortedBy name_cmp (keys_of result.now) }
         ensures sound { IsSound self.now }
     {
-        self.contents.workstations()
+        self.rows().workstations()
     }
 
     /// Its occurrences by key.
@@ -71,7 +90,7 @@ impl SoundContents {
         ensures in_order { IsStrictlySortedBy occurrence_cmp (keys_of result.now) }
         ensures sound { IsSound self.now }
     {
-        self.contents.occurrences()
+        self.rows().occurrences()
     }
 
     /// Its operations by key.
@@ -80,7 +99,7 @@ impl SoundContents {
         ensures in_order { IsStrictlySortedBy operation_cmp (keys_of result.now) }
         ensures sound { IsSound self.now }
     {
-        self.contents.operations()
+        self.rows().operations()
     }
 
     /// Its pairs, by predecessor and then successor.
@@ -89,7 +108,7 @@ impl SoundContents {
         ensures in_order { IsStrictlySortedBy pair_cmp result.now }
         ensures sound { IsSound self.now }
     {
-        self.contents.pairs()
+        self.rows().pairs()
     }
 
     /// The index of the operation of a key, if there is one.
@@ -97,7 +116,7 @@ impl SoundContents {
         ensures found { IfSome result (λ i. (value : Operation) × (slice_get (entries self.now.operations) i ≡ Some (key.now, value))) }
         ensures absent { IsNone result → get self.now.operations key.now ≡ None }
     {
-        self.contents.operation_place(key)
+        self.rows().operation_place(key)
     }
 
     /// The index of the occurrence of a key, if there is one.
@@ -105,7 +124,7 @@ impl SoundContents {
         ensures found { IfSome result (λ i. (value : OccurrenceValue) × (slice_get (entries self.now.occurrences) i ≡ Some (key.now, value))) }
         ensures absent { IsNone result → get self.now.occurrences key.now ≡ None }
     {
-        self.contents.occurrence_place(key)
+        self.rows().occurrence_place(key)
     }
 
     /// The index of the operation of a key that is there.
@@ -114,7 +133,7 @@ impl SoundContents {
         ensures within { result < length (entries self.now.operations) }
         ensures at { (value : Operation) × (slice_get (entries self.now.operations) result ≡ Some (key.now, value)) }
     {
-        self.contents.known_operation_place(key)
+        self.rows().known_operation_place(key)
     }
 
     /// The index of the occurrence of an operation that is there.
@@ -123,7 +142,7 @@ impl SoundContents {
         ensures within { result < length (entries self.now.occurrences) }
         ensures at { (value : OccurrenceValue) × (slice_get (entries self.now.occurrences) result ≡ Some (key.now.occurrence, value)) }
     {
-        self.contents.known_occurrence_place(&key.occurrence)
+        self.rows().known_occurrence_place(&key.occurrence)
     }
 
     /// The index of the workstation of an operation that is there.
@@ -132,8 +151,7 @@ impl SoundContents {
         ensures within { result < length (entries self.now.workstations) }
         ensures at { (value : WorkstationValue) × (slice_get (entries self.now.workstations) result ≡ Some (operation.now.workstation, value)) }
     {
-        self.contents
-            .known_workstation_place(&operation.workstation)
+        self.rows().known_workstation_place(&operation.workstation)
     }
 
     /// The operation of a key, if there is one.
@@ -142,7 +160,7 @@ impl SoundContents {
         ensures absent { IsNone result → get self.now.operations key.now ≡ None }
         ensures sound { IsSound self.now }
     {
-        self.contents.operation(key)
+        self.rows().operation(key)
     }
 
     /// The occurrence of a key, if there is one.
@@ -151,7 +169,7 @@ impl SoundContents {
         ensures absent { IsNone result → get self.now.occurrences key.now ≡ None }
         ensures sound { IsSound self.now }
     {
-        self.contents.occurrence(key)
+        self.rows().occurrence(key)
     }
 
     /// The workstation of a name, if there is one.
@@ -160,13 +178,13 @@ impl SoundContents {
         ensures absent { IsNone result → get self.now.workstations name.now ≡ None }
         ensures sound { IsSound self.now }
     {
-        self.contents.workstation(name)
+        self.rows().workstation(name)
     }
 
     /// Whether the special resource of a name is available, if there is one.
     pub fn resource(&self, name: &ResName) -> Option<bool>
         ensures { result ≡ get self.now.resources name.now }
     {
-        self.contents.resource(name)
+        self.rows().resource(name)
     }
 }

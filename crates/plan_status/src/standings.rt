@@ -9,8 +9,8 @@ ghost use Rattle.plan_drafts.specs.PlanGraphs.{IsGraphFor};
 ghost use Rattle.plan_status.specs.Incoming.{IsNextStanding, IsOperationOn};
 ghost use Rattle.plan_status.specs.Standings.{IsStanding, AreStandings};
 
-use super::sound::SoundContents;
 use super::statuses::status_with;
+use super::valid::ValidContents;
 use operation_graph::Graph;
 use plan_basics::{Attr, Refusal};
 use plan_model::OperationRecord;
@@ -36,7 +36,7 @@ const FIRST: Standing = Standing {
 };
 
 /// How the workstation of an operation of the plan reports.
-pub fn attribute_of(contents: &SoundContents, operation: &OperationRecord) -> Attr
+pub fn attribute_of(contents: &ValidContents, operation: &OperationRecord) -> Attr
     requires { (o : OpKey) × (get contents.now.operations o ≡ Some operation.now) }
     ensures { HasAttribute contents.now operation.now.workstation result }
 {
@@ -98,7 +98,7 @@ fn standing_after(
 /// The standing of each operation, in key order. The error is always `Memory`.
 pub fn standings_of(
     alloc: Global,
-    contents: &SoundContents,
+    contents: &ValidContents,
     graph: &Graph,
 ) -> Result<Vec<Standing>, Refusal>
     requires { IsGraphFor contents.now graph.now }

@@ -40,7 +40,7 @@ pub fn statuses_of(
     let mut statuses = Vec::with_capacity(alloc, standings.len())?;
     for (i, standing) in standings.iter().enumerate() {
         let operation = &rows[i].1;
-        let attribute = attribute_of(contents, operation);
+        let attribute = attribute_of(contents.valid(), operation);
         statuses.push(status_with(operation, attribute, standing))?;
     }
     Ok(statuses)

@@ -23,7 +23,8 @@ module _ {L : Type 0} (R : L → L → Ordering) where
   above_both k [] ls h all = all
   above_both k (m ∷ ks) ls h all = (h.0, above_both k ks ls h.1 all)
 
-  joined_ascend : (ks ls : List L) → IsStrictlySortedBy R ks → IsStrictlySortedBy R ls → ((k l : L) → Contains ks k → Contains ls l → R k l ≡ Less) → IsStrictlySortedBy R (ks ++ ls)
+  -- keys in order, and after them such that come after each of them
+  pub joined_ascend : (ks ls : List L) → IsStrictlySortedBy R ks → IsStrictlySortedBy R ls → ((k l : L) → Contains ks k → Contains ls l → R k l ≡ Less) → IsStrictlySortedBy R (ks ++ ls)
   unfolding IsStrictlySortedBy
   joined_ascend [] ls up above below = above
   joined_ascend (k ∷ ks) ls up above below =

@@ -1,6 +1,6 @@
 mod Numbers
-mod Merging
-mod Picked
+pub mod Merging
+pub mod Picked
 pub mod RowsChanged
 pub mod Joined
 mod EqualValues

@@ -10,12 +10,12 @@ use std::cmp::Ordering;
 
 /// Rows of a key and a value each, before and after. Two are alike where their values are equal.
 #[derive(Clone, Copy)]
-pub struct KeyedRows<'a, K, X> {
+pub struct KeyedRows<'a, 'b, K, X> {
     pub before: &'a [(K, X)],
-    pub after: &'a [(K, X)],
+    pub after: &'b [(K, X)],
 }
 
-impl<'a, K: Ord, X: PartialEq> TwoTables for KeyedRows<'a, K, X> {
+impl<'a, 'b, K: Ord, X: PartialEq> TwoTables for KeyedRows<'a, 'b, K, X> {
     type Key = K;
 
     ghost before = { λ rows. keys_of rows.before.now };

@@ -43,7 +43,7 @@ module _ (c : goal.After-drop-holdings-inside) where
       let held = c.in_ok-holdings-in-StartAndCompletion-2.holdings.held in
       let taken = c.in_ok-taken-in-StartAndCompletion-2.taken in
       subst (λ (Q : Contents). HasTaken c.args.loaded.now Q c.args.reported.now.operation taken held) (sym same)
-      (has_taken c.args.loaded.now c.args.reported.now.operation taken held c.in_ok-taken-in-StartAndCompletion-2.ensures (subst (λ (Q : Contents). AreHeldIn Q held) same c.in_ok-holdings-in-StartAndCompletion-2.ensures.held))
+      (has_taken c.args.loaded.now c.args.reported.now.operation taken held c.in_ok-taken-in-StartAndCompletion-2.ensures (subst (λ (Q : Contents). AreHeldIn Q held) (c.valid.ensures.contents ∙ same) c.in_ok-holdings-in-StartAndCompletion-2.ensures.held))
 
 if_err : {T : Type 0} {A B C D : Refusal → Type 0} (r : Result T Refusal) → IfErr r A → IfErr r B → IfErr r C → ((e : Refusal) → A e → B e → C e → D e) → IfErr r D
 if_err (Ok t) a b z f = tt

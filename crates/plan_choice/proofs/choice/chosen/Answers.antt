@@ -1,7 +1,8 @@
-use Rattle.std.proofs.Common.{inl, inr, refl}
+use Rattle.std.proofs.Common.{inl, inr, refl, subst}
 use Rattle.std.proofs.lemmas.Result.{IfErr-weaker, IfOk-weaker}
 use Rattle.plan_basics.specs.declared.Refusal.TheVariants.{Memory}
 use Rattle.ready_list.specs.Entries.{on_automatic}
+use Rattle.plan_choice.specs.Choices.{AreHeldIn}
 use Rattle.plan_choice.specs.StartGates.{Counted}
 use Rattle.plan_choice.proofs.ChoiceSteps.{chosen_by_gate, refuses_alone, stands_first}
 use Rattle.plan_choice.proofs.choice.chosen.Goals as goal
@@ -19,9 +20,10 @@ returns-clause-chosen c =
     let contents = c.args.contents.now in
     let m = c.args.at in
     let g = first ((goal.at.returns-clause-chosen c).In_ok-holdings_of) in
+    let held = subst (λ P. AreHeldIn P g.held) c.valid.ensures.contents c.in_ok-holdings_of.ensures.held in
     IfOk-weaker c.choose.result _ _
     (λ named run. chosen_by_gate contents m c.args.ready.now.entries c.requires g
-    (stands_first contents m g refl refl c.in_ok-given_out_of.ensures c.in_ok-holdings_of.ensures.held) named.items c.choose.new.gate run)
+    (stands_first contents m g refl refl c.in_ok-given_out_of.ensures held) named.items c.choose.new.gate run)
     c.choose.ensures.named
 
 pub returns-clause-refused : goal.returns-clause-refused

@@ -32,13 +32,13 @@ loop-row-preserved c =
           let its_mark : c.operation.inside.mark ≡ op.mark = ap (λ (op : Operation). op.mark) c.operation.view_is in
           let now = w.take_marked.new.holdings.held in
           let taken : HaveTaken held o op.needs op.mark now = subst (λ mark. HaveTaken held o op.needs mark now) its_mark w.in_ok-take_marked.ensures.taken in
-          rw w.holdings-is (row_takes contents c.operations-row-items.ensures.sound.valid i o op at_row held c.loop-row.invariant (sym c.starts_are_known.ensures ∙ w.if-starts_are_known.true) now taken)
+          rw w.holdings-is (row_takes contents c.operations-row-items.ensures.valid i o op at_row held c.loop-row.invariant (sym c.starts_are_known.ensures ∙ w.if-starts_are_known.true) now taken)
       | else-starts_are_known w ↦
-          rw w.holdings-is (row_holds_none contents c.operations-row-items.ensures.sound.valid i o op at_row held c.loop-row.invariant (sym c.starts_are_known.ensures ∙ w.if-starts_are_known.false))
+          rw w.holdings-is (row_holds_none contents c.operations-row-items.ensures.valid i o op at_row held c.loop-row.invariant (sym c.starts_are_known.ensures ∙ w.if-starts_are_known.false))
     ]
 
 pub returns-clause-held : goal.returns-clause-held
 returns-clause-held c =
     let rows = (entries c.args.contents.now.operations) in
     let past : length rows ≤ c.loop-row.row-index = omega (arith, c.loop-row-test.false, ap length c.operations-row-items.ensures.rows) in
-    rows_held c.args.contents.now c.operations-row-items.ensures.sound.valid c.loop-row.row-index c.loop-row.holdings.held past c.loop-row.invariant
+    rows_held c.args.contents.now c.operations-row-items.ensures.valid c.loop-row.row-index c.loop-row.holdings.held past c.loop-row.invariant

@@ -1,8 +1,8 @@
-use Rattle.std.proofs.Common.{arith, ◌≡◌, sym, ap, ◌∙◌, w64, FitsSigned, to_z, of_z}
+use Rattle.std.proofs.Common.{arith, ◌≡◌, sym, ap, subst, ◌∙◌, w64, FitsSigned, to_z, of_z}
 use Rattle.std.specs.FinMap.{get}
 use Rattle.std.proofs.lemmas.Int.{ints}
 use Rattle.plan_basics.specs.declared.keys.OpKey.{OpKey}
-use Rattle.plan_model.specs.Contents.{Operation}
+use Rattle.plan_model.specs.Contents.{HasAttribute, Operation}
 use Rattle.plan_choice.proofs.Readied.{is_entry}
 use Rattle.plan_choice.proofs.ready.ready_entry.Goals as goal
 
@@ -24,4 +24,4 @@ returns-clause-entry c =
     (ap (λ (z : OpKey × Operation). z.1.duration) c.row.view_is)
     (terms.0, ap (λ (q : OpKey). get P.occurrences q.occurrence) (sym key) ∙ terms.1, terms.2)
     (ap (λ (z : OpKey × Operation). z.1.workstation) c.row.view_is)
-    c.attribute_of.ensures
+    (subst (λ Q. HasAttribute Q row.1.workstation c.attribute_of.result) c.valid.ensures.contents c.attribute_of.ensures)

@@ -1,9 +1,8 @@
-use Rattle.std.proofs.Common.{◌≡◌, ◌∙◌, false, eqb, sym, subst, ap, true≢false, refl, arith, rules, All, map}
+use Rattle.std.proofs.Common.{◌∙◌, sym, subst, ap, true≢false, refl, arith, rules, All, map}
 use Rattle.std.specs.Map.{keys_of}
 use Rattle.plan_basics.specs.Keys.{name_cmp}
 use Rattle.plan_drafts.specs.PlanItems.{CanOpen, opened_in, AreOfThese}
 use Rattle.plan_drafts.specs.KeyOrder.{AreInKeyOrder}
-use Rattle.plan_drafts.proofs.Lists.{some_from_test}
 use Rattle.plan_drafts.proofs.Openings.{opened_ascend, opening_permuted, others, stations_are}
 use Rattle.plan_drafts.proofs.intervals.workstations_in_order.Goals as goal
 use Rattle.plan_drafts.proofs.intervals.workstations_in_order.Goals.{In-Some}
@@ -37,9 +36,8 @@ returns-then-not-are_of_these c =
 pub returns : goal.returns
 returns c =
     let at = goal.at.returns c in
-    let some = some_from_test c.args.said.items (subst (λ n. false ≡ eqb n 0) c.args.said.ok.0 c.if-is_empty.ensures) in
     let made = rw c.in-Some-2.is at c.in_ok-workstations.ensures in
-    stations_are c.args.intervals.now c.args.said.items c.in-Some.said.items c.in-Some-2.workstations.items some (omega (arith, c.args.said.ok.0)) (named at.In-Some)
+    stations_are c.args.intervals.now c.args.said.items c.in-Some.said.items c.in-Some-2.workstations.items (omega (arith, c.args.said.ok.0)) (named at.In-Some)
     (subst (All (CanOpen c.args.intervals.now)) c.deref.ensures.value made.0)
     (made.1 ∙ ap (map (opened_in c.args.intervals.now)) c.deref.ensures.value)
     (subst (λ ws. AreOfThese (keys_of ws) c.args.intervals.now) c.deref-2.ensures.value (c.if-not-are_of_these.ensures.0 refl))

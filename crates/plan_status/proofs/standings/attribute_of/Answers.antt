@@ -2,4 +2,4 @@ use Rattle.plan_status.proofs.Workplaces.{workplace_found}
 use Rattle.plan_status.proofs.standings.attribute_of.Goals as goal
 
 pub unwrap-requires : goal.unwrap-requires
-unwrap-requires c = workplace_found c.args.contents.now c.workstation.ensures.sound.valid c.operation.view_is c.requires c.workstation.result c.workstation.ensures.absent
+unwrap-requires c = workplace_found c.args.contents.now c.workstation.ensures.valid c.operation.view_is c.requires c.workstation.result c.workstation.ensures.absent

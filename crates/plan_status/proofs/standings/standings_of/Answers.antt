@@ -29,7 +29,7 @@ bounds-rows-before c =
     let i = c.loop-before.before-index in
     let told = c.in_ok-edges_in_turn.ensures in
     let all = all_shown c.args.graph.now edges _ c.deref-before-items.ensures.value told.edges told.in_turn in
-    let within = ends_within P (slice_index_or edges i (0, 0)) (pair_below P c.operations-rows.ensures.sound.valid c.args.graph.now c.requires edges all i c.loop-before-test.true) in
+    let within = ends_within P (slice_index_or edges i (0, 0)) (pair_below P c.operations-rows.ensures.valid c.args.graph.now c.requires edges all i c.loop-before-test.true) in
     omega (arith, within.0, ap length c.operations-rows.ensures.rows)
 
 pub offset_bounds-rows-before : goal.offset_bounds-rows-before
@@ -39,8 +39,8 @@ offset_bounds-rows-before c =
     let i = c.loop-before.before-index in
     let told = c.in_ok-edges_in_turn.ensures in
     let all = all_shown c.args.graph.now edges _ c.deref-before-items.ensures.value told.edges told.in_turn in
-    let within = ends_within P (slice_index_or edges i (0, 0)) (pair_below P c.operations-rows.ensures.sound.valid c.args.graph.now c.requires edges all i c.loop-before-test.true) in
-    omega (arith, within.0, few_rows P c.operations-rows.ensures.sound.valid)
+    let within = ends_within P (slice_index_or edges i (0, 0)) (pair_below P c.operations-rows.ensures.valid c.args.graph.now c.requires edges all i c.loop-before-test.true) in
+    omega (arith, within.0, few_rows P c.operations-rows.ensures.valid)
 
 pub attribute_of-attr-requires : goal.attribute_of-attr-requires
 attribute_of-attr-requires c =
@@ -50,7 +50,7 @@ attribute_of-attr-requires c =
     let told = c.in_ok-edges_in_turn.ensures in
     let all = all_shown c.args.graph.now edges _ c.deref-before-items.ensures.value told.edges told.in_turn in
     let e = slice_index_or edges i (0, 0) in
-    let within = ends_within P e (pair_below P c.operations-rows.ensures.sound.valid c.args.graph.now c.requires edges all i c.loop-before-test.true) in
+    let within = ends_within P e (pair_below P c.operations-rows.ensures.valid c.args.graph.now c.requires edges all i c.loop-before-test.true) in
     let rows = c.operations-rows.result.now in
     let row = slice_index_or rows e.0 c.index-rows-before.result in
     (row.0, row_found P e.0 row.0 row.1 (row_read rows (entries P.operations) c.operations-rows.ensures.rows e.0 c.index-rows-before.result within.0))
@@ -64,7 +64,7 @@ abbrev edge : After-attribute_of-attr → ℕ × ℕ
 edge c = slice_index_or c.deref-before-items.result.now c.loop-before.before-index (0, 0)
 
 joined : (c : After-attribute_of-attr) → IsPairAt c.args.contents.now (edge c)
-joined c = pair_below c.args.contents.now c.operations-rows.ensures.sound.valid c.args.graph.now c.requires c.deref-before-items.result.now (all_edges c) c.loop-before.before-index c.loop-before-test.true
+joined c = pair_below c.args.contents.now c.operations-rows.ensures.valid c.args.graph.now c.requires c.deref-before-items.result.now (all_edges c) c.loop-before.before-index c.loop-before-test.true
 
 pub index-requires : goal.index-requires
 index-requires c =
@@ -89,7 +89,7 @@ standing_after-requires c =
     let invariant = c.loop-before.invariant in
     let here = standing_at rows e.1 ((pair_of rows e).1, pair.after) pair.second c.loop-before.standings.items invariant.so_far.size standing c.index.ensures in
     let most = invariant.at_most e.1 standing here in
-    let few = few_edges P c.operations-rows.ensures.sound.valid c.args.graph.now c.requires c.deref-before-items.result.now (all_edges a) in
+    let few = few_edges P c.operations-rows.ensures.valid c.args.graph.now c.requires c.deref-before-items.result.now (all_edges a) in
     omega (arith, c.loop-before-test.true, few, most)
 
 pub index_mut-requires : goal.index_mut-requires
@@ -125,11 +125,11 @@ loop-before-preserved c =
     let is_its = standing_at rows e.0 (keys.0, pair.before) pair.first standings so_far.size its c.index-in-loop-before.ensures in
     let is_standing = standing_at rows e.1 (keys.1, pair.after) pair.second standings so_far.size standing c.index.ensures in
     let before = pairs_so_far rows edges i in
-    let next = comes_after P c.operations-rows.ensures.sound.valid graph c.requires edges all i lt e at in
+    let next = comes_after P c.operations-rows.ensures.valid graph c.requires edges all i lt e at in
     let on : IsOperationOn P keys.0 row.1 c.attribute_of-attr.result = (known, c.attribute_of-attr.ensures) in
     let stands = c.standing_after.ensures.standing P before keys on next
     (so_far.each e.0 keys.0 pair.before its pair.first is_its) (so_far.each e.1 keys.1 pair.after standing pair.second is_standing) in
-    let more = pairs_more P c.operations-rows.ensures.sound.valid graph c.requires edges all i lt e at in
+    let more = pairs_more P c.operations-rows.ensures.valid graph c.requires edges all i lt e at in
     record {
       so_far = standings_more P before keys next e.1 pair.after pair.second standings so_far c.standing_after.result stands (pairs_so_far rows edges (i + 1)) more;
       at_most = at_most_more i standings e.1 standing.waiting c.standing_after.result invariant.at_most (invariant.at_most e.1 standing is_standing) c.standing_after.ensures.waiting;
@@ -146,4 +146,4 @@ returns-clause-standings c =
     let past = c.loop-before-test.false in
     let is : n ≡ length edges = omega (arith, past, c.loop-before.auto.before-index-end) in
     standings_all P (pairs_so_far (entries P.operations) edges n) c.loop-before.standings.items
-    (ap (λ k. from_list {R = pair_cmp} (pairs_so_far (entries P.operations) edges k)) is ∙ pairs_all P c.operations-rows.ensures.sound.valid graph c.requires edges all) c.loop-before.invariant.so_far
+    (ap (λ k. from_list {R = pair_cmp} (pairs_so_far (entries P.operations) edges k)) is ∙ pairs_all P c.operations-rows.ensures.valid graph c.requires edges all) c.loop-before.invariant.so_far

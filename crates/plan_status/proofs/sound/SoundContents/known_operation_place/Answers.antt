@@ -5,4 +5,4 @@ use Rattle.plan_status.proofs.sound.SoundContents.known_operation_place.Goals as
 
 pub returns-clause-at : goal.returns-clause-at
 returns-clause-at c =
-    subst (λ (P : Contents). (value : Operation) × (slice_get (entries P.operations) c.known_operation_place.result ≡ Some (c.args.key.now, value))) c.self.view_is c.known_operation_place.ensures.at
+    subst (λ (P : Contents). (value : Operation) × (slice_get (entries P.operations) c.known_operation_place.result ≡ Some (c.args.key.now, value))) c.rows.ensures.contents c.known_operation_place.ensures.at

@@ -1,6 +1,7 @@
 use Rattle.std.proofs.Common.{◌≡◌, ◌<◌, sym, subst, true, length, Some, slice_get}
 use Rattle.std.specs.FinMap.{contains_key, entries, get}
 use Rattle.plan_drafts.proofs.Tables.{is_found}
+use Rattle.plan_model.specs.Valid.{IsValid}
 use Rattle.plan_model.specs.Contents.{Contents}
 use Rattle.plan_model.specs.declared.Occurrence.{Occurrence}
 use Rattle.plan_status.proofs.LoadedRows.{its_occurrence}
@@ -8,14 +9,14 @@ use Rattle.plan_status.proofs.sound.SoundContents.occurrence_place_of.Goals as g
 
 pub known_occurrence_place-requires : goal.known_occurrence_place-requires
 known_occurrence_place-requires c =
-    let P = c.self.inside.contents in
+    let P = c.rows.result.now in
     let key = c.args.key.now in
-    let there = is_found (get P.operations key) (subst (λ (Q : Contents). contains_key Q.operations key ≡ true) (sym c.self.view_is) c.requires) in
-    its_occurrence P c.self.invariant.valid key there.0 there.1
+    let there = is_found (get P.operations key) (subst (λ (Q : Contents). contains_key Q.operations key ≡ true) (sym c.rows.ensures.contents) c.requires) in
+    its_occurrence P (subst IsValid (sym c.rows.ensures.contents) c.rows.ensures.sound.valid) key there.0 there.1
 
 pub returns-clause-within : goal.returns-clause-within
-returns-clause-within c = subst (λ (P : Contents). c.known_occurrence_place.result < length (entries P.occurrences)) c.self.view_is c.known_occurrence_place.ensures.within
+returns-clause-within c = subst (λ (P : Contents). c.known_occurrence_place.result < length (entries P.occurrences)) c.rows.ensures.contents c.known_occurrence_place.ensures.within
 
 pub returns-clause-at : goal.returns-clause-at
 returns-clause-at c =
-    subst (λ (P : Contents). (value : Occurrence) × (slice_get (entries P.occurrences) c.known_occurrence_place.result ≡ Some (c.args.key.now.occurrence, value))) c.self.view_is c.known_occurrence_place.ensures.at
+    subst (λ (P : Contents). (value : Occurrence) × (slice_get (entries P.occurrences) c.known_occurrence_place.result ≡ Some (c.args.key.now.occurrence, value))) c.rows.ensures.contents c.known_occurrence_place.ensures.at

@@ -5,4 +5,4 @@ use Rattle.plan_status.proofs.sound.SoundContents.operation_place.Goals as goal
 
 pub returns-clause-found : goal.returns-clause-found
 returns-clause-found c =
-    subst (λ (P : Contents). IfSome c.operation_place.result (λ i. (value : Operation) × (slice_get (entries P.operations) i ≡ Some (c.args.key.now, value)))) c.self.view_is c.operation_place.ensures.found
+    subst (λ (P : Contents). IfSome c.operation_place.result (λ i. (value : Operation) × (slice_get (entries P.operations) i ≡ Some (c.args.key.now, value)))) c.rows.ensures.contents c.operation_place.ensures.found
