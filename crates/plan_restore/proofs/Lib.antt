@@ -1,0 +1,5 @@
+pub mod Bare
+pub mod Metas
+pub mod Reporting
+pub mod Restored
+pub mod RowItems

@@ -1,0 +1,3 @@
+pub mod EachRow
+pub mod Neighbours
+pub mod OneResource

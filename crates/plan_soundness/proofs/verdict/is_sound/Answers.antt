@@ -1,0 +1,25 @@
+use Rattle.std.proofs.Common.{sym, ◌∙◌, true≢false}
+use Rattle.plan_soundness.proofs.verdict.is_sound.Goals as goal
+
+pub returns-then-not-rows_are_sound-clause-sound : goal.returns-then-not-rows_are_sound-clause-sound
+returns-then-not-rows_are_sound-clause-sound c = (
+  λ never. absurd (true≢false (sym never)),
+  λ sound. absurd (true≢false (sym (c.rows_are_sound.ensures.sound.1 (λ o op is a. sound.marks o op a is, sound.held, sound.deleted)) ∙ c.if-not-rows_are_sound.true)),
+)
+
+pub returns-clause-sound : goal.returns-clause-sound
+returns-clause-sound c =
+    let rows = c.rows_are_sound.ensures.sound.0 c.if-not-rows_are_sound.false in
+    let others = c.reports_and_holders_are_sound.ensures in (
+      λ yes.
+          let both = others.0 yes in
+          record {
+            valid = c.rows_are_sound.ensures.valid;
+            in_order = λ o has. both.0 o has.0 has.1 has.2;
+            compatible = λ a b r. both.1 r a b;
+            held = rows.1;
+            marks = λ o op a is. rows.0 o op is a;
+            deleted = rows.2;
+          },
+      λ sound. others.1 (λ o op is reported. sound.in_order o (op, is, reported), λ r a b. sound.compatible a b r),
+    )
