@@ -1,5 +1,7 @@
-mod OneTable
-mod EachTable
+pub mod OneTable
+pub mod EachTable
 mod RowPut
 pub mod RowsWritten
 pub mod SameColumns
+pub mod Start
+pub mod PlanWritten

@@ -1,12 +1,12 @@
 -- What changed rows and gone keys make of all tables.
-use Rattle.std.proofs.Common.{◌≡◌, ◌≢◌, ◌⊎◌, ◌↔◌, inl, inr, refl, sym, ◌∙◌, ap, subst, ℕ, List, [], ◌∷◌, map, Contains, Less}
+use Rattle.std.proofs.Common.{◌≡◌, ◌≢◌, ◌⊎◌, ◌↔◌, inl, inr, refl, sym, ◌∙◌, ap, subst, List, [], ◌∷◌, map, Contains, Less}
 use Rattle.std.specs.List.Sorted.{IsStrictlySortedBy}
-use Rattle.plan_basics.specs.Keys.{Name}
 use Rattle.plan_drafts.proofs.Lists.{at_member, contains_head, contains_later, contains_cases, contains_none}
 use Rattle.plan_drafts.specs.declared.RowKey.{RowKey}
-use Rattle.plan_drafts.specs.declared.RowKey.TheVariants as key
-use Rattle.plan_laws.proofs.RowOrder.{keys_above, row_cmp_total}
+use Rattle.plan_drafts.specs.RowKeys.{row_cmp_total}
+use Rattle.plan_laws.proofs.RowOrder.{keys_above}
 use Rattle.plan_laws.proofs.Sorted.{not_itself}
+use Rattle.plan_laws.specs.Tables.{IsIntervalKey}
 use Rattle.plan_records.specs.Rows.{key_of, row_cmp}
 use Rattle.plan_records.specs.declared.PlanRow.{PlanRow}
 use Rattle.plan_schema.specs.Stored.{Held}
@@ -65,10 +65,6 @@ receipts_beside_rows [] held = refl
 receipts_beside_rows (r ∷ rows) held = receipts_beside_rows rows (with_row r held) ∙ receipts_beside_row r held
 
 -- ---- intervals are taken out
-
--- the key of an interval
-abbrev pub IsIntervalKey : RowKey → Type 0
-IsIntervalKey k = (w : Name) × (m : ℕ) × (k ≡ key.Interval w m)
 
 -- those that were there of other keys
 abbrev pub WithoutKeys : List RowKey → (PlanRow → Type 0) → PlanRow → Type 0

@@ -51,7 +51,7 @@ found_or : {X : Type 0} (b : Bool) (v : X) (x : Option X) → is_some (cond b (S
 found_or true v x e = inl refl
 found_or false v x e = inr e
 
-or_found : {X : Type 0} (b : Bool) (v : X) (x : Option X) → is_some x ≡ true → is_some (cond b (Some v) x) ≡ true
+pub or_found : {X : Type 0} (b : Bool) (v : X) (x : Option X) → is_some x ≡ true → is_some (cond b (Some v) x) ≡ true
 or_found true v x e = refl
 or_found false v x e = e
 

@@ -144,13 +144,13 @@ in_first None b e = e
 joined_second : {K X : Type 0} {R : K → K → Ordering} → IsTotalOrder R → (m n : FinMap R X) (q : K) → contains_key n q ≡ true → contains_key (joined m n) q ≡ true
 joined_second o m n q e = ap is_some (get-joined o m n q) ∙ in_second (get n q) (get m q) e
 
-joined_first : {K X : Type 0} {R : K → K → Ordering} → IsTotalOrder R → (m n : FinMap R X) (q : K) → contains_key m q ≡ true → contains_key (joined m n) q ≡ true
+pub joined_first : {K X : Type 0} {R : K → K → Ordering} → IsTotalOrder R → (m n : FinMap R X) (q : K) → contains_key m q ≡ true → contains_key (joined m n) q ≡ true
 joined_first o m n q e = ap is_some (get-joined o m n q) ∙ in_first (get n q) (get m q) e
 
 joined_known : {K X : Type 0} {R : K → K → Ordering} → IsTotalOrder R → (m n : FinMap R X) (q : K) → contains_key (joined m n) q ≡ true → (contains_key n q ≡ true) ⊎ (contains_key m q ≡ true)
 joined_known o m n q e = let one = is_found (get (joined m n) q) e in elim (joined_cases o m n q one.0 one.1) [ inl a ↦ inl (ap is_some a) | inr b ↦ inr (ap is_some b) ]
 
-only_first : {X : Type 0} (a b : Option X) (x : X) → (is_some a ≡ true → ⊥) → b ≡ Some x → or_else a b ≡ Some x
+pub only_first : {X : Type 0} (a b : Option X) (x : X) → (is_some a ≡ true → ⊥) → b ≡ Some x → or_else a b ≡ Some x
 only_first (Some y) b x never e = absurd (never refl)
 only_first None b x never e = e
 

@@ -84,14 +84,14 @@ run_keeps_sound s t u v (c ∷ cs) [] sound h = absurd h
 pub nothing_at : {A B : Type 0} (x : Option A) (a : A) → x ≡ None → x ≡ Some a → B
 nothing_at x a e h = absurd (none-some a (sym e ∙ h))
 
-nothing_known : {A B : Type 0} (x : Option A) → x ≡ None → is_some x ≡ true → B
+pub nothing_known : {A B : Type 0} (x : Option A) → x ≡ None → is_some x ≡ true → B
 nothing_known x e h = absurd (true≢false (sym h ∙ ap is_some e))
 
 no_path : {K : Type 0} {edge : K → K → Type 0} → ((a b : K) → edge a b → ⊥) → {a b : K} → LeadsBy edge a b → ⊥
 no_path none (by_edge e) = none _ _ e
 no_path none (by_more e rest) = none _ _ e
 
-no_pair : (p o : OpKey) → IsPairOf nothing.pairs p o → ⊥
+pub no_pair : (p o : OpKey) → IsPairOf nothing.pairs p o → ⊥
 no_pair p o h = true≢false (sym h ∙ set.contains-empty pair_cmp (p, o))
 
 nothing_is_sound : IsSound nothing

@@ -1,4 +1,5 @@
 pub mod Allowing
+pub mod Carrying
 pub mod Changing
 pub mod Choice
 pub mod Choosing

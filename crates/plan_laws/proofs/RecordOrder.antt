@@ -12,7 +12,7 @@ use Rattle.plan_drafts.specs.Records.{AreDescriptions, AreItems, Denotes, Denote
 use Rattle.plan_drafts.proofs.Lists.{differ_from_pairs, pairs_from_differ}
 use Rattle.plan_drafts.proofs.Orders.{differ_permuted}
 use Rattle.plan_laws.specs.Denoting.{OrderDoesNotMatter, OrderDoesNotMatterToAdditions}
-use Rattle.plan_laws.proofs.RowOrder.{row_cmp_total, row_cmp-IsAntisymmetric}
+use Rattle.plan_drafts.specs.RowKeys.{row_cmp_total, row_cmp-IsAntisymmetric}
 
 -- ---- two lists, index by index
 module _ {A B : Type 0} (R : A → B → Type 0) where

@@ -5,7 +5,7 @@ use Rattle.std.specs.List.{AllByRecursion}
 use Rattle.std.specs.List.Sorted.{IsStrictlySortedBy}
 use Rattle.plan_laws.proofs.Elements.{all_of, pairs_of}
 use Rattle.plan_laws.proofs.Listed.{Listed, images_listed}
-use Rattle.plan_laws.proofs.RowOrder.{keys_above, row_cmp-IsAntisymmetric, row_cmp_total}
+use Rattle.plan_laws.proofs.RowOrder.{keys_above}
 use Rattle.plan_laws.proofs.RowsListed.{one_of_key, rows_listed}
 use Rattle.plan_laws.proofs.RowsTold.{row_told}
 use Rattle.plan_laws.proofs.Sorted.{contains_cases, contains_head, contains_later, contains_none, not_itself}
@@ -15,6 +15,7 @@ use Rattle.plan_laws.proofs.Waiting.{told_listed}
 use Rattle.plan_laws.specs.Tables.{SomeChanges, SomeRows}
 use Rattle.plan_records.specs.Rows.{HasKey, IsRow, key_of, row_cmp}
 use Rattle.plan_records.specs.declared.PlanRow.{PlanRow}
+use Rattle.plan_drafts.specs.RowKeys.{row_cmp-IsAntisymmetric, row_cmp_total}
 use Rattle.plan_drafts.specs.declared.RowKey.{RowKey}
 
 module _ (S : PlanRow → Type 0) where
@@ -55,7 +56,8 @@ all_apart : (r : PlanRow) (rows : List PlanRow) → AllByRecursion (λ s. row_cm
 all_apart r [] h = λ i d k. absurd (omega arith)
 all_apart r (s ∷ rows) h = all_of (λ z. r ≢ z) s rows (λ e. not_itself row_cmp_total (key_of r) (subst (λ z. row_cmp (key_of r) (key_of z) ≡ Less) (sym e) h.0)) (all_apart r rows h.1)
 
-each_once : (rows : List PlanRow) → IsStrictlySortedBy row_cmp (map key_of rows) → AllPairs (λ a b. a ≢ b) rows
+-- rows in the order of their keys are there once each
+pub each_once : (rows : List PlanRow) → IsStrictlySortedBy row_cmp (map key_of rows) → AllPairs (λ a b. a ≢ b) rows
 unfolding IsStrictlySortedBy
 each_once [] h = λ i j d k l. absurd (omega arith)
 each_once (r ∷ rows) h = pairs_of (λ a b. a ≢ b) r rows (all_apart r rows (keys_above (key_of r) rows h.0)) (each_once rows h.1)

@@ -1,16 +1,19 @@
 -- The rows of a valid plan, and those that change: they are there, and they determine the plan.
-use Rattle.std.specs.Prelude.{◌≡◌, ◌↔◌, List}
+use Rattle.std.specs.Prelude.{◌≡◌, ◌↔◌, ℕ, List, Contains}
 use Rattle.plan_basics.specs.declared.keys.OpKey.{OpKey}
-use Rattle.plan_model.specs.Plan.{Plan}
+use Rattle.plan_model.specs.Plan.{Plan, IsSoundPlan}
 use Rattle.plan_model.specs.Contents.{Contents, IsInPlan}
 use Rattle.plan_model.specs.Valid.{IsValid}
 use Rattle.plan_basics.specs.Keys.{Name}
+use Rattle.plan_records.specs.Answer.{Answer}
 use Rattle.plan_records.specs.Receipts.{IsReceiptRow}
 use Rattle.plan_records.specs.Rows.{AreChanges, AreRows, IsOperationRow, IsRow}
-use Rattle.plan_records.specs.Step.{Receipt, Receipts}
+use Rattle.plan_records.specs.Step.{Receipt, Receipts, Step}
 use Rattle.plan_records.specs.declared.OperationRow.{OperationRow}
 use Rattle.plan_records.specs.declared.PlanRow.{PlanRow}
+use Rattle.plan_records.specs.declared.Request.{Request}
 use Rattle.plan_drafts.specs.declared.RowKey.{RowKey}
+use Rattle.plan_drafts.specs.declared.RowKey.TheVariants as key
 
 -- each operation of a valid plan has a row, and no other
 abbrev pub EachHasOneRow : Type 0
@@ -35,3 +38,11 @@ OneListOfChanges = (P Q : Plan) (rows others : List PlanRow) (gone more : List R
 -- receipts with the same rows are the same receipts
 abbrev pub RowsTellReceipts : Type 0
 RowsTellReceipts = (T U : Receipts) → ((tracker : Name) (receipt : Receipt) → IsReceiptRow T tracker receipt ↔ IsReceiptRow U tracker receipt) → T ≡ U
+
+-- the key of an interval of a workstation
+abbrev pub IsIntervalKey : RowKey → Type 0
+IsIntervalKey k = (w : Name) × (from : ℕ) × (k ≡ key.Interval w from)
+
+-- no request takes out of the tables of a sound plan anything but intervals
+abbrev pub OnlyIntervalsGo : Type 0
+OnlyIntervalsGo = (P Q : Plan) (q : Request) (reply : Answer) (rows : List PlanRow) (gone : List RowKey) → IsSoundPlan P → Step P q reply Q → AreChanges P Q rows gone → (k : RowKey) → Contains gone k → IsIntervalKey k

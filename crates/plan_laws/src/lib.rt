@@ -24,7 +24,7 @@ ghost use Rattle.plan_model.specs.Status.{IsSatisfied, HasStatus, AllPredecessor
 ghost use Rattle.plan_laws.specs.Steps.{OneStep, OneNumberedStep, OneRun, SomeStep, SomeNumberedStep, SomeRun, PlanAnswers};
 ghost use Rattle.plan_laws.specs.Derived.{SatisfiedIsTold, SatisfiedByStatus, ClassesOfStatus, EachHasOneStatus, EachHasOneLatestStart, SomeReadyList, OneReadyList, SomeChoice, EachHasOneOccurrenceStatus};
 ghost use Rattle.plan_laws.specs.Denoting.{OrderDoesNotMatter, OrderDoesNotMatterToAdditions};
-ghost use Rattle.plan_laws.specs.Tables.{EachHasOneRow, OneListOfChanges, RowsTellPlan, RowsTellReceipts, SomeChanges, SomeRows};
+ghost use Rattle.plan_laws.specs.Tables.{EachHasOneRow, OneListOfChanges, OnlyIntervalsGo, RowsTellPlan, RowsTellReceipts, SomeChanges, SomeRows};
 ghost use Rattle.plan_laws.specs.Work.{OneAllowance, SomeAllowance};
 ghost use Rattle.plan_laws.specs.Ranks.{ValidHasRank, PathsAreTold, CyclesAreTold};
 ghost use Rattle.std.specs.Prelude.{◌≡◌, ◌≢◌, ◌⊎◌, ◌↔◌, ℕ};
@@ -176,6 +176,11 @@ pub fn some_rows()
 pub fn one_list_of_changes()
     ensures some { SomeChanges }
     ensures one { OneListOfChanges }
+{}
+
+/// No request takes out of the tables of a sound plan anything but intervals: what else a plan has stays under its key.
+pub fn only_intervals_go()
+    ensures { OnlyIntervalsGo }
 {}
 
 /// A valid plan has a ready list.

@@ -1,3 +1,5 @@
 pub mod Within
 pub mod Lists
 pub mod Whole
+pub mod Growth
+pub mod Texts

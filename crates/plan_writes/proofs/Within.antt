@@ -88,4 +88,4 @@ then_refused {X = X} {Y = Y} {Z = Z} A B C old mid new x e r is one two =
 
 -- tables that are made one after another
 pub grown : (a b c : Schema) (before between after : Database) → Grows a b before between → Grows b c between after → Grows a c before after
-grown a b c before between after one two h = two (one h).0
+grown a b c before between after one two = record { empty = λ h. two.empty (one.empty h).0; back = λ e. one.back (two.back e) }

@@ -8,7 +8,8 @@ use Rattle.sqlite.specs.declared.error.Error.{Error}
 use Rattle.table_rows.specs.Rows.{IsEmpty}
 use Rattle.table_rows.specs.Tables.{no_schema}
 use Rattle.plan_records.specs.declared.PlanRow.TheVariants as row
-use Rattle.plan_schema.specs.Stored.{Held, Stores, none_held}
+use Rattle.plan_schema.specs.Schema.{schema_9}
+use Rattle.plan_schema.specs.Stored.{Held, Stores, Turns, none_held}
 use Rattle.plan_columns.specs.Tables.{with_row}
 
 -- a call within a transaction: what it makes is seen inside, nothing is committed, and no crash finds it
@@ -18,26 +19,33 @@ pub record RunsWithin {X : Type 0} (Makes : Database → Database → Type 0) (o
   pub kept : HasCleanDisk new → IsTrue old.in_transaction → KeepsCommit old new
   pub survives : Survives old new (λ _. ⊥)
 
--- at Ok: it is committed, and the connection is open and shows it
+-- at Ok: the connection was open and is, what is made of what was committed is committed, and it is shown
 abbrev pub IsCommitted : (Database → Database → Type 0) → State → State → Type 0
-IsCommitted Makes old new = IsTrue new.is_open × (new.now ≡ new.committed) × Makes old.now new.committed
+IsCommitted Makes old new = IsTrue old.is_open × IsTrue new.is_open × (new.now ≡ new.committed) × Makes old.committed new.committed
 
--- at Err: all is as it was last committed
+-- at Err: the connection was open, and all is as it was last committed
 abbrev pub IsUndone : State → State → Type 0
-IsUndone old new = (new.now ≡ old.committed) × (new.committed ≡ old.committed)
+IsUndone old new = IsTrue old.is_open × (new.now ≡ old.committed) × (new.committed ≡ old.committed)
 
--- what a crash leaves is what the call makes
+-- what a crash leaves is what the call makes of what was committed, if the connection was open
 abbrev pub LeavesMade : (Database → Database → Type 0) → State → Trees → Type 0
-LeavesMade Makes old trees = (db : Database) × Makes old.now db × (trees ≡ db.trees)
+LeavesMade Makes old trees = (db : Database) × (IsTrue old.is_open → Makes old.committed db) × (trees ≡ db.trees)
 
--- a sound database of the one schema without rows becomes such a one of the other
-abbrev pub Grows : Schema → Schema → Database → Database → Type 0
-Grows from to before after = IsEmpty from before → IsEmpty to after × IsDatabase after
+-- a sound database of the one schema without rows becomes such a one of the other, and one that comes to have the other schema had the one
+pub record Grows (from to : Schema) (before after : Database) : Type 0 where
+  pub empty : IsEmpty from before → IsEmpty to after × IsDatabase after
+  pub back : after.schema ≡ to → before.schema ≡ from
+
+-- whatever values the tables of the one database hold, those of the other hold what the change makes of them; and both have the same tables
+pub record Rewrites (change : Held → Held) (before after : Database) : Type 0 where
+  pub turns : Turns change before after
+  pub schema_stays : after.schema ≡ before.schema
 
 -- what the tables hold before a plan is loaded: that none is, and a clock at the first minute
 abbrev pub first_held : Held
 first_held = with_row (row.Meta 1 false 0) none_held
 
--- a database without tables becomes one with the nine tables, before a plan is loaded
-abbrev pub Begins : Database → Database → Type 0
-Begins before after = IsEmpty no_schema before → Stores after first_held
+-- a database without tables becomes one with the nine tables, before a plan is loaded, and one that comes to have these tables and no others had none
+pub record Begins (before after : Database) : Type 0 where
+  pub stores : IsEmpty no_schema before → Stores after first_held
+  pub back : after.schema ≡ schema_9 → before.schema ≡ no_schema

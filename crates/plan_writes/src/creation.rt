@@ -47,6 +47,7 @@ pub fn create_tables<S: Alter>(conn: &mut Connection<S>) -> Result<(), Error>
     ensures err { HasCleanDisk (state S.Store conn.new) → IsTrue (state S.Store conn.new).is_open → OnErr result (IsUndone (state S.Store conn.old) (state S.Store conn.new)) }
     ensures crash { Survives (state S.Store conn.old) (state S.Store conn.new) (LeavesMade Begins (state S.Store conn.old)) }
 {
+    prove!(conn.is_autocommit());
     let mut tx = conn.transaction();
     create_all(&mut tx)?;
     tx.commit()

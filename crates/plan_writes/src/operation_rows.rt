@@ -1,9 +1,9 @@
 // The tables `occurrence`, `operation` and `dependency`.
 ghost use Rattle.std.specs.Prelude.{◌≡◌};
 ghost use Rattle.sqlite.specs.Held.{state};
-ghost use Rattle.plan_schema.specs.Stored.{Turns, with_occurrence, with_operation, with_dependency};
+ghost use Rattle.plan_schema.specs.Stored.{with_occurrence, with_operation, with_dependency};
 ghost use Rattle.plan_columns.specs.Columns.{occurrence_columns, operation_columns, dependency_columns};
-ghost use Rattle.plan_writes.specs.Within.{RunsWithin};
+ghost use Rattle.plan_writes.specs.Within.{Rewrites, RunsWithin};
 
 use crate::columns::{flag, minute, number};
 use plan_basics::{Moment, OccKey, OpKey};
@@ -22,7 +22,7 @@ pub fn put_occurrence<S: Alter>(
     status: OccStatus,
 ) -> Result<usize, Error>
     ensures same_reference { tx.new.conn.ghost_name ≡ tx.old.conn.ghost_name }
-    ensures written { RunsWithin (Turns (with_occurrence (occurrence_columns occurrence.now priority deadline status))) (state S.Store tx.old.conn.now) (state S.Store tx.new.conn.now) result }
+    ensures written { RunsWithin (Rewrites (with_occurrence (occurrence_columns occurrence.now priority deadline status))) (state S.Store tx.old.conn.now) (state S.Store tx.new.conn.now) result }
 {
     let letter = [status.letter()];
     tx.execute(
@@ -43,7 +43,7 @@ pub fn put_operation<S: Alter>(
     row: &OperationRow,
 ) -> Result<usize, Error>
     ensures same_reference { tx.new.conn.ghost_name ≡ tx.old.conn.ghost_name }
-    ensures written { RunsWithin (Turns (with_operation (operation_columns row.now))) (state S.Store tx.old.conn.now) (state S.Store tx.new.conn.now) result }
+    ensures written { RunsWithin (Rewrites (with_operation (operation_columns row.now))) (state S.Store tx.old.conn.now) (state S.Store tx.new.conn.now) result }
 {
     let letter = [row.status.letter()];
     tx.execute(
@@ -76,7 +76,7 @@ pub fn put_dependency<S: Alter>(
     successor: &OpKey,
 ) -> Result<usize, Error>
     ensures same_reference { tx.new.conn.ghost_name ≡ tx.old.conn.ghost_name }
-    ensures written { RunsWithin (Turns (with_dependency (dependency_columns predecessor.now successor.now))) (state S.Store tx.old.conn.now) (state S.Store tx.new.conn.now) result }
+    ensures written { RunsWithin (Rewrites (with_dependency (dependency_columns predecessor.now successor.now))) (state S.Store tx.old.conn.now) (state S.Store tx.new.conn.now) result }
 {
     tx.execute(
         PUT_DEPENDENCY,

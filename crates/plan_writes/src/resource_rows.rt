@@ -1,9 +1,9 @@
 // The tables `meta`, `resource` and `need`.
 ghost use Rattle.std.specs.Prelude.{◌≡◌};
 ghost use Rattle.sqlite.specs.Held.{state};
-ghost use Rattle.plan_schema.specs.Stored.{Turns, with_meta, with_resource, with_need};
+ghost use Rattle.plan_schema.specs.Stored.{with_meta, with_resource, with_need};
 ghost use Rattle.plan_columns.specs.Columns.{meta_columns, resource_columns, need_columns};
-ghost use Rattle.plan_writes.specs.Within.{RunsWithin};
+ghost use Rattle.plan_writes.specs.Within.{Rewrites, RunsWithin};
 
 use crate::columns::{flag, keeping, minute, mode, number};
 use plan_basics::{Moment, OpKey, ResName};
@@ -20,7 +20,7 @@ pub fn put_meta<S: Alter>(
     clock: Moment,
 ) -> Result<usize, Error>
     ensures same_reference { tx.new.conn.ghost_name ≡ tx.old.conn.ghost_name }
-    ensures written { RunsWithin (Turns (with_meta (meta_columns version loaded clock))) (state S.Store tx.old.conn.now) (state S.Store tx.new.conn.now) result }
+    ensures written { RunsWithin (Rewrites (with_meta (meta_columns version loaded clock))) (state S.Store tx.old.conn.now) (state S.Store tx.new.conn.now) result }
 {
     tx.execute(
         PUT_META,
@@ -35,7 +35,7 @@ pub fn put_resource<S: Alter>(
     available: bool,
 ) -> Result<usize, Error>
     ensures same_reference { tx.new.conn.ghost_name ≡ tx.old.conn.ghost_name }
-    ensures written { RunsWithin (Turns (with_resource (resource_columns name.now available))) (state S.Store tx.old.conn.now) (state S.Store tx.new.conn.now) result }
+    ensures written { RunsWithin (Rewrites (with_resource (resource_columns name.now available))) (state S.Store tx.old.conn.now) (state S.Store tx.new.conn.now) result }
 {
     tx.execute(PUT_RESOURCE, &[letters(name.as_bytes()), flag(available)])
 }
@@ -47,7 +47,7 @@ pub fn put_need<S: Alter>(
     need: &Need,
 ) -> Result<usize, Error>
     ensures same_reference { tx.new.conn.ghost_name ≡ tx.old.conn.ghost_name }
-    ensures written { RunsWithin (Turns (with_need (need_columns op.now need.now))) (state S.Store tx.old.conn.now) (state S.Store tx.new.conn.now) result }
+    ensures written { RunsWithin (Rewrites (with_need (need_columns op.now need.now))) (state S.Store tx.old.conn.now) (state S.Store tx.new.conn.now) result }
 {
     tx.execute(
         PUT_NEED,

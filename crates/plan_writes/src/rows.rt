@@ -1,9 +1,8 @@
 // Rows of any table, and lists of them.
 ghost use Rattle.std.specs.Prelude.{◌≡◌};
 ghost use Rattle.sqlite.specs.Held.{state};
-ghost use Rattle.plan_schema.specs.Stored.{Turns};
 ghost use Rattle.plan_columns.specs.Tables.{with_row, without_row, with_rows, without_rows, written};
-ghost use Rattle.plan_writes.specs.Within.{RunsWithin};
+ghost use Rattle.plan_writes.specs.Within.{Rewrites, RunsWithin};
 
 use crate::operation_rows::{put_dependency, put_occurrence, put_operation};
 use crate::resource_rows::{put_meta, put_need, put_resource};
@@ -14,7 +13,7 @@ use sqlite::{Alter, Error, Transaction};
 /// Puts a row into its table, in place of the one with its key.
 pub fn write_row<S: Alter>(tx: &mut Transaction<'_, S>, row: &PlanRow) -> Result<usize, Error>
     ensures same_reference { tx.new.conn.ghost_name ≡ tx.old.conn.ghost_name }
-    ensures written { RunsWithin (Turns (with_row row.now)) (state S.Store tx.old.conn.now) (state S.Store tx.new.conn.now) result }
+    ensures written { RunsWithin (Rewrites (with_row row.now)) (state S.Store tx.old.conn.now) (state S.Store tx.new.conn.now) result }
 {
     match row {
         PlanRow::Meta {
@@ -43,7 +42,7 @@ pub fn write_row<S: Alter>(tx: &mut Transaction<'_, S>, row: &PlanRow) -> Result
 /// Takes the row with this key out of its table. Only intervals ever go; for a key of another table nothing is done.
 pub fn drop_row<S: Alter>(tx: &mut Transaction<'_, S>, key: &RowKey) -> Result<usize, Error>
     ensures same_reference { tx.new.conn.ghost_name ≡ tx.old.conn.ghost_name }
-    ensures written { RunsWithin (Turns (without_row key.now)) (state S.Store tx.old.conn.now) (state S.Store tx.new.conn.now) result }
+    ensures written { RunsWithin (Rewrites (without_row key.now)) (state S.Store tx.old.conn.now) (state S.Store tx.new.conn.now) result }
 {
     match key {
         RowKey::Interval(ws, from) => drop_interval(tx, ws, *from),
@@ -54,7 +53,7 @@ pub fn drop_row<S: Alter>(tx: &mut Transaction<'_, S>, key: &RowKey) -> Result<u
 /// Puts rows into their tables, one after another.
 pub fn write_rows<S: Alter>(tx: &mut Transaction<'_, S>, rows: &[PlanRow]) -> Result<(), Error>
     ensures same_reference { tx.new.conn.ghost_name ≡ tx.old.conn.ghost_name }
-    ensures written { RunsWithin (Turns (with_rows rows.now)) (state S.Store tx.old.conn.now) (state S.Store tx.new.conn.now) result }
+    ensures written { RunsWithin (Rewrites (with_rows rows.now)) (state S.Store tx.old.conn.now) (state S.Store tx.new.conn.now) result }
 {
     for row in rows {
         write_row(tx, row)?;
@@ -65,7 +64,7 @@ pub fn write_rows<S: Alter>(tx: &mut Transaction<'_, S>, rows: &[PlanRow]) -> Re
 /// Takes the rows with these keys out of their tables, one after another.
 pub fn drop_rows<S: Alter>(tx: &mut Transaction<'_, S>, gone: &[RowKey]) -> Result<(), Error>
     ensures same_reference { tx.new.conn.ghost_name ≡ tx.old.conn.ghost_name }
-    ensures written { RunsWithin (Turns (without_rows gone.now)) (state S.Store tx.old.conn.now) (state S.Store tx.new.conn.now) result }
+    ensures written { RunsWithin (Rewrites (without_rows gone.now)) (state S.Store tx.old.conn.now) (state S.Store tx.new.conn.now) result }
 {
     for key in gone {
         drop_row(tx, key)?;
@@ -80,7 +79,7 @@ pub fn write_and_drop<S: Alter>(
     gone: &[RowKey],
 ) -> Result<(), Error>
     ensures same_reference { tx.new.conn.ghost_name ≡ tx.old.conn.ghost_name }
-    ensures written { RunsWithin (Turns (written rows.now gone.now)) (state S.Store tx.old.conn.now) (state S.Store tx.new.conn.now) result }
+    ensures written { RunsWithin (Rewrites (written rows.now gone.now)) (state S.Store tx.old.conn.now) (state S.Store tx.new.conn.now) result }
 {
     write_rows(tx, rows)?;
     drop_rows(tx, gone)

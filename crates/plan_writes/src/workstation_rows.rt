@@ -1,9 +1,9 @@
 // The tables `workstation` and `interval`.
 ghost use Rattle.std.specs.Prelude.{◌≡◌, pos};
 ghost use Rattle.sqlite.specs.Held.{state};
-ghost use Rattle.plan_schema.specs.Stored.{Turns, with_workstation, with_interval, without_interval};
+ghost use Rattle.plan_schema.specs.Stored.{with_workstation, with_interval, without_interval};
 ghost use Rattle.plan_columns.specs.Columns.{workstation_columns, interval_columns};
-ghost use Rattle.plan_writes.specs.Within.{RunsWithin};
+ghost use Rattle.plan_writes.specs.Within.{Rewrites, RunsWithin};
 
 use crate::columns::{minute, number};
 use plan_basics::{Attr, Interval, Moment, WsName};
@@ -18,7 +18,7 @@ pub fn put_workstation<S: Alter>(
     attr: Attr,
 ) -> Result<usize, Error>
     ensures same_reference { tx.new.conn.ghost_name ≡ tx.old.conn.ghost_name }
-    ensures written { RunsWithin (Turns (with_workstation (workstation_columns name.now attr))) (state S.Store tx.old.conn.now) (state S.Store tx.new.conn.now) result }
+    ensures written { RunsWithin (Rewrites (with_workstation (workstation_columns name.now attr))) (state S.Store tx.old.conn.now) (state S.Store tx.new.conn.now) result }
 {
     let letter = [attr.letter()];
     tx.execute(
@@ -34,7 +34,7 @@ pub fn put_interval<S: Alter>(
     interval: &Interval,
 ) -> Result<usize, Error>
     ensures same_reference { tx.new.conn.ghost_name ≡ tx.old.conn.ghost_name }
-    ensures written { RunsWithin (Turns (with_interval (interval_columns ws.now interval.now))) (state S.Store tx.old.conn.now) (state S.Store tx.new.conn.now) result }
+    ensures written { RunsWithin (Rewrites (with_interval (interval_columns ws.now interval.now))) (state S.Store tx.old.conn.now) (state S.Store tx.new.conn.now) result }
 {
     tx.execute(
         PUT_INTERVAL,
@@ -56,7 +56,7 @@ pub fn drop_interval<S: Alter>(
     from: Moment,
 ) -> Result<usize, Error>
     ensures same_reference { tx.new.conn.ghost_name ≡ tx.old.conn.ghost_name }
-    ensures written { RunsWithin (Turns (without_interval ws.now (pos from))) (state S.Store tx.old.conn.now) (state S.Store tx.new.conn.now) result }
+    ensures written { RunsWithin (Rewrites (without_interval ws.now (pos from))) (state S.Store tx.old.conn.now) (state S.Store tx.new.conn.now) result }
 {
     tx.execute(DROP_INTERVAL, &[letters(ws.as_bytes()), minute(from)])
 }

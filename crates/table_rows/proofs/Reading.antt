@@ -126,12 +126,12 @@ row_width_by_rowid db sound name first columns tree listed all wide r there =
 
 -- ---- what is read
 
-shown_behind : (x : Value) (r : Row) (at count : ℕ) → map (column (x ∷ r)) (range_with_len (at + 1) count) ≡ map (column r) (range_with_len at count)
+pub shown_behind : (x : Value) (r : Row) (at count : ℕ) → map (column (x ∷ r)) (range_with_len (at + 1) count) ≡ map (column r) (range_with_len at count)
 shown_behind x r at zero = refl
 shown_behind x r at (suc count) = ap₂ (λ v l. v ∷ l) (behind x r at) (shown_behind x r (at + 1) count)
 
 -- a row of so many columns is shown as it is
-shown_whole : (r : Row) → shown_row (length r) r ≡ r
+pub shown_whole : (r : Row) → shown_row (length r) r ≡ r
 shown_whole [] = refl
 shown_whole (x ∷ r) = ap (λ l. x ∷ l) (shown_behind x r 0 (length r) ∙ shown_whole r)
 

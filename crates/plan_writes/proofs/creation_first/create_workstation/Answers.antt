@@ -1,8 +1,10 @@
-use Rattle.std.proofs.Common.{[]}
+use Rattle.std.proofs.Common.{[], refl}
 use Rattle.sqlite.specs.Held.{state}
-use Rattle.plan_schema.specs.Schema.{schema_1, schema_2}
+use Rattle.plan_schema.specs.Schema.{schema_1, schema_2, workstation}
 use Rattle.plan_schema.specs.declared.TheConstants.{CREATE_WORKSTATION}
 use Rattle.plan_schema.proofs.Workstations.{workstation_made}
+use Rattle.plan_writes.proofs.Growth.{grows_so}
+use Rattle.plan_writes.proofs.Texts.{makes_workstation}
 use Rattle.plan_writes.proofs.Within.{executed}
 use Rattle.plan_writes.specs.Within.{Grows}
 use Rattle.plan_writes.proofs.creation_first.create_workstation.Goals as goal
@@ -11,4 +13,4 @@ pub returns-clause-made : goal.returns-clause-made
 returns-clause-made g c =
     let old = state g.S.Store c.args.tx.now.conn.now in
     let new = state g.S.Store c.execute.new.self.conn.now in
-    executed (Grows schema_1 schema_2) old new CREATE_WORKSTATION.now [] c.execute.result (workstation_made old new c.execute.result) c.execute.ensures.runs c.execute.ensures.survives
+    executed (Grows schema_1 schema_2) old new CREATE_WORKSTATION.now [] c.execute.result (grows_so schema_1 workstation CREATE_WORKSTATION.now refl makes_workstation old new c.execute.result (workstation_made old new c.execute.result)) c.execute.ensures.runs c.execute.ensures.survives

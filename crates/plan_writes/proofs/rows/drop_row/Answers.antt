@@ -2,8 +2,9 @@ use Rattle.std.proofs.Common.{◌≡◌, refl, sym, subst}
 use Rattle.plan_drafts.specs.declared.RowKey.{RowKey}
 use Rattle.plan_drafts.specs.declared.RowKey.TheVariants as key
 use Rattle.sqlite.specs.Held.{state}
-use Rattle.plan_schema.specs.Stored.{Held, Stores, Turns}
+use Rattle.plan_schema.specs.Stored.{Held, Stores}
 use Rattle.plan_columns.specs.Tables.{without_row}
+use Rattle.plan_writes.specs.Within.{Rewrites}
 use Rattle.plan_writes.proofs.Within.{nothing_done}
 use Rattle.plan_writes.proofs.rows.drop_row.Goals as goal
 
@@ -24,4 +25,4 @@ returns-in-Interval-clause-written g c = rw c.in-Interval.is c.drop_interval.ens
 pub returns-in_default-clause-written : goal.returns-in_default-clause-written
 returns-in_default-clause-written g c =
     let now = state g.S.Store c.args.tx.now.conn.now in
-    nothing_done (Turns (without_row c.args.key.now)) now 0 (λ held was. subst (Stores now.now) (sym (stays c.args.key.now c.in_default.not-Interval held)) was)
+    nothing_done (Rewrites (without_row c.args.key.now)) now 0 (record { turns = λ held was. subst (Stores now.now) (sym (stays c.args.key.now c.in_default.not-Interval held)) was; schema_stays = refl })
