@@ -1,0 +1,158 @@
+-- No row of a plan stands twice in its table, since the key of a table is unique.
+use Rattle.std.proofs.Common.{◌≡◌, ◌≢◌, ◌&&◌, ℕ, zero, suc, not, true, List, [], ◌∷◌, ◌++◌, drop, get_or, map, refl, sym, ap, subst, ◌∙◌, inl, inr, arith}
+use Rattle.std.specs.List.{range_with_len, AllByRecursion, AllPairs, AllZip}
+use Rattle.std.proofs.lemmas.Bool.{cases_Bool, true≢false}
+use Rattle.std.proofs.lemmas.List.Elements.{Contains-get_or}
+use Rattle.sqlite.specs.Effect.{Database, IsDatabase}
+use Rattle.sqlite.specs.Order.{Row, column}
+use Rattle.sqlite.specs.Table.{Table as SqlTable}
+use Rattle.sqlite.specs.Tree.{Trees, rowid, has_rowid, IsAscending}
+use Rattle.sqlite.specs.declared.types.Value.TheVariants.{Int}
+use Rattle.sqlite_rules.specs.Edit.{id_in}
+use Rattle.sqlite_rules.specs.Lists.{Has}
+use Rattle.sqlite_rules.proofs.ListLemmas.{all_from, all_has, has_contained, some_from, test_has}
+use Rattle.sqlite_rules.proofs.RuleLemmas.{keeps_at}
+use Rattle.sqlite_schema.specs.Rules.{agree, clashes, differ, guards, Keeps}
+use Rattle.sqlite_schema.specs.declared.schema.Constraint.TheVariants.{Unique}
+use Rattle.sqlite_schema.specs.declared.schema.Index.{Index}
+use Rattle.sqlite_value.specs.Keys.{plain}
+use Rattle.table_rows.specs.Rows.{AreNumbered, same_key, shown_by_rowid}
+use Rattle.table_rows.specs.Stored.{BeginsExactly}
+use Rattle.table_rows.specs.Tables.{placed}
+use Rattle.table_rows.proofs.Keys.{one_key}
+use Rattle.table_rows.proofs.Queries.{has_mapped}
+use Rattle.table_rows.proofs.Rowids.{differs, numbered_has, rowid_is}
+use Rattle.plan_records.specs.declared.PlanRow.{PlanRow}
+use Rattle.plan_schema.specs.Schema.{schema_9, workstation, interval, resource, occurrence, operation, dependency, need}
+use Rattle.stored_rows.specs.Rows.{columns_of, IsStoredAs}
+use Rattle.stored_rows.specs.declared.Table.{Table}
+use Rattle.stored_rows.specs.declared.Table.TheVariants as table
+use Rattle.stored_rows.proofs.Decoded.{stored_for}
+use Rattle.plan_reads.specs.Tables.{all_tables, rows_of, AllDiffer}
+use Rattle.plan_reads.proofs.PlanTables.{workstation_table, interval_table, resource_table, occurrence_table, operation_table, dependency_table, need_table}
+use Rattle.plan_reads.proofs.RowsStored.{no_receipt}
+
+-- ---- two rows of one key are one
+
+-- the schema keeps the key of a table in an index
+abbrev HasKeyIndex : SqlTable → ℕ → Type 0
+HasKeyIndex t key = (i : Index) × Has schema_9.indexes i × (guards i t ≡ true) × (i.order ≡ plain) × (i.columns ≡ range_with_len 1 key)
+
+twin : (trees : Trees) (t : SqlTable) (key : ℕ) → Has schema_9.tables t → HasKeyIndex t key → Keeps Unique schema_9 trees → AreNumbered (trees t.tree) → (a b : Row) → Has (trees t.tree) a → Has (trees t.tree) b → same_key key b a ≡ true
+    → rowid a ≡ rowid b
+twin trees t key listed index keeps numbered a b at_a at_b alike =
+    let rows = trees t.tree in
+    let id = id_in (rowid a) in
+    let own : rowid a ≡ Int id = numbered_has rows a numbered at_a in
+    elim (cases_Bool (has_rowid id b)) [
+      | inl same ↦ own ∙ sym (rowid_is rows b id numbered at_b same)
+      | inr other ↦
+          let i = index.0 in
+          let apart : differ (rowid b) (rowid a) ≡ true = ap (differ (rowid b)) own ∙ differs rows b id numbered at_b other in
+          let here : agree i.order i.columns b i.columns a ≡ true = (λ k. agree (index.3 k) (index.4 k) b (index.4 k) a) ∙ alike in
+          let clash : clashes i.order i.columns rows a ≡ true = some_from (λ r. agree i.order i.columns r i.columns a && differ (rowid r) (rowid a)) rows b at_b (λ k. here k && apart k) in
+          let free = test_has (λ j. not (guards j t && clashes j.order j.columns rows a)) schema_9.indexes i (keeps_at Unique schema_9 trees t a keeps listed at_a) index.1 in
+          absurd (true≢false (sym free ∙ (λ k. not (index.2 k && clash k))))
+    ]
+
+-- a row is its rowid and what stands behind it
+whole_row : (key : ℕ) (a v : Row) → BeginsExactly (suc key) v → drop 1 a ≡ v → a ≡ rowid a ∷ v
+whole_row key [] v exact e = absurd (subst (BeginsExactly (suc key)) (sym e) exact)
+whole_row key (x ∷ a) v exact e = ap (λ l. x ∷ l) e
+
+alike_of : (key : ℕ) (a b v : Row) → BeginsExactly (suc key) v → drop 1 a ≡ v → drop 1 b ≡ v → same_key (suc key) b a ≡ true
+alike_of key a b v exact p q = (λ i. same_key (suc key) (whole_row key b v exact q i) (whole_row key a v exact p i)) ∙ one_key (suc key) (rowid b) (rowid a) v v exact exact refl
+
+-- ---- in each table
+
+-- two rows of a table that are one row of a plan have one rowid
+abbrev pub HoldsSingly : Table → Trees → Type 0
+HoldsSingly t trees = (a b : Row) (r : PlanRow) → Has (rows_of t trees) a → Has (rows_of t trees) b → IsStoredAs t a r → IsStoredAs t b r → rowid a ≡ rowid b
+
+-- the rowid of a row of `meta` is its first column
+meta_own : (rows : List Row) (a : Row) → Has (map (shown_by_rowid 5) rows) a → rowid a ≡ column (drop 1 a) 0
+meta_own rows a there = let m = has_mapped (shown_by_rowid 5) rows a there in ap rowid m.2 ∙ sym (ap (λ (l : Row). column (drop 1 l) 0) m.2)
+
+module _ (db : Database) (sound : IsDatabase db) (has : db.schema ≡ schema_9) where
+  unique : Keeps Unique schema_9 db.trees
+  unique = subst (λ s. Keeps Unique s db.trees) has (sound.obeys.rules Unique)
+
+  pub singly : (t : Table) → AreNumbered (rows_of t db.trees) → HoldsSingly t db.trees
+  singly table.Meta numbered a b r at_a at_b is_a is_b = meta_own (db.trees 0) a at_a ∙ ap (λ (l : Row). column l 0) (is_a.2 ∙ sym is_b.2) ∙ sym (meta_own (db.trees 0) b at_b)
+  singly table.Workstation numbered a b r at_a at_b is_a is_b =
+      let x = workstation_table.forth r is_a.0 in
+      let exact : BeginsExactly 1 (columns_of r) = subst (BeginsExactly 1) (sym (workstation_table.back r x.0 x.1).1) (tt, tt) in
+      twin db.trees (placed workstation.name workstation.columns 1 1) 1 (inr (inl refl)) (_, (inl refl), refl, refl, refl) unique numbered a b at_a at_b (alike_of 0 a b (columns_of r) exact is_a.2 is_b.2)
+  singly table.Interval numbered a b r at_a at_b is_a is_b =
+      let x = interval_table.forth r is_a.0 in
+      let exact : BeginsExactly 2 (columns_of r) = subst (BeginsExactly 2) (sym (interval_table.back r x.0 x.1).1) (tt, (tt, tt)) in
+      twin db.trees (placed interval.name interval.columns 2 3) 2 (inr (inr (inl refl))) (_, (inr (inl refl)), refl, refl, refl) unique numbered a b at_a at_b (alike_of 1 a b (columns_of r) exact is_a.2 is_b.2)
+  singly table.Resource numbered a b r at_a at_b is_a is_b =
+      let x = resource_table.forth r is_a.0 in
+      let exact : BeginsExactly 1 (columns_of r) = subst (BeginsExactly 1) (sym (resource_table.back r x.0 x.1).1) (tt, tt) in
+      twin db.trees (placed resource.name resource.columns 1 5) 1 (inr (inr (inr (inl refl)))) (_, (inr (inr (inl refl))), refl, refl, refl) unique numbered a b at_a at_b (alike_of 0 a b (columns_of r) exact is_a.2 is_b.2)
+  singly table.Occurrence numbered a b r at_a at_b is_a is_b =
+      let x = occurrence_table.forth r is_a.0 in
+      let exact : BeginsExactly 2 (columns_of r) = subst (BeginsExactly 2) (sym (occurrence_table.back r x.0 x.1).1) (tt, (tt, tt)) in
+      twin db.trees (placed occurrence.name occurrence.columns 2 7) 2 (inr (inr (inr (inr (inl refl))))) (_, (inr (inr (inr (inl refl)))), refl, refl, refl) unique numbered a b at_a at_b (alike_of 1 a b (columns_of r) exact is_a.2 is_b.2)
+  singly table.Operation numbered a b r at_a at_b is_a is_b =
+      let x = operation_table.forth r is_a.0 in
+      let exact : BeginsExactly 3 (columns_of r) = subst (BeginsExactly 3) (sym (operation_table.back r x.0 x.1).1) (tt, (tt, (tt, tt))) in
+      twin db.trees (placed operation.name operation.columns 3 9) 3 (inr (inr (inr (inr (inr (inl refl)))))) (_, (inr (inr (inr (inr (inl refl))))), refl, refl, refl) unique numbered a b at_a at_b (alike_of 2 a b (columns_of r) exact is_a.2 is_b.2)
+  singly table.Dependency numbered a b r at_a at_b is_a is_b =
+      let x = dependency_table.forth r is_a.0 in
+      let exact : BeginsExactly 6 (columns_of r) = subst (BeginsExactly 6) (sym (dependency_table.back r x.0 x.1).1) (tt, (tt, (tt, (tt, (tt, (tt, tt)))))) in
+      twin db.trees (placed dependency.name dependency.columns 6 11) 6 (inr (inr (inr (inr (inr (inr (inl refl))))))) (_, (inr (inr (inr (inr (inr (inl refl)))))), refl, refl, refl) unique numbered a b at_a at_b (alike_of 5 a b (columns_of r) exact is_a.2 is_b.2)
+  singly table.Need numbered a b r at_a at_b is_a is_b =
+      let x = need_table.forth r is_a.0 in
+      let exact : BeginsExactly 4 (columns_of r) = subst (BeginsExactly 4) (sym (need_table.back r x.0 x.1).1) (tt, (tt, (tt, (tt, tt)))) in
+      twin db.trees (placed need.name need.columns 4 13) 4 (inr (inr (inr (inr (inr (inr (inr (inl refl)))))))) (_, (inr (inr (inr (inr (inr (inr (inl refl))))))), refl, refl, refl) unique numbered a b at_a at_b (alike_of 3 a b (columns_of r) exact is_a.2 is_b.2)
+  singly table.Receipt numbered a b r at_a at_b is_a is_b = absurd (no_receipt r is_a.0)
+
+-- ---- lists whose elements differ
+
+-- what is read of a table differs
+pub read_differ : (t : Table) (trees : Trees) → HoldsSingly t trees → (stored : List Row) (read : List PlanRow) → ((s : Row) → Has stored s → Has (rows_of t trees) s) → IsAscending (λ a b. rowid a ≢ rowid b) stored → AllZip (IsStoredAs t) stored read
+    → AllDiffer read
+read_differ t trees single [] [] among apart all = tt
+read_differ t trees single [] (r ∷ read) among apart all = absurd all
+read_differ t trees single (x ∷ stored) [] among apart all = tt
+read_differ t trees single (x ∷ stored) (r ∷ read) among apart all = (
+  all_from (λ q. r ≢ q) read (λ q there. λ same.
+      let s = stored_for t stored read all.1 q there in
+      all_has (λ y. rowid x ≢ rowid y) stored s.0 apart.0 s.1 (single x s.0 r (among x (inl refl)) (among s.0 (inr s.1)) all.0 (subst (IsStoredAs t s.0) (sym same) s.2))),
+  read_differ t trees single stored read (λ s there. among s (inr there)) apart.1 all.1,
+)
+
+-- two lists that have nothing in common
+pub joined_differ : {X : Type 0} (xs ys : List X) → AllDiffer xs → AllDiffer ys → ((x y : X) → Has xs x → Has ys y → x ≢ y) → AllDiffer (xs ++ ys)
+joined_differ [] ys one two other = two
+joined_differ {X = X} (x ∷ xs) ys one two other = (
+  behind xs one.0 (λ y there. other x y (inl refl) there),
+  joined_differ xs ys one.1 two (λ a b there. other a b (inr there)),
+)
+  where
+    behind : (zs : List X) → AllByRecursion (λ y. x ≢ y) zs → ((y : X) → Has ys y → x ≢ y) → AllByRecursion (λ y. x ≢ y) (zs ++ ys)
+    behind [] first more = all_from (λ y. x ≢ y) ys more
+    behind (z ∷ zs) first more = (first.0, behind zs first.1 more)
+
+-- a list and one more element that it hasn't
+pub differ_front : {X : Type 0} (xs : List X) (x : X) → AllDiffer (xs ++ x ∷ []) → AllDiffer xs × ((y : X) → Has xs y → y ≢ x)
+differ_front [] x h = (tt, λ y there. absurd there)
+differ_front {X = X} (z ∷ xs) x h =
+    let rest = differ_front xs x h.1 in
+    let first = parts xs h.0 in
+    ((first.0, rest.0), λ y there. elim there [ inl own ↦ (λ same. first.1 (sym own ∙ same)) | inr later ↦ rest.1 y later ])
+  where
+    parts : (ys : List X) → AllByRecursion (λ y. z ≢ y) (ys ++ x ∷ []) → AllByRecursion (λ y. z ≢ y) ys × (z ≢ x)
+    parts [] h = (tt, h.0)
+    parts (y ∷ ys) h = let it = parts ys h.1 in ((h.0, it.0), it.1)
+
+pub pairs_differ : {X : Type 0} (xs : List X) → AllDiffer xs → AllPairs (λ a b. a ≢ b) xs
+pairs_differ [] h i j d below within = absurd (omega (arith, within))
+pairs_differ (x ∷ xs) h i zero d below within = absurd (omega (arith, below))
+pairs_differ (x ∷ xs) h zero (suc j) d below within = all_has (λ y. x ≢ y) xs (get_or xs j d) h.0 (has_contained xs (get_or xs j d) (Contains-get_or xs j d (omega (arith, within))))
+pairs_differ (x ∷ xs) h (suc i) (suc j) d below within = pairs_differ xs h.1 i j d (omega (arith, below)) (omega (arith, within))
+
+pub tables_differ : AllDiffer all_tables
+tables_differ = ((λ e. absurd cc, (λ e. absurd cc, (λ e. absurd cc, (λ e. absurd cc, (λ e. absurd cc, (λ e. absurd cc, (λ e. absurd cc, (λ e. absurd cc, tt)))))))), ((λ e. absurd cc, (λ e. absurd cc, (λ e. absurd cc, (λ e. absurd cc, (λ e. absurd cc, (λ e. absurd cc, (λ e. absurd cc, tt))))))), ((λ e. absurd cc, (λ e. absurd cc, (λ e. absurd cc, (λ e. absurd cc, (λ e. absurd cc, (λ e. absurd cc, tt)))))), ((λ e. absurd cc, (λ e. absurd cc, (λ e. absurd cc, (λ e. absurd cc, (λ e. absurd cc, tt))))), ((λ e. absurd cc, (λ e. absurd cc, (λ e. absurd cc, (λ e. absurd cc, tt)))), ((λ e. absurd cc, (λ e. absurd cc, (λ e. absurd cc, tt))), ((λ e. absurd cc, (λ e. absurd cc, tt)), ((λ e. absurd cc, tt), (tt, tt)))))))))

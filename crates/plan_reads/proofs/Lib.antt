@@ -1,0 +1,9 @@
+mod QueryTexts
+mod Queried
+mod RowidOrder
+mod TableHeld
+mod MetaShown
+mod PlanTables
+pub mod RowsStored
+mod EachOnce
+mod Reading

@@ -1,0 +1,191 @@
+-- Tables that are read one after another.
+use Rattle.std.proofs.Common.{◌≡◌, inl, inr, refl, sym, ap, ap₂, subst, ℕ, ◌+◌, ◌<◌, ◌∙◌, arith, Bool, true, false, List, [], ◌∷◌, ◌++◌, take, length, get_or, Option, Some, None, Result, Ok, Err, IfOk, IsTrue, MatchBool, MatchOption, Any, Vec}
+use Rattle.std.specs.declared.alloc.Global.{Global}
+use Rattle.std.specs.List.Sorted.{IsPermutation}
+use Rattle.std.proofs.lemmas.List.{take_more}
+use Rattle.std.proofs.lemmas.List.Sorted.{IsPermutation-sym}
+use Rattle.sqlite.specs.Effect.{Database, IsDatabase}
+use Rattle.sqlite.specs.Order.{Row}
+use Rattle.sqlite.specs.State.{State, HasCleanDisk, IsLive, IsUnchanged, KeepsCommit}
+use Rattle.sqlite.specs.Tree.{Trees}
+use Rattle.sqlite.specs.declared.error.Error.{Error}
+use Rattle.sqlite.proofs.StateLemmas.{survives_then}
+use Rattle.sqlite_rules.specs.Lists.{Has}
+use Rattle.sqlite_rules.proofs.ListLemmas.{any_has, has_either, has_left, has_right}
+use Rattle.table_rows.proofs.Queries.{has_permuted}
+use Rattle.table_rows.proofs.Reading.{numbered_permuted}
+use Rattle.plan_records.specs.declared.PlanRow.{PlanRow}
+use Rattle.plan_schema.specs.Schema.{schema_9}
+use Rattle.stored_rows.specs.Rows.{table_for, AppendsRows, IsNoRow, IsStoredAs}
+use Rattle.stored_rows.specs.declared.Table.{Table}
+use Rattle.stored_rows.proofs.Decoded.{row_for, stored_for}
+use Rattle.plan_reads.specs.Reads.{OnlyReads, ShowsSame, rise_above}
+use Rattle.plan_reads.specs.Tables.{all_tables, rows_of, AddsTable, AreRead, HasOtherRow, AllDiffer, IsTableRead, StoresEach}
+use Rattle.plan_reads.proofs.EachOnce.{differ_front, joined_differ, pairs_differ, read_differ, singly, tables_differ, HoldsSingly}
+use Rattle.plan_reads.proofs.RowidOrder.{rising_numbered}
+use Rattle.plan_reads.proofs.RowsStored.{all_read}
+
+-- ---- one table
+
+-- the rows of a table that are decoded
+pub table_added : (t : Table) (trees : Trees) (stored : List Row) (before after : List PlanRow) (all : Bool) → IsPermutation (rows_of t trees) stored → rise_above None stored ≡ true
+    → MatchBool all (AppendsRows t stored before after) (Any (IsNoRow t) stored) → MatchBool all (AddsTable t trees before after) (HasOtherRow trees)
+table_added t trees stored before after true same rises added =
+    record { numbered = numbered_permuted stored (rows_of t trees) (IsPermutation-sym (rows_of t trees) stored same) (rising_numbered stored rises); stored = stored; same = same; added = added }
+table_added t trees stored before after false same rises some =
+    let it = any_has (IsNoRow t) stored some in
+    (t, it.0, has_permuted stored (rows_of t trees) it.0 (IsPermutation-sym (rows_of t trees) stored same) it.1, it.2)
+
+module _ (tables : List Table) (trees : Trees) (rows more : List PlanRow) (t : Table) (read : AreRead tables trees rows) (adds : AddsTable t trees rows more) (single : HoldsSingly t trees) where
+  has_more : (r : PlanRow) → Has rows r → Has more r
+  has_more r there = subst (λ l. Has l r) (sym adds.added.1) (has_left rows adds.added.0 r there)
+
+  new_one : IsTableRead trees more t
+  new_one = record {
+    numbered = adds.numbered;
+    every = λ stored there.
+        let it = row_for t adds.stored adds.added.0 adds.added.2 stored (has_permuted (rows_of t trees) adds.stored stored adds.same there) in
+        (it.0, subst (λ l. Has l it.0) (sym adds.added.1) (has_right rows adds.added.0 it.0 it.1), it.2);
+  }
+
+  old_one : (u : Table) → IsTableRead trees rows u → IsTableRead trees more u
+  old_one u h = record { numbered = h.numbered; every = λ stored there. let it = h.every stored there in (it.0, has_more it.0 it.1, it.2) }
+
+  new_row : (r : PlanRow) → Has adds.added.0 r → (stored : Row) × Has (rows_of (table_for r) trees) stored × IsStoredAs (table_for r) stored r
+  new_row r there =
+      let it = stored_for t adds.stored adds.added.0 adds.added.2 r there in
+      let own : table_for r ≡ t = it.2.0 in
+      let place = has_permuted adds.stored (rows_of t trees) it.0 (IsPermutation-sym (rows_of t trees) adds.stored adds.same) it.1 in
+      (it.0, subst (λ u. Has (rows_of u trees) it.0) (sym own) place, (refl, it.2.1, it.2.2))
+
+  -- what is read of it is there once, and none of it was there
+  read_once : AllDiffer (tables ++ t ∷ []) → AllDiffer more
+  read_once differ =
+      let front = differ_front tables t differ in
+      let back = λ (s : Row) (there : Has adds.stored s). has_permuted adds.stored (rows_of t trees) s (IsPermutation-sym (rows_of t trees) adds.stored adds.same) there in
+      let own = read_differ t trees single adds.stored adds.added.0 back (numbered_permuted (rows_of t trees) adds.stored adds.same adds.numbered).0 adds.added.2 in
+      subst AllDiffer (sym adds.added.1) (joined_differ rows adds.added.0 (read.once front.0) own (λ a b at_a at_b. λ same.
+      let it = stored_for t adds.stored adds.added.0 adds.added.2 b at_b in
+      front.1 (table_for a) (read.listed a at_a) (ap table_for same ∙ it.2.0)))
+
+  new_listed : (r : PlanRow) → Has adds.added.0 r → Has (tables ++ t ∷ []) (table_for r)
+  new_listed r there = has_right tables (t ∷ []) (table_for r) (inl (stored_for t adds.stored adds.added.0 adds.added.2 r there).2.0)
+
+  -- one more table is read
+  pub one_more : AreRead (tables ++ t ∷ []) trees more
+  one_more = record {
+    tables_read = λ u there. elim (has_either tables (t ∷ []) u there) [
+      | inl was ↦ old_one u (read.tables_read u was)
+      | inr last ↦ elim last [ inl own ↦ subst (IsTableRead trees more) (sym own) new_one | inr none ↦ absurd none ]
+    ];
+    listed = λ r there. elim (has_either rows adds.added.0 r (subst (λ l. Has l r) adds.added.1 there)) [
+      | inl was ↦ has_left tables (t ∷ []) (table_for r) (read.listed r was)
+      | inr new ↦ new_listed r new
+    ];
+    once = read_once;
+    only = λ r there. elim (has_either rows adds.added.0 r (subst (λ l. Has l r) adds.added.1 there)) [
+      | inl was ↦ read.only r was
+      | inr new ↦ new_row r new
+    ];
+  }
+
+none_read : (trees : Trees) → AreRead [] trees []
+none_read trees = record { tables_read = λ t there. absurd there; listed = λ r there. absurd there; only = λ r there. absurd there; once = λ _. tt }
+
+-- ---- what the connection shows meanwhile
+
+pub reads_nothing : (s : State) → OnlyReads s s
+reads_nothing s = record {
+  kept = λ clean. record { was_open = λ is_open. is_open; committed = λ is_open. refl };
+  survives = record { clean = omega arith; shield = λ h. h; counts = omega arith; limit = refl; closes = λ clean is_open. inl is_open; crash = λ clean db may. inl may };
+}
+
+same_nothing : (s : State) → ShowsSame s s
+same_nothing s = record { was_open = λ is_open. is_open; now_is = refl; committed_is = refl }
+
+pub same_then : (a b c : State) → ShowsSame a b → IsUnchanged b c → ShowsSame a c
+same_then a b c one two = record { was_open = λ is_open. one.was_open two.0.was_open; now_is = two.0.now_is ∙ one.now_is; committed_is = two.0.committed_is ∙ one.committed_is }
+
+module _ (a b c : State) (one : OnlyReads a b) (two : OnlyReads b c) where
+  pub late : HasCleanDisk c → HasCleanDisk b
+  late clean = let it : HasCleanDisk b = omega (arith, clean, two.survives.clean) in it
+
+  pub reads_then : OnlyReads a c
+  reads_then = record {
+    kept = λ clean.
+        let before = one.kept (late clean) in
+        let after = two.kept clean in
+        record { was_open = λ is_open. before.was_open (after.was_open is_open); committed = λ is_open. after.committed is_open ∙ before.committed (after.was_open is_open) };
+    survives = survives_then a b c (λ _. ⊥) (λ _. ⊥) (λ _. ⊥) (λ _ db none. none) (λ _ db none. none) one.survives two.survives;
+  }
+
+-- ---- tables one after another
+
+pub live_same : (a b : State) → ShowsSame a b → IsLive a → IsLive b
+live_same a b same live is_open =
+    let it = live (same.was_open is_open) in
+    (subst IsDatabase (sym same.now_is) it.0, subst IsDatabase (sym same.committed_is) it.1)
+
+-- these tables are read, and these are their rows
+pub record IsReadSoFar (old now : State) (tables : List Table) (rows : List PlanRow) : Type 0 where
+  pub idle : old.in_transaction ≡ false → now.in_transaction ≡ false
+  pub reads : OnlyReads old now
+  pub same : HasCleanDisk now → ShowsSame old now
+  pub rows_read : HasCleanDisk now → IsLive old → old.now.schema ≡ schema_9 → AreRead tables old.now.trees rows
+
+pub nothing_read : (s : State) → IsReadSoFar s s [] []
+nothing_read s = record { idle = λ h. h; reads = reads_nothing s; same = λ clean. same_nothing s; rows_read = λ clean live has. none_read s.now.trees }
+
+module _ (old now new : State) (tables : List Table) (rows more : List PlanRow) (t : Table) (far : IsReadSoFar old now tables rows) (reads : OnlyReads now new) (all : Bool)
+    (found : HasCleanDisk new → IsLive now → now.now.schema ≡ schema_9 → MatchBool all (AddsTable t now.now.trees rows more) (HasOtherRow now.now.trees)) where
+  -- of a table that is read, what is said of the database that was there at first
+  found_first : HasCleanDisk new → IsLive old → old.now.schema ≡ schema_9 → MatchBool all (AddsTable t old.now.trees rows more) (HasOtherRow old.now.trees)
+  found_first clean live has =
+      let same = far.same (late old now new far.reads reads clean) in
+      subst (λ (db : Database). MatchBool all (AddsTable t db.trees rows more) (HasOtherRow db.trees)) same.now_is
+      (found clean (live_same old now same live) (ap (λ (db : Database). db.schema) same.now_is ∙ has))
+
+  -- a row of it is none of a plan
+  pub other_found : all ≡ false → HasCleanDisk new → IsLive old → old.now.schema ≡ schema_9 → HasOtherRow old.now.trees
+  other_found is clean live has = subst (λ b. MatchBool b (AddsTable t old.now.trees rows more) (HasOtherRow old.now.trees)) is (found_first clean live has)
+
+  -- its rows are appended
+  pub far_more : (now.in_transaction ≡ false → new.in_transaction ≡ false) → (HasCleanDisk new → IsUnchanged now new) → all ≡ true → IsReadSoFar old new (tables ++ t ∷ []) more
+  far_more idle unchanged is = record {
+    idle = λ h. idle (far.idle h);
+    reads = reads_then old now new far.reads reads;
+    same = λ clean. same_then old now new (far.same (late old now new far.reads reads clean)) (unchanged clean);
+    rows_read = λ clean live has.
+        let adds = subst (λ b. MatchBool b (AddsTable t old.now.trees rows more) (HasOtherRow old.now.trees)) is (found_first clean live has) in
+        let early = late old now new far.reads reads clean in
+        let sound = (live ((far.same early).was_open (unchanged clean).0.was_open)).0 in
+        one_more tables old.now.trees rows more t (far.rows_read early live has) adds (singly old.now sound has t adds.numbered);
+  }
+
+  -- the same of the next of a list of tables
+  pub far_next : (all_of : List Table) (i : ℕ) (d : Table) → i < length all_of → tables ≡ take i all_of → t ≡ get_or all_of i d → (now.in_transaction ≡ false → new.in_transaction ≡ false) → (HasCleanDisk new → IsUnchanged now new) → all ≡ true
+      → IsReadSoFar old new (take (i + 1) all_of) more
+  far_next all_of i d in_range before own idle unchanged is =
+      subst (λ l. IsReadSoFar old new l more) (ap₂ (λ (l : List Table) (u : Table). l ++ u ∷ []) before own ∙ sym (take_more all_of i d in_range)) (far_more idle unchanged is)
+
+-- ---- all tables
+
+-- outside a transaction what is read is what is committed
+pub committed_rows : (old new : State) (r : Result (Option (Vec PlanRow Global)) Error) → (IsTrue old.is_open → old.now ≡ old.committed) → IsLive old → KeepsCommit old new → IsTrue new.is_open
+    → (old.now.schema ≡ schema_9 → IfOk r (λ found. MatchOption found (HasOtherRow old.now.trees) (λ rows. AreRead all_tables old.now.trees rows.items)))
+    → new.committed.schema ≡ schema_9 → IfOk r (λ found. MatchOption found (HasOtherRow new.committed.trees) (λ rows. StoresEach rows.items new.committed))
+committed_rows old new r settled live kept is_open read has =
+    let was = kept.was_open is_open in
+    let same : new.committed ≡ old.now = kept.committed is_open ∙ sym (settled was) in
+    let own : old.now.schema ≡ schema_9 = ap (λ (db : Database). db.schema) (sym same) ∙ has in
+    subst (λ (db : Database). IfOk r (λ found. MatchOption found (HasOtherRow db.trees) (λ rows. StoresEach rows.items db))) (sym same) (by_result r (read own) own (live was).0)
+  where
+    by_option : (found : Option (Vec PlanRow Global)) → MatchOption found (HasOtherRow old.now.trees) (λ rows. AreRead all_tables old.now.trees rows.items) → old.now.schema ≡ schema_9 → IsDatabase old.now
+        → MatchOption found (HasOtherRow old.now.trees) (λ rows. StoresEach rows.items old.now)
+    by_option None other own sound = other
+    by_option (Some rows) all own sound = record { stores = all_read old.now sound own rows.items all; once = pairs_differ rows.items (all.once tables_differ) }
+
+    by_result : (r : Result (Option (Vec PlanRow Global)) Error) → IfOk r (λ found. MatchOption found (HasOtherRow old.now.trees) (λ rows. AreRead all_tables old.now.trees rows.items)) → old.now.schema ≡ schema_9 → IsDatabase old.now
+        → IfOk r (λ found. MatchOption found (HasOtherRow old.now.trees) (λ rows. StoresEach rows.items old.now))
+    by_result (Err e) h own sound = tt
+    by_result (Ok found) h own sound = by_option found h own sound

@@ -1,0 +1,82 @@
+-- The rows that stand in each table, and those of a plan that a database stores.
+use Rattle.std.specs.Prelude.{◌≡◌, ◌≢◌, ℕ, List, [], ◌∷◌, map, AllPairs, Contains}
+use Rattle.std.specs.List.Sorted.{IsPermutation}
+use Rattle.sqlite.specs.Effect.{Database}
+use Rattle.sqlite.specs.Order.{Row}
+use Rattle.sqlite.specs.Tree.{Trees, IsAscending}
+use Rattle.sqlite_rules.specs.Lists.{Has}
+use Rattle.table_rows.specs.Rows.{AreNumbered, shown_by_rowid}
+use Rattle.plan_records.specs.declared.PlanRow.{PlanRow}
+use Rattle.plan_schema.specs.Stored.{Held, Stores}
+use Rattle.plan_schema.specs.declared.TheConstants.{READ_META, READ_WORKSTATION, READ_INTERVAL, READ_RESOURCE, READ_OCCURRENCE, READ_OPERATION, READ_DEPENDENCY, READ_NEED, READ_RECEIPT}
+use Rattle.plan_columns.specs.Tables.{HoldRows}
+use Rattle.stored_rows.specs.Rows.{AppendsRows, IsNoRow, IsStoredAs, table_for}
+use Rattle.stored_rows.specs.declared.Table.{Table}
+use Rattle.stored_rows.specs.declared.Table.TheVariants as table
+
+-- the text that reads a table
+abbrev pub text_for : Table → List ℕ
+text_for table.Meta = READ_META.now
+text_for table.Workstation = READ_WORKSTATION.now
+text_for table.Interval = READ_INTERVAL.now
+text_for table.Resource = READ_RESOURCE.now
+text_for table.Occurrence = READ_OCCURRENCE.now
+text_for table.Operation = READ_OPERATION.now
+text_for table.Dependency = READ_DEPENDENCY.now
+text_for table.Need = READ_NEED.now
+text_for table.Receipt = READ_RECEIPT.now
+
+-- the rows of a table, as they are read: the rowid, and then each column. In `meta` the rowid is the first column too
+abbrev pub rows_of : Table → Trees → List Row
+rows_of table.Meta trees = map (shown_by_rowid 5) (trees 0)
+rows_of table.Workstation trees = trees 1
+rows_of table.Interval trees = trees 3
+rows_of table.Resource trees = trees 5
+rows_of table.Occurrence trees = trees 7
+rows_of table.Operation trees = trees 9
+rows_of table.Dependency trees = trees 11
+rows_of table.Need trees = trees 13
+rows_of table.Receipt trees = trees 15
+
+-- all tables, in the order in which they are read
+abbrev pub all_tables : List Table
+all_tables = table.Meta ∷ table.Workstation ∷ table.Interval ∷ table.Resource ∷ table.Occurrence ∷ table.Operation ∷ table.Dependency ∷ table.Need ∷ table.Receipt ∷ []
+
+-- in some table stands a row that is none of a plan: it has a value out of its range, or it is a receipt
+abbrev pub HasOtherRow : Trees → Type 0
+HasOtherRow trees = (t : Table) × (stored : Row) × Has (rows_of t trees) stored × IsNoRow t stored
+
+-- the nine tables are there, and hold these rows of a plan and no others; there is no receipt
+pub record StoresRows (IsIn : PlanRow → Type 0) (db : Database) : Type 0 where
+  pub held : Held
+  pub stores : Stores db held
+  pub rows : HoldRows IsIn held
+  pub no_receipts : held.receipts ≡ []
+
+-- the nine tables are there, and hold just these rows of a plan, each once
+pub record StoresEach (rows : List PlanRow) (db : Database) : Type 0 where
+  pub stores : StoresRows (Contains rows) db
+  pub once : AllPairs (λ a b. a ≢ b) rows
+
+-- the rows of a table, which their rowids tell apart, are read in some order, and appended as the rows of a plan that they are
+pub record AddsTable (t : Table) (trees : Trees) (before after : List PlanRow) : Type 0 where
+  pub numbered : AreNumbered (rows_of t trees)
+  pub stored : List Row
+  pub same : IsPermutation (rows_of t trees) stored
+  pub added : AppendsRows t stored before after
+
+-- each row of the table is one of these rows of a plan
+pub record IsTableRead (trees : Trees) (rows : List PlanRow) (t : Table) : Type 0 where
+  pub numbered : AreNumbered (rows_of t trees)
+  pub every : (stored : Row) → Has (rows_of t trees) stored → (r : PlanRow) × Has rows r × IsStoredAs t stored r
+
+-- no element of a list comes again in it
+abbrev pub AllDiffer : {X : Type 0} → List X → Type 0
+AllDiffer {X} = IsAscending {X = X} (λ a b. a ≢ b)
+
+-- these are the rows of a plan that stand in these tables, and no others; each is there once, if each table is
+pub record AreRead (tables : List Table) (trees : Trees) (rows : List PlanRow) : Type 0 where
+  pub tables_read : (t : Table) → Has tables t → IsTableRead trees rows t
+  pub listed : (r : PlanRow) → Has rows r → Has tables (table_for r)
+  pub only : (r : PlanRow) → Has rows r → (stored : Row) × Has (rows_of (table_for r) trees) stored × IsStoredAs (table_for r) stored r
+  pub once : AllDiffer tables → AllDiffer rows

@@ -1,0 +1,43 @@
+// The rows of one table, as the database shows them.
+ghost use Rattle.std.specs.Prelude.{◌≡◌, [], false, true, IfOk, IsTrue, OnOk};
+ghost use Rattle.std.specs.List.Sorted.{IsPermutation};
+ghost use Rattle.sqlite.specs.Effect.{IsDatabase};
+ghost use Rattle.sqlite.specs.Held.{state};
+ghost use Rattle.sqlite.specs.State.{HasCleanDisk, IsLive, IsUnchanged};
+ghost use Rattle.plan_schema.specs.Schema.{schema_9};
+ghost use Rattle.plan_reads.specs.Reads.{OnlyReads};
+ghost use Rattle.plan_reads.specs.Tables.{text_for, rows_of};
+
+use plan_schema::{
+    READ_DEPENDENCY, READ_INTERVAL, READ_META, READ_NEED, READ_OCCURRENCE, READ_OPERATION,
+    READ_RECEIPT, READ_RESOURCE, READ_WORKSTATION,
+};
+use sqlite::{Alter, Connection, Error, Row};
+use stored_rows::Table;
+
+// The text that reads a table: its rowids first, and its rows in their order.
+fn read_text(table: Table) -> &'static str
+    ensures { result.now ≡ text_for table }
+{
+    match table {
+        Table::Meta => READ_META,
+        Table::Workstation => READ_WORKSTATION,
+        Table::Interval => READ_INTERVAL,
+        Table::Resource => READ_RESOURCE,
+        Table::Occurrence => READ_OCCURRENCE,
+        Table::Operation => READ_OPERATION,
+        Table::Dependency => READ_DEPENDENCY,
+        Table::Need => READ_NEED,
+        Table::Receipt => READ_RECEIPT,
+    }
+}
+
+// All rows of a table, each behind its rowid.
+pub fn query_table<S: Alter>(conn: &mut Connection<S>, table: Table) -> Result<Vec<Row>, Error>
+    ensures idle { conn.old.in_transaction ≡ false → conn.new.in_transaction ≡ false }
+    ensures reads { OnlyReads (state S.Store conn.old) (state S.Store conn.new) }
+    ensures same { HasCleanDisk (state S.Store conn.new) → OnOk result (IsUnchanged (state S.Store conn.old) (state S.Store conn.new)) }
+    ensures rows { HasCleanDisk (state S.Store conn.new) → IsLive (state S.Store conn.old) → (state S.Store conn.old).now.schema ≡ schema_9 → IfOk result (λ rows. IsPermutation (rows_of table (state S.Store conn.old).now.trees) rows.items) }
+{
+    conn.query_all(read_text(table), &[])
+}

@@ -1,0 +1,100 @@
+// The rows of a plan that all tables hold.
+ghost use Rattle.std.specs.Prelude.{◌≡◌, false, true, IfOk, IsErrOf, IsTrue, MatchBool, MatchOption, OnOk};
+ghost use Rattle.sqlite.specs.Held.{state};
+ghost use Rattle.sqlite.specs.State.{HasCleanDisk, IsLive, IsUnchanged};
+ghost use Rattle.sqlite.specs.declared.error.Error.TheVariants.{SqliteFailure};
+ghost use Rattle.sqlite.specs.declared.error.ErrorCode.TheVariants.{TransactionState};
+ghost use Rattle.plan_schema.specs.Schema.{schema_9};
+ghost use Rattle.plan_reads.specs.Reads.{OnlyReads, ShowsSame};
+ghost use Rattle.plan_reads.specs.Tables.{AddsTable, AreRead, HasOtherRow, StoresEach};
+
+use crate::queries::query_table;
+use crate::rising::rowids_rise;
+use plan_records::PlanRow;
+use sqlite::{Alter, Connection, Error, ErrorCode};
+use sqlite_resolve::CompileError;
+use std::alloc::Global;
+use stored_rows::{Table, decode_all};
+
+// All tables, in the order in which they are read.
+const ALL_TABLES: [Table; 9] = [
+    Table::Meta,
+    Table::Workstation,
+    Table::Interval,
+    Table::Resource,
+    Table::Occurrence,
+    Table::Operation,
+    Table::Dependency,
+    Table::Need,
+    Table::Receipt,
+];
+
+// Reads one table, and appends its rows. Answers `false` where one of them is no row of a plan. Refused as
+// `DatabaseCorrupt` where the rowids don't rise, which no sound store shows.
+fn read_table<S: Alter>(
+    conn: &mut Connection<S>,
+    table: Table,
+    into: &mut Vec<PlanRow>,
+) -> Result<bool, Error>
+    ensures idle { conn.old.in_transaction ≡ false → conn.new.in_transaction ≡ false }
+    ensures reads { OnlyReads (state S.Store conn.old) (state S.Store conn.new) }
+    ensures same { HasCleanDisk (state S.Store conn.new) → OnOk result (IsUnchanged (state S.Store conn.old) (state S.Store conn.new)) }
+    ensures rows { HasCleanDisk (state S.Store conn.new) → IsLive (state S.Store conn.old) → (state S.Store conn.old).now.schema ≡ schema_9 → IfOk result (λ all. MatchBool all (AddsTable table (state S.Store conn.old).now.trees into.old.items into.new.items) (HasOtherRow (state S.Store conn.old).now.trees)) }
+{
+    let rows = query_table(conn, table)?;
+    if !rowids_rise(&rows) {
+        return Err(Error::SqliteFailure(ErrorCode::DatabaseCorrupt));
+    }
+    Ok(decode_all(table, &rows, into)?)
+}
+
+// Reads these tables, one after another. Answers `None` where a row of one of them is no row of a plan.
+fn read_tables<S: Alter>(
+    alloc: Global,
+    conn: &mut Connection<S>,
+    tables: &[Table],
+) -> Result<Option<Vec<PlanRow>>, Error>
+    ensures idle { conn.old.in_transaction ≡ false → conn.new.in_transaction ≡ false }
+    ensures reads { OnlyReads (state S.Store conn.old) (state S.Store conn.new) }
+    ensures same { HasCleanDisk (state S.Store conn.new) → OnOk result (ShowsSame (state S.Store conn.old) (state S.Store conn.new)) }
+    ensures rows { HasCleanDisk (state S.Store conn.new) → IsLive (state S.Store conn.old) → (state S.Store conn.old).now.schema ≡ schema_9 → IfOk result (λ found. MatchOption found (HasOtherRow (state S.Store conn.old).now.trees) (λ rows. AreRead tables.now (state S.Store conn.old).now.trees rows.items)) }
+{
+    let mut rows = Vec::new(alloc);
+    for table in tables {
+        if !read_table(conn, *table, &mut rows)? {
+            return Ok(None);
+        }
+    }
+    Ok(Some(rows))
+}
+
+// Whether there is a table `meta`. Without it no plan was ever made here.
+fn has_meta<S: Alter>(conn: &Connection<S>) -> bool
+    ensures live { IsLive (state S.Store conn.now) }
+{
+    conn.schema().table_named(b"meta").is_some()
+}
+
+/// Reads all tables: the rows of a plan that they hold, each once, or `None` where they hold a row that is no plan's.
+///
+/// Nothing is written, and what was committed stays. Refused as `TransactionState` in a transaction; as
+/// `SqlInputError` where a table or a column lacks; as `DatabaseCorrupt` where a table's rowids don't rise, which no
+/// sound store shows; as `OutOfMemory` for want of memory; and for a fault of the store. What is answered holds where
+/// the tables are those that a plan has.
+pub fn read_rows<S: Alter>(
+    alloc: Global,
+    conn: &mut Connection<S>,
+) -> Result<Option<Vec<PlanRow>>, Error>
+    ensures idle { conn.old.in_transaction ≡ false → conn.new.in_transaction ≡ false }
+    ensures busy { conn.old.in_transaction ≡ true → IsErrOf result (SqliteFailure TransactionState) }
+    ensures reads { OnlyReads (state S.Store conn.old) (state S.Store conn.new) }
+    ensures rows { HasCleanDisk (state S.Store conn.new) → IsTrue (state S.Store conn.new).is_open → (state S.Store conn.new).committed.schema ≡ schema_9 → IfOk result (λ found. MatchOption found (HasOtherRow (state S.Store conn.new).committed.trees) (λ rows. StoresEach rows.items (state S.Store conn.new).committed)) }
+{
+    if !conn.is_autocommit() {
+        return Err(Error::SqliteFailure(ErrorCode::TransactionState));
+    }
+    if !has_meta(conn) {
+        return Err(Error::SqlInputError(CompileError::NoSuchTable));
+    }
+    read_tables(alloc, conn, &ALL_TABLES)
+}

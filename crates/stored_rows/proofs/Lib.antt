@@ -1,0 +1,4 @@
+mod Appended
+pub mod Decoded
+mod OperationLaws
+mod RecordLaws

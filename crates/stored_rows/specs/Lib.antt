@@ -1,0 +1,3 @@
+pub mod Cells
+pub mod Operations
+pub mod Rows

@@ -1,0 +1,35 @@
+//! The rows of a plan, read back from the tables that store them.
+//!
+//! A row of a table is read as the row of a plan that has its columns, or as none where no row of a plan has them: a
+//! column isn't in its range, a letter or a text stands for nothing, a name isn't legal.
+#![tactic(auto)]
+
+mod columns;
+mod decoding;
+mod operations;
+mod records;
+
+pub use decoding::{decode, decode_all};
+
+/// One of the nine tables.
+#[derive(Clone, Copy, Debug, PartialEq, Eq)]
+pub enum Table {
+    /// Whether a plan is loaded, and the clock.
+    Meta,
+    /// Workstations.
+    Workstation,
+    /// Open intervals of workstations.
+    Interval,
+    /// Special resources.
+    Resource,
+    /// Occurrences.
+    Occurrence,
+    /// Operations.
+    Operation,
+    /// Dependencies between operations.
+    Dependency,
+    /// Special resources that operations need.
+    Need,
+    /// The last accepted requests of trackers. Its rows are no plan's.
+    Receipt,
+}
