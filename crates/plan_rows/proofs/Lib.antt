@@ -1,0 +1,11 @@
+pub mod SideBySide
+mod OneMore
+mod KeptRows
+mod TableRows
+pub mod ShownRows
+mod ShownPlaces
+pub mod NoRows
+mod BothKeys
+mod WithinRows
+mod MetaRow
+mod AllTables

@@ -1,0 +1,42 @@
+-- What is kept of a loaded plan, for its views.
+use Rattle.std.specs.Prelude.{ℕ, ℤ, List, Option, Some, None, option_map}
+use Rattle.std.specs.List.{zip}
+use Rattle.plan_choice.specs.Choices.{AreLatestStarts}
+use Rattle.plan_drafts.specs.Places.{AreStatuses}
+use Rattle.plan_model.specs.Contents.{Contents, nothing}
+use Rattle.plan_model.specs.Plan.{Plan, plan_held}
+use Rattle.plan_model.specs.Valid.{IsSound}
+use Rattle.plan_status.specs.Standings.{AreStandings, AreTallies}
+use Rattle.plan_status.specs.declared.standings.Standing.{Standing}
+use Rattle.status_rules.specs.declared.Status.{Status}
+use Rattle.plan_rows.specs.declared.shown.Shown.{Shown}
+
+-- its contents are sound, and beside them is what is read off them
+pub record IsShown (s : Shown) : Type 0 where
+  pub sound : IsSound s.contents.now
+  pub standings : AreStandings s.contents.now s.standings.now
+  pub statuses : AreStatuses s.contents.now s.statuses.now
+  pub tallies : AreTallies s.contents.now s.tallies.now
+  pub latest : AreLatestStarts s.contents.now s.latest.now.starts
+
+-- so where there is one
+abbrev pub IsShownIfAny : Option Shown → Type 0
+IsShownIfAny None = Unit {0}
+IsShownIfAny (Some s) = IsShown s
+
+-- what is shown; nothing where there is none
+abbrev pub contents_shown : Option Shown → Contents
+contents_shown None = nothing
+contents_shown (Some s) = s.contents.now
+
+-- the plan at this clock of which this is shown
+abbrev pub plan_shown : ℕ → Option Shown → Plan
+plan_shown clock shown = plan_held clock (option_map (λ s. s.contents.now) shown)
+
+-- what is known of an operation: its standing, its status, its latest start
+abbrev pub Known : Type 0
+Known = Standing × (Status × ℤ)
+
+-- what is known of each operation
+abbrev pub known_of : Shown → List Known
+known_of s = zip s.standings.now (zip s.statuses.now s.latest.now.starts)

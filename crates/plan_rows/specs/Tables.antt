@@ -1,0 +1,25 @@
+-- The tables one after the other, and what changes in them.
+use Rattle.std.specs.Prelude.{◌≡◌, ◌↔◌, ◌<◌, ℕ, List, map, Contains}
+use Rattle.plan_drafts.specs.declared.RowKey.{RowKey}
+use Rattle.plan_model.specs.Plan.{Plan}
+use Rattle.plan_records.specs.Rows.{IsRow, key_of, row_cmp, table_of}
+use Rattle.plan_records.specs.declared.Changes.{Changes}
+use Rattle.plan_records.specs.declared.PlanRow.{PlanRow}
+use Rattle.row_differences.specs.Changes.{AreRowChanges}
+
+-- a row of the table of this number
+abbrev pub IsRowOf : ℕ → Plan → PlanRow → Type 0
+IsRowOf n P r = IsRow P r × (table_of (key_of r) ≡ n)
+
+-- a row of one of the tables below this number
+abbrev pub IsRowBelow : ℕ → Plan → PlanRow → Type 0
+IsRowBelow n P r = IsRow P r × (table_of (key_of r) < n)
+
+-- what changes in the tables below this number
+abbrev pub AreChangesBelow : ℕ → Plan → Plan → Changes → Type 0
+AreChangesBelow n P Q c = AreRowChanges row_cmp key_of (IsRowBelow n P) (IsRowBelow n Q) c.rows.items c.gone.items
+
+-- these are the rows of the table of this number, under these keys
+pub record AreRowsOf {K : Type 0} (name : K → RowKey) (n : ℕ) (P : Plan) (keys : List K) (rows : List PlanRow) : Type 0 where
+  pub keyed : map key_of rows ≡ map name keys
+  pub all : (r : PlanRow) → Contains rows r ↔ IsRowOf n P r

@@ -1,0 +1,92 @@
+// The table of the intervals of workstations.
+ghost use Rattle.std.specs.Prelude.{◌≡◌, ◌↔◌, ◌<◌, ◌++◌, ℕ, List, Some, IfOk, OnOk, length, map, refl, slice_get};
+ghost use Rattle.plan_drafts.specs.declared.RowKey.TheVariants as key;
+ghost use Rattle.plan_rows.specs.Alike.{interval_alike, interval_key_exact};
+ghost use Rattle.plan_rows.specs.Rows.{all_intervals, interval_row, intervals_within, under_both};
+ghost use Rattle.plan_rows.specs.Shown.{IsShownIfAny, plan_shown};
+ghost use Rattle.plan_rows.specs.Tables.{AreChangesBelow};
+
+use super::kept::workstations_of;
+use super::shown::Shown;
+use super::tables::{PlanTable, push_changes};
+use plan_basics::{Interval, Moment, WsName};
+use plan_records::{Changes, PlanRow, RowKey};
+use row_differences::KeyedRows;
+use std::alloc::{AllocError, Global};
+use workstations::Workstation;
+
+impl<'a, 'b> PlanTable for KeyedRows<'a, 'b, (WsName, Moment), Interval> {
+    ghost name = { λ x. key.Interval x.0 x.1 };
+
+    ghost olds = { λ t. map interval_row t.before.now };
+
+    ghost news = { λ t. map interval_row t.after.now };
+
+    fn key_before(&self, old: usize) -> RowKey {
+        let (workstation, from) = self.before[old].0;
+        RowKey::Interval(workstation, from)
+    }
+
+    fn row_after(&self, new: usize) -> PlanRow {
+        let ((ws, _), interval) = self.after[new];
+        PlanRow::Interval { ws, interval }
+    }
+
+    ghost in_order = { λ a b. refl };
+
+    ghost exact = { interval_key_exact };
+
+    ghost alike = { λ t i j one. interval_alike t.before.now t.after.now i j one };
+}
+
+// Adds the intervals of a workstation, each under its name and first minute.
+fn push_intervals_of(
+    found: &mut Vec<((WsName, Moment), Interval)>,
+    workstation: &Workstation,
+) -> Result<(), AllocError>
+    ensures { OnOk result (found.new.items ≡ found.old.items ++ under_both intervals_within workstation.now) }
+{
+    let name = workstation.name();
+    let intervals = workstation.intervals();
+    for interval in intervals {
+        found.push(((name, interval.from()), *interval))?;
+    }
+    Ok(())
+}
+
+// The intervals of all workstations, each under its workstation's name and its first minute.
+fn intervals_of(
+    alloc: Global,
+    workstations: &[Workstation],
+) -> Result<Vec<((WsName, Moment), Interval)>, AllocError>
+    ensures { IfOk result (λ v. v.items ≡ all_intervals workstations.now) }
+{
+    let mut found = Vec::new(alloc);
+    for workstation in workstations {
+        push_intervals_of(&mut found, workstation)?;
+    }
+    Ok(found)
+}
+
+/// Adds what changes in the table of intervals.
+pub fn push_intervals(
+    alloc: Global,
+    before: Option<Shown<'_>>,
+    after: Option<Shown<'_>>,
+    changes: &mut Changes,
+) -> Result<(), AllocError>
+    requires before { IsShownIfAny before }
+    requires after { IsShownIfAny after }
+    ensures { (clock now : ℕ) → AreChangesBelow 2 (plan_shown clock before.entry) (plan_shown now after.entry) changes.old → OnOk result (AreChangesBelow 3 (plan_shown clock before.entry) (plan_shown now after.entry) changes.new) }
+{
+    let old = intervals_of(alloc, workstations_of(before))?;
+    let new = intervals_of(alloc, workstations_of(after))?;
+    push_changes(
+        alloc,
+        &KeyedRows {
+            before: &old,
+            after: &new,
+        },
+        changes,
+    )
+}

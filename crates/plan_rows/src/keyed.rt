@@ -1,0 +1,58 @@
+// The table of special resources: rows of a key and a value each.
+ghost use Rattle.std.specs.Prelude.{◌≡◌, ◌↔◌, ◌<◌, ℕ, List, Some, OnOk, length, map, refl, slice_get};
+ghost use Rattle.plan_basics.specs.Keys.{name_cmp-IsAntisymmetric};
+ghost use Rattle.plan_drafts.specs.declared.RowKey.TheVariants as key;
+ghost use Rattle.plan_rows.specs.Alike.{resource_alike};
+ghost use Rattle.plan_rows.specs.Rows.{resource_row};
+ghost use Rattle.plan_rows.specs.Shown.{plan_shown};
+ghost use Rattle.plan_rows.specs.Tables.{AreChangesBelow};
+
+use super::kept::resources_of;
+use super::shown::Shown;
+use super::tables::{PlanTable, push_changes};
+use plan_basics::ResName;
+use plan_records::{Changes, PlanRow, RowKey};
+use row_differences::KeyedRows;
+use std::alloc::{AllocError, Global};
+
+impl<'a, 'b> PlanTable for KeyedRows<'a, 'b, ResName, bool> {
+    ghost name = { key.Resource };
+
+    ghost olds = { λ t. map resource_row t.before.now };
+
+    ghost news = { λ t. map resource_row t.after.now };
+
+    fn key_before(&self, old: usize) -> RowKey {
+        RowKey::Resource(self.before[old].0)
+    }
+
+    fn row_after(&self, new: usize) -> PlanRow {
+        let (name, available) = self.after[new];
+        PlanRow::Resource { name, available }
+    }
+
+    ghost in_order = { λ a b. refl };
+
+    ghost exact = { name_cmp-IsAntisymmetric };
+
+    ghost alike = { λ t i j one. resource_alike t.before.now t.after.now i j one };
+}
+
+/// Adds what changes in the table of special resources.
+pub fn push_resources(
+    alloc: Global,
+    before: Option<Shown<'_>>,
+    after: Option<Shown<'_>>,
+    changes: &mut Changes,
+) -> Result<(), AllocError>
+    ensures { (clock now : ℕ) → AreChangesBelow 3 (plan_shown clock before.entry) (plan_shown now after.entry) changes.old → OnOk result (AreChangesBelow 4 (plan_shown clock before.entry) (plan_shown now after.entry) changes.new) }
+{
+    push_changes(
+        alloc,
+        &KeyedRows {
+            before: resources_of(before),
+            after: resources_of(after),
+        },
+        changes,
+    )
+}

@@ -1,0 +1,43 @@
+// What is kept of a loaded plan, for its views.
+ghost use Rattle.std.specs.Prelude.{◌≡◌};
+ghost use Rattle.plan_rows.specs.Shown.{IsShown};
+
+use latest_start::Latest;
+use plan_basics::Moment;
+use plan_records::PlanContents;
+use plan_state::LoadedPlan;
+use plan_status::Standing;
+use status_rules::{Counts, Status};
+
+/// The rows of a loaded plan, with what is known of each of them.
+#[derive(Clone, Copy)]
+pub struct Shown<'a> {
+    pub contents: &'a PlanContents,
+    pub standings: &'a [Standing],
+    pub statuses: &'a [Status],
+    pub tallies: &'a [Counts],
+    pub latest: &'a Latest,
+}
+
+impl<'a> Shown<'a> {
+    /// What is kept of this plan.
+    pub fn of(loaded: &'a LoadedPlan) -> Shown<'a>
+        ensures contents { result.contents.now ≡ loaded.now }
+        ensures shown { IsShown result }
+    {
+        Shown {
+            contents: loaded.contents().rows(),
+            standings: loaded.standings(),
+            statuses: loaded.statuses(),
+            tallies: loaded.tallies(),
+            latest: loaded.latest(),
+        }
+    }
+}
+
+/// A plan at its clock, and what is kept of it if one is loaded.
+#[derive(Clone, Copy)]
+pub struct PlanShown<'a> {
+    pub clock: Moment,
+    pub loaded: Option<Shown<'a>>,
+}
