@@ -1,0 +1,2 @@
+mod FirstRow
+mod Opened

@@ -1,0 +1,13 @@
+use Rattle.std.proofs.Common.{sym, subst, Some}
+use Rattle.plan_model.specs.Plan.{plan_held}
+use Rattle.plan_opening.proofs.Opened.{rows_from_these, these_from_rows}
+use Rattle.plan_opening.proofs.opening.are_rows_of.Goals as goal
+use Rattle.plan_records.specs.Rows.{AreRows}
+
+pub returns-clause-told : goal.returns-clause-told
+returns-clause-told c =
+    let P = plan_held c.args.clock (Some c.args.loaded.now) in
+    let are : AreRows P c.deref.result.now = subst (AreRows P) (sym c.deref.ensures.value) (subst (λ contents. AreRows (plan_held c.args.clock (Some contents)) c.in_ok-all.all.items) c.of.ensures.contents c.in_ok-all.ensures.rows) in (
+      λ told. rows_from_these P c.args.rows.now c.deref.result.now are (c.in_ok-are_these.ensures.0 told),
+      λ h. c.in_ok-are_these.ensures.1 (these_from_rows P c.args.rows.now c.deref.result.now are h),
+    )
