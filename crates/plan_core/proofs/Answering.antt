@@ -26,7 +26,7 @@ run_more s mid t u v w (d ∷ calls) [] c x run step = absurd run
 run_more s mid t u v w (d ∷ calls) (r ∷ replies) c x run step = (run.0, run.1, run.2, run_more run.0 mid t run.1 v w calls replies c x run.3 step)
 
 -- the accepted calls of plain requests are the accepted requests
-plain_accepted : (requests : List Request) (answers : List Answer) → accepted_calls (map plain requests) answers ≡ map plain (accepted_requests requests answers)
+pub plain_accepted : (requests : List Request) (answers : List Answer) → accepted_calls (map plain requests) answers ≡ map plain (accepted_requests requests answers)
 plain_accepted [] answers = refl
 plain_accepted (q ∷ requests) [] = refl
 plain_accepted (q ∷ requests) (accepted named ∷ answers) = ap (λ calls. plain q ∷ calls) (plain_accepted requests answers)

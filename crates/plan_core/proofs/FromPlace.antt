@@ -12,10 +12,10 @@ use Rattle.std.proofs.lemmas.Option.{none-some}
 use Rattle.plan_drafts.proofs.Lists.{contains_none}
 use Rattle.special_resources.proofs.Splits.{none_in_order}
 use Rattle.plan_core.proofs.OpViews.{size}
-use Rattle.plan_core.proofs.SideBySide.{left_from, length_viewed}
-use Rattle.plan_core.specs.Shown.{IsShown, IsShownIfAny}
-use Rattle.plan_core.specs.Views.{AreOccViews, AreOpViews, known_of, occ_view_of, occ_views, op_view_of, op_views, views_from}
-use Rattle.plan_core.specs.declared.shown.Shown.{Shown}
+use Rattle.plan_rows.proofs.SideBySide.{left_from, length_viewed}
+use Rattle.plan_rows.specs.Shown.{IsShown, IsShownIfAny, known_of}
+use Rattle.plan_core.specs.Views.{AreOccViews, AreOpViews, occ_view_of, occ_views, op_view_of, op_views, views_from}
+use Rattle.plan_rows.specs.declared.shown.Shown.{Shown}
 
 -- ---- where nothing is loaded
 

@@ -9,4 +9,3 @@ pub mod Provided
 pub mod ReadyViews
 pub mod Refusing
 pub mod Settling
-pub mod SideBySide

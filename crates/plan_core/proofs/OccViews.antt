@@ -17,10 +17,10 @@ use Rattle.plan_status.proofs.OfOccurrences.{status_counted}
 use Rattle.plan_status.specs.Standings.{IsTally}
 use Rattle.status_rules.proofs.CountsTable.{first_by_table}
 use Rattle.plan_drafts.proofs.EntryRows.{among_keys, has_key, row_in}
-use Rattle.plan_core.proofs.SideBySide.{from_viewed, keys_viewed, viewed_at}
-use Rattle.plan_core.specs.Shown.{IsShown}
+use Rattle.plan_rows.proofs.SideBySide.{from_viewed, keys_viewed, viewed_at}
+use Rattle.plan_rows.specs.Shown.{IsShown}
 use Rattle.plan_core.specs.Views.{AreOccViews, IsOccView, occ_view_of, occ_views}
-use Rattle.plan_core.specs.declared.shown.Shown.{Shown}
+use Rattle.plan_rows.specs.declared.shown.Shown.{Shown}
 use Rattle.plan_core.specs.declared.views.OccView.{OccView}
 use Rattle.status_rules.specs.Table.{occurrence_by}
 use Rattle.status_rules.specs.declared.Counts.{Counts}

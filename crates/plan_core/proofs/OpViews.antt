@@ -15,10 +15,10 @@ use Rattle.plan_drafts.proofs.Tables.{is_found, some_is}
 use Rattle.plan_status.specs.declared.standings.Standing.{Standing}
 use Rattle.status_rules.specs.declared.Status.{Status}
 use Rattle.plan_drafts.proofs.EntryRows.{among_keys, has_key, row_in}
-use Rattle.plan_core.proofs.SideBySide.{from_viewed, from_zipped, keys_viewed, length_zipped, viewed_at, zipped_at}
-use Rattle.plan_core.specs.Shown.{IsShown}
-use Rattle.plan_core.specs.Views.{AreOpViews, IsOpView, Known, known_of, op_view_of, op_views, priority_of}
-use Rattle.plan_core.specs.declared.shown.Shown.{Shown}
+use Rattle.plan_rows.proofs.SideBySide.{from_viewed, from_zipped, keys_viewed, length_zipped, viewed_at, zipped_at}
+use Rattle.plan_rows.specs.Shown.{IsShown, Known, known_of}
+use Rattle.plan_core.specs.Views.{AreOpViews, IsOpView, op_view_of, op_views, priority_of}
+use Rattle.plan_rows.specs.declared.shown.Shown.{Shown}
 use Rattle.plan_core.specs.declared.views.OpView.{OpView}
 
 module _ (s : Shown) (shown : IsShown s) where

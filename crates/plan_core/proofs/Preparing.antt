@@ -1,8 +1,7 @@
 -- What a request that may be accepted leads to.
-use Rattle.std.proofs.Common.{◌≡◌, sym, ap, subst, ◌∙◌, ℕ, true, true≢false, pos, List, Option, Some, is_some, Result, IfOk}
+use Rattle.std.proofs.Common.{◌≡◌, sym, ap, subst, ◌∙◌, ℕ, true, true≢false, pos, List, Option, Some, is_some}
 use Rattle.plan_basics.specs.Minutes.{IsMoment}
 use Rattle.plan_basics.specs.Refusals.{NoneRefuses}
-use Rattle.plan_basics.specs.declared.Refusal.{Refusal}
 use Rattle.plan_basics.specs.declared.Refusal.TheVariants as refusal
 use Rattle.plan_basics.specs.declared.keys.OpKey.{OpKey}
 use Rattle.plan_laws.proofs.Every.{every_change_keeps_sound}
@@ -16,10 +15,9 @@ use Rattle.plan_records.specs.Answer.{accepted}
 use Rattle.plan_records.specs.Step.{Step}
 use Rattle.plan_records.specs.declared.Request.{Request}
 use Rattle.plan_records.specs.declared.What.TheVariants as what
-use Rattle.plan_core.specs.Held.{plan_held}
+use Rattle.plan_model.specs.Plan.{plan_held}
 use Rattle.plan_core.specs.Requested.{AreMadeBy}
-use Rattle.plan_changes.proofs.Answered.{if_both_ok}
-use Rattle.plan_core.specs.State.{PlanState, PreparedState}
+use Rattle.plan_core.specs.State.{PlanState}
 
 -- the plan that callers see is sound
 pub seen_sound : (clock : ℕ) (x : Option Contents) (s : PlanState) → IsSoundPlan (plan_held clock x) → record { plan = plan_held clock x } ≡ s → IsSoundPlan s.plan
@@ -49,7 +47,7 @@ module _ (P : Plan) (q : Request) (allows : NoneRefuses (MayBeAccepted P q)) whe
     made_sound sound = every_change_keeps_sound q.what P new q.at sound allows made.is_request made.changes
 
     module _ (at : ℕ) (is : q.at ≡ pos at) where
-      accepted_step : (after : Plan) (os : List OpKey) → IsChosen new at os → after ≡ plan_held at (Some (named os new)) → Step P q (accepted os) after
+      pub accepted_step : (after : Plan) (os : List OpKey) → IsChosen new at os → after ≡ plan_held at (Some (named os new)) → Step P q (accepted os) after
       accepted_step after os chosen after_is = record {
         none_refuses = allows;
         is_request = made.is_request;
@@ -58,8 +56,3 @@ module _ (P : Plan) (q : Request) (allows : NoneRefuses (MayBeAccepted P q)) whe
         is_chosen = subst (λ z. IsChosen new (minute_of z) os) (sym is) chosen;
         is_after = after_is ∙ ap (λ z. plan_held (minute_of z) (Some (named os new))) (sym is);
       }
-
-      -- so of what is settled, if it is
-      pub if_settled : (answer : Result PreparedState Refusal) → IfOk answer (λ p. IsChosen new at p.named) → IfOk answer (λ p. p.plan ≡ plan_held at (Some (named p.named new)))
-          → IfOk answer (λ p. Step P q (accepted p.named) p.plan)
-      if_settled answer = if_both_ok answer (λ p. accepted_step p.plan p.named)

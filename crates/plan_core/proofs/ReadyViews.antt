@@ -17,9 +17,9 @@ use Rattle.ready_list.specs.declared.entry.ReadyEntry.{ReadyEntry}
 use Rattle.plan_choice.specs.Choices.{AreReadyEntries}
 use Rattle.plan_drafts.proofs.EntryRows.{entry_of}
 use Rattle.plan_core.proofs.OpViews.{are_op_views, op_view_is, op_view_there}
-use Rattle.plan_core.specs.Shown.{IsShown}
+use Rattle.plan_rows.specs.Shown.{IsShown}
 use Rattle.plan_core.specs.Views.{AreReadyViews, IsOpView, is_at_workstation, is_on, op_views, ready_views, view_at}
-use Rattle.plan_core.specs.declared.shown.Shown.{Shown}
+use Rattle.plan_rows.specs.declared.shown.Shown.{Shown}
 use Rattle.plan_core.specs.declared.views.OpView.{OpView}
 
 keyed : List OpView → List (OpKey × OpView)

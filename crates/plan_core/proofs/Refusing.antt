@@ -15,7 +15,7 @@ use Rattle.plan_records.specs.declared.What.{What}
 use Rattle.plan_records.specs.declared.What.TheVariants as what
 use Rattle.plan_checks.specs.Loads.{MayBeLoadedWhere}
 use Rattle.plan_laws.proofs.Running.{request_passes}
-use Rattle.plan_core.specs.Held.{plan_held}
+use Rattle.plan_model.specs.Plan.{plan_held}
 use Rattle.plan_core.specs.Requested.{MayBeMadeAt}
 
 -- ---- but for its moment

@@ -1,6 +1,4 @@
-pub mod Held
 pub mod State
 pub mod Provided
 pub mod Requested
-pub mod Shown
 pub mod Views

@@ -3,37 +3,50 @@ use Rattle.std.specs.Prelude.{List, [], ◌∷◌, map, refl}
 use Rattle.std.specs.Coded.{Coded, code_by, coded×, coded_list}
 use Rattle.plan_basics.specs.contracts.keys.OpKey as operation_key
 use Rattle.plan_basics.specs.declared.keys.OpKey.{OpKey}
+use Rattle.plan_drafts.specs.contracts.RowKey as row_key
+use Rattle.plan_drafts.specs.declared.RowKey.{RowKey}
 use Rattle.plan_model.specs.Plan.{Plan}
 use Rattle.plan_model.specs.Code.{plan_code}
 use Rattle.plan_records.specs.Answer.{Answer, accepted, refused}
+use Rattle.plan_records.specs.Rows.{AreChanges}
 use Rattle.plan_records.specs.Run.{Run, accepted_replies, plain, usable}
 use Rattle.plan_records.specs.Step.{Step, Receipts}
+use Rattle.plan_records.specs.contracts.PlanRow as plan_row
+use Rattle.plan_records.specs.declared.PlanRow.{PlanRow}
 use Rattle.plan_records.specs.declared.Request.{Request}
 
 -- the plan that callers see
 pub record PlanState : Type 0 where
   pub plan : Plan
 
--- the plan that a request leads to, and the operations that are named, in order
+-- the plan that a request leads to, the operations that are named, in order, and the rows of the tables that change: those that are new or differ, and the keys of those that are gone
 pub record PreparedState : Type 0 where
   pub plan : Plan
   pub named : List OpKey
+  pub rows : List PlanRow
+  pub gone : List RowKey
 
--- what callers see of a plan is stored as that plan, a prepared request as its plan and its keys
+-- what callers see of a plan is stored as that plan, a prepared request as its four parts
 abbrev pub state_code : Coded PlanState
 state_code = code_by Plan plan_code (λ s. s.plan) (λ P. record { plan = P }) (λ _. refl)
 
 abbrev pub prepared_code : Coded PreparedState
-prepared_code = code_by (Plan × List OpKey) (coded× plan_code (coded_list (operation_key.the_row).coded)) (λ s. (s.plan, s.named)) (λ p. record { plan = p.0; named = p.1 }) (λ _. refl)
+prepared_code = code_by
+    ((Plan × List OpKey) × (List PlanRow × List RowKey))
+    (coded× (coded× plan_code (coded_list (operation_key.the_row).coded)) (coded× (coded_list (plan_row.the_row).coded) (coded_list (row_key.the_row).coded)))
+    (λ s. ((s.plan, s.named), (s.rows, s.gone)))
+    (λ p. record { plan = p.0.0; named = p.0.1; rows = p.1.0; gone = p.1.1 })
+    (λ _. refl)
 
 -- the plan that a prepared request leads to
 abbrev pub plan_after : PlanState → PreparedState → Plan
 plan_after s p = p.plan
 
--- some request leads from this plan to that one, and names these
+-- some request leads from this plan to that one, and names these; these rows change
 pub record IsPreparedFor (s : PlanState) (p : PreparedState) : Type 0 where
   pub request : Request
   pub step : Step s.plan request (accepted p.named) (plan_after s p)
+  pub changes : AreChanges s.plan (plan_after s p) p.rows p.gone
 
 -- these are the answers to the requests in their order, and the plan at their end, whatever receipts are kept beside it
 abbrev pub AnswersAll : Plan → List Request → List Answer → Plan → Type 0

@@ -1,5 +1,5 @@
 -- What is read off the plan for one operation or one occurrence, and for all of them.
-use Rattle.std.specs.Prelude.{◌≡◌, ◌↔◌, ℕ, ℤ, Bool, true, false, filter, List, [], map, drop, All, Contains, Option, Some, None}
+use Rattle.std.specs.Prelude.{◌≡◌, ◌↔◌, ℕ, Bool, true, false, filter, List, [], map, drop, All, Contains, Option, Some, None}
 use Rattle.std.specs.List.{zip, filter_map}
 use Rattle.std.specs.FinMap.{get, contains_key, entries, from_entries}
 use Rattle.std.specs.List.Sorted.{IsStrictlySortedBy}
@@ -16,13 +16,11 @@ use Rattle.plan_model.specs.Starts.{IsLatestStart}
 use Rattle.plan_model.specs.Status.{HasStatus, HasOccurrenceStatus}
 use Rattle.plan_model.specs.declared.Occurrence.{Occurrence}
 use Rattle.plan_records.specs.Rows.{IsCount, IsWaitingFor}
-use Rattle.plan_status.specs.declared.standings.Standing.{Standing}
 use Rattle.status_rules.specs.Table.{occurrence_by}
 use Rattle.status_rules.specs.declared.Counts.{Counts}
-use Rattle.status_rules.specs.declared.Status.{Status}
 use Rattle.status_rules.specs.declared.Status.TheVariants.{Complete}
-use Rattle.plan_core.specs.Shown.{IsShown}
-use Rattle.plan_core.specs.declared.shown.Shown.{Shown}
+use Rattle.plan_rows.specs.Shown.{IsShown, Known, known_of}
+use Rattle.plan_rows.specs.declared.shown.Shown.{Shown}
 use Rattle.plan_core.specs.declared.views.OccView.{OccView}
 use Rattle.plan_core.specs.declared.views.OpView.{OpView}
 
@@ -78,10 +76,6 @@ abbrev pub priority_of : Option Occurrence → ℕ
 priority_of None = 0
 priority_of (Some c) = c.priority
 
--- what is known of an operation: its standing, its status, its latest start
-abbrev pub Known : Type 0
-Known = Standing × (Status × ℤ)
-
 -- the view of an operation of a plan, by its row and what is known of it
 abbrev pub op_view_of : Contents → (OpKey × Operation) × Known → OpView
 op_view_of P x = record {
@@ -111,10 +105,6 @@ occ_view_of x = record {
   operations = x.1.all;
   complete = x.1.complete;
 }
-
--- what is known of each operation
-abbrev pub known_of : Shown → List Known
-known_of s = zip s.standings.now (zip s.statuses.now s.latest.now.starts)
 
 -- the views of all operations of the plan that is shown, in the order of their rows
 abbrev pub op_views : Shown → List OpView

@@ -1,6 +1,7 @@
 //! The plan in memory: what each request does to it, and what is read off it.
 #![tactic(auto)]
 
+mod from_rows;
 mod lists;
 mod plan;
 mod prepared;
@@ -8,7 +9,6 @@ mod reads;
 mod ready_views;
 mod requests;
 mod settle;
-mod shown;
 mod views;
 
 pub use lists::{Occs, Ops};

@@ -1,11 +1,12 @@
 // The plan in memory, and the steps that requests take in it.
 ghost use Rattle.std.specs.Prelude.{◌≡◌, ◌⊎◌, ℕ, pos, map, Some, None, IfOk, IfErr, OnOk};
 ghost use Rattle.plan_basics.specs.Refusals.{IsLeastRefusal, NoneRefuses};
-ghost use Rattle.plan_model.specs.Plan.{no_plan, IsSoundPlan};
+ghost use Rattle.plan_model.specs.Plan.{no_plan, plan_held, IsSoundPlan};
 ghost use Rattle.plan_records.specs.declared.What.{What};
 ghost use Rattle.plan_records.specs.declared.Request.{Request};
 ghost use Rattle.plan_records.specs.Answer.{accepted, refused, answer_of};
 ghost use Rattle.plan_records.specs.Acceptance.{MayBeAccepted};
+ghost use Rattle.plan_records.specs.Rows.{AreChanges};
 ghost use Rattle.plan_records.specs.Step.{Step};
 ghost use Rattle.plan_core.specs.Provided.{RunStartsAreProvided, StartsAreProvided};
 ghost use Rattle.plan_core.specs.Requested.{AreMadeBy, IsAnswered, MayBeMadeAt};
@@ -16,7 +17,8 @@ use super::requests::{changed, drafted};
 use super::settle::settle;
 use plan_basics::{Moment, OpKey, Refusal};
 use plan_checks::{check_load, check_request};
-use plan_records::{PlanContents, Reply, Request, What};
+use plan_records::{Changes, PlanContents, Reply, Request, What};
+use plan_rows::{PlanShown, Shown, changes_between};
 use plan_state::LoadedPlan;
 use plan_status::SoundContents;
 use std::alloc::Global;
@@ -33,7 +35,7 @@ pub struct Plan {
 impl Model for Plan {
     ghost use Rattle.plan_core.specs.State.{PlanState, state_code};
     ghost use Rattle.plan_model.specs.Plan.{IsSoundPlan};
-    ghost use Rattle.plan_core.specs.Held.{plan_held};
+    ghost use Rattle.plan_model.specs.Plan.{plan_held};
 
     ghost Value = { PlanState };
 
@@ -104,20 +106,44 @@ impl Plan {
         }
     }
 
+    // Which rows of the tables change where this plan is loaded at this moment. The error is always `Memory`.
+    fn changes_to(&self, at: Moment, loaded: &LoadedPlan) -> Result<Changes, Refusal>
+        ensures changes { IfOk result (λ c. AreChanges self.now.plan (plan_held at (Some loaded.now)) c.rows.items c.gone.items) }
+        ensures refused { IfErr result (λ r. r ≡ Refusal.Memory) }
+    {
+        let before = PlanShown {
+            clock: self.clock(),
+            loaded: self.shown(),
+        };
+        let after = PlanShown {
+            clock: at,
+            loaded: Some(Shown::of(loaded)),
+        };
+        Ok(changes_between(self.alloc, before, after)?)
+    }
+
     /// What a request leads to, if it is accepted: it makes all checks and takes all memory, and the plan stays as it is.
     /// It is refused for the least number that applies (this project's own), or for want of memory. What it leads to is
-    /// sound, and for whatever becomes started there was all that it needs.
+    /// sound, for whatever becomes started there was all that it needs, and the rows that change are told exactly.
     pub fn prepare(&mut self, request: &Request) -> Result<Prepared, Refusal>
         ensures unchanged { self.new ≡ self.old }
         ensures prepared { IfOk result (IsPreparedFor self.new) }
         ensures step { IfOk result (λ p. Step self.old.plan request.now (accepted p.named) (plan_after self.old p)) }
         ensures sound { IfOk result (λ p. IsSoundPlan (plan_after self.old p)) }
         ensures starts { IfOk result (λ p. StartsAreProvided self.old.plan request.now (accepted p.named) (plan_after self.old p)) }
+        ensures changes { IfOk result (λ p. AreChanges self.old.plan (plan_after self.old p) p.rows p.gone) }
         ensures refused { IfErr result (λ r. (r ≡ Refusal.Memory) ⊎ Step self.old.plan request.now (refused r) self.old.plan) }
     {
         let at = self.check(request)?;
         let contents = SoundContents::of(self.contents_after(request)?);
-        settle(self.alloc, &contents, at)
+        let settled = settle(self.alloc, &contents, at)?;
+        let changes = self.changes_to(at, &settled.loaded)?;
+        Ok(Prepared {
+            clock: at,
+            loaded: settled.loaded,
+            named: settled.named,
+            changes,
+        })
     }
 
     /// Takes the step that was prepared for this plan, and gives the operations that are named to start, in order. It takes

@@ -2,29 +2,31 @@
 ghost use Rattle.std.specs.Prelude.{◌≡◌};
 
 use plan_basics::{Moment, OpKey};
+use plan_records::Changes;
 use plan_state::LoadedPlan;
 use std::marker::Model;
 
-/// A request that is accepted, with all that it takes: the plan that it leads to, and the operations that are named to
-/// start. Contracts see it as that plan and those keys.
+/// A request that is accepted, with all that it takes: the plan that it leads to, the operations that are named to start,
+/// and which rows of the tables change. Contracts see it as that plan, those keys and those rows.
 #[derive(Drop)]
 pub struct Prepared {
     pub(crate) clock: Moment,
     pub(crate) loaded: LoadedPlan,
     pub(crate) named: Vec<OpKey>,
+    pub(crate) changes: Changes,
 }
 
 impl Model for Prepared {
     ghost use Rattle.std.specs.Prelude.{Some};
     ghost use Rattle.plan_model.specs.Plan.{IsSoundPlan};
-    ghost use Rattle.plan_core.specs.Held.{plan_held};
+    ghost use Rattle.plan_model.specs.Plan.{plan_held};
     ghost use Rattle.plan_core.specs.State.{PreparedState, prepared_code};
 
     ghost Value = { PreparedState };
 
     ghost coded = { prepared_code };
 
-    ghost view = { λ p. record { plan = plan_held p.clock (Some p.loaded); named = p.named.items } };
+    ghost view = { λ p. record { plan = plan_held p.clock (Some p.loaded); named = p.named.items; rows = p.changes.rows.items; gone = p.changes.gone.items } };
 
     ghost invariant = { λ p. IsSoundPlan (plan_held p.clock (Some p.loaded)) };
 }
@@ -35,5 +37,13 @@ impl Prepared {
         ensures { result.now ≡ self.now.named }
     {
         &self.named
+    }
+
+    /// Which rows of the tables change: those that are new or differ, and the keys of those that are gone.
+    pub fn changes(&self) -> &Changes
+        ensures rows { result.now.rows.items ≡ self.now.rows }
+        ensures gone { result.now.gone.items ≡ self.now.gone }
+    {
+        &self.changes
     }
 }

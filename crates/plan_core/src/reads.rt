@@ -2,15 +2,15 @@
 ghost use Rattle.std.specs.Prelude.{◌≡◌, ◌↔◌, true, IfSome, IsNone, IsSome};
 ghost use Rattle.std.specs.FinMap.{contains_key};
 ghost use Rattle.plan_model.specs.Contents.{nothing, IsInPlan};
-ghost use Rattle.plan_core.specs.Shown.{IsShown};
+ghost use Rattle.plan_rows.specs.Shown.{plan_shown, IsShown};
 ghost use Rattle.plan_core.specs.Views.{AreReadyViews, IsOpView, IsOccView, AreOpViews, AreOccViews};
 
 use super::lists::{Occs, Ops};
 use super::plan::Plan;
 use super::ready_views::Ready;
-use super::shown::Shown;
 use super::views::{OccView, OpView, occ_view, op_view};
 use plan_basics::{OccKey, OpKey, WsName};
+use plan_rows::Shown;
 
 impl Plan {
     /// Whether a plan is loaded.
@@ -21,9 +21,10 @@ impl Plan {
     }
 
     // What is kept of the plan, if one is loaded.
-    fn shown(&self) -> Option<Shown<'_>>
+    pub(crate) fn shown(&self) -> Option<Shown<'_>>
         ensures none { IsNone result → self.now.plan.contents ≡ nothing }
         ensures contents { IfSome result (λ s. s.contents.now ≡ self.now.plan.contents) }
+        ensures plan { plan_shown self.now.plan.clock result ≡ self.now.plan }
         ensures shown { IfSome result IsShown }
     {
         match &self.loaded {

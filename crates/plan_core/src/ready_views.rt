@@ -3,8 +3,8 @@ ghost use Rattle.std.specs.Prelude.{◌≡◌};
 ghost use Rattle.std.specs.Iterator.{YieldsFirst, item_count};
 ghost use Rattle.plan_core.specs.Views.{ready_from, AreEntriesOf};
 
-use super::shown::Shown;
 use super::views::{OpView, op_view};
+use plan_rows::Shown;
 use ready_list::ReadyEntry;
 use std::marker::Model;
 

@@ -1,8 +1,7 @@
-use Rattle.std.proofs.Common.{◌≡◌, sym, ap, subst, ◌∙◌, Some}
+use Rattle.std.proofs.Common.{◌≡◌, sym, ap, subst, ◌∙◌}
 use Rattle.plan_core.proofs.Settling.{graph_stays, latest_stays, standings_stay}
 use Rattle.plan_core.proofs.settle.settle.Goals as goal
 use Rattle.plan_core.proofs.settle.settle.Goals.{In_ok-with_marks}
-use Rattle.plan_core.specs.Held.{plan_held}
 use Rattle.plan_choice.specs.Choices.{AreLatestStarts}
 use Rattle.plan_drafts.specs.PlanGraphs.{IsGraphFor}
 use Rattle.plan_laws.proofs.Kept.{choice_keeps_sound}
@@ -27,13 +26,15 @@ pub loaded_with-requires-clause-graph : goal.loaded_with-requires-clause-graph
 loaded_with-requires-clause-graph c =
     let a = (goal.at.loaded_with-requires-clause-graph c).In_ok-with_marks in
     subst (λ (P : Contents). IsGraphFor P c.in_ok-graph.graph) (sym (c.of-contents.ensures ∙ marked a))
-    (graph_stays c.args.contents.now c.args.at c.in_ok-named.named.items c.in_ok-named.ensures.chosen c.in_ok-graph.graph c.in_ok-graph.ensures)
+    (graph_stays c.args.contents.now c.args.at c.in_ok-named.named.items c.in_ok-named.ensures.chosen c.in_ok-graph.graph
+    (subst (λ (P : Contents). IsGraphFor P c.in_ok-graph.graph) c.valid.ensures.contents c.in_ok-graph.ensures))
 
 pub loaded_with-requires-clause-standings : goal.loaded_with-requires-clause-standings
 loaded_with-requires-clause-standings c =
     let a = (goal.at.loaded_with-requires-clause-standings c).In_ok-with_marks in
     subst (λ (P : Contents). AreStandings P c.in_ok-standings.standings.items) (sym (c.of-contents.ensures ∙ marked a))
-    (standings_stay c.args.contents.now c.args.at c.in_ok-named.named.items c.in_ok-named.ensures.chosen c.in_ok-standings.standings.items c.in_ok-standings.ensures.standings)
+    (standings_stay c.args.contents.now c.args.at c.in_ok-named.named.items c.in_ok-named.ensures.chosen c.in_ok-standings.standings.items
+    (subst (λ (P : Contents). AreStandings P c.in_ok-standings.standings.items) c.valid-2.ensures.contents c.in_ok-standings.ensures.standings))
 
 pub loaded_with-requires-clause-latest : goal.loaded_with-requires-clause-latest
 loaded_with-requires-clause-latest c =
@@ -41,7 +42,7 @@ loaded_with-requires-clause-latest c =
     subst (λ (P : Contents). AreLatestStarts P c.in_ok-latest.latest.starts) (sym (c.of-contents.ensures ∙ marked a))
     (latest_stays c.args.contents.now c.args.at c.in_ok-named.named.items c.in_ok-named.ensures.chosen c.in_ok-latest.latest.starts c.in_ok-latest.ensures.starts)
 
-pub returns-clause-plan : goal.returns-clause-plan
-returns-clause-plan c =
-    let a = (goal.at.returns-clause-plan c).In_ok-with_marks in
-    ap (λ (P : Contents). plan_held c.args.at (Some P)) (c.in_ok-loaded.ensures.contents ∙ c.of-contents.ensures ∙ marked a)
+pub returns-clause-loaded : goal.returns-clause-loaded
+returns-clause-loaded c =
+    let a = (goal.at.returns-clause-loaded c).In_ok-with_marks in
+    c.in_ok-loaded.ensures.contents ∙ c.of-contents.ensures ∙ marked a

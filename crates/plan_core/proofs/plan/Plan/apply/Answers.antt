@@ -4,7 +4,7 @@ use Rattle.plan_records.specs.Step.{Step}
 use Rattle.plan_core.proofs.Preparing.{seen_sound}
 use Rattle.plan_core.proofs.Provided.{step_starts}
 use Rattle.plan_core.proofs.plan.Plan.apply.Goals as goal
-use Rattle.plan_core.specs.Held.{plan_held}
+use Rattle.plan_model.specs.Plan.{plan_held}
 use Rattle.plan_core.specs.State.{PreparedState}
 
 pub returns-clause-starts : goal.returns-clause-starts

@@ -5,7 +5,7 @@ use Rattle.plan_model.specs.Plan.{Plan}
 use Rattle.plan_records.specs.Acceptance.{IsLoad}
 use Rattle.plan_records.specs.declared.What.{What}
 use Rattle.plan_checks.specs.Loads.{MayBeLoadedWhere}
-use Rattle.plan_core.specs.Held.{plan_held}
+use Rattle.plan_model.specs.Plan.{plan_held}
 use Rattle.plan_core.specs.Requested.{MayBeMadeAt}
 use Rattle.plan_core.specs.State.{PlanState}
 use Rattle.plan_checks.proofs.Searching.{if_err, if_ok, if_refused}

@@ -4,7 +4,7 @@ use Rattle.plan_model.specs.Plan.{Plan}
 use Rattle.plan_records.specs.Acceptance.{MayBeDone, NeedsPlan, minute_of}
 use Rattle.plan_records.specs.declared.What.{What}
 use Rattle.plan_records.specs.declared.What.TheVariants as what
-use Rattle.plan_core.specs.Held.{plan_held}
+use Rattle.plan_model.specs.Plan.{plan_held}
 use Rattle.plan_core.specs.Requested.{AreMadeBy}
 use Rattle.plan_core.specs.State.{PlanState}
 use Rattle.plan_core.proofs.Preparing.{has_draft, has_plan, is_clear}

@@ -11,7 +11,7 @@ use Rattle.ready_list.specs.declared.entry.ReadyEntry.{ReadyEntry}
 use Rattle.plan_core.proofs.FromPlace.{none_known}
 use Rattle.plan_core.proofs.ReadyViews.{are_ready_views, of_listed}
 use Rattle.plan_core.proofs.plan.Plan.ready.Goals as goal
-use Rattle.plan_core.specs.Held.{plan_held}
+use Rattle.plan_model.specs.Plan.{plan_held}
 use Rattle.plan_core.specs.State.{PlanState}
 use Rattle.plan_core.specs.Views.{AreReadyViews, ready_views}
 
