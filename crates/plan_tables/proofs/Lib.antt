@@ -1,0 +1,4 @@
+pub mod ErrorLists
+pub mod Held
+pub mod Calls
+pub mod Running

@@ -1,0 +1,59 @@
+use Rattle.std.proofs.Common.{rules, refl, subst, List, ◌≡◌, ◌+◌, ◌++◌, ◌∷◌, [], take, map, cond, length, length-append, sym, ap, ◌∙◌, arith}
+use Rattle.std.specs.Result.{is_ok}
+use Rattle.std.proofs.lemmas.List.{map-append, take_all, take_more}
+use Rattle.plan_core.proofs.Answering.{run_more}
+use Rattle.plan_records.specs.Answer.{answer_of}
+use Rattle.plan_records.specs.Run.{plain}
+use Rattle.plan_records.specs.declared.Reply.{Reply}
+use Rattle.plan_records.specs.declared.Request.{Request}
+use Rattle.plan_tables.proofs.Running.{accepted_answered, starts_more}
+use Rattle.plan_tables.specs.Desk.{state_of, usability}
+use Rattle.plan_tables.specs.Runs.{AreAnswered, StartsAreProvidedIn}
+use Rattle.plan_tables.proofs.runs.run_all.Goals as goal
+
+pub loop-request-init : goal.loop-request-init
+loop-request-init g c =
+    let d = c.args.desk.now in
+    let none = c.in_ok-replies.ensures.items in
+    record {
+      so_far = subst (λ (xs : List Reply). AreAnswered d.plan (usability d.is_usable) [] (map answer_of xs) d.plan (usability d.is_usable)) (sym none) (refl, refl);
+      sound = c.alloc.ensures.sound;
+      tables = c.alloc.ensures.tables;
+      provided = subst (λ (xs : List Reply). StartsAreProvidedIn d.plan (usability d.is_usable) [] (map answer_of xs) d.plan (usability d.is_usable)) (sym none) (refl, refl);
+      told = search rules;
+      room = search rules;
+    }
+
+pub loop-request-preserved : goal.loop-request-preserved
+loop-request-preserved g c =
+    let i = c.loop-request.request-index in
+    let requests = c.args.requests.now in
+    let item = c.request-item.result in
+    let replies = c.loop-request.replies.items in
+    let reply = c.call-reply.result in
+    let first = c.args.desk.now in
+    let old = c.loop-request.desk in
+    let new = c.call-reply.new.self in
+    let items : c.push.new.self.items ≡ replies ++ reply ∷ [] = c.push.ensures.items ∙ ap (λ r. cond (is_ok r) (replies ++ reply ∷ []) replies) c.unwrap.ensures in
+    let front : take (i + 1) requests ≡ take i requests ++ item ∷ [] = take_more requests i item c.loop-request-test.true ∙ ap (λ (r : Request). take i requests ++ r ∷ []) (sym c.request-item.is) in
+    let calls : map plain (take (i + 1) requests) ≡ map plain (take i requests) ++ plain item ∷ [] = ap (map plain) front ∙ map-append plain (take i requests) (item ∷ []) in
+    let answers : map answer_of c.push.new.self.items ≡ map answer_of replies ++ answer_of reply ∷ [] = ap (map answer_of) items ∙ map-append answer_of replies (reply ∷ []) in
+    let far = c.loop-request.invariant in
+    record {
+      so_far = rw (calls, answers) (run_more (state_of first.plan) (state_of old.plan) (state_of new.plan) (usability first.is_usable) (usability old.is_usable) (usability new.is_usable) (map plain (take i requests)) (map answer_of replies) (plain item) (answer_of reply) far.so_far c.call-reply.ensures.answers);
+      sound = c.call-reply.ensures.sound;
+      tables = λ clean has. c.call-reply.ensures.tables clean (far.tables (c.call-reply.ensures.clean clean) has).stores.schema_is;
+      provided = rw (front, answers) (starts_more first.plan old.plan new.plan (usability first.is_usable) (usability old.is_usable) (usability new.is_usable) (take i requests) (map answer_of replies) item (answer_of reply) far.provided c.call-reply.ensures.answers c.call-reply.ensures.sound c.call-reply.ensures.starts);
+      told = omega (arith, ap length items, length-append replies (reply ∷ []), far.told, c.push.new.self.ok.0, c.loop-request.replies.ok.0);
+      room = omega (arith, c.push.ensures.capacity, far.room);
+    }
+
+pub returns-clause-alone : goal.returns-clause-alone
+returns-clause-alone g c =
+    let d = c.args.desk.now in
+    let after = c.loop-request.desk in
+    let requests = c.args.requests.now in
+    let answers = map answer_of c.loop-request.replies.items in
+    let whole = take_all c.loop-request.request-index requests (let ge = c.loop-request-test.false in omega (arith, ge)) in
+    accepted_answered d.plan after.plan (usability d.is_usable) (usability after.is_usable) requests answers
+    (subst (λ (qs : List Request). AreAnswered d.plan (usability d.is_usable) qs answers after.plan (usability after.is_usable)) whole c.loop-request.invariant.so_far)

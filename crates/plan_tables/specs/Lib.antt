@@ -1,0 +1,4 @@
+pub mod Desk
+pub mod Faults
+pub mod Errors
+pub mod Runs
