@@ -8,6 +8,7 @@
 //
 // A night is played once after each of its beginnings, or from an empty desk. `-` is an empty list.
 use super::beginnings::BEGINNINGS;
+use super::desks::play_at_desks;
 use super::looks::{is_like, is_seen, is_told};
 use super::requests::request;
 use super::sections::section;
@@ -17,7 +18,8 @@ use plan_records::{Reply, Request};
 use std::alloc::Global;
 use std::process::Abort;
 
-fn requests<'a>(alloc: Global, turns: &[&'a str]) -> Result<Vec<Request>, &'a str> {
+// What the turns ask.
+pub fn requests<'a>(alloc: Global, turns: &[&'a str]) -> Result<Vec<Request>, &'a str> {
     let mut all = Vec::new(alloc);
     for turn in turns {
         let request = request(alloc, turn).ok_or(*turn)?;
@@ -53,7 +55,7 @@ fn step(plan: &mut Plan, request: &Request) -> Reply {
 }
 
 // The plan after the turns, one by one; or the turn that is answered otherwise.
-fn one_by_one<'a>(alloc: Global, turns: &[&'a str]) -> Result<Plan, &'a str> {
+pub fn one_by_one<'a>(alloc: Global, turns: &[&'a str]) -> Result<Plan, &'a str> {
     let mut plan = Plan::empty(alloc);
     for turn in turns {
         let request = request(alloc, turn).ok_or(*turn)?;
@@ -96,7 +98,7 @@ fn beginning(name: &str) -> Result<&str, &str> {
 }
 
 // The turns of a beginning.
-fn begun<'a>(alloc: Global, name: &'a str) -> Result<Vec<&'a str>, &'a str> {
+pub fn begun<'a>(alloc: Global, name: &'a str) -> Result<Vec<&'a str>, &'a str> {
     let mut turns = Vec::new(alloc);
     add_turns(&mut turns, beginning(name)?)?;
     Ok(turns)
@@ -151,7 +153,7 @@ fn play<'a>(alloc: Global, before: &'a str, night: &'a str) -> Result<(), &'a st
         }
     }
     if is_checked && !turns.is_empty() {
-        Ok(())
+        play_at_desks(alloc, &turns)
     } else {
         Err("no look at the end")
     }
