@@ -1,5 +1,5 @@
 //! Worked nights: requests in turn, each with its answer, and what the plan shows afterwards. Tests alone; each night
-//! is run by `Plan::run`, one by one by `prepare` and `apply`, and at a desk in memory.
+//! is run by `Plan::run`, and one by one by `prepare` and `apply`.
 #![tactic(auto)]
 
 #[cfg(test)]
@@ -7,15 +7,11 @@ mod addition_nights;
 #[cfg(test)]
 mod beginnings;
 #[cfg(test)]
-mod change_nights;
-#[cfg(test)]
 mod command_nights;
 #[cfg(test)]
 mod crowds;
 #[cfg(test)]
 mod day_nights;
-#[cfg(test)]
-mod desks;
 #[cfg(test)]
 mod full_nights;
 #[cfg(test)]
@@ -37,10 +33,6 @@ mod requests;
 #[cfg(test)]
 mod resource_nights;
 #[cfg(test)]
-mod row_nights;
-#[cfg(test)]
 mod sections;
-#[cfg(test)]
-mod tables;
 #[cfg(test)]
 mod words;
