@@ -172,7 +172,7 @@ fn a_run_without_memory_changes_nothing(rt: HostRuntime) {
 }
 
 /// Blocks that are given back one by one while all other memory is taken, so that the room grows step by step.
-const SPARES: usize = 400;
+const SPARES: usize = 800;
 
 /// Bytes of a spare block: more than the allocator keeps aside for quick use, so that neighbours that are given back become
 /// one.
