@@ -3,3 +3,4 @@ pub mod Held
 pub mod Calls
 pub mod Running
 pub mod InRange
+pub mod Opened
