@@ -1,38 +1,12 @@
-//! Worked nights: requests in turn, each with its answer, and what the plan shows afterwards. Tests alone; each night
-//! is run by `Plan::run`, and one by one by `prepare` and `apply`.
+//! Worked nights in memory: each is played by `Plan::run`, and one by one by `prepare` and `apply`. And which rows of the
+//! tables requests change, and plans from rows. Tests alone.
 #![tactic(auto)]
 
 #[cfg(test)]
-mod addition_nights;
+mod changes;
 #[cfg(test)]
-mod beginnings;
+mod players;
 #[cfg(test)]
-mod command_nights;
+mod plays;
 #[cfg(test)]
-mod crowds;
-#[cfg(test)]
-mod day_nights;
-#[cfg(test)]
-mod full_nights;
-#[cfg(test)]
-mod latest_nights;
-#[cfg(test)]
-mod looks;
-#[cfg(test)]
-mod names;
-#[cfg(test)]
-mod nights;
-#[cfg(test)]
-mod pair_nights;
-#[cfg(test)]
-mod parts;
-#[cfg(test)]
-mod report_nights;
-#[cfg(test)]
-mod requests;
-#[cfg(test)]
-mod resource_nights;
-#[cfg(test)]
-mod sections;
-#[cfg(test)]
-mod words;
+mod rows;

@@ -1,0 +1,10 @@
+//! Desks over a store in memory: worked nights, which are played by `run_all`, and by `call` with the desk closed and
+//! opened again after each; and what the tables hold. Tests alone.
+#![tactic(auto)]
+
+#[cfg(test)]
+mod players;
+#[cfg(test)]
+mod plays;
+#[cfg(test)]
+mod stored;
