@@ -1,5 +1,5 @@
 //! Desks over a store in memory: worked nights, which are played by `run_all`, and by `call` with the desk closed and
-//! opened again after each; and what the tables hold. Tests alone.
+//! opened again after each request; and what the tables hold. Tests alone; the program does nothing.
 #![tactic(auto)]
 
 #[cfg(test)]
@@ -8,3 +8,5 @@ mod players;
 mod plays;
 #[cfg(test)]
 mod stored;
+
+fn main() {}

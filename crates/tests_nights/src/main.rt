@@ -1,5 +1,5 @@
 //! Worked nights in memory: each is played by `Plan::run`, and one by one by `prepare` and `apply`. And which rows of the
-//! tables requests change, and plans from rows. Tests alone.
+//! tables requests change, and plans from rows. Tests alone; the program does nothing.
 #![tactic(auto)]
 
 #[cfg(test)]
@@ -10,3 +10,5 @@ mod players;
 mod plays;
 #[cfg(test)]
 mod rows;
+
+fn main() {}
