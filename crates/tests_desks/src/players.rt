@@ -49,15 +49,14 @@ pub struct Reopened {
     desk: Desk<MemStore>,
 }
 
-// The desk after a request, closed and opened again, and the reply.
-fn called<S: Alter + Drop>(
-    alloc: Global,
-    mut desk: Desk<S>,
-    request: &Request,
-) -> Result<(Desk<S>, Reply), Refusal> {
-    let reply = desk.call(request);
-    match Desk::open(alloc, desk.close()) {
-        Ok(desk) => Ok((desk, reply)),
+/// The desk, closed and opened again.
+pub fn reopened<S: Alter + Drop>(alloc: Global, desk: Desk<S>) -> Result<Desk<S>, Refusal> {
+    let conn = desk.close();
+    if !conn.is_autocommit() {
+        return Err(Refusal::Store);
+    }
+    match Desk::open(alloc, conn) {
+        Ok(desk) => Ok(desk),
         Err((refusal, _)) => Err(refusal),
     }
 }
@@ -74,9 +73,9 @@ impl Player for Reopened {
         let Reopened { alloc, mut desk } = self;
         let mut replies = Vec::new(alloc);
         for request in requests {
-            let (after, reply) = called(alloc, desk, request)?;
-            desk = after;
-            replies.push(reply)?;
+            let reply = desk.call(request);
+            replies.push(reply).ok().ok_or(Refusal::Memory)?;
+            desk = reopened(alloc, desk)?;
         }
         Ok((Reopened { alloc, desk }, replies))
     }

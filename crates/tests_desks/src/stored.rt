@@ -1,5 +1,5 @@
 // What the tables of a desk hold, as SQL shows it, and what is made of tables that hold something else.
-use super::players::AtOnce;
+use super::players::{AtOnce, reopened};
 use nights::after;
 use plan_basics::Refusal;
 use plan_tables::Desk;
@@ -48,10 +48,8 @@ fn operation_in_error_is_handed_out(rt: HostRuntime) -> Result<(), Fail> {
 fn errors_that_are_dropped_leave_the_tables(rt: HostRuntime) -> Result<(), Fail> {
     let desk = failed(rt.alloc())?;
     drop(desk.errors()?);
-    match Desk::open(rt.alloc(), desk.close()) {
-        Ok(desk) => assert!(rt; desk.errors()?.next()?.is_some()),
-        Err((refusal, _)) => panic!(rt; "{refusal}"),
-    }
+    let desk = reopened(rt.alloc(), desk)?;
+    assert!(rt; desk.errors()?.next()?.is_some());
     Ok(())
 }
 

@@ -52,7 +52,8 @@ impl Player for OneByOne {
     fn play(mut self, requests: &[Request]) -> Result<(OneByOne, Vec<Reply>), Refusal> {
         let mut replies = Vec::new(self.alloc);
         for request in requests {
-            replies.push(step(&mut self.plan, request))?;
+            let reply = step(&mut self.plan, request);
+            replies.push(reply).ok().ok_or(Refusal::Memory)?;
         }
         Ok((self, replies))
     }
