@@ -3,6 +3,8 @@
 #![tactic(auto)]
 
 #[cfg(test)]
+mod connections;
+#[cfg(test)]
 mod players;
 #[cfg(test)]
 mod plays;

@@ -1,4 +1,5 @@
 // The two ways in which requests are made at a desk in memory.
+use super::connections::{created, opened};
 use nights::Player;
 use plan_basics::Refusal;
 use plan_core::Plan;
@@ -7,22 +8,13 @@ use plan_tables::{Desk, run_all};
 use sqlite::{Alter, Connection, MemStore};
 use std::alloc::Global;
 
-// An empty desk in memory.
-fn created(alloc: Global) -> Result<Desk<MemStore>, Refusal> {
-    let conn = Connection::open_in_memory(alloc)?;
-    match Desk::create(alloc, conn) {
-        Ok(desk) => Ok(desk),
-        Err((refusal, _)) => Err(refusal),
-    }
-}
-
 /// A desk at which all requests are made at once.
 #[derive(Drop)]
 pub struct AtOnce(Desk<MemStore>);
 
 impl Player for AtOnce {
     fn begin(alloc: Global) -> Result<AtOnce, Refusal> {
-        Ok(AtOnce(created(alloc)?))
+        Ok(AtOnce(created(alloc, Connection::open_in_memory(alloc)?)?))
     }
 
     fn play(mut self, requests: &[Request]) -> Result<(AtOnce, Vec<Reply>), Refusal> {
@@ -49,34 +41,31 @@ pub struct Reopened {
     desk: Desk<MemStore>,
 }
 
-/// The desk, closed and opened again.
-pub fn reopened<S: Alter + Drop>(alloc: Global, desk: Desk<S>) -> Result<Desk<S>, Refusal> {
-    let conn = desk.close();
-    if !conn.is_autocommit() {
-        return Err(Refusal::Store);
+// The desk after requests, each of which adds its reply; it is closed and opened again after each.
+fn call_each<S: Alter + Drop>(
+    alloc: Global,
+    mut desk: Desk<S>,
+    requests: &[Request],
+    replies: &mut Vec<Reply>,
+) -> Result<Desk<S>, Refusal> {
+    for request in requests {
+        let reply = desk.call(request);
+        replies.push(reply).ok().ok_or(Refusal::Memory)?;
+        desk = opened(alloc, desk.close())?;
     }
-    match Desk::open(alloc, conn) {
-        Ok(desk) => Ok(desk),
-        Err((refusal, _)) => Err(refusal),
-    }
+    Ok(desk)
 }
 
 impl Player for Reopened {
     fn begin(alloc: Global) -> Result<Reopened, Refusal> {
-        Ok(Reopened {
-            alloc,
-            desk: created(alloc)?,
-        })
+        let desk = created(alloc, Connection::open_in_memory(alloc)?)?;
+        Ok(Reopened { alloc, desk })
     }
 
     fn play(self, requests: &[Request]) -> Result<(Reopened, Vec<Reply>), Refusal> {
-        let Reopened { alloc, mut desk } = self;
+        let Reopened { alloc, desk } = self;
         let mut replies = Vec::new(alloc);
-        for request in requests {
-            let reply = desk.call(request);
-            replies.push(reply).ok().ok_or(Refusal::Memory)?;
-            desk = reopened(alloc, desk)?;
-        }
+        let desk = call_each(alloc, desk, requests, &mut replies)?;
         Ok((Reopened { alloc, desk }, replies))
     }
 

@@ -1,11 +1,29 @@
 // What the tables of a desk hold, as SQL shows it, and what is made of tables that hold something else.
-use super::players::{AtOnce, reopened};
+use super::connections::{created, opened};
+use super::players::AtOnce;
 use nights::after;
 use plan_basics::Refusal;
 use plan_tables::Desk;
-use sqlite::{Connection, MemStore};
+use sqlite::{Alter, Connection, Row};
 use std::alloc::Global;
 use std::test::Fail;
+
+// Whether these rows have these numbers in their two columns.
+fn are_pairs(rows: &[Row], expected: &[(i64, i64)]) -> Option<bool> {
+    for (row, (first, second)) in rows.iter().zip(expected) {
+        if row.get::<i64>(0).ok()? != *first || row.get::<i64>(1).ok()? != *second {
+            return None;
+        }
+    }
+    Some(rows.len() == expected.len())
+}
+
+// Whether a query of the desk's tables shows these numbers.
+fn shows<S: Alter + Drop>(desk: Desk<S>, sql: &str, expected: &[(i64, i64)]) -> Option<bool> {
+    let mut conn = desk.close();
+    let rows = conn.query_all(sql, &[]).ok()?;
+    are_pairs(&rows, expected)
+}
 
 #[test]
 fn waiting_predecessors_are_stored(rt: HostRuntime) -> Result<(), Fail> {
@@ -15,56 +33,40 @@ fn waiting_predecessors_are_stored(rt: HostRuntime) -> Result<(), Fail> {
         "22:40 ended 10 | names 20",
     ];
     let player: AtOnce = after(rt.alloc(), "LOADED", &turns)?;
-    let mut conn = player.into_desk().close();
-    let rows = conn.query_all("SELECT num, waiting FROM operation ORDER BY num", &[])?;
-    let expected = [(5i64, 0i64), (10, 0), (20, 0), (30, 1), (40, 1)];
-    assert_eq!(rt; rows.len(), expected.len());
-    for (row, (number, waiting)) in rows.iter().zip(&expected) {
-        assert_eq!(rt; row.get::<i64>(0)?, *number);
-        assert_eq!(rt; row.get::<i64>(1)?, *waiting);
-    }
+    let query = "SELECT num, waiting FROM operation ORDER BY num";
+    let expected = [(5, 0), (10, 0), (20, 0), (30, 1), (40, 1)];
+    assert!(rt; shows(player.into_desk(), query, &expected) == Some(true));
     Ok(())
 }
 
-// The desk after the second run has failed.
-fn failed(alloc: Global) -> Result<Desk<MemStore>, &'static str> {
-    let player: AtOnce = after(alloc, "BILLS_IN", &["23:00 error 20 S0C7 | names -"])?;
-    Ok(player.into_desk())
+// Whether the second run alone is in error, with the code that was reported.
+fn has_one_error<S: Alter + Drop>(desk: &Desk<S>) -> Option<bool> {
+    let mut rows = desk.errors().ok()?;
+    let first = rows.next().ok()??;
+    Some(
+        first.op.number == 20
+            && first.ws.as_bytes() == b"CPU1"
+            && first.code.as_bytes() == b"S0C7"
+            && rows.next().ok()?.is_none(),
+    )
 }
 
 #[test]
 fn operation_in_error_is_handed_out(rt: HostRuntime) -> Result<(), Fail> {
-    let desk = failed(rt.alloc())?;
-    let mut rows = desk.errors()?;
-    let first = rows.next()?.expect(&rt, "the second run");
-    assert_eq!(rt; first.op.number, 20u8);
-    assert_eq!(rt; first.ws.as_bytes(), b"CPU1".as_slice());
-    assert_eq!(rt; first.code.as_bytes(), b"S0C7".as_slice());
-    assert!(rt; rows.next()?.is_none());
-    Ok(())
-}
-
-#[test]
-fn errors_that_are_dropped_leave_the_tables(rt: HostRuntime) -> Result<(), Fail> {
-    let desk = failed(rt.alloc())?;
+    let player: AtOnce = after(rt.alloc(), "BILLS_IN", &["23:00 error 20 S0C7 | names -"])?;
+    let desk = player.into_desk();
+    assert!(rt; has_one_error(&desk) == Some(true));
     drop(desk.errors()?);
-    let desk = reopened(rt.alloc(), desk)?;
-    assert!(rt; desk.errors()?.next()?.is_some());
+    let again = opened(rt.alloc(), desk.close())?;
+    assert!(rt; has_one_error(&again) == Some(true));
     Ok(())
 }
 
-// What an opening of tables is answered that hold the plan into which the bills came in, once this text has changed them.
-fn opening_after(alloc: Global, sql: &str) -> Result<Refusal, &'static str> {
-    let player: AtOnce = after(alloc, "BILLS_IN", &[])?;
-    let mut conn = player.into_desk().close();
-    conn.execute_batch(sql).ok().ok_or("a text that is run")?;
-    if !conn.is_autocommit() {
-        return Err("no transaction is open");
-    }
-    match Desk::open(alloc, conn) {
-        Ok(_) => Err("a desk"),
-        Err((refusal, _)) => Ok(refusal),
-    }
+// Why a desk isn't opened whose tables a text has changed.
+fn refusal_after<S: Alter + Drop>(alloc: Global, desk: Desk<S>, sql: &str) -> Option<Refusal> {
+    let mut conn = desk.close();
+    conn.execute_batch(sql).ok()?;
+    opened(alloc, conn).err()
 }
 
 const DAMAGES: [&str; 9] = [
@@ -80,20 +82,24 @@ const DAMAGES: [&str; 9] = [
 ];
 
 #[test]
-fn tables_that_are_no_plans_are_not_opened(rt: HostRuntime) {
+fn tables_that_are_no_plans_are_not_opened(rt: HostRuntime) -> Result<(), Fail> {
     for sql in &DAMAGES {
-        assert_eq!(rt; opening_after(rt.alloc(), sql), Ok(Refusal::Damaged), "{sql}");
+        let player: AtOnce = after(rt.alloc(), "BILLS_IN", &[])?;
+        let refusal = refusal_after(rt.alloc(), player.into_desk(), sql);
+        assert!(rt; refusal == Some(Refusal::Damaged), "{sql}");
     }
+    Ok(())
+}
+
+// Why no desk is made over a database that has a table of the name of one of the desk's.
+fn refusal_of_a_name(alloc: Global) -> Option<Refusal> {
+    let mut conn = Connection::open_in_memory(alloc).ok()?;
+    conn.execute_batch("CREATE TABLE need (id INTEGER PRIMARY KEY)")
+        .ok()?;
+    created(alloc, conn).err()
 }
 
 #[test]
-fn name_of_a_table_is_taken(rt: HostRuntime) -> Result<(), Fail> {
-    let mut conn = Connection::open_in_memory(rt.alloc())?;
-    conn.execute_batch("CREATE TABLE need (id INTEGER PRIMARY KEY)")?;
-    assert!(rt; conn.is_autocommit());
-    match Desk::create(rt.alloc(), conn) {
-        Ok(_) => panic!(rt; "a table of this name is there"),
-        Err((refusal, _)) => assert_eq!(rt; refusal, Refusal::Damaged),
-    }
-    Ok(())
+fn name_of_a_table_is_taken(rt: HostRuntime) {
+    assert!(rt; refusal_of_a_name(rt.alloc()) == Some(Refusal::Damaged));
 }
