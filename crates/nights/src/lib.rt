@@ -26,4 +26,4 @@ pub use changes::are_changes;
 pub use looks::is_seen;
 pub use playing::{Deviation, Player, after, pass};
 pub use requests::request;
-pub use topics::TOPICS;
+pub use topics::play_all;

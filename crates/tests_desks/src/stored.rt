@@ -45,8 +45,8 @@ fn has_one_error<S: Alter + Drop>(desk: &Desk<S>) -> Option<bool> {
     let first = rows.next().ok()??;
     Some(
         first.op.number == 20
-            && first.ws.as_bytes() == b"CPU1"
-            && first.code.as_bytes() == b"S0C7"
+            && first.ws.as_bytes() == b"CPU1".as_slice()
+            && first.code.as_bytes() == b"S0C7".as_slice()
             && rows.next().ok()?.is_none(),
     )
 }

@@ -1,6 +1,8 @@
 // Which rows of the tables a request changes.
 use super::players::OneByOne;
 use nights::{after, are_changes, request};
+use plan_core::Plan;
+use plan_records::Request;
 use std::alloc::Global;
 
 /// A request that is made after a beginning and some turns, and the keys of the rows that it changes, in their order.
@@ -62,12 +64,17 @@ const STEPS: [Step; 7] = [
     },
 ];
 
+// Whether a request changes the rows that are named, and no others.
+fn changes_rows(plan: &mut Plan, request: &Request, changed: &str) -> Option<bool> {
+    let prepared = plan.prepare(request).ok()?;
+    are_changes(prepared.changes(), changed)
+}
+
 // Whether the step changes the rows that it names, and no others.
 fn is_so(alloc: Global, step: &Step) -> Option<bool> {
+    let request = request(alloc, step.turn)?;
     let player: OneByOne = after(alloc, step.beginning, step.before).ok()?;
-    let mut plan = player.into_plan();
-    let prepared = plan.prepare(&request(alloc, step.turn)?).ok()?;
-    are_changes(prepared.changes(), step.changed)
+    changes_rows(&mut player.into_plan(), &request, step.changed)
 }
 
 #[test]

@@ -5,14 +5,19 @@ use plan_records::{OperationRow, PlanRow};
 use status_rules::Status;
 use std::alloc::Global;
 
-// The rows of the night's plan once it is loaded, the last row first.
+// Rows, the last one first.
+fn turned(alloc: Global, rows: &[PlanRow]) -> Option<Vec<PlanRow>> {
+    let mut turned = rows.to_vec(alloc).ok()?;
+    turned.reverse();
+    Some(turned)
+}
+
+// The rows of the night's plan once it is loaded, the last one first.
 fn turned_rows(alloc: Global) -> Option<Vec<PlanRow>> {
     let turn = "21:00 load STATIONS RUNS PRINTING CHAIN LAST FILE KEEPS | names -";
-    let mut plan = Plan::empty(alloc);
-    let prepared = plan.prepare(&request(alloc, turn)?).ok()?;
-    let mut rows = prepared.changes().rows.clone().ok()?;
-    rows.reverse();
-    Some(rows)
+    let request = request(alloc, turn)?;
+    let prepared = Plan::empty(alloc).prepare(&request).ok()?;
+    turned(alloc, &prepared.changes().rows)
 }
 
 // Whether the plan of these rows shows a line; nothing where there is no plan of them.
