@@ -1,7 +1,8 @@
 // Latest starts, and ready lists.
 
 /// Thirteen nights, one after another.
-pub const LATEST_STARTS: &str = "LOADED_TWICE after LOADED: the night is loaded. It is loaded once only.
+pub const LATEST_STARTS: &str =
+    "LOADED_TWICE after LOADED: the night is loaded. It is loaded once only.
 shows AWWWW W
 21:00 load STATIONS RUNS PRINTING CHAIN LAST FILE KEEPS | refused 4
 shows AWWWW W

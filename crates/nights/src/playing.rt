@@ -60,11 +60,7 @@ fn are_told<'a>(replies: &[Reply], turns: &[&'a str]) -> Result<(), &'a str> {
 }
 
 // The player after the turns; or the turn that is answered otherwise.
-fn play_turns<'a, P: Player>(
-    alloc: Global,
-    player: P,
-    turns: &[&'a str],
-) -> Result<P, &'a str> {
+fn play_turns<'a, P: Player>(alloc: Global, player: P, turns: &[&'a str]) -> Result<P, &'a str> {
     let requests = requests(alloc, turns)?;
     match player.play(&requests) {
         Ok((player, replies)) => {
@@ -115,11 +111,7 @@ fn beginning(name: &str) -> Result<&str, &str> {
 }
 
 /// The player after the turns of a beginning and these; or the turn that is answered otherwise.
-pub fn after<'a, P: Player>(
-    alloc: Global,
-    name: &'a str,
-    more: &[&'a str],
-) -> Result<P, &'a str> {
+pub fn after<'a, P: Player>(alloc: Global, name: &'a str, more: &[&'a str]) -> Result<P, &'a str> {
     let mut turns = Vec::new(alloc);
     add_turns(&mut turns, beginning(name)?)?;
     turns.extend_from_slice(more).ok().ok_or("no memory")?;
@@ -184,11 +176,7 @@ fn play<'a, P: Player>(alloc: Global, before: &'a str, night: &'a str) -> Result
 }
 
 // Plays a night after each of its beginnings.
-fn play_each<'a, P: Player>(
-    alloc: Global,
-    header: &'a str,
-    night: &'a str,
-) -> Result<(), &'a str> {
+fn play_each<'a, P: Player>(alloc: Global, header: &'a str, night: &'a str) -> Result<(), &'a str> {
     let (name, _) = cut(header, ": ").ok_or("no header")?;
     let (_, befores) = cut(name, " after ").unwrap_or((name, "-"));
     for before in befores.split_whitespace() {
@@ -207,7 +195,10 @@ pub fn pass<P: Player>(alloc: Global, nights: &str) -> Result<u32, Deviation<'_>
         };
         let (header, lines) = cut(night, "\n").unwrap_or((night, ""));
         if let Err(line) = play_each::<P>(alloc, header, lines) {
-            return Err(Deviation { night: header, line });
+            return Err(Deviation {
+                night: header,
+                line,
+            });
         }
         count = count.saturating_add(1);
         rest = after;
@@ -215,6 +206,9 @@ pub fn pass<P: Player>(alloc: Global, nights: &str) -> Result<u32, Deviation<'_>
     if rest.is_empty() {
         Ok(count)
     } else {
-        Err(Deviation { night: rest, line: "no empty line behind it" })
+        Err(Deviation {
+            night: rest,
+            line: "no empty line behind it",
+        })
     }
 }

@@ -21,5 +21,9 @@ pub fn play_all<P: Player>(alloc: Global) -> Result<u32, Deviation<'static>> {
     let by_time = reports.saturating_add(days).saturating_add(latest);
     let by_others = commands.saturating_add(resources);
     let by_what_comes_in = pairs.saturating_add(additions);
-    Ok(by_time.saturating_add(by_others).saturating_add(by_what_comes_in))
+    Ok(
+        by_time
+            .saturating_add(by_others)
+            .saturating_add(by_what_comes_in),
+    )
 }

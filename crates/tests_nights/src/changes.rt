@@ -80,6 +80,11 @@ fn is_so(alloc: Global, step: &Step) -> Option<bool> {
 #[test]
 fn rows_that_a_request_changes(rt: HostRuntime) {
     for step in &STEPS {
-        assert!(rt; is_so(rt.alloc(), step) == Some(true), "{} {}", step.beginning, step.turn);
+        assert!(rt;
+            is_so(rt.alloc(), step) == Some(true),
+            "{} {}",
+            step.beginning,
+            step.turn
+        );
     }
 }

@@ -29,7 +29,13 @@ fn shows(alloc: Global, rows: &[PlanRow], line: &str) -> Option<bool> {
 #[test]
 fn rows_in_another_order_are_the_same_plan(rt: HostRuntime) {
     let rows = turned_rows(rt.alloc()).expect(&rt, "a plan");
-    for line in ["clock 21:00", "shows AWWWW W", "latest 5 02:59", "latest 40 04:40", "ready SETP 5"] {
+    for line in [
+        "clock 21:00",
+        "shows AWWWW W",
+        "latest 5 02:59",
+        "latest 40 04:40",
+        "ready SETP 5",
+    ] {
         assert!(rt; shows(rt.alloc(), &rows, line) == Some(true), "{line}");
     }
 }
@@ -70,7 +76,10 @@ fn columns_that_follow_are_not_believed(rt: HostRuntime) {
     for column in [Column::Status, Column::Latest, Column::Waiting] {
         let mut rows = turned_rows(rt.alloc()).expect(&rt, "a plan");
         alter_all(&mut rows, column);
-        assert!(rt; are_of_a_plan(rt.alloc(), &rows) == Some(false), "{column:?}");
+        assert!(rt;
+            are_of_a_plan(rt.alloc(), &rows) == Some(false),
+            "{column:?}"
+        );
     }
 }
 
