@@ -1,7 +1,7 @@
 // Nights with operators' commands. In most of them the bills are added while the second run has the file.
-use super::nights::pass;
 
-const NIGHTS: &str = "COME_IN after BILLS_IN: bills come in while their file is taken
+/// Twelve nights, one after another.
+pub const COMMANDS: &str = "COME_IN after BILLS_IN: bills come in while their file is taken
 latest BILLING.10 02:30
 
 RUN_AGAIN after BILLS_IN: a failed run is run again. The second run fails, and is to run again: the bills go first.
@@ -101,8 +101,3 @@ shows CAC CWC
 shows CSC CSC
 
 ";
-
-#[test]
-fn commands_of_operators(rt: HostRuntime) {
-    assert_eq!(rt; pass(&rt, rt.alloc(), NIGHTS), 12);
-}

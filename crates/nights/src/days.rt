@@ -1,7 +1,7 @@
 // Loads of small plans: what is named then, what is refused, and what the plan shows.
-use super::nights::pass;
 
-const NIGHTS: &str = "TWO_RUNS: names what may start: the first of two
+/// Thirteen nights, one after another.
+pub const DAYS: &str = "TWO_RUNS: names what may start: the first of two
 22:00 load OPEN DAILY TWO_RUNS | names DAILY.10
 clock 22:00
 
@@ -71,8 +71,3 @@ due DAILY.20 05:00
 no-operation DAILY.30
 
 ";
-
-#[test]
-fn loads_of_small_plans(rt: HostRuntime) {
-    assert_eq!(rt; pass(&rt, rt.alloc(), NIGHTS), 13);
-}

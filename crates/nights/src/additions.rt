@@ -1,7 +1,7 @@
 // Nights in which occurrences are added.
-use super::nights::pass;
 
-const NIGHTS: &str =
+/// Six nights, one after another.
+pub const ADDITIONS: &str =
     "DELETED after LOADED: what waited for a deleted occurrence is released. The bills wait for the printing until the whole night is deleted, which doesn't come in again.
 keys BILLING.10 5 10 20 30 40 / BILLING PAYROLL
 21:00 add BILLS BILLS_LAST | names -
@@ -59,8 +59,3 @@ keys BILLING.10 5 10 20 30 40 REPORTS.10 / BILLING PAYROLL REPORTS
 shows ACCSWWS WSS
 
 ";
-
-#[test]
-fn occurrences_that_come_in(rt: HostRuntime) {
-    assert_eq!(rt; pass(&rt, rt.alloc(), NIGHTS), 6);
-}

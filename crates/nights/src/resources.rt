@@ -1,7 +1,7 @@
 // Nights with special resources.
-use super::nights::pass;
 
-const NIGHTS: &str =
+/// Six nights, one after another.
+pub const RESOURCES: &str =
     "SHARED_FIRST: a file for one after it was shared. The file is shared first, and then for one, which fails.
 keys BILLING.10 5 10 20 30 40 / BILLING PAYROLL
 21:00 load STATIONS RUNS PRINTING CHAIN LAST FILE KEEPS BILLS | names -
@@ -74,8 +74,3 @@ keys AUDIT.10 BILLING.10 5 10 20 30 40 / AUDIT BILLING PAYROLL
 shows SCCCEWW SCE
 
 ";
-
-#[test]
-fn special_resources(rt: HostRuntime) {
-    assert_eq!(rt; pass(&rt, rt.alloc(), NIGHTS), 6);
-}

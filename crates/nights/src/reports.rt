@@ -1,7 +1,7 @@
 // Nights of loads, moments and reports.
-use super::nights::pass;
 
-const NIGHTS: &str = "FAILING: an operation ends and the next fails
+/// Sixteen nights, one after another.
+pub const REPORTS: &str = "FAILING: an operation ends and the next fails
 keys DAILY.10 DAILY.20 / DAILY
 22:00 load ALWAYS_OPEN DAILY TWO_RUNS | names DAILY.10
 22:00 started DAILY.10 | names -
@@ -142,8 +142,3 @@ keys 5 10 20 30 255 / PAYROLL
 shows AWWWW W
 
 ";
-
-#[test]
-fn reports_and_moments(rt: HostRuntime) {
-    assert_eq!(rt; pass(&rt, rt.alloc(), NIGHTS), 16);
-}

@@ -1,7 +1,7 @@
 // Nights in which dependencies are added.
-use super::nights::pass;
 
-const NIGHTS: &str =
+/// Seven nights, one after another.
+pub const PAIRS: &str =
     "BACK after LOADED: a dependency that closes a path. The set-up isn't to wait for what comes after it.
 21:00 depend 5 on 40 | refused 19
 like LOADED
@@ -63,8 +63,3 @@ shows ADA WDW
 shows ADW WDW
 
 ";
-
-#[test]
-fn dependencies_that_come_in(rt: HostRuntime) {
-    assert_eq!(rt; pass(&rt, rt.alloc(), NIGHTS), 7);
-}

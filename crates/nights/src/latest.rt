@@ -1,7 +1,8 @@
 // Latest starts, and ready lists.
-use super::nights::pass;
 
-const NIGHTS: &str = "LOADED_TWICE after LOADED: the night is loaded. It is loaded once only.
+/// Thirteen nights, one after another.
+pub const LATEST_STARTS: &str =
+    "LOADED_TWICE after LOADED: the night is loaded. It is loaded once only.
 shows AWWWW W
 21:00 load STATIONS RUNS PRINTING CHAIN LAST FILE KEEPS | refused 4
 shows AWWWW W
@@ -103,8 +104,3 @@ shows DCR DCW
 waits CCC.10 0
 
 ";
-
-#[test]
-fn latest_starts_and_ready_lists(rt: HostRuntime) {
-    assert_eq!(rt; pass(&rt, rt.alloc(), NIGHTS), 13);
-}
