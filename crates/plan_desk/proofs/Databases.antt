@@ -1,6 +1,9 @@
 -- The plan at the desk of a database, and what a load there is answered.
-use Rattle.std.proofs.Common.{◌≡◌, ◌⊎◌, inl, inr, refl, sym, ap, ◌∙◌, subst, arith, ℤ, Bool, Option, length}
+use Rattle.std.proofs.Common.{◌≡◌, ◌⊎◌, ◌↔◌, inl, inr, refl, sym, ap, ◌∙◌, subst, arith, ℤ, Bool, true, false, not, IsTrue, Option, is_some, [], length}
+use Rattle.std.proofs.lemmas.Bool.{true≢false, false≢true}
+use Rattle.std.specs.List.{list_any}
 use Rattle.sqlite.specs.Effect.{Database}
+use Rattle.sqlite.specs.Schema.{Schema}
 use Rattle.sqlite.specs.State.{State as StoreState}
 use Rattle.table_rows.specs.Tables.{no_schema}
 use Rattle.plan_basics.specs.declared.Refusal.{Refusal}
@@ -17,6 +20,11 @@ use Rattle.plan_tables.specs.Desk.{HasTables, HoldsPlan, IsClean, state_of, usab
 use Rattle.plan_tables.specs.Faults.{IsOpeningRefusal}
 use Rattle.plan_desk.specs.Databases.{HasNoTable, HasSchema, IsAnswerToLoad, IsPlanAt}
 use Rattle.plan_desk.specs.Loads.{load_request}
+
+-- what is found of a schema that has no table
+pub no_table_found : (found schema : Schema) (b : Bool) → found ≡ schema → found.tables ≡ [] → b ≡ list_any (λ view. is_some view.foreign) found.views → IsTrue (not b) ↔ HasNoTable schema
+no_table_found found schema true is none any = (λ e. absurd (false≢true e), λ h. absurd (true≢false (any ∙ subst (λ (s : Schema). list_any (λ view. is_some view.foreign) s.views ≡ false) (sym is) h.1)))
+no_table_found found schema false is none any = (λ _. subst HasNoTable is (none, sym any), λ _. refl)
 
 -- a desk's tables are tables
 pub nine_are_tables : ¬ HasNoTable schema_9
@@ -46,8 +54,9 @@ refused_step P Q q v refusal.Store h = inl (inr (inr refl))
 refused_step P Q q v r h = inr (subst (λ X. Step P q (refused r) X) h.0.0.is_after h.0.0)
 
 -- the desk of a database, `mid`, was asked for a load, which left `new`
-module _ (old mid new : StoreState) (P Q : Plan) (at : ℤ) (draft : Option Contents) (v : Bool)
+module _ (old mid new : StoreState) (P Q : Plan) (at : ℤ) (draft : Option Contents) (u v : Bool)
          (plan : IsPlanAt old mid P)
+         (in_use : u ≡ true)
          (made : IsClean mid → HasSchema old no_schema → HoldsPlan no_plan mid.committed)
          (opened : IsClean mid → HasSchema old schema_9 → mid.committed ≡ old.committed)
          (clean_before : IsClean new → IsClean mid) where
@@ -58,14 +67,20 @@ module _ (old mid new : StoreState) (P Q : Plan) (at : ℤ) (draft : Option Cont
   has_tables clean (inl has) = ap (λ (db : Database). db.schema) (opened (clean_before clean) has) ∙ has.1
   has_tables clean (inr none) = (made (clean_before clean) none).stores.schema_is
 
-  pub load_answered : (x : Answer) → Answers (state_of P) usable (plain (load_request at draft)) x (state_of Q) (usability v)
+  load_of : (x : Answer) → Answers (state_of P) usable (plain (load_request at draft)) x (state_of Q) (usability v)
       → (IsClean new → HasTables mid → HoldsPlan Q new.committed)
       → (IsClean new → (r : Refusal) → x ≡ refused r → new.committed ≡ mid.committed)
       → IsAnswerToLoad old new at draft x
-  load_answered (accepted named) answers holds kept = (P, Q, plan_kept, answers.0.0, λ clean has. holds clean (has_tables clean has))
-  load_answered (refused r) answers holds kept = (
+  load_of (accepted named) answers holds kept = (P, Q, plan_kept, answers.0.0, λ clean has. holds clean (has_tables clean has))
+  load_of (refused r) answers holds kept = (
       elim (refused_step P Q (load_request at draft) v r answers) [
         | inl why ↦ inl why
         | inr step ↦ inr (P, plan_kept, step)
       ],
       λ clean has. kept clean r refl ∙ opened (clean_before clean) has)
+
+  pub load_answered : (x : Answer) → Answers (state_of P) (usability u) (plain (load_request at draft)) x (state_of Q) (usability v)
+      → (IsClean new → HasTables mid → HoldsPlan Q new.committed)
+      → (IsClean new → (r : Refusal) → x ≡ refused r → new.committed ≡ mid.committed)
+      → IsAnswerToLoad old new at draft x
+  load_answered x answers = load_of x (subst (λ b. Answers (state_of P) (usability b) (plain (load_request at draft)) x (state_of Q) (usability v)) in_use answers)

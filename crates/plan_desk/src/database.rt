@@ -1,5 +1,6 @@
 // The desk of a database, and what it answers to a load.
-ghost use Rattle.std.specs.Prelude.{◌≡◌, ◌↔◌, true, false, IsTrue, IfOk, IfErr};
+ghost use Rattle.std.specs.Prelude.{◌≡◌, ◌↔◌, true, false, is_some, IsTrue, IfOk, IfErr};
+ghost use Rattle.std.specs.List.{list_any};
 ghost use Rattle.sqlite.specs.Held.{state};
 ghost use Rattle.plan_model.specs.Plan.{no_plan};
 ghost use Rattle.plan_records.specs.Answer.{answer_of};
@@ -13,15 +14,22 @@ use plan_basics::Refusal;
 use plan_records::{PlanDraft, Reply, Request, What};
 use plan_tables::Desk;
 use sqlite::{Alter, Connection};
+use sqlite_schema::schema::View;
 use std::alloc::Global;
 
-// Whether a database has no table. One that SQL doesn't reach is listed among the views, as foreign.
+// Whether one of these is no view, but a table that SQL doesn't reach, or what belongs to it.
+fn has_foreign(views: &[View]) -> bool
+    ensures { result ≡ list_any (λ view. is_some view.foreign) views.now }
+{
+    views.iter().any(|view| view.foreign.is_some())
+}
+
+// Whether a database has no table. One that SQL doesn't reach is listed among the views.
 fn has_no_table<S: Alter>(conn: &Connection<S>) -> bool
     ensures { IsTrue result ↔ HasNoTable (state S.Store conn.now).now.schema }
 {
     let schema = conn.schema();
-    let views = schema.views.as_slice();
-    schema.tables.is_empty() && !views.iter().any(|view| view.foreign.is_some())
+    schema.tables.is_empty() && !has_foreign(schema.views.as_slice())
 }
 
 // The desk of a database: made where it has no table, else opened.

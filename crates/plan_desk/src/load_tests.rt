@@ -1,10 +1,10 @@
 // Loads into databases: what stands at the path before, and what goes to both streams.
 use crate::tests::{Answer, BAD_PLAN, DAILY, FIRST, FIRST_STARTS, NIGHT, OPEN, PAIR, SECOND, STATION};
-use crate::tests::{own_folder, run, text_of};
+use crate::tests::{Ran, own_folder, run, text_of};
 use sqlite::Connection;
 use std::alloc::{AllocError, Global};
 use std::fs;
-use std::path::{Path, PathBuf};
+use std::path::PathBuf;
 use std::test::Fail;
 
 /// What becomes of the database before a load.
@@ -36,7 +36,8 @@ const LOADED: Answer = ("refused 4 Loaded\n", 1);
 
 const DAMAGED: Answer = ("refused 28 Damaged\n", 1);
 
-const LOADS: [Load; 15] = [
+// A file that is absent, the desk that it becomes, and the same with a column that doesn't follow from the others.
+const LOADED_DESKS: [Load; 6] = [
     Load {
         what: "an absent file becomes a desk",
         before: Before::Absent,
@@ -79,6 +80,10 @@ const LOADS: [Load; 15] = [
         at: NIGHT,
         answer: DAMAGED,
     },
+];
+
+// Desks at which nothing is loaded.
+const EMPTY_DESKS: [Load; 5] = [
     Load {
         what: "a file of no bytes becomes a desk, and a text of no plan leaves it empty",
         before: Before::Bytes(b""),
@@ -116,6 +121,10 @@ const LOADS: [Load; 15] = [
         at: NIGHT,
         answer: DAMAGED,
     },
+];
+
+// Databases that another program made.
+const OTHER_DATABASES: [Load; 4] = [
     Load {
         what: "a database without tables becomes a desk",
         before: Before::Made("CREATE TABLE other (id INTEGER PRIMARY KEY); DROP TABLE other"),
@@ -146,14 +155,14 @@ const LOADS: [Load; 15] = [
     },
 ];
 
-fn execute(rt: &HostRuntime, path: &Path, statements: &str) -> Result<(), sqlite::Error> {
-    let mut conn = Connection::open(rt, path.as_str())?;
+fn execute(rt: &HostRuntime, path: &str, statements: &str) -> Result<(), sqlite::Error> {
+    let mut conn = Connection::open(rt, path)?;
     conn.execute_batch(statements)?;
     conn.close()
 }
 
 /// Puts what stands there before a load in place. The path is of the turn's own where the database is another.
-fn put_in_place(rt: &HostRuntime, path: &Path, before: &Before) -> Result<(), Fail> {
+fn put_in_place(rt: &HostRuntime, path: &str, before: &Before) -> Result<(), Fail> {
     match before {
         Before::Absent | Before::Kept => {}
         Before::Bytes(bytes) => fs::write(rt, path, *bytes)?,
@@ -165,7 +174,7 @@ fn put_in_place(rt: &HostRuntime, path: &Path, before: &Before) -> Result<(), Fa
 /// The path of the turn's database: that of the turn before, where it stays.
 fn path_of(
     alloc: Global,
-    folder: &Path,
+    folder: &PathBuf,
     turn: usize,
     load: &Load,
     last: PathBuf,
@@ -176,35 +185,40 @@ fn path_of(
     }
 }
 
-#[test]
-fn databases_and_their_answers(rt: HostRuntime) -> Result<(), Fail> {
-    let folder = own_folder(&rt, "loads")?;
+/// Plays loads one after the other, in a folder of this name.
+fn play(rt: &HostRuntime, name: &str, loads: &[Load]) -> Result<(), Fail> {
+    let folder = own_folder(rt, name)?;
     let plan = folder.join(rt.alloc(), "plan.csv")?;
     let mut db = folder.join(rt.alloc(), "night.db")?;
-    for (turn, load) in LOADS.iter().enumerate() {
-        db = path_of(rt.alloc(), folder.as_path(), turn, load, db)?;
-        put_in_place(&rt, db.as_path(), &load.before)?;
+    for (turn, load) in loads.iter().enumerate() {
+        db = path_of(rt.alloc(), &folder, turn, load, db)?;
+        put_in_place(rt, db.as_str(), &load.before)?;
         let text = text_of(rt.alloc(), load.lines, b"\n")?;
-        fs::write(&rt, plan.as_path(), text.as_slice())?;
-        let words = [
-            "plandesk",
-            "load",
-            "--db",
-            db.as_str(),
-            "--plan",
-            plan.as_str(),
-            "--at",
-            load.at,
-        ];
-        let ran = run(&rt, words.as_slice())?;
-        let what = load.what;
-        let (out, status) = load.answer;
-        assert_eq!(rt; ran.out.as_str(), out, "{what}");
-        assert_eq!(rt; ran.err.as_str(), "", "{what}");
-        assert_eq!(rt; ran.status, status, "{what}");
+        fs::write(rt, plan.as_path(), text.as_slice())?;
+        let (db, plan) = (db.as_str(), plan.as_str());
+        let words = ["plandesk", "load", "--db", db, "--plan", plan, "--at", load.at];
+        let Ran { out, err, status } = run(rt, words.as_slice())?;
+        if (out.as_str(), status) != load.answer || !err.as_str().is_empty() {
+            return Err(Fail::new(load.what));
+        }
     }
-    fs::remove_dir_all(&rt, folder.as_path())?;
+    fs::remove_dir_all(rt, folder.as_path())?;
     Ok(())
+}
+
+#[test]
+fn loaded_desks_are_opened(rt: HostRuntime) -> Result<(), Fail> {
+    play(&rt, "loaded", LOADED_DESKS.as_slice())
+}
+
+#[test]
+fn empty_desks_take_a_load(rt: HostRuntime) -> Result<(), Fail> {
+    play(&rt, "empty", EMPTY_DESKS.as_slice())
+}
+
+#[test]
+fn other_databases_are_told_apart(rt: HostRuntime) -> Result<(), Fail> {
+    play(&rt, "others", OTHER_DATABASES.as_slice())
 }
 
 #[test]
