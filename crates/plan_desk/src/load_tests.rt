@@ -185,6 +185,12 @@ fn path_of(
     }
 }
 
+/// Runs `load` with these words.
+fn run_load<'a>(rt: &HostRuntime, db: &'a str, plan: &'a str, at: &'a str) -> Result<Ran, Fail> {
+    let words = ["plandesk", "load", "--db", db, "--plan", plan, "--at", at];
+    run(rt, words.as_slice())
+}
+
 /// Plays loads one after the other, in a folder of this name.
 fn play(rt: &HostRuntime, name: &str, loads: &[Load]) -> Result<(), Fail> {
     let folder = own_folder(rt, name)?;
@@ -195,9 +201,7 @@ fn play(rt: &HostRuntime, name: &str, loads: &[Load]) -> Result<(), Fail> {
         put_in_place(rt, db.as_str(), &load.before)?;
         let text = text_of(rt.alloc(), load.lines, b"\n")?;
         fs::write(rt, plan.as_path(), text.as_slice())?;
-        let (db, plan) = (db.as_str(), plan.as_str());
-        let words = ["plandesk", "load", "--db", db, "--plan", plan, "--at", load.at];
-        let Ran { out, err, status } = run(rt, words.as_slice())?;
+        let Ran { out, err, status } = run_load(rt, db.as_str(), plan.as_str(), load.at)?;
         if (out.as_str(), status) != load.answer || !err.as_str().is_empty() {
             return Err(Fail::new(load.what));
         }
@@ -238,8 +242,7 @@ fn files_that_are_no_databases(rt: HostRuntime) -> Result<(), Fail> {
         (":memory:", plan.as_str(), NIGHT, "fault file\n", 3),
         ("", plan.as_str(), NIGHT, "fault file\n", 3),
     ] {
-        let words = ["plandesk", "load", "--db", db, "--plan", plan, "--at", at];
-        let ran = run(&rt, words.as_slice())?;
+        let ran = run_load(&rt, db, plan, at)?;
         assert_eq!(rt; ran.out.as_str(), "", "{db} {plan} {at}");
         assert_eq!(rt; ran.err.as_str(), told, "{db} {plan} {at}");
         assert_eq!(rt; ran.status, status, "{db} {plan} {at}");
