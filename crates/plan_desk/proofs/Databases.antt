@@ -55,11 +55,11 @@ refused_step P Q q v r h = inr (subst (λ X. Step P q (refused r) X) h.0.0.is_af
 
 -- the desk of a database, `mid`, was asked for a load, which left `new`
 module _ (old mid new : StoreState) (P Q : Plan) (at : ℤ) (draft : Option Contents) (u v : Bool)
-         (plan : IsPlanAt old mid P)
-         (in_use : u ≡ true)
-         (made : IsClean mid → HasSchema old no_schema → HoldsPlan no_plan mid.committed)
-         (opened : IsClean mid → HasSchema old schema_9 → mid.committed ≡ old.committed)
-         (clean_before : IsClean new → IsClean mid) where
+    (plan : IsPlanAt old mid P)
+    (in_use : u ≡ true)
+    (made : IsClean mid → HasSchema old no_schema → HoldsPlan no_plan mid.committed)
+    (opened : IsClean mid → HasSchema old schema_9 → mid.committed ≡ old.committed)
+    (clean_before : IsClean new → IsClean mid) where
   plan_kept : IsPlanAt old new P
   plan_kept = record { made = plan.made; opened = λ clean. plan.opened (clean_before clean) }
 
@@ -73,11 +73,12 @@ module _ (old mid new : StoreState) (P Q : Plan) (at : ℤ) (draft : Option Cont
       → IsAnswerToLoad old new at draft x
   load_of (accepted named) answers holds kept = (P, Q, plan_kept, answers.0.0, λ clean has. holds clean (has_tables clean has))
   load_of (refused r) answers holds kept = (
-      elim (refused_step P Q (load_request at draft) v r answers) [
-        | inl why ↦ inl why
-        | inr step ↦ inr (P, plan_kept, step)
-      ],
-      λ clean has. kept clean r refl ∙ opened (clean_before clean) has)
+    elim (refused_step P Q (load_request at draft) v r answers) [
+      | inl why ↦ inl why
+      | inr step ↦ inr (P, plan_kept, step)
+    ],
+    λ clean has. kept clean r refl ∙ opened (clean_before clean) has,
+  )
 
   pub load_answered : (x : Answer) → Answers (state_of P) (usability u) (plain (load_request at draft)) x (state_of Q) (usability v)
       → (IsClean new → HasTables mid → HoldsPlan Q new.committed)

@@ -1,6 +1,8 @@
 // Loads into databases: what stands at the path before, and what goes to both streams.
-use crate::tests::{Answer, BAD_PLAN, DAILY, FIRST, FIRST_STARTS, NIGHT, OPEN, PAIR, SECOND, STATION};
-use crate::tests::{Ran, own_folder, run, text_of};
+use crate::tests::{
+    Answer, BAD_PLAN, DAILY, FIRST, FIRST_STARTS, NIGHT, OPEN, PAIR, Ran, SECOND, STATION,
+    own_folder, run, text_of,
+};
 use sqlite::Connection;
 use std::alloc::{AllocError, Global};
 use std::fs;
@@ -235,7 +237,13 @@ fn files_that_are_no_databases(rt: HostRuntime) -> Result<(), Fail> {
     fs::write(&rt, plan.as_path(), text.as_slice())?;
     fs::write(&rt, other.as_path(), "a letter, and no database")?;
     for (db, plan, at, told, status) in [
-        (absent.as_str(), absent.as_str(), "2024-3-1", "fault moment\n", 2u8),
+        (
+            absent.as_str(),
+            absent.as_str(),
+            "2024-3-1",
+            "fault moment\n",
+            2u8,
+        ),
         (absent.as_str(), absent.as_str(), NIGHT, "fault file\n", 3),
         (other.as_str(), plan.as_str(), NIGHT, "fault file\n", 3),
         (folder.as_str(), plan.as_str(), NIGHT, "fault file\n", 3),

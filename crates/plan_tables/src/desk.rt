@@ -122,9 +122,10 @@ impl<S: Alter + Drop> Desk<S> {
         self.is_usable
     }
 
-    /// Gives the connection back.
+    /// Gives the connection back. No transaction is open, so that a desk can be opened over it again.
     pub fn close(self) -> Connection<S>
-        ensures { result ≡ self.conn }
+        ensures conn { result ≡ self.conn }
+        ensures idle { result.in_transaction ≡ false }
     {
         self.conn
     }

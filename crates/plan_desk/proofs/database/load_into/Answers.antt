@@ -10,7 +10,7 @@ returns g c =
     let old = state g.S.Store c.args.conn in
     let desk = c.in-Ok.desk in
     let after = c.call-reply.new.self in
-    rw c.close.ensures
+    rw c.close.ensures.conn
     (load_answered old (state g.S.Store desk.conn) (state g.S.Store after.conn) desk.plan after.plan c.args.at c.args.draft desk.is_usable after.is_usable
     c.in-Ok.ensures.plan c.in-Ok.ensures.usable c.in-Ok.ensures.made c.in-Ok.ensures.opened c.call-reply.ensures.clean
     (answer_of c.call-reply.result) (simp to_z-of_z at c.call-reply.ensures.answers) c.call-reply.ensures.tables c.call-reply.ensures.refused)
