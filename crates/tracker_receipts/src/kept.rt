@@ -1,8 +1,9 @@
 // The last receipt of each tracker.
-ghost use Rattle.std.specs.Prelude.{◌≡◌, ◌⊎◌, ◌↔◌, ℕ, ◌+◌, ◌<◌, ◌≤◌, List, true, Some, None, IsTrue, IfOk, IfSome, IsNone};
+ghost use Rattle.std.specs.Prelude.{◌≡◌, ◌⊎◌, ◌↔◌, ℕ, ◌+◌, ◌<◌, ◌≤◌, List, length, true, Some, None, IsTrue, IfOk, IfSome, IsNone};
 ghost use Rattle.std.specs.FinMap as map;
 ghost use Rattle.std.specs.FinMap.{get, insert, len, contains_key};
-ghost use Rattle.plan_basics.specs.Keys.{Name};
+ghost use Rattle.std.specs.List.Sorted.{IsBinarySearchResult, IsSearchInRange};
+ghost use Rattle.plan_basics.specs.Keys.{Name, name_cmp};
 ghost use Rattle.plan_basics.specs.declared.limits.TheConstants.{MOST_TRACKERS};
 ghost use Rattle.plan_records.specs.Answer.{Answer};
 ghost use Rattle.plan_records.specs.Receipts.{AreReceipts, IsReceipt};
@@ -126,7 +127,7 @@ impl Receipts {
         ensures absent { IsNone result → get self.now tracker.now ≡ None }
         ensures legal { AreReceipts true self.now }
     {
-        match self.rows.binary_search_by_key(tracker, |row| row.0) {
+        match place_of(&self.rows, tracker) {
             Ok(place) => Some(&self.rows[place].1),
             Err(_) => None,
         }
@@ -167,11 +168,19 @@ impl Receipts {
         ensures { self.new ≡ insert self.old tracker.now receipt }
     {
         let row = (*tracker, receipt);
-        match self.rows.binary_search_by_key(tracker, |row| row.0) {
+        match place_of(&self.rows, tracker) {
             Ok(place) => self.rows[place] = row,
             Err(place) => self.rows.insert(place, row).unwrap(),
         }
     }
+}
+
+// Where a tracker's row is among rows in order, or else where it belongs.
+fn place_of(rows: &[(TrackerName, Receipt)], tracker: &TrackerName) -> Result<usize, usize>
+    ensures bound { IsSearchInRange result (length rows.now) }
+    ensures position { IsBinarySearchResult (λ row. name_cmp row.0 tracker.now) rows.now result }
+{
+    rows.binary_search_by_key(tracker, |row| row.0)
 }
 
 // What a request of this number is told, where its tracker has no receipt.

@@ -1,9 +1,6 @@
 use Rattle.std.proofs.Common.{◌≡◌, ◌<◌, ◌++◌, List, ℕ, is_ok, cond, Result, Ok, Err, OnOk, length, sym, arith, ◌∙◌, ap}
 use Rattle.std.specs.String.{string_bytes}
 use Rattle.std.proofs.lemmas.Bool.{eqb-true, eqb-false}
-use Rattle.plan_basics.specs.declared.keys.OpKey.{OpKey}
-use Rattle.plan_basics.specs.KeyTexts.{operation_text}
-use Rattle.tracker_receipts.specs.Replies.{joined}
 use Rattle.tracker_receipts.proofs.Joining.{first_pushed, next_pushed}
 use Rattle.tracker_receipts.proofs.replies.push_key.Goals as goal
 

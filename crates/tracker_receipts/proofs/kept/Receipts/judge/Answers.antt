@@ -1,4 +1,4 @@
-use Rattle.std.proofs.Common.{sym, subst, ℤ, pos, Option, None, IsNone, refl}
+use Rattle.std.proofs.Common.{sym, subst, pos, Option, refl}
 use Rattle.plan_records.specs.Step.{Receipt}
 use Rattle.plan_records.specs.declared.Request.{Request}
 use Rattle.plan_records.specs.declared.What.TheVariants.{Tick}

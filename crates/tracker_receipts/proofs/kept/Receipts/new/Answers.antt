@@ -1,4 +1,4 @@
-use Rattle.std.proofs.Common.{ap, sym, subst, true, List, []}
+use Rattle.std.proofs.Common.{sym, subst, true, List, []}
 use Rattle.std.specs.FinMap.{from_entries}
 use Rattle.std.specs.List.Sorted.{IsStrictlySortedBy}
 use Rattle.std.specs.Map.{keys_of}
