@@ -1,5 +1,5 @@
 -- A row more among rows in order, or another in its place.
-use Rattle.std.proofs.Common.{◌≡◌, ◌≢◌, ◌⊎◌, inl, inr, refl, sym, ap, subst, ◌∙◌, true≢false, arith, ℕ, zero, suc, ◌+◌, ◌<◌, ◌≤◌, Bool, true, false, cond, List, [], ◌∷◌, length, get_or, set, slice_get, Option, Some, None, is_some, IfSome, Ok, Err, Bor}
+use Rattle.std.proofs.Common.{◌≡◌, ◌≢◌, ◌↔◌, ◌⊎◌, inl, inr, refl, sym, ap, subst, ◌∙◌, true≢false, arith, ℕ, zero, suc, ◌+◌, ◌<◌, ◌≤◌, Bool, true, false, cond, List, [], ◌∷◌, length, get_or, set, slice_get, Option, Some, None, is_some, not, Ok, Err}
 use Rattle.std.specs.Cmp.{IsTotalOrder}
 use Rattle.std.specs.FinMap.{IsAntisymmetric, contains_key, from_entries, get, get-insert, len, len-insert}
 use Rattle.std.specs.FinMap as map
@@ -8,6 +8,7 @@ use Rattle.std.specs.List.Sorted.{IsBinarySearchResult, IsSearchInRange, IsStric
 use Rattle.std.specs.Map.{keys_of}
 use Rattle.std.specs.Ordering.{eq_by_cmp}
 use Rattle.std.specs.declared.cmp.Ordering.{Ordering}
+use Rattle.std.proofs.lemmas.Bool.{cases_lt}
 use Rattle.std.proofs.lemmas.List.{get_or-map}
 use Rattle.std.proofs.lemmas.List.Sorted.{Contains-permutation, IsPermutation-insert, IsPermutation-sym}
 use Rattle.std.proofs.lemmas.Map.Entries.{length-keys_of}
@@ -90,10 +91,13 @@ pub room_for_new : (T : Receipts) (k : Name) → (contains_key T k ≡ true) ⊎
 room_for_new T k (inl known) new = absurd (true≢false (sym known ∙ ap is_some new))
 room_for_new T k (inr less) new = less
 
--- what is found at a tracker
-pub some_receipt : (T : Receipts) (k : Name) (found : Option (Bor Receipt)) → is_some found ≡ true → IfSome found (λ r. get T k ≡ Some r.now) → (r : Receipt) × (get T k ≡ Some r)
-some_receipt T k None e is = absurd (true≢false (sym e))
-some_receipt T k (Some r) e is = (r.now, is)
+-- what isn't full has room
+pub not_full : (full : Bool) (n : ℕ) (P : Type 0) → ((full ≡ true) ↔ (MOST_TRACKERS ≤ n)) → P → (not full ≡ true) ↔ (P × (n < MOST_TRACKERS))
+not_full true n P told p = (λ e. absurd (true≢false (sym e)), λ h. absurd (let much = told.0 refl in omega (arith, h.1, much)))
+not_full false n P told p = (
+  λ _. (p, elim (cases_lt n MOST_TRACKERS) [ inl less ↦ less | inr much ↦ absurd (true≢false (sym (told.1 much))) ]),
+  λ _. refl,
+)
 
 -- ---- rows that are searched for a tracker
 

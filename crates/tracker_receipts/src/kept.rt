@@ -134,10 +134,20 @@ impl Receipts {
     }
 
     // Whether as many trackers have one as may.
-    pub(crate) fn is_full(&self) -> bool
+    fn is_full(&self) -> bool
         ensures { IsTrue result ↔ (MOST_TRACKERS ≤ len self.now) }
     {
         self.rows.len() >= MOST_TRACKERS
+    }
+
+    // Whether a tracker has none yet and may have one.
+    pub(crate) fn is_open_to(&self, tracker: &TrackerName) -> bool
+        ensures { IsTrue result ↔ ((get self.now tracker.now ≡ None) × (len self.now < MOST_TRACKERS)) }
+    {
+        match self.last(tracker) {
+            Some(_) => false,
+            None => !self.is_full(),
+        }
     }
 
     /// What a tracker's request is told by its number and its text. No memory is taken.

@@ -5,25 +5,69 @@ ghost use Rattle.plan_basics.specs.Names.{IsName};
 ghost use Rattle.plan_items.specs.Parts.{IsReading};
 ghost use Rattle.plan_records.specs.Receipts.{AreReceipts};
 ghost use Rattle.plan_records.specs.Step.{Receipts as LastReceipts};
-ghost use Rattle.tracker_receipts.specs.Stored.{AreRowsOf, IsRequestText, IsWellFormedRowOf};
+ghost use Rattle.tracker_receipts.specs.Stored.{AreRowsOf, IsRequestText, IsRowOf};
 
 use super::kept::{Receipt, Receipts};
 use super::replies::keys_of_text;
 use plan_basics::TrackerName;
 use plan_basics::limits::{GREATEST_REQUEST_NUMBER, LONGEST_REQUEST_TEXT};
 use std::alloc::{AllocError, Global};
+use std::marker::Model;
 
 /// A row of the table of receipts, with its columns as they are stored.
 #[derive(Debug, Drop)]
 pub struct ReceiptRow {
-    /// The tracker's name.
-    pub tracker: Vec<u8>,
-    /// The request's number.
-    pub number: i64,
-    /// The request's text, of any bytes.
-    pub text: Vec<u8>,
-    /// The keys that the reply named: their texts, with one blank between each two.
-    pub reply: Vec<u8>,
+    tracker: Vec<u8>,
+    number: i64,
+    text: Vec<u8>,
+    reply: Vec<u8>,
+}
+
+impl Model for ReceiptRow {
+    ghost use Rattle.tracker_receipts.specs.Stored.{Columns};
+
+    ghost Value = { Columns };
+
+    ghost view = { λ r. record { tracker = r.tracker.items; number = r.number; text = r.text.items; reply = r.reply.items } };
+}
+
+impl ReceiptRow {
+    /// The row with these columns: a tracker's name, the request's number and text, which may be any bytes, and the keys
+    /// that the reply named, as one text.
+    pub fn new(tracker: Vec<u8>, number: i64, text: Vec<u8>, reply: Vec<u8>) -> ReceiptRow
+        ensures { result ≡ record { tracker = tracker.items; number = number; text = text.items; reply = reply.items } }
+    {
+        ReceiptRow {
+            tracker,
+            number,
+            text,
+            reply,
+        }
+    }
+
+    // The tracker, where its name is legal.
+    fn tracker(&self) -> Option<TrackerName>
+        ensures { MatchOption result (¬ IsName 8 self.now.tracker) (λ name. IsName 8 name × (name ≡ self.now.tracker)) }
+    {
+        TrackerName::from_text(&self.tracker)
+    }
+
+    // The well formed receipt whose row it is, where its tracker's name is legal.
+    fn receipt(&self, alloc: Global) -> Result<Option<Receipt>, AllocError>
+        requires { IsName 8 self.now.tracker }
+        ensures { IfOk result (IsReading (IsRowOf self.now)) }
+    {
+        let Some(number) = number_of(self.number) else {
+            return Ok(None);
+        };
+        let Some(text) = request_text(alloc, &self.text)? else {
+            return Ok(None);
+        };
+        let Some(named) = keys_of_text(alloc, &self.reply)? else {
+            return Ok(None);
+        };
+        Ok(Some(Receipt::new(number, text, named)))
+    }
 }
 
 // A number that a tracker may use.
@@ -46,23 +90,6 @@ fn request_text(alloc: Global, text: &[u8]) -> Result<Option<Vec<u8>>, AllocErro
     Ok(Some(Vec::from_slice(alloc, text)?))
 }
 
-// The well formed receipt whose row it is, where its tracker's name is legal.
-fn read(alloc: Global, row: &ReceiptRow) -> Result<Option<Receipt>, AllocError>
-    requires { IsName 8 row.now.tracker.items }
-    ensures { IfOk result (IsReading (IsWellFormedRowOf row.now)) }
-{
-    let Some(number) = number_of(row.number) else {
-        return Ok(None);
-    };
-    let Some(text) = request_text(alloc, &row.text)? else {
-        return Ok(None);
-    };
-    let Some(named) = keys_of_text(alloc, &row.reply)? else {
-        return Ok(None);
-    };
-    Ok(Some(Receipt::new(number, text, named)))
-}
-
 /// The receipts that have just these rows, in any order; `None` where there are none well formed: where a row is that of
 /// no receipt, where a tracker has two, or where there are more rows than trackers may have receipts.
 pub fn receipts_of(alloc: Global, rows: &[ReceiptRow]) -> Result<Option<Receipts>, AllocError>
@@ -72,13 +99,13 @@ pub fn receipts_of(alloc: Global, rows: &[ReceiptRow]) -> Result<Option<Receipts
 {
     let mut receipts = Receipts::new(alloc)?;
     for row in rows {
-        let Some(tracker) = TrackerName::from_text(&row.tracker) else {
+        let Some(tracker) = row.tracker() else {
             return Ok(None);
         };
-        if receipts.is_full() || receipts.last(&tracker).is_some() {
+        if !receipts.is_open_to(&tracker) {
             return Ok(None);
         }
-        let Some(receipt) = read(alloc, row)? else {
+        let Some(receipt) = row.receipt(alloc)? else {
             return Ok(None);
         };
         receipts.put(&tracker, receipt);

@@ -13,12 +13,12 @@ fn row(
     text: &[u8],
     reply: &str,
 ) -> Result<ReceiptRow, AllocError> {
-    Ok(ReceiptRow {
-        tracker: Vec::from_slice(alloc, tracker.as_bytes())?,
+    Ok(ReceiptRow::new(
+        Vec::from_slice(alloc, tracker.as_bytes())?,
         number,
-        text: Vec::from_slice(alloc, text)?,
-        reply: Vec::from_slice(alloc, reply.as_bytes())?,
-    })
+        Vec::from_slice(alloc, text)?,
+        Vec::from_slice(alloc, reply.as_bytes())?,
+    ))
 }
 
 /// Rows of this many trackers, T0 and on.
