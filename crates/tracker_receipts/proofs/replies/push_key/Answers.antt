@@ -15,7 +15,7 @@ returns-then-is_empty c =
     let shown = c.in_ok-shown.ensures.ok in
     let none : length (string_bytes old) ≡ 0 = sym old.bytes.ok.0 ∙ eqb-true _ 0 (sym c.is_empty.ensures ∙ c.if-is_empty.true) in
     on_ok c.push_str.result (string_bytes c.push_str.new.self) (string_bytes old ++ c.deref.result.now) (string_bytes old) c.push_str.ensures.bytes (λ e keys was.
-        first_pushed keys c.args.key.now (string_bytes old) (string_bytes c.push_str.new.self) none (e ∙ ap (λ t. string_bytes old ++ t) (c.deref.ensures ∙ shown)) was)
+    first_pushed keys c.args.key.now (string_bytes old) (string_bytes c.push_str.new.self) none (e ∙ ap (λ t. string_bytes old ++ t) (c.deref.ensures ∙ shown)) was)
 
 pub returns : goal.returns
 returns c =
@@ -27,4 +27,4 @@ returns c =
     let apart = eqb-false old.bytes.len 0 (sym c.is_empty.ensures ∙ c.if-is_empty.false) in
     let some : 0 < length (string_bytes old) = omega (arith, apart, old.bytes.ok.0) in
     on_ok c.push_str-else-is_empty-2.result (string_bytes new) (string_bytes mid ++ c.deref-else-is_empty.result.now) (string_bytes mid) c.push_str-else-is_empty-2.ensures.bytes (λ e keys was.
-        next_pushed keys c.args.key.now (string_bytes old) (string_bytes mid) (string_bytes new) some blank (e ∙ ap (λ t. string_bytes mid ++ t) (c.deref-else-is_empty.ensures ∙ shown)) was)
+    next_pushed keys c.args.key.now (string_bytes old) (string_bytes mid) (string_bytes new) some blank (e ∙ ap (λ t. string_bytes mid ++ t) (c.deref-else-is_empty.ensures ∙ shown)) was)

@@ -39,7 +39,7 @@ returns c =
         named = named.0;
       },
       columns_are row made
-      (sym (same ∙ ap (λ r. r.number) c.self.view_is) ∙ number.2)
-      (sym (text.1 ∙ c.deref.ensures.value ∙ ap (λ r. r.text) c.self.view_is))
-      (subst (λ t. Joins t c.in-Some-3.named.items) (c.deref-2.ensures.value ∙ ap (λ r. r.reply) c.self.view_is) named),
+          (sym (same ∙ ap (λ r. r.number) c.self.view_is) ∙ number.2)
+          (sym (text.1 ∙ c.deref.ensures.value ∙ ap (λ r. r.text) c.self.view_is))
+          (subst (λ t. Joins t c.in-Some-3.named.items) (c.deref-2.ensures.value ∙ ap (λ r. r.reply) c.self.view_is) named),
     )
