@@ -4,7 +4,6 @@
 //! after the other. A line for each: with `parts` what `prepare`, the writing of what changes, and `apply` take, and how
 //! many rows were written; with `whole` what a call of the desk takes.
 #![tactic(auto)]
-ghost use Rattle.std.specs.Prelude.{◌≡◌, false, IfOk};
 
 use plan_basics::{OpKey, minute_of_text};
 use plan_core::Plan;
@@ -104,9 +103,10 @@ fn tell_whole<W: Write>(
     conn: Connection<FileStore<File>>,
     keys: &[String],
     out: &mut W,
-) -> Result<(), Failure>
-    requires { conn.in_transaction ≡ false }
-{
+) -> Result<(), Failure> {
+    if !conn.is_autocommit() {
+        return Err(NO_DATABASE);
+    }
     let Ok(mut desk) = Desk::open(rt.alloc(), conn) else {
         return Err(NO_DATABASE);
     };
