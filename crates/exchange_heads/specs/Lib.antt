@@ -1,0 +1,6 @@
+pub mod Statuses
+pub mod Replies
+pub mod Routes
+pub mod Fields
+pub mod Tests
+pub mod Heads

@@ -1,0 +1,100 @@
+// The first line of a request: its path's route, and the method that the route takes.
+ghost use Rattle.std.specs.Prelude.{◌≡◌, ◌↔◌, List, ℕ, IsTrue, IfOk, MatchOption, MatchResult};
+ghost use Rattle.percent_encoding.specs.Percent.{percent_decode as unescaped};
+ghost use Rattle.exchange_heads.specs.Routes.{path_of as path_before, IsReadyPath, Matches, method_of};
+ghost use Rattle.exchange_heads.specs.Statuses.{method_text};
+ghost use Rattle.exchange_heads.specs.Tests.{Takes, Fails};
+
+use crate::asking::Rejection;
+use crate::statuses::Method;
+use percent_encoding::percent_decode;
+use std::alloc::{AllocError, Global};
+
+/// What a path stands for.
+#[derive(Clone, Copy, Debug, PartialEq, Eq)]
+pub(crate) enum Route {
+    Report,
+    Operator,
+    Ready,
+    Occurrences,
+}
+
+impl Route {
+    /// The method that the route takes.
+    pub(crate) fn method(self) -> Method
+        ensures { result ≡ method_of self }
+    {
+        match self {
+            Route::Report | Route::Operator => Method::Post,
+            Route::Ready | Route::Occurrences => Method::Get,
+        }
+    }
+}
+
+/// What stands before `{ws}` in the path of a ready list.
+const READY: &[u8] = b"/ready/";
+
+/// A target up to its first question mark.
+fn path_of(target: &[u8]) -> &[u8]
+    ensures { result.now ≡ path_before target.now }
+{
+    match target.iter().position(|byte| *byte == b'?') {
+        Some(end) => &target[..end],
+        None => target,
+    }
+}
+
+/// Whether a path is `/ready/` and a segment.
+fn is_ready_path(path: &[u8]) -> bool
+    ensures { IsTrue result ↔ ((segment : List ℕ) × IsReadyPath path.now segment) }
+{
+    match path.strip_prefix(READY) {
+        Some(segment) => !segment.is_empty() && !segment.contains(&b'/'),
+        None => false,
+    }
+}
+
+/// The route of a path, if it has one.
+fn route_of(path: &[u8]) -> Option<Route>
+    ensures { MatchOption result ((r : Route) → ¬ Matches path.now r) (Matches path.now) }
+{
+    if std::str::from_utf8(path).is_err() {
+        return None;
+    }
+    if path == b"/report".as_slice() {
+        return Some(Route::Report);
+    }
+    if path == b"/operator".as_slice() {
+        return Some(Route::Operator);
+    }
+    if path == b"/occurrences".as_slice() {
+        return Some(Route::Occurrences);
+    }
+    is_ready_path(path).then_some(Route::Ready)
+}
+
+/// The route that a request's first line takes, or the first test of the line that it fails.
+pub(crate) fn route_of_line(method: &[u8], target: &[u8]) -> Result<Route, Rejection>
+    ensures { (fields : List (List ℕ × List ℕ)) (rest : List ℕ)
+        → MatchResult result (Takes (record { method = method.now; target = target.now; fields = fields; rest = rest }))
+            (Fails (record { method = method.now; target = target.now; fields = fields; rest = rest })) }
+{
+    if target.first() != Some(&b'/') {
+        return Err(Rejection::OtherForm);
+    }
+    let route = route_of(path_of(target)).ok_or(Rejection::NoRoute)?;
+    if method != route.method().as_str().as_bytes() {
+        return Err(Rejection::OtherMethod(route.method()));
+    }
+    Ok(route)
+}
+
+/// The segment that names a workstation, without its escapes.
+pub(crate) fn segment_of(alloc: Global, target: &[u8]) -> Result<Vec<u8>, AllocError>
+    requires ready { (segment : List ℕ) × IsReadyPath (path_before target.now) segment }
+    ensures segment { IfOk result (λ name. (segment : List ℕ) × IsReadyPath (path_before target.now) segment × (name.items ≡ unescaped segment)) }
+{
+    let mut name = Vec::new(alloc);
+    percent_decode(&path_of(target)[READY.len()..]).append_to(&mut name)?;
+    Ok(name)
+}
