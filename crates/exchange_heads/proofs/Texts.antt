@@ -1,5 +1,5 @@
 -- Lemmas on lists and on what a value tells.
-use Rattle.std.proofs.Common.{◌≡◌, ℕ, ◌+◌, ◌<◌, ◌≤◌, ◌^◌, List, [], ◌∷◌, ◌++◌, length, take, drop, map, get_or, Bool, true, false, cond, Option, Some, None, Result, Ok, Err, MatchOption, IfSome, refl, sym, ◌∙◌, ap, subst, arith, rules}
+use Rattle.std.proofs.Common.{◌≡◌, ℕ, ◌+◌, ◌<◌, ◌≤◌, ◌^◌, List, [], ◌∷◌, ◌++◌, length, take, drop, map, get_or, Bool, true, false, cond, Option, Some, None, Result, Ok, Err, MatchOption, IfSome, refl, sym, ◌∙◌, ap, subst, arith, append-nil}
 use Rattle.std.specs.List.{filter, All}
 use Rattle.std.specs.Result.{result_ok}
 use Rattle.std.specs.Str.{IsUtf8}
@@ -15,6 +15,10 @@ use Rattle.exchange_heads.specs.Fields.{IsDigit, IsLengthText, TellsLength, is_n
 pub IfSome-each : {A : Type 0} (o : Option A) (P : A → Type 0) → ((x : A) → P x) → IfSome o P
 IfSome-each None P h = tt
 IfSome-each (Some x) P h = h x
+
+pub IfSome-weaker : {A : Type 0} (o : Option A) (P Q : A → Type 0) → ((x : A) → P x → Q x) → IfSome o P → IfSome o Q
+IfSome-weaker None P Q h p = tt
+IfSome-weaker (Some x) P Q h p = h x p
 
 tells_digits : IsDigitsTest (All IsDigit)
 tells_digits = record {
@@ -53,8 +57,9 @@ module _ {X : Type 0} (f : X → List ℕ × List ℕ) (name : List ℕ) where
       ∙ ap (λ v. values_of name (map f (take i xs)) ++ map (λ field. field.1) (cond v (f (get_or xs i d) ∷ []) [])) e
 
   pub values-same : (xs : List X) (i : ℕ) (d : X) → i < length xs → is_named name (f (get_or xs i d)) ≡ false
-      → values_of name (map f (take (i + 1) xs)) ≡ values_of name (map f (take i xs)) ++ []
+      → values_of name (map f (take (i + 1) xs)) ≡ values_of name (map f (take i xs))
   values-same xs i d h e =
       ap (λ l. values_of name (map f l)) (take_more xs i d h)
       ∙ grown (take i xs) (get_or xs i d)
       ∙ ap (λ v. values_of name (map f (take i xs)) ++ map (λ field. field.1) (cond v (f (get_or xs i d) ∷ []) [])) e
+      ∙ append-nil (values_of name (map f (take i xs)))

@@ -128,14 +128,21 @@ fn answer_of<R: Read>(
         ComesTo (request_at head.now.bytes.now head.now.headers.now head.now.spans left) answer)) }
     ensures reader_fault { (result ≡ Err ExchangeFault.Reader) ↔ (failed_of reader.new ≡ true) }
 {
-    let route = match route_of_line(head.method(), head.target()) {
+    let target = head.target();
+    let route = match route_of_line(head.method(), target) {
         Ok(route) => route,
         Err(test) => return Ok(Err(test)),
     };
     match route {
-        Route::Report => Ok(body_of(alloc, reader, head)?.map(Asked::Report)),
-        Route::Operator => Ok(body_of(alloc, reader, head)?.map(Asked::Operator)),
-        Route::Ready => Ok(Ok(Asked::Ready(segment_of(alloc, head.target())?))),
+        Route::Report => match body_of(alloc, reader, head)? {
+            Ok(body) => Ok(Ok(Asked::Report(body))),
+            Err(test) => Ok(Err(test)),
+        },
+        Route::Operator => match body_of(alloc, reader, head)? {
+            Ok(body) => Ok(Ok(Asked::Operator(body))),
+            Err(test) => Ok(Err(test)),
+        },
+        Route::Ready => Ok(Ok(Asked::Ready(segment_of(alloc, target)?))),
         Route::Occurrences => Ok(Ok(Asked::Occurrences)),
     }
 }

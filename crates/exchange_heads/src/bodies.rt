@@ -4,6 +4,7 @@ ghost use Rattle.plan_basics.specs.Watched.{inner_of, failed_of};
 ghost use Rattle.exchange_heads.specs.Heads.{IsFront};
 
 use crate::asking::ExchangeFault;
+use crate::reading::fill;
 use plan_basics::Watched;
 use std::alloc::Global;
 use std::io::Read;
@@ -25,8 +26,8 @@ pub(crate) fn read_body<R: Read>(
         return Ok(Some(front[..length].to_vec(alloc)?));
     }
     let mut missing = vec![in alloc; 0; length - front.len()]?;
-    if reader.read_exact(&mut missing).is_err() {
-        return if reader.failed() { Err(ExchangeFault::Reader) } else { Ok(None) };
+    if fill(reader, &mut missing)? < missing.len() {
+        return Ok(None);
     }
     let mut body = Vec::with_capacity(alloc, length)?;
     body.extend_from_slice(front)?;

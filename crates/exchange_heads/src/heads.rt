@@ -5,6 +5,7 @@ ghost use Rattle.exchange_heads.specs.declared.asking.TheConstants.{MOST_HEAD_BY
 ghost use Rattle.exchange_heads.specs.Heads.{FindsHead};
 
 use crate::asking::ExchangeFault;
+use crate::reading::read_on;
 use httparse::Status;
 use httparse::spans::{HeaderSpan, RequestSpans, parse_request};
 use plan_basics::Watched;
@@ -34,12 +35,10 @@ pub(crate) fn read_head<R: Read>(
         if filled == buffer.len() {
             return Ok(None);
         }
-        let Ok(n) = reader.read(&mut buffer[filled..]) else {
-            return Err(ExchangeFault::Reader);
-        };
-        if n == 0 {
+        let now = read_on(reader, buffer, filled)?;
+        if now == filled {
             return Ok(None);
         }
-        filled += n;
+        filled = now;
     }
 }

@@ -5,12 +5,13 @@
 mod asking;
 mod bodies;
 mod heads;
+mod reading;
 mod fields;
 mod replies;
 mod routes;
 mod statuses;
-// cfg
-// mod tests;
+#[cfg(test)]
+mod tests;
 
 pub use asking::{Asked, ExchangeFault, MOST_BODY_BYTES, MOST_FIELDS, MOST_HEAD_BYTES, Rejection, read_exchange};
 pub use replies::reply_bytes;
