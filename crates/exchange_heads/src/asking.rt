@@ -129,7 +129,8 @@ fn answer_of<R: Read>(
     ensures reader_fault { (result ≡ Err ExchangeFault.Reader) ↔ (failed_of reader.new ≡ true) }
 {
     let target = head.target();
-    let route = match route_of_line(head.method(), target) {
+    let line = route_of_line(alloc, head.method(), target)?;
+    let route = match line {
         Ok(route) => route,
         Err(test) => return Ok(Err(test)),
     };

@@ -4,9 +4,9 @@
 
 mod asking;
 mod bodies;
+mod fields;
 mod heads;
 mod reading;
-mod fields;
 mod replies;
 mod routes;
 mod statuses;

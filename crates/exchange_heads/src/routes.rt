@@ -1,12 +1,14 @@
 // The first line of a request: its path's route, and the method that the route takes.
-ghost use Rattle.std.specs.Prelude.{◌≡◌, ◌↔◌, List, ℕ, IsTrue, IfOk, MatchOption, MatchResult};
+ghost use Rattle.std.specs.Prelude.{◌≡◌, List, ℕ, IfOk, MatchOption, MatchResult};
 ghost use Rattle.percent_encoding.specs.Percent.{percent_decode as unescaped};
 ghost use Rattle.exchange_heads.specs.Routes.{path_of as path_before, IsReadyPath, Matches, method_of};
+ghost use Rattle.exchange_heads.specs.Routers.{table};
 ghost use Rattle.exchange_heads.specs.Statuses.{method_text};
 ghost use Rattle.exchange_heads.specs.Tests.{Takes, Fails};
 
 use crate::asking::Rejection;
 use crate::statuses::Method;
+use matchit::{InsertError, Router};
 use percent_encoding::percent_decode;
 use std::alloc::{AllocError, Global};
 
@@ -44,49 +46,54 @@ fn path_of(target: &[u8]) -> &[u8]
     }
 }
 
-/// Whether a path is `/ready/` and a segment.
-fn is_ready_path(path: &[u8]) -> bool
-    ensures { IsTrue result ↔ ((segment : List ℕ) × IsReadyPath path.now segment) }
+/// The routes, each under its path.
+fn router(alloc: Global) -> Result<Router<Route>, InsertError>
+    ensures { IfOk result (λ router. router ≡ table) }
 {
-    match path.strip_prefix(READY) {
-        Some(segment) => !segment.is_empty() && !segment.contains(&b'/'),
-        None => false,
-    }
+    let mut router = Router::new(alloc);
+    router.insert("/report", Route::Report)?;
+    router.insert("/operator", Route::Operator)?;
+    router.insert("/ready/{ws}", Route::Ready)?;
+    router.insert("/occurrences", Route::Occurrences)?;
+    Ok(router)
 }
 
 /// The route of a path, if it has one.
-fn route_of(path: &[u8]) -> Option<Route>
-    ensures { MatchOption result ((r : Route) → ¬ Matches path.now r) (Matches path.now) }
+fn route_of(alloc: Global, path: &[u8]) -> Result<Option<Route>, AllocError>
+    ensures { IfOk result (λ found. MatchOption found ((r : Route) → ¬ Matches path.now r) (Matches path.now)) }
 {
-    if std::str::from_utf8(path).is_err() {
-        return None;
+    let Ok(text) = std::str::from_utf8(path) else {
+        return Ok(None);
+    };
+    let Ok(router) = router(alloc) else {
+        return Err(AllocError);
+    };
+    match router.at(text) {
+        Ok(found) => Ok(Some(*found.value)),
+        Err(_) => Ok(None),
     }
-    if path == b"/report".as_slice() {
-        return Some(Route::Report);
-    }
-    if path == b"/operator".as_slice() {
-        return Some(Route::Operator);
-    }
-    if path == b"/occurrences".as_slice() {
-        return Some(Route::Occurrences);
-    }
-    is_ready_path(path).then_some(Route::Ready)
 }
 
 /// The route that a request's first line takes, or the first test of the line that it fails.
-pub(crate) fn route_of_line(method: &[u8], target: &[u8]) -> Result<Route, Rejection>
-    ensures { (fields : List (List ℕ × List ℕ)) (rest : List ℕ)
-        → MatchResult result (Takes (record { method = method.now; target = target.now; fields = fields; rest = rest }))
-            (Fails (record { method = method.now; target = target.now; fields = fields; rest = rest })) }
+pub(crate) fn route_of_line(
+    alloc: Global,
+    method: &[u8],
+    target: &[u8],
+) -> Result<Result<Route, Rejection>, AllocError>
+    ensures { IfOk result (λ line. (fields : List (List ℕ × List ℕ)) (rest : List ℕ)
+        → MatchResult line (Takes (record { method = method.now; target = target.now; fields = fields; rest = rest }))
+            (Fails (record { method = method.now; target = target.now; fields = fields; rest = rest }))) }
 {
     if target.first() != Some(&b'/') {
-        return Err(Rejection::OtherForm);
+        return Ok(Err(Rejection::OtherForm));
     }
-    let route = route_of(path_of(target)).ok_or(Rejection::NoRoute)?;
+    let Some(route) = route_of(alloc, path_of(target))? else {
+        return Ok(Err(Rejection::NoRoute));
+    };
     if method != route.method().as_str().as_bytes() {
-        return Err(Rejection::OtherMethod(route.method()));
+        return Ok(Err(Rejection::OtherMethod(route.method())));
     }
-    Ok(route)
+    Ok(Ok(route))
 }
 
 /// The segment that names a workstation, without its escapes.
