@@ -31,12 +31,12 @@ impl Read for Pieces<'_> {
 }
 
 // What is asked for, and its body or name.
-fn told(asked: &Asked) -> (&'static str, &[u8]) {
+fn told(asked: &Asked) -> (&'static [u8], &[u8]) {
     match asked {
-        Asked::Report(body) => ("report", body.as_slice()),
-        Asked::Operator(body) => ("operator", body.as_slice()),
-        Asked::Ready(name) => ("ready", name.as_slice()),
-        Asked::Occurrences => ("occurrences", b""),
+        Asked::Report(body) => (b"report", body.as_slice()),
+        Asked::Operator(body) => (b"operator", body.as_slice()),
+        Asked::Ready(name) => (b"ready", name.as_slice()),
+        Asked::Occurrences => (b"occurrences", b""),
     }
 }
 
@@ -51,7 +51,7 @@ fn a_report_in_pieces_and_no_read_after_it(rt: HostRuntime) -> Result<(), Fail> 
         let mut reader = Watched::new(Pieces { left: REPORT, most });
         let answer = read_exchange(rt.alloc(), &mut reader)?;
         let asked = answer.ok().ok_or("rejected")?;
-        assert_eq!(rt; told(&asked).0, "report", "pieces of {most}");
+        assert_eq!(rt; told(&asked).0, b"report".as_slice(), "pieces of {most}");
         assert_eq!(rt; told(&asked).1, BODY, "pieces of {most}");
         assert!(rt; !reader.failed());
     }
@@ -71,21 +71,21 @@ fn a_report_cut_after_each_byte(rt: HostRuntime) -> Result<(), Fail> {
 }
 
 // What is asked for, its body or name, and a request.
-const ASKED: [(&str, &[u8], &[u8]); 5] = [
-    ("operator", b"{}", b"POST /operator?x HTTP/1.1\r\ncontent-LENGTH: \t000000002 \r\n\r\n{}more"),
-    ("report", b"", b"\r\nPOST /report HTTP/1.0\nContent-Length: 0\n\n"),
-    ("ready", b"CPU1", b"GET /ready/CPU%31 HTTP/1.1\r\nContent-Length: x\r\n\r\n"),
-    ("ready", b"%G", b"GET /ready/%G HTTP/1.1\r\n\r\n"),
-    ("occurrences", b"", b"GET /occurrences HTTP/1.1\r\nHost: localhost\r\n\r\n"),
+const ASKED: [(&[u8], &[u8], &[u8]); 5] = [
+    (b"operator", b"{}", b"POST /operator?x HTTP/1.1\r\ncontent-LENGTH: \t000000002 \r\n\r\n{}more"),
+    (b"report", b"", b"\r\nPOST /report HTTP/1.0\nContent-Length: 0\n\n"),
+    (b"ready", b"CPU1", b"GET /ready/CPU%31 HTTP/1.1\r\nContent-Length: x\r\n\r\n"),
+    (b"ready", b"%G", b"GET /ready/%G HTTP/1.1\r\n\r\n"),
+    (b"occurrences", b"", b"GET /occurrences HTTP/1.1\r\nHost: localhost\r\n\r\n"),
 ];
 
 #[test]
 fn what_is_asked_for(rt: HostRuntime) -> Result<(), Fail> {
     for (what, bytes, input) in ASKED {
         let answer = read_exchange(rt.alloc(), &mut Watched::new(input))?;
-        let asked = answer.ok().ok_or(what)?;
+        let asked = answer.ok().ok_or("rejected")?;
         assert_eq!(rt; told(&asked).0, what);
-        assert_eq!(rt; told(&asked).1, bytes, "{what}");
+        assert_eq!(rt; told(&asked).1, bytes);
     }
     Ok(())
 }
