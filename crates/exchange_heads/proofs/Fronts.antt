@@ -1,8 +1,8 @@
 -- What the bytes that were taken from an input say of the whole.
-use Rattle.std.proofs.Common.{◌≡◌, ◌∙◌, refl, sym, ap, subst, arith, ℕ, ◌+◌, ◌-◌, ◌<◌, ◌≤◌, ◌++◌, List, [], Option, Some, None, IfSome, take, length, take_at, append-nil, length-append}
+use Rattle.std.proofs.Common.{◌≡◌, ◌∙◌, refl, sym, ap, arith, ℕ, ◌+◌, ◌-◌, ◌<◌, ◌≤◌, ◌++◌, List, Option, Some, None, IfSome, take, length, take_at, length-append}
 use Rattle.std.proofs.Math.Seq.{take-append-add}
 use Rattle.std.specs.Io.KnownBytes.{Consumes, IsAtEnd}
-use Rattle.httparse.specs.Grammar.{RequestHead, ReadsRequest, HasNoRequest, print_request}
+use Rattle.httparse.specs.Grammar.{RequestHead, HasNoRequest, print_request}
 use Rattle.httparse.specs.Spans.{RequestOverflows}
 use Rattle.exchange_heads.specs.declared.asking.TheConstants.{MOST_HEAD_BYTES, MOST_FIELDS}
 use Rattle.exchange_heads.specs.Tests.{HasHead}
@@ -21,7 +21,6 @@ begins front left text rest e h = sym (take_at front left (length front) refl) �
 pub data IsEnough (new : Option (List ℕ)) (front : List ℕ) : Type 0 where
   ended : IsAtEnd new → IsEnough new front
   full : MOST_HEAD_BYTES ≤ length front → IsEnough new front
-
 
 -- enough bytes without a head: the input has none
 pub none_in_enough : (old new : Option (List ℕ)) (front : List ℕ) → Consumes old new front → IsEnough new front → HasNoRequest front → IfSome old (λ input. (head : RequestHead) (rest : List ℕ) → ¬ HasHead input head rest)

@@ -1,10 +1,10 @@
 -- What rows of routes lead to: a fork, an end, a segment.
-use Rattle.std.proofs.Common.{◌≡◌, ◌≢◌, ◌==◌, ◌<◌, ◌-◌, ◌∙◌, ℕ, List, [], ◌∷◌, ◌++◌, length, drop, Bool, true, false, cond, ◌||◌, Option, Some, None, refl, sym, ap, arith, append-nil}
+use Rattle.std.proofs.Common.{◌≡◌, ◌≢◌, ◌==◌, ◌<◌, ◌-◌, ◌∙◌, ℕ, List, [], ◌∷◌, ◌++◌, length, drop, Bool, true, false, cond, ◌||◌, Some, None, refl, sym, ap, arith, append-nil}
 use Rattle.std.specs.List.{list_any}
 use Rattle.std.proofs.lemmas.Bool.{eqb-true, eqb-false}
 use Rattle.std.proofs.lemmas.Bool.Decides.{nat_tests}
 use Rattle.matchit.specs.Rows.{Rows, prepend, param_token, catch_all_token}
-use Rattle.matchit.specs.Seek.{first, seek, step, own, or_else, param_step, has_slash}
+use Rattle.matchit.specs.Seek.{first, seek, step, or_else, param_step, has_slash}
 use Rattle.matchit.proofs.SeekLemmas.{own-append, step-append, step-miss, seek-lit, seek-empty, seek-drop, param_step-empty, or_else-none}
 
 drop-length : (p : List ℕ) → drop (length p) p ≡ []
@@ -31,6 +31,7 @@ fork x y w v A B (b ∷ p) n lx ly =
   where
     nothing : (t : ℕ) → x ≢ t → y ≢ t → step t (prepend (x ∷ w) A) ++ step t (prepend (y ∷ v) B) ≡ []
     nothing t nx ny = rw (step-miss t x w A nx, step-miss t y v B ny) refl
+
     by : (t : Bool) → (x == b) ≡ t → first (step b (prepend (x ∷ w) A) ++ step b (prepend (y ∷ v) B)) p ≡ or_else (first (prepend (x ∷ w) A) (b ∷ p)) (first (prepend (y ∷ v) B) (b ∷ p))
     by true e =
         let same : x ≡ b = eqb-true x b e in

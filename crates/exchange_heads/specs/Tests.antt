@@ -1,6 +1,6 @@
 -- The tests that a request has to pass before a desk is asked, in their order; each with the status of the reply where it
 -- is the first that fails. All speak of the whole input of a connection, however it comes.
-use Rattle.std.specs.Prelude.{◌≡◌, ◌≢◌, ℕ, ◌<◌, ◌≤◌, ◌⊎◌, List, [], ◌∷◌, ◌++◌, length, take, map, codes, slice_get, Some, Result, Ok, Err}
+use Rattle.std.specs.Prelude.{◌≡◌, ◌≢◌, ℕ, ◌<◌, ◌≤◌, ◌⊎◌, List, [], ◌∷◌, length, take, map, codes, slice_get, Some, Result, Ok, Err}
 use Rattle.percent_encoding.specs.Percent.{percent_decode}
 use Rattle.httparse.specs.Grammar.{RequestHead, ReadsRequest, print_request}
 use Rattle.httparse.specs.Spans.{name_and_value}

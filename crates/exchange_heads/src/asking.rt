@@ -65,10 +65,8 @@ impl Rejection {
         ensures { result ≡ status_of self }
     {
         match self {
-            Rejection::NoHead
-            | Rejection::OtherForm
-            | Rejection::BadLength
-            | Rejection::CutShort => Status::BadRequest,
+            Rejection::NoHead | Rejection::OtherForm | Rejection::BadLength | Rejection::CutShort =>
+                Status::BadRequest,
             Rejection::NoRoute => Status::NotFound,
             Rejection::OtherMethod(method) => Status::MethodNotAllowed(method),
             Rejection::Coded => Status::NotImplemented,

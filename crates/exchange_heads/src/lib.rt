@@ -13,6 +13,8 @@ mod statuses;
 #[cfg(test)]
 mod tests;
 
-pub use asking::{Asked, ExchangeFault, MOST_BODY_BYTES, MOST_FIELDS, MOST_HEAD_BYTES, Rejection, read_exchange};
+pub use asking::{
+    Asked, ExchangeFault, MOST_BODY_BYTES, MOST_FIELDS, MOST_HEAD_BYTES, Rejection, read_exchange,
+};
 pub use replies::reply_bytes;
 pub use statuses::{Method, Status};

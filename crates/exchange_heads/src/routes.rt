@@ -82,7 +82,7 @@ pub(crate) fn route_of_line(
 ) -> Result<Result<Route, Rejection>, AllocError>
     ensures { IfOk result (λ line. (fields : List (List ℕ × List ℕ)) (rest : List ℕ)
         → MatchResult line (Takes (record { method = method.now; target = target.now; fields = fields; rest = rest }))
-            (Fails (record { method = method.now; target = target.now; fields = fields; rest = rest }))) }
+        (Fails (record { method = method.now; target = target.now; fields = fields; rest = rest }))) }
 {
     if target.first() != Some(&b'/') {
         return Ok(Err(Rejection::OtherForm));

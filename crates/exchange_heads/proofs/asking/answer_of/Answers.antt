@@ -1,4 +1,4 @@
-use Rattle.std.proofs.Common.{refl, List, [], ℕ, Ok, Err}
+use Rattle.std.proofs.Common.{refl, List, [], ℕ}
 use Rattle.exchange_heads.specs.declared.asking.Asked.TheVariants as asked
 use Rattle.exchange_heads.specs.declared.routes.Route.TheVariants as route
 use Rattle.exchange_heads.specs.Heads.{request_at}
@@ -67,4 +67,4 @@ returns-in-Occurrences-clause-answer g c =
     let head = c.args.head.now in
     let P : List ℕ → Type 0 = λ left. Takes (request_at head.bytes.now head.headers.now head.spans left) route.Occurrences in
     IfSome-each _ P (λ left.
-      rw c.in-Occurrences.is at (of_line (λ q. Takes q c.in-Ok.route) _ _ head.bytes.now head.headers.now head.spans left c.method.ensures c.target-target.ensures (rw c.in-Ok.is at c.in_ok-line.ensures)))
+    rw c.in-Occurrences.is at (of_line (λ q. Takes q c.in-Ok.route) _ _ head.bytes.now head.headers.now head.spans left c.method.ensures c.target-target.ensures (rw c.in-Ok.is at c.in_ok-line.ensures)))

@@ -1,4 +1,4 @@
-use Rattle.std.proofs.Common.{refl, List, ℕ, ◌++◌, drop, MatchResult}
+use Rattle.std.proofs.Common.{refl, List, ℕ, ◌++◌, MatchResult}
 use Rattle.std.specs.Option.{option_map}
 use Rattle.exchange_heads.specs.Heads.{request_at, IsFront}
 use Rattle.exchange_heads.specs.Tests.{Request, SendsBody, HasBody, Fails}
@@ -20,7 +20,7 @@ returns-clause-body g c =
     let P : List ℕ → Type 0 = λ left. IsFront (c.rest.result.now ++ left) c.in-Ok.length (option_map (λ body. body.items) c.in_ok-read_body.field-0) in
     let Q : List ℕ → Type 0 = λ left. SendsBody (request left) → MatchResult c.ok_or.result (λ body. HasBody (request left) body.items) (Fails (request left)) in
     IfSome-weaker _ P Q (λ left front sends.
-      rw c.ok_or.ensures.value
-      (body_answer (request left) c.in-Ok.length c.in_ok-read_body.field-0 (λ body. body.items)
-      (c.in-Ok.ensures (request left) refl sends)
-      (rw c.rest.ensures at front))) c.in_ok-read_body.ensures.body
+    rw c.ok_or.ensures.value
+    (body_answer (request left) c.in-Ok.length c.in_ok-read_body.field-0 (λ body. body.items)
+    (c.in-Ok.ensures (request left) refl sends)
+    (rw c.rest.ensures at front))) c.in_ok-read_body.ensures.body

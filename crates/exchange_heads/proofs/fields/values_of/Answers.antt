@@ -1,4 +1,4 @@
-use Rattle.std.proofs.Common.{◌≡◌, ◌<◌, ◌∙◌, sym, subst, arith, ℕ, List, length}
+use Rattle.std.proofs.Common.{◌<◌, ◌∙◌, sym, subst, arith, ℕ, List, length}
 use Rattle.httparse.specs.Spans.{header_bytes}
 use Rattle.exchange_heads.specs.Heads.{AreValues}
 use Rattle.exchange_heads.proofs.Texts.{values-more, values-same}

@@ -1,4 +1,4 @@
-use Rattle.std.proofs.Common.{◌≡◌, ℕ, ◌<◌, ◌==◌, refl, length, take, Bool, true, false, cond, Option, Some, None, rules, tests, sym, ◌∙◌, ap, ltb, arith}
+use Rattle.std.proofs.Common.{◌≡◌, ℕ, ◌==◌, refl, length, take, Bool, true, false, cond, Some, None, rules, tests, sym, ◌∙◌, ap, ltb, arith}
 use Rattle.std.specs.List.{position_or_len}
 use Rattle.std.proofs.lemmas.Grind.{common_steps}
 use Rattle.std.proofs.lemmas.Iterator.{YieldsList-from_slice}
