@@ -1,5 +1,5 @@
 -- Receipts of the same columns are one receipt.
-use Rattle.std.proofs.Common.{◌≡◌, refl, sym, ap, ap₂, ◌∙◌, arith, ℕ, List, [], ◌∷◌, length, map, All, pos, omega}
+use Rattle.std.proofs.Common.{◌≡◌, refl, sym, ap, ap₂, ◌∙◌, arith, ℕ, List, [], ◌∷◌, length, map, All, pos}
 use Rattle.std.specs.List.{AllByRecursion}
 use Rattle.std.proofs.lemmas.List.Elements.{recursion_from_All}
 use Rattle.plan_basics.proofs.KeyLaws.{one_key}
