@@ -16,5 +16,5 @@ mod workstation_rows;
 
 pub use changes::write_changes;
 pub use creation::create_tables;
-pub use numbered::{write_numbered, write_with_receipt};
+pub use numbered::write_numbered;
 pub use rows::write_and_drop;

@@ -11,8 +11,8 @@ use plan_records::{PlanRow, RowKey};
 use sqlite::{Alter, Connection, Error, Transaction};
 use tracker_receipts::ReceiptRow;
 
-/// Writes the rows that changed, takes out those that are gone, and puts the tracker's receipt in.
-pub fn write_with_receipt<S: Alter>(
+// Writes the rows that changed, takes out those that are gone, and puts the tracker's receipt in.
+fn write_with_receipt<S: Alter>(
     tx: &mut Transaction<'_, S>,
     rows: &[PlanRow],
     gone: &[RowKey],
