@@ -95,15 +95,15 @@ same_columns t s u r h k = h.2 ∙ sym k.2
 -- ---- the rows that were decoded
 
 -- each row of the table is one of them
-pub row_for : (t : Table) (stored : List Row) (read : List PlanRow) → AllZip (IsStoredAs t) stored read → (s : Row) → Has stored s → (r : PlanRow) × Has read r × IsStoredAs t s r
-row_for t (x ∷ stored) (r ∷ read) all s (inl first) = (r, inl refl, subst (λ y. IsStoredAs t y r) (sym first) all.0)
-row_for t (x ∷ stored) (r ∷ read) all s (inr later) = let it = row_for t stored read all.1 s later in (it.0, inr it.1, it.2)
-row_for t (x ∷ stored) [] all s has = absurd all
-row_for t [] read all s has = absurd has
+pub row_for : {X : Type 0} (IsOf : Row → X → Type 0) (stored : List Row) (read : List X) → AllZip IsOf stored read → (s : Row) → Has stored s → (x : X) × Has read x × IsOf s x
+row_for IsOf (u ∷ stored) (x ∷ read) all s (inl first) = (x, inl refl, subst (λ y. IsOf y x) (sym first) all.0)
+row_for IsOf (u ∷ stored) (x ∷ read) all s (inr later) = let it = row_for IsOf stored read all.1 s later in (it.0, inr it.1, it.2)
+row_for IsOf (u ∷ stored) [] all s has = absurd all
+row_for IsOf [] read all s has = absurd has
 
 -- each of them is of a row of the table
-pub stored_for : (t : Table) (stored : List Row) (read : List PlanRow) → AllZip (IsStoredAs t) stored read → (r : PlanRow) → Has read r → (s : Row) × Has stored s × IsStoredAs t s r
-stored_for t (x ∷ stored) (q ∷ read) all r (inl first) = (x, inl refl, subst (IsStoredAs t x) (sym first) all.0)
-stored_for t (x ∷ stored) (q ∷ read) all r (inr later) = let it = stored_for t stored read all.1 r later in (it.0, inr it.1, it.2)
-stored_for t [] (q ∷ read) all r has = absurd all
-stored_for t stored [] all r has = absurd has
+pub stored_for : {X : Type 0} (IsOf : Row → X → Type 0) (stored : List Row) (read : List X) → AllZip IsOf stored read → (x : X) → Has read x → (s : Row) × Has stored s × IsOf s x
+stored_for IsOf (u ∷ stored) (y ∷ read) all x (inl first) = (u, inl refl, subst (IsOf u) (sym first) all.0)
+stored_for IsOf (u ∷ stored) (y ∷ read) all x (inr later) = let it = stored_for IsOf stored read all.1 x later in (it.0, inr it.1, it.2)
+stored_for IsOf [] (y ∷ read) all x has = absurd all
+stored_for IsOf stored [] all x has = absurd has
