@@ -1,4 +1,3 @@
-use Rattle.std.proofs.Common.{arith}
 use Rattle.stored_rows.specs.Receipts.{IsReceiptStoredAs}
 use Rattle.stored_rows.proofs.Appended.{zipped_more}
 use Rattle.stored_rows.proofs.receipts.decode_receipts.Goals as goal
