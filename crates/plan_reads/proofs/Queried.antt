@@ -1,5 +1,5 @@
 -- What a query of a table leaves, and what it shows.
-use Rattle.std.proofs.Common.{◌≡◌, List, [], inl, inr, Ok, Err, Result, OnOk, IfOk, IfErr, is_some, Vec, sym, ap, subst, ◌∙◌}
+use Rattle.std.proofs.Common.{◌≡◌, ℕ, List, [], inl, inr, Ok, Err, Result, OnOk, IfOk, IfErr, is_some, Vec, sym, ap, subst, ◌∙◌}
 use Rattle.std.proofs.lemmas.Bool.{true≢false}
 use Rattle.std.specs.declared.alloc.Global.{Global}
 use Rattle.std.specs.List.Sorted.{IsPermutation}
