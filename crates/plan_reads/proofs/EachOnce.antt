@@ -1,4 +1,4 @@
--- No row of a plan stands twice in its table, and no two receipts are of one tracker, since the key of a table is unique.
+-- No row of a plan stands twice in its table, and no tracker has two receipts, since the key of a table is unique.
 use Rattle.std.proofs.Common.{◌≡◌, ◌≢◌, ◌&&◌, ℕ, zero, suc, not, true, List, [], ◌∷◌, ◌++◌, drop, get_or, map, take, refl, sym, ap, subst, ◌∙◌, inl, inr, arith}
 use Rattle.std.specs.List.{range_with_len, AllByRecursion, AllPairs, AllZip}
 use Rattle.std.proofs.lemmas.Bool.{cases_Bool, true≢false}

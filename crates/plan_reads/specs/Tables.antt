@@ -29,7 +29,7 @@ text_for table.Operation = READ_OPERATION.now
 text_for table.Dependency = READ_DEPENDENCY.now
 text_for table.Need = READ_NEED.now
 
--- the rows of a table of a plan, as they are read: the rowid, and then each column. In `meta` the rowid is the first column too
+-- the rows of a table, as they are read: the rowid, and then each column. In `meta` the rowid is the first column too
 abbrev pub rows_of : Table → Trees → List Row
 rows_of table.Meta trees = map (shown_by_rowid 5) (trees 0)
 rows_of table.Workstation trees = trees 1
@@ -48,7 +48,7 @@ receipt_rows trees = trees 15
 abbrev pub all_tables : List Table
 all_tables = table.Meta ∷ table.Workstation ∷ table.Interval ∷ table.Resource ∷ table.Occurrence ∷ table.Operation ∷ table.Dependency ∷ table.Need ∷ []
 
--- in some table of a plan stands a row that is none of a plan, since a value is out of its range; or among the receipts a row that is none of a receipt
+-- a row in a table of a plan is none of a plan, since a value is out of its range; or one of receipts is no receipt's
 abbrev pub HasOtherRow : Trees → Type 0
 HasOtherRow trees = ((t : Table) × (stored : Row) × Has (rows_of t trees) stored × IsNoRow t stored) ⊎ ((stored : Row) × Has (receipt_rows trees) stored × IsNoReceipt stored)
 
@@ -59,7 +59,7 @@ pub record StoresRows (IsIn : PlanRow → Type 0) (HasReceipt : Columns → Type
   pub rows : HoldRows IsIn held
   pub receipts : (x : StoredReceipt) → Has held.receipts x ↔ ((c : Columns) × HasReceipt c × (x ≡ stored_receipt c))
 
--- the nine tables are there, and hold just these rows of a plan, each once, and just these of receipts, no two of one tracker
+-- the nine tables are there, and hold just these rows of a plan, each once, and of receipts, no two of one tracker
 pub record StoresEach (rows : List PlanRow) (receipts : List Columns) (db : Database) : Type 0 where
   pub stores : StoresRows (Contains rows) (Contains receipts) db
   pub once : AllPairs (λ a b. a ≢ b) rows
@@ -72,7 +72,7 @@ pub record AddsTable (t : Table) (trees : Trees) (before after : List PlanRow) :
   pub same : IsPermutation (rows_of t trees) stored
   pub added : AppendsRows t stored before after
 
--- the rows of the table of receipts, which their rowids tell apart, are read in some order as the rows of receipts that they are
+-- the rows of the table of receipts, which their rowids tell apart, are read in some order: these receipts'
 pub record AreReceiptsRead (trees : Trees) (receipts : List Columns) : Type 0 where
   pub numbered : AreNumbered (receipt_rows trees)
   pub stored : List Row

@@ -91,11 +91,11 @@ fn read_receipts<S: Alter>(
     ensures rows { HasCleanDisk (state S.Store conn.new) → IsLive (state S.Store conn.old) → (state S.Store conn.old).now.schema ≡ schema_9 → IfOk result (λ found. MatchOption found (HasOtherRow (state S.Store conn.old).now.trees) (λ receipts. AreReceiptsRead (state S.Store conn.old).now.trees receipts.items)) }
     ensures understood { HasCleanDisk (state S.Store conn.new) → (state S.Store conn.old).now.schema ≡ schema_9 → IfErr result IsNotOfTables }
 {
-    let rows = query_receipts(conn)?;
-    if !rowids_rise(&rows) {
+    let stored = query_receipts(conn)?;
+    if !rowids_rise(&stored) {
         return Err(Error::SqliteFailure(ErrorCode::DatabaseCorrupt));
     }
-    Ok(decode_receipts(alloc, &rows)?)
+    Ok(decode_receipts(alloc, &stored)?)
 }
 
 // Reads all tables. Answers `None` where a row of one of them is no row of a plan, or none of a receipt.
