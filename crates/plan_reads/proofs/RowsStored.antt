@@ -7,7 +7,6 @@ use Rattle.sqlite_rules.specs.Lists.{Has}
 use Rattle.plan_model.specs.Plan.{Plan}
 use Rattle.plan_records.specs.Rows.{AreRows, IsRow}
 use Rattle.plan_records.specs.declared.PlanRow.{PlanRow}
-use Rattle.plan_records.specs.declared.PlanRow.TheVariants as row
 use Rattle.plan_schema.specs.Schema.{schema_9}
 use Rattle.plan_schema.specs.Stored.{Held, Stores, StoredMeta, StoredWorkstation, StoredInterval, StoredResource, StoredOccurrence, StoredOperation, StoredDependency, StoredNeed}
 use Rattle.plan_schema.proofs.Metas.{meta_stored}
