@@ -22,13 +22,13 @@ module _ (P after : Plan) (os : List OpKey) (sound : IsSoundPlan P) where
   first_receipt n legal first room step =
       let before : State = record { plan = P; receipts = map.empty } in
       let then : State = record { plan = after; receipts = insert map.empty n.tracker (receipt_of n os) } in
-      let next : n.number ≡ last_number (get map.empty n.tracker) + 1 = first ∙ ap (λ last. last_number last + 1) (sym (get-empty name_cmp n.tracker)) in
+      let next : n.number ≡ last_number (get {R = name_cmp} map.empty n.tracker) + 1 = first ∙ ap (λ last. last_number last + 1) (sym (get-empty name_cmp n.tracker)) in
       let kept : IsDeskState then =
           answer_keeps_receipts before then usable usable (numbered n) (accepted os)
           (sound, record { each = empty_is_desk_state.1.each; few = empty_is_desk_state.1.few; before_load = λ none. refl })
           (inr (next, λ chosen is. legal, accepted_with_room P map.empty n room os after step, refl), refl) in
       kept.1.each n.tracker (receipt_of n os)
-      (get-insert name_cmp_total map.empty n.tracker (receipt_of n os) n.tracker ∙ ap (λ b. cond b (Some (receipt_of n os)) (get map.empty n.tracker)) ((eq_by_cmp_equiv name_cmp_total).refl n.tracker))
+      (get-insert name_cmp_total map.empty n.tracker (receipt_of n os) n.tracker ∙ ap (λ b. cond b (Some (receipt_of n os)) (get {R = name_cmp} map.empty n.tracker)) ((eq_by_cmp_equiv name_cmp_total).refl n.tracker))
 
   -- so is each, since its keys are those that its first would have
   pub its_receipt : (T : Receipts) (n : Numbered) → IsNumbered n → n.number ≡ last_number (get T n.tracker) + 1 → HasReceiptRoom T n → Step P n.request (accepted os) after → IsReceipt n.tracker (receipt_of n os)
