@@ -1,5 +1,5 @@
 -- Requests whose other members are counted, and those whose members are named.
-use Rattle.std.proofs.Common.{◌≡◌, ◌⊎◌, inl, inr, ℕ, suc, ◌+◌, ◌≤◌, List, [], ◌∷◌, ◌++◌, length, Bool, true, false, ◌||◌, true≢false, Option, Some, None, refl, sym, ap, ◌∙◌, codes, arith, length-append}
+use Rattle.std.proofs.Common.{◌≡◌, ◌⊎◌, inl, inr, ℕ, suc, ◌+◌, ◌≤◌, List, [], ◌∷◌, ◌++◌, length, Bool, true, false, ◌||◌, true≢false, Option, Some, None, refl, sym, ap, subst, ◌∙◌, codes, arith, length-append}
 use Rattle.std.specs.List.{AllByRecursion}
 use Rattle.std.specs.Str.{bytes_eq}
 use Rattle.std.proofs.lemmas.Slice.Eq.{bytes_eq-Decides}
@@ -11,8 +11,8 @@ use Rattle.plan_records.specs.declared.What.{What}
 use Rattle.plan_records.specs.declared.What.TheVariants as what
 use Rattle.serde_json.specs.Data.{Data, string}
 use Rattle.request_texts.specs.Intervals.{whole}
-use Rattle.request_texts.specs.Members.{Member, HasMember, IsNameAt, member_count}
-use Rattle.request_texts.specs.Requests.{Asks, IsReport, SaysRequest, SaysReport}
+use Rattle.request_texts.specs.Members.{Member, IsJsonOf, HasMember, IsNameAt, member_count}
+use Rattle.request_texts.specs.Requests.{Asks, IsReport, SaysRequest, SaysReport, ReadsAsRequest, ReadsAsReport}
 use Rattle.request_texts.specs.Counted.{SaysBeside, IsReportVerb}
 use Rattle.request_texts.specs.declared.NumberedRequest.{NumberedRequest}
 
@@ -86,4 +86,29 @@ pub report_said : (d : Data) (n : NumberedRequest) → SaysReport d n
 report_said d n h =
     let others : List Member = (codes "tracker", string n.tracker) ∷ (codes "number", whole n.number) ∷ [] in
     let s = beside_of d others n.request h.3 in
-    ((h.0, s.1.0), (h.1, s.1.1.0), (h.3.1, (h.3.5.1.1.0, verb_of_report n.request.what h.3.1 h.3.2 h.2 h.3.4)), s.0)
+    ((h.0, s.1.0), (h.1, s.1.1.0), (h.3.1, h.3.5.1.1.0, verb_of_report n.request.what h.3.1 h.3.2 h.2 h.3.4), s.0)
+
+-- without a request beside tracker and number there is no report
+pub no_report : (d : Data) → ((r : Request) → ¬ SaysBeside d 2 r) → (n : NumberedRequest) → ¬ SaysReport d n
+no_report d none n h = none n.request (report_said d n h).3
+
+-- ---- texts
+
+one_value : (body : List ℕ) (d e : Data) → IsJsonOf body d → IsJsonOf body e → d ≡ e
+one_value body d e h k = cc (h.1, k.1)
+
+-- what a text's value says as a request is what the text says
+pub request_read : (body : List ℕ) (d : Data) (r : Option Request) → IsJsonOf body d → IsReading (SaysBeside d 0) r → IsReading (ReadsAsRequest body) r
+request_read body d None json none =
+    λ r h.
+    let same : h.0 ≡ d = one_value body h.0 d h.1 json in
+    none r (subst (λ (e : Data). SaysBeside e 0 r) same (beside_of h.0 [] r h.2).0)
+request_read body d (Some r) json s = (d, json, request_of d [] r tt s)
+
+-- and so for a report
+pub report_read : (body : List ℕ) (d : Data) (r : Option NumberedRequest) → IsJsonOf body d → IsReading (SaysReport d) r → IsReading (ReadsAsReport body) r
+report_read body d None json none =
+    λ n h.
+    let same : h.0 ≡ d = one_value body h.0 d h.1 json in
+    none n (subst (λ (e : Data). SaysReport e n) same h.2)
+report_read body d (Some n) json s = (d, json, s)

@@ -37,8 +37,17 @@ told_on d count (what.Rerun key) verb a on = told d count key _ verb a.0 a.1 a.2
 told_on d count (what.Complete key) verb a on = told d count key _ verb a.0 a.1 a.2 a.3
 told_on d count _ verb a on = absurd (true≢false (sym on))
 
+name_in : List ℕ → Option (List ℕ × OpKey) → List ℕ
+name_in d None = d
+name_in d (Some p) = p.0
+
+key_in : OpKey → Option (List ℕ × OpKey) → OpKey
+key_in d None = d
+key_in d (Some p) = p.1
+
 parts : (a c : List ℕ) (b d : OpKey) → named_key a b ≡ named_key c d → (a ≡ c) × (b ≡ d)
-parts a c b d e = (cc e, cc e)
+unfolding name_in key_in
+parts a c b d e = (ap (name_in a) e, ap (key_in b) e)
 
 names_on : (name verb : List ℕ) (k key : OpKey) (more : List Member) → named_key name k ≡ named_key verb key → NamesOperation key more → (verb ≡ name) × NamesOperation k more
 names_on name verb k key more e names = let p = parts name verb k key e in (sym p.0, subst (λ (o : OpKey). NamesOperation o more) (sym p.1) names)

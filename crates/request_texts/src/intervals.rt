@@ -31,10 +31,11 @@ pub fn read_intervals(alloc: Global, values: &[Value]) -> Result<Option<Vec<Inte
 fn read_interval(value: &Value) -> Option<Interval>
     ensures { IsReading (IsIntervalOf (view value.now)) result }
 {
-    let [from, end, servers, r1, r2] = value.as_array()?.as_slice() else {
+    let list = value.as_array()?;
+    if list.len() != 5 {
         return None;
-    };
-    interval_of(from, end, servers, r1, r2)
+    }
+    interval_of(&list[0], &list[1], &list[2], &list[3], &list[4])
 }
 
 // The interval of these values.

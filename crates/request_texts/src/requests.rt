@@ -1,5 +1,5 @@
 // Requests, by their members.
-ghost use Rattle.std.specs.Prelude.{codes, IfOk};
+ghost use Rattle.std.specs.Prelude.{◌≡◌, codes, IfOk};
 ghost use Rattle.plan_items.specs.Parts.{IsReading};
 ghost use Rattle.request_texts.specs.Counted.{AsksBy, SaysBeside};
 ghost use Rattle.serde_json.specs.Data.{Data};
@@ -30,9 +30,17 @@ pub fn read_request(alloc: Global, value: &Value, others: usize) -> Result<Optio
         return Ok(None);
     };
     match read_what(alloc, verb, value, count)? {
-        Some(what) => Ok(Some(Request { at, what })),
+        Some(what) => Ok(Some(request_at(at, what))),
         None => Ok(None),
     }
+}
+
+// The request of what is asked at a minute.
+fn request_at(at: i64, what: What) -> Request
+    ensures at { result.at ≡ at }
+    ensures what { result.what ≡ what }
+{
+    Request { at, what }
 }
 
 // What is asked with this `do`, by so many members.
