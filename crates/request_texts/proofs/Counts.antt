@@ -1,5 +1,5 @@
 -- How many members there are beside others.
-use Rattle.std.proofs.Common.{◌≡◌, ℕ, ◌+◌, ◌-◌, ◌≤◌, Option, Some, None, option_map, refl, sym, ap, ◌∙◌, arith}
+use Rattle.std.proofs.Common.{◌≡◌, ℕ, ◌+◌, ◌-◌, ◌≤◌, Option, Some, None, option_map, sym, ap, ◌∙◌, arith}
 use Rattle.std.specs.Option.{SomeIff}
 use Rattle.plan_items.specs.Parts.{IsReading}
 use Rattle.serde_json.specs.Data.{Data, Members}

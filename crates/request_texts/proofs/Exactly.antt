@@ -1,8 +1,7 @@
 -- Requests whose other members are counted, and those whose members are named.
-use Rattle.std.proofs.Common.{◌≡◌, ◌⊎◌, inl, inr, ℕ, suc, ◌+◌, ◌≤◌, List, [], ◌∷◌, ◌++◌, length, Bool, true, false, ◌||◌, true≢false, Option, Some, None, refl, sym, ap, subst, ◌∙◌, codes, arith, length-append}
+use Rattle.std.proofs.Common.{◌≡◌, inl, inr, ℕ, suc, ◌+◌, ◌≤◌, List, [], ◌∷◌, ◌++◌, length, Bool, true, ◌||◌, true≢false, Option, Some, None, refl, sym, ap, subst, ◌∙◌, codes, arith, length-append}
 use Rattle.std.specs.List.{AllByRecursion}
 use Rattle.std.specs.Str.{bytes_eq}
-use Rattle.std.proofs.lemmas.Slice.Eq.{bytes_eq-Decides}
 use Rattle.plan_basics.specs.Names.{IsName}
 use Rattle.plan_basics.specs.declared.limits.TheConstants.{GREATEST_REQUEST_NUMBER}
 use Rattle.plan_items.specs.Parts.{IsReading}
@@ -11,7 +10,7 @@ use Rattle.plan_records.specs.declared.What.{What}
 use Rattle.plan_records.specs.declared.What.TheVariants as what
 use Rattle.serde_json.specs.Data.{Data, string}
 use Rattle.request_texts.specs.Intervals.{whole}
-use Rattle.request_texts.specs.Members.{Member, IsJsonOf, HasMember, IsNameAt, member_count}
+use Rattle.request_texts.specs.Members.{Member, IsJsonOf, HasMember, IsNameAt}
 use Rattle.request_texts.specs.Requests.{Asks, IsReport, SaysRequest, SaysReport, ReadsAsRequest, ReadsAsReport}
 use Rattle.request_texts.specs.Counted.{SaysBeside, IsReportVerb}
 use Rattle.request_texts.specs.declared.NumberedRequest.{NumberedRequest}

@@ -1,5 +1,5 @@
 -- Arrays of five values.
-use Rattle.std.proofs.Common.{◌≡◌, ℕ, List, [], ◌∷◌, length, get_or, map, Option, Some, None, refl, sym, ap, ◌∙◌, subst, arith}
+use Rattle.std.proofs.Common.{◌≡◌, List, [], ◌∷◌, length, get_or, Option, Some, None, sym, ap, ◌∙◌, arith}
 use Rattle.plan_basics.specs.Intervals.{OpenInterval}
 use Rattle.plan_items.specs.Parts.{IsReading}
 use Rattle.serde_json.specs.Data.{Data, array, Items, item, no_items}

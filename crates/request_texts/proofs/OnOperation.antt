@@ -1,5 +1,5 @@
 -- What is asked of one operation, by its key alone.
-use Rattle.std.proofs.Common.{◌≡◌, ℕ, suc, List, [], ◌∷◌, length, Option, Some, None, MatchOption, true≢false, refl, sym, ap, ◌∙◌, subst, codes}
+use Rattle.std.proofs.Common.{◌≡◌, ℕ, suc, List, [], ◌∷◌, length, Option, Some, None, MatchOption, true≢false, refl, sym, ap, subst, codes}
 use Rattle.std.specs.List.{AllByRecursion}
 use Rattle.plan_basics.specs.declared.keys.OpKey.{OpKey}
 use Rattle.plan_items.specs.Parts.{IsReading}

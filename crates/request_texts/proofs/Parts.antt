@@ -1,10 +1,9 @@
 -- The interval of five values.
-use Rattle.std.proofs.Common.{◌≡◌, ◌↔◌, ℕ, List, Option, Some, None, IsSome, IfSome, refl, sym, subst, arith}
+use Rattle.std.proofs.Common.{◌≡◌, ◌↔◌, ℕ, Option, Some, None, IsSome, IfSome, refl, sym, subst}
 use Rattle.plan_basics.specs.Intervals.{OpenInterval, IsInterval, interval_by}
-use Rattle.plan_basics.specs.Minutes.{IsMomentText}
 use Rattle.plan_basics.proofs.MinuteLaws.{one_moment}
 use Rattle.plan_items.specs.Parts.{IsReading}
-use Rattle.serde_json.specs.Data.{Data, string}
+use Rattle.serde_json.specs.Data.{Data}
 use Rattle.request_texts.specs.Intervals.{whole, IsMomentOf, ArePartsOf}
 
 -- a value is one moment's text at most

@@ -1,5 +1,5 @@
 -- What each `do` comes with.
-use Rattle.std.proofs.Common.{◌≡◌, ℕ, suc, List, [], ◌∷◌, length, Bool, true, false, true≢false, Some, refl, sym, ap, ◌∙◌, codes}
+use Rattle.std.proofs.Common.{◌≡◌, ℕ, suc, List, [], ◌∷◌, length, Bool, false, true≢false, refl, sym, ap, ◌∙◌, codes}
 use Rattle.std.specs.Str.{bytes_eq}
 use Rattle.std.proofs.lemmas.Slice.Eq.{bytes_eq-Decides}
 use Rattle.std.specs.List.{AllZip}
@@ -9,12 +9,12 @@ use Rattle.plan_basics.specs.declared.keys.OccKey.{OccKey}
 use Rattle.plan_basics.specs.declared.keys.OpKey.{OpKey}
 use Rattle.plan_records.specs.declared.What.{What}
 use Rattle.plan_records.specs.declared.What.TheVariants as what
-use Rattle.serde_json.specs.Data.{Data, boolean, string, array}
+use Rattle.serde_json.specs.Data.{Data, boolean, array}
 use Rattle.serde_json.specs.View.{items_of}
 use Rattle.request_texts.specs.Members.{Member, HasMember, HasText, IsNameAt}
 use Rattle.request_texts.specs.Intervals.{IsIntervalOf}
 use Rattle.request_texts.specs.Requests.{SpellsOperation, SpellsOccurrence, Asks}
-use Rattle.request_texts.specs.Counted.{AsksBy, on_operation, IsOnOperation}
+use Rattle.request_texts.specs.Counted.{AsksBy, IsOnOperation}
 
 -- two texts that differ aren't one
 pub apart : {xs ys : List ℕ} → xs ≡ ys → bytes_eq xs ys ≡ false → ⊥

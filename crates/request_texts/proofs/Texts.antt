@@ -1,7 +1,7 @@
 -- What the members of an object say, by what is found at their names.
-use Rattle.std.proofs.Common.{◌≡◌, ◌↔◌, ℕ, ◌+◌, ◌-◌, ◌≤◌, List, Bool, Option, Some, None, option_map, option_and_then, IsSome, IfSome, MatchOption, refl, sym, ap, ◌∙◌, subst, arith}
+use Rattle.std.proofs.Common.{◌≡◌, ◌↔◌, ℕ, List, Option, Some, None, option_and_then, IsSome, IfSome, subst}
 use Rattle.plan_items.specs.Parts.{IsReading}
-use Rattle.serde_json.specs.Data.{Data, null, boolean, number, string, array, object, Items}
+use Rattle.serde_json.specs.Data.{Data, string, array, Items}
 use Rattle.serde_json.specs.Find.{as_str, as_array}
 
 -- a text that was found at a name is the member's value

@@ -1,11 +1,10 @@
 -- Requests of objects, from their parts.
-use Rattle.std.proofs.Common.{◌≡◌, ℕ, ◌+◌, ℤ, List, Option, Some, None, refl, sym, ap, ◌∙◌, codes, arith}
-use Rattle.plan_basics.specs.Minutes.{IsMinuteText}
+use Rattle.std.proofs.Common.{◌≡◌, ℕ, ◌+◌, List, Option, Some, None, codes, arith}
 use Rattle.plan_items.specs.Parts.{IsReading}
 use Rattle.plan_records.specs.declared.Request.{Request}
 use Rattle.plan_records.specs.declared.What.{What}
 use Rattle.serde_json.specs.Data.{Data, string}
-use Rattle.request_texts.specs.Members.{HasMember, HasText, member_count}
+use Rattle.request_texts.specs.Members.{HasMember}
 use Rattle.request_texts.specs.Counted.{AsksBy, IsOnOperation, HasBeside, SaysBeside}
 use Rattle.request_texts.proofs.Said.{operation_said}
 

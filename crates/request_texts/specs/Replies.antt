@@ -1,6 +1,5 @@
 -- Replies as JSON values. Members stand in the order of their names, as they are written.
 use Rattle.std.specs.Prelude.{ℕ, ℤ, pos, negsuc, nat_lt, if◌then◌else◌, List, [], ◌∷◌, map, replicate, codes}
-use Rattle.plan_basics.specs.declared.Refusal.{Refusal}
 use Rattle.plan_basics.specs.declared.keys.OpKey.{OpKey}
 use Rattle.plan_basics.specs.KeyTexts.{occurrence_text, operation_text}
 use Rattle.plan_basics.specs.MomentTexts.{moment_text}

@@ -12,9 +12,7 @@ ghost use Rattle.serde_json.specs.Find.{get, as_array, as_str};
 ghost use Rattle.serde_json.specs.View.{view, items_view};
 
 use plan_basics::limits::GREATEST_REQUEST_NUMBER;
-use plan_basics::{
-    ErrCode, OccKey, OpKey, ResName, TrackerName, WsName, minute_of_text,
-};
+use plan_basics::{ErrCode, OccKey, OpKey, ResName, TrackerName, WsName, minute_of_text};
 use serde_json::Value;
 
 /// How many members an object has beside so many; none where it has fewer, and for what is no object.

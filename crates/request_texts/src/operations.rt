@@ -15,7 +15,10 @@ use serde_json::Value;
 pub fn is_report(verb: &str) -> bool
     ensures { IsTrue result ↔ IsReportVerb verb.now }
 {
-    matches!(verb, "started" | "ended" | "error" | "interrupted" | "unknown")
+    matches!(
+        verb,
+        "started" | "ended" | "error" | "interrupted" | "unknown"
+    )
 }
 
 /// What is asked of an operation, where nothing but its key is to be told.

@@ -7,8 +7,8 @@ ghost use Rattle.serde_json.specs.View.{view};
 
 use super::intervals::read_intervals;
 use super::members::{
-    array_at, code_at, members_beside, minute_at, occurrence_at, operation_at, resource_at, text_at,
-    workstation_at,
+    array_at, code_at, members_beside, minute_at, occurrence_at, operation_at, resource_at,
+    text_at, workstation_at,
 };
 use super::operations::read_on_operation;
 use super::records::{read_add, read_load};
@@ -17,7 +17,11 @@ use serde_json::Value;
 use std::alloc::{AllocError, Global};
 
 /// The request that a value says by its members beside so many others.
-pub fn read_request(alloc: Global, value: &Value, others: usize) -> Result<Option<Request>, AllocError>
+pub fn read_request(
+    alloc: Global,
+    value: &Value,
+    others: usize,
+) -> Result<Option<Request>, AllocError>
     ensures { IfOk result (IsReading (SaysBeside (view value.now) others)) }
 {
     let Some(at) = minute_at(value, "at") else {
@@ -120,11 +124,7 @@ fn read_available(value: &Value, count: usize) -> Option<What>
 }
 
 // The intervals that a workstation gets, by `ws` and `intervals`.
-fn read_replacement(
-    alloc: Global,
-    value: &Value,
-    count: usize,
-) -> Result<Option<What>, AllocError>
+fn read_replacement(alloc: Global, value: &Value, count: usize) -> Result<Option<What>, AllocError>
     ensures { IfOk result (IsReading (AsksBy (view value.now) (codes "intervals") count)) }
 {
     if count != 4 {

@@ -1,6 +1,8 @@
 // Texts of requests and replies, as the formats give them.
-use super::{OccurrenceRow, ReadyRow, fault_text, occurrences_text, read_operator, read_report};
-use super::{ready_text, reply_text};
+use super::{
+    OccurrenceRow, ReadyRow, fault_text, occurrences_text, read_operator, read_report, ready_text,
+    reply_text,
+};
 use plan_basics::{AppId, Moment, OccKey, OpKey, Refusal};
 use plan_records::{Reply, What};
 use status_rules::{OccStatus, Status};
@@ -63,7 +65,8 @@ fn other_texts_are_no_requests(rt: HostRuntime) -> Result<(), Fail> {
     Ok(())
 }
 
-const REPORT: &str = r#"{"tracker":"T1","number":1,"at":"2024-03-01T22:00","do":"started","op":"PAYROLL/2024-03-01T22:00/005"}"#;
+const REPORT: &str =
+    r#"{"tracker":"T1","number":1,"at":"2024-03-01T22:00","do":"started","op":"PAYROLL/2024-03-01T22:00/005"}"#;
 
 // Texts that are no report.
 const NO_REPORTS: [&str; 4] = [
@@ -81,7 +84,10 @@ fn a_report_has_its_tracker_and_number(rt: HostRuntime) -> Result<(), Fail> {
     let is_start = matches!(&report.request.what, What::Started(key) if key.number == 5);
     assert!(rt; is_start);
     for text in NO_REPORTS {
-        assert!(rt; read_report(rt.alloc(), text.as_bytes())?.is_none(), "{text}");
+        assert!(rt;
+            read_report(rt.alloc(), text.as_bytes())?.is_none(),
+            "{text}"
+        );
     }
     Ok(())
 }
@@ -102,11 +108,22 @@ fn replies_are_compact(rt: HostRuntime) -> Result<(), Fail> {
     let key = payroll(20).ok_or("no key")?;
     let named = vec![in alloc; key]?;
     let text = reply_text(alloc, &Reply::Accepted { named })?;
-    assert_eq!(rt; text.as_slice(), br#"{"named":["PAYROLL/2024-03-01T22:00/020"]}"#.as_slice());
-    let text = reply_text(alloc, &Reply::Accepted { named: Vec::new(alloc) })?;
+    assert_eq!(rt;
+        text.as_slice(),
+        br#"{"named":["PAYROLL/2024-03-01T22:00/020"]}"#.as_slice()
+    );
+    let text = reply_text(
+        alloc,
+        &Reply::Accepted {
+            named: Vec::new(alloc),
+        },
+    )?;
     assert_eq!(rt; text.as_slice(), br#"{"named":[]}"#.as_slice());
     let text = reply_text(alloc, &Reply::Refused(Refusal::Closed))?;
-    assert_eq!(rt; text.as_slice(), br#"{"name":"Closed","refusal":13}"#.as_slice());
+    assert_eq!(rt;
+        text.as_slice(),
+        br#"{"name":"Closed","refusal":13}"#.as_slice()
+    );
     let text = fault_text(alloc, 400)?;
     assert_eq!(rt; text.as_slice(), br#"{"error":400}"#.as_slice());
     Ok(())
@@ -125,7 +142,10 @@ fn lists_are_compact(rt: HostRuntime) -> Result<(), Fail> {
         status: Status::Arriving,
     };
     let text = ready_text(rt.alloc(), &[row])?;
-    assert_eq!(rt; text.as_slice(), br#"[{"duration":10,"held":false,"latest":"2024-03-02T02:59","op":"PAYROLL/2024-03-01T22:00/005","priority":5,"status":"A"}]"#.as_slice());
+    assert_eq!(rt;
+        text.as_slice(),
+        br#"[{"duration":10,"held":false,"latest":"2024-03-02T02:59","op":"PAYROLL/2024-03-01T22:00/005","priority":5,"status":"A"}]"#.as_slice()
+    );
     let row = OccurrenceRow {
         occurrence: op.occurrence,
         priority: 5,
@@ -133,6 +153,9 @@ fn lists_are_compact(rt: HostRuntime) -> Result<(), Fail> {
         status: OccStatus::Waiting,
     };
     let text = occurrences_text(rt.alloc(), &[row])?;
-    assert_eq!(rt; text.as_slice(), br#"[{"deadline":"2024-03-02T05:00","occ":"PAYROLL/2024-03-01T22:00","priority":5,"status":"W"}]"#.as_slice());
+    assert_eq!(rt;
+        text.as_slice(),
+        br#"[{"deadline":"2024-03-02T05:00","occ":"PAYROLL/2024-03-01T22:00","priority":5,"status":"W"}]"#.as_slice()
+    );
     Ok(())
 }

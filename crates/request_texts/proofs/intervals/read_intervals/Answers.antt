@@ -1,5 +1,4 @@
-use Rattle.std.proofs.Common.{◌≡◌, map, take, length, arith, ap, sym, subst}
-use Rattle.std.specs.List.{AllZip}
+use Rattle.std.proofs.Common.{arith}
 use Rattle.request_texts.specs.Intervals.{IsIntervalOf}
 use Rattle.serde_json.specs.View.{view}
 use Rattle.request_texts.proofs.Beside.{zip_more, zip_at}

@@ -1,6 +1,4 @@
-use Rattle.std.proofs.Common.{◌≡◌}
 use Rattle.std.proofs.lemmas.Result.{IfOk-weaker}
-use Rattle.serde_json.specs.View.{view}
 use Rattle.plan_records.specs.Answer.{answer_of}
 use Rattle.request_texts.proofs.Written.{answer_written}
 use Rattle.request_texts.proofs.replies.reply_text.Goals as goal

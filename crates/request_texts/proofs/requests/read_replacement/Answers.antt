@@ -1,8 +1,8 @@
-use Rattle.std.proofs.Common.{◌≡◌, ◌∷◌, [], codes, refl, map, sym}
+use Rattle.std.proofs.Common.{◌∷◌, [], codes, refl, map}
 use Rattle.serde_json.specs.Data.{string, array}
 use Rattle.serde_json.specs.Find.{get}
 use Rattle.serde_json.specs.View.{view, items_of, items_view}
-use Rattle.request_texts.proofs.Said.{intervals_said, no_intervals}
+use Rattle.request_texts.proofs.Said.{no_intervals}
 use Rattle.request_texts.proofs.Texts.{array_there}
 use Rattle.request_texts.proofs.requests.read_replacement.Goals as goal
 
