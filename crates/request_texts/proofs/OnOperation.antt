@@ -15,6 +15,7 @@ use Rattle.request_texts.proofs.Said.{counted}
 abbrev pub IsToldOn : Data → ℕ → What → List ℕ → Type 0
 IsToldOn d count x verb = (key : OpKey) × (on_operation x ≡ Some (verb, key)) × (count ≡ 3) × HasText d (codes "op") (λ text. SpellsOperation text key)
 
+-- a `do` with its key
 abbrev named_key : List ℕ → OpKey → Option (List ℕ × OpKey)
 named_key name key = Some (name, key)
 

@@ -19,10 +19,11 @@ use Rattle.request_texts.specs.Members.{Member, IsJsonOf, HasExactly}
 use Rattle.request_texts.specs.Intervals.{whole, IsIntervalOf}
 use Rattle.request_texts.specs.declared.NumberedRequest.{NumberedRequest}
 
--- the text is that of an operation's key, or of an occurrence's
+-- the text is that of an operation's key
 abbrev pub SpellsOperation : List ℕ → OpKey → Type 0
 SpellsOperation text key = IsOperationKey key × IsOperationText text key
 
+-- the text is that of an occurrence's key
 abbrev pub SpellsOccurrence : List ℕ → OccKey → Type 0
 SpellsOccurrence text key = IsOccurrenceKey key × IsOccurrenceText text key
 

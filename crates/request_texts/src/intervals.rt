@@ -46,7 +46,8 @@ fn interval_of(
     r1: &Value,
     r2: &Value,
 ) -> Option<Interval>
-    ensures { IsReading (λ x. ArePartsOf x (view from.now) (view end.now) (view servers.now) (view r1.now) (view r2.now)) result }
+    ensures { IsReading (λ x.
+        ArePartsOf x (view from.now) (view end.now) (view servers.now) (view r1.now) (view r2.now)) result }
 {
     Interval::new(
         moment_of(from)?,

@@ -1,7 +1,7 @@
 //! Requests and replies as JSON texts.
 //!
-//! A request is an object with exactly the members that are named here. Each has `at`, a date and time of the years 0000
-//! to 9999 written `YYYY-MM-DDTHH:MM`, and `do`; the others go by `do`:
+//! A request is an object with exactly the members that are named here. Each has `at`, a date and time of the years
+//! 0000 to 9999 written `YYYY-MM-DDTHH:MM`, and `do`; the others go by `do`:
 //!
 //! | `do` | Members |
 //! |---|---|
@@ -14,10 +14,10 @@
 //! | `available` | `resource`: its name; `value`: true or false |
 //! | `intervals` | `ws`: the name of a workstation; `intervals`: an array of arrays of a first minute, an end, servers, R1 and R2 |
 //!
-//! An operator's request is any of these. The report of a tracker is one of `started`, `ended`, `error`, `interrupted` and
-//! `unknown`, with two members more: `tracker`, its name, and `number`, which it gives to the report. The members and their
-//! texts are this project's own; what a JSON text is, and which value it has, is the statement of `serde_json`. Of a member
-//! that is given twice the last value counts.
+//! An operator's request is any of these. The report of a tracker is one of `started`, `ended`, `error`, `interrupted`
+//! and `unknown`, with two members more: `tracker`, its name, and `number`, which it gives to the report. The members
+//! and their texts are this project's own; what a JSON text is, and which value it has, is the statement of
+//! `serde_json`. Of a member that is given twice the last value counts.
 #![tactic(auto)]
 
 ghost use Rattle.std.specs.Prelude.{◌≡◌, MatchOption, IfOk, IfErr};
@@ -76,8 +76,8 @@ pub struct NumberedRequest {
     pub request: Request,
 }
 
-/// The request of an operator that a JSON text says, if it says one. `tracker` and `number` are no members of it. Of the
-/// faults, `Memory` alone is answered.
+/// The request of an operator that a JSON text says, if it says one. `tracker` and `number` are no members of it. Of
+/// the faults, `Memory` alone is answered.
 pub fn read_operator(alloc: Global, body: &[u8]) -> Result<Option<Request>, WireFault>
     ensures request { IfOk result (IsReading (ReadsAsRequest body.now)) }
     ensures memory { IfErr result (λ fault. fault ≡ WireFault.Memory) }
@@ -127,7 +127,8 @@ fn numbered_request(alloc: Global, value: &Value) -> Result<Option<NumberedReque
 
 // The value of a JSON text, if it is one.
 fn read_value(alloc: Global, body: &[u8]) -> Result<Option<Value>, AllocError>
-    ensures { IfOk result (λ found. MatchOption found ((d : Data) → ¬ IsJsonOf body.now d) (λ v. IsJsonOf body.now (view v))) }
+    ensures { IfOk result (λ found. MatchOption found ((d : Data) → ¬ IsJsonOf body.now d)
+        (λ v. IsJsonOf body.now (view v))) }
 {
     match Value::from_slice(alloc, body) {
         Ok(value) => Ok(Some(value)),

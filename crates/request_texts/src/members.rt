@@ -89,7 +89,8 @@ pub fn tracker_at(value: &Value) -> Option<TrackerName>
 
 /// The number of the member `number`, where it is one that a tracker may give.
 pub fn number_at(value: &Value) -> Option<u64>
-    ensures { IsReading (λ n. (n ≤ GREATEST_REQUEST_NUMBER) × HasMember (view value.now) (codes "number", whole n)) result }
+    ensures { IsReading (λ n. (n ≤ GREATEST_REQUEST_NUMBER)
+        × HasMember (view value.now) (codes "number", whole n)) result }
 {
     let number = value.get("number").and_then(Value::as_u64)?;
     if number <= u64::from(GREATEST_REQUEST_NUMBER) {
