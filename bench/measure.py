@@ -139,13 +139,13 @@ def load_text():
     return " ".join(f"{load:.2f}" for load in os.getloadavg())
 
 
-def tell_surroundings(program, runs, switches):
-    ninja = subprocess.run(["ninja", "--version"], check=True, capture_output=True, text=True).stdout.strip()
+def tell_surroundings(program, runs, plans, beside):
+    """Prints where it is measured, on which plans, and which other program stands beside it."""
     print(f"machine   {os.cpu_count()} processors, {field_of('/proc/cpuinfo', 'model name')}")
     print(f"memory    {int(field_of('/proc/meminfo', 'MemTotal').split()[0]) // 1024} MB")
-    print(f"system    Linux {platform.release()}, ninja {ninja}")
+    print(f"system    Linux {platform.release()}, {beside}")
     print(f"program   {program}, {program.stat().st_size} bytes, of {time.strftime('%Y-%m-%d %H:%M', time.gmtime(program.stat().st_mtime))} UTC")
-    print(f"plans     {' '.join(switches) or 'with resources, pairs up and down the keys'}")
+    print(f"plans     {plans}")
     print(f"runs      {runs} of each, in turn; load before (1, 5, 15 minutes): {load_text()}", flush=True)
 
 
@@ -206,7 +206,9 @@ def given_words():
 
 def measured_plans(given, folder):
     switches = given.switches or []
-    tell_surroundings(given.program, given.runs, switches)
+    ninja = subprocess.run(["ninja", "--version"], check=True, capture_output=True, text=True).stdout.strip()
+    told = " ".join(switches) or "with resources, pairs up and down the keys"
+    tell_surroundings(given.program, given.runs, told, f"ninja {ninja}")
     plans = [Plan(int(size), folder, switches) for size in given.sizes.split(",")]
     for _ in range(given.runs):
         for plan in plans:

@@ -1,8 +1,11 @@
--- The exit statuses are small numbers, and an error of the system is a fault of the surroundings.
+-- The exit statuses are small numbers, and an error of the system or of a store is a fault of the surroundings.
 use Rattle.std.proofs.Common.{ℕ, Result, Ok, Err, inl, inr, refl, arith, ◌≤◌}
 use Rattle.std.specs.declared.io.ErrorKind.{ErrorKind}
 use Rattle.std.specs.declared.io.ErrorKind.TheVariants as kind
-use Rattle.plan_desk.specs.Statuses.{ending_status, fault_status, fault_of_kind, IsOfSurroundings, IsStatusOf}
+use Rattle.sqlite.specs.declared.error.Error.{Error as StoreError}
+use Rattle.sqlite.specs.declared.error.Error.TheVariants.{SqliteFailure}
+use Rattle.sqlite.specs.declared.error.ErrorCode.TheVariants as code
+use Rattle.plan_desk.specs.Statuses.{ending_status, fault_status, fault_of_kind, fault_of_store, IsOfSurroundings, IsStatusOf}
 use Rattle.plan_desk.specs.declared.desk.Ending.{Ending}
 use Rattle.plan_desk.specs.declared.desk.Ending.TheVariants as ending
 use Rattle.plan_desk.specs.declared.desk.Fault.{Fault}
@@ -28,3 +31,7 @@ status_at_most (Err f) status (inr is) = rw is (omega arith)
 pub of_the_surroundings : (k : ErrorKind) → IsOfSurroundings (fault_of_kind k)
 of_the_surroundings kind.OutOfMemory = refl
 of_the_surroundings _ = refl
+
+pub of_the_store : (e : StoreError) → IsOfSurroundings (fault_of_store e)
+of_the_store (SqliteFailure code.OutOfMemory) = refl
+of_the_store _ = refl

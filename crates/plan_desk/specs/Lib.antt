@@ -1,3 +1,4 @@
+pub mod Databases
 pub mod Loads
 pub mod Statuses
 pub mod Words

@@ -1,12 +1,13 @@
 -- The statuses that the program ends with, and the faults that errors of its surroundings are.
-use Rattle.std.specs.Prelude.{◌≡◌, ◌≢◌, ◌⊎◌, ℕ, Result, Ok, Err, Vec}
-use Rattle.std.specs.declared.alloc.Global.{Global}
+use Rattle.std.specs.Prelude.{◌≡◌, ◌≢◌, ◌⊎◌, ℕ, Result, Ok, Err}
 use Rattle.std.specs.declared.io.ErrorKind.{ErrorKind}
 use Rattle.std.specs.declared.io.ErrorKind.TheVariants as kind
 use Rattle.clap.specs.declared.error.kind.ErrorKind.{ErrorKind as WordsKind}
 use Rattle.clap.specs.declared.error.kind.ErrorKind.TheVariants as words
-use Rattle.plan_basics.specs.declared.Refusal.{Refusal}
-use Rattle.plan_basics.specs.declared.keys.OpKey.{OpKey}
+use Rattle.sqlite.specs.declared.error.Error.{Error as StoreError}
+use Rattle.sqlite.specs.declared.error.Error.TheVariants.{SqliteFailure}
+use Rattle.sqlite.specs.declared.error.ErrorCode.TheVariants as code
+use Rattle.plan_records.specs.Answer.{Answer, accepted, refused}
 use Rattle.plan_import.specs.declared.ImportFault.{ImportFault}
 use Rattle.plan_import.specs.declared.ImportFault.TheVariants as import_fault
 use Rattle.plan_desk.specs.declared.desk.Ending.{Ending}
@@ -37,6 +38,11 @@ abbrev pub fault_of_kind : ErrorKind → Fault
 fault_of_kind kind.OutOfMemory = fault.Memory
 fault_of_kind _ = fault.File
 
+-- so it is where a database fails
+abbrev pub fault_of_store : StoreError → Fault
+fault_of_store (SqliteFailure code.OutOfMemory) = fault.Memory
+fault_of_store _ = fault.File
+
 -- so it is while a plan is read
 abbrev pub fault_of_import : ImportFault → Fault
 fault_of_import import_fault.Reader = fault.File
@@ -48,9 +54,9 @@ fault_of_words_kind kind.OutOfMemory = fault.Memory
 fault_of_words_kind _ = fault.Encoding
 
 -- how a run ends that has shown this answer
-abbrev pub ending_of : Result (Vec OpKey Global) Refusal → Ending
-ending_of (Ok named) = ending.Done
-ending_of (Err r) = ending.Refused
+abbrev pub ending_of : Answer → Ending
+ending_of (accepted named) = ending.Done
+ending_of (refused r) = ending.Refused
 
 -- what is said of the words is a complaint: neither help nor the version
 abbrev pub IsComplaint : WordsKind → Type 0

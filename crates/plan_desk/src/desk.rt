@@ -3,18 +3,20 @@ ghost use Rattle.std.specs.Prelude.{◌≡◌, ◌↔◌, ◌⊎◌, ◌≤◌, 
 ghost use Rattle.clap.specs.Matches.{found_of};
 ghost use Rattle.clap.specs.Values.{kind_of};
 ghost use Rattle.plan_basics.specs.Minutes.{IsMinuteText};
-ghost use Rattle.plan_desk.specs.Loads.{IsAnswerToLoad, IsPlanOf};
+ghost use Rattle.plan_desk.specs.Loads.{IsPlanOf};
 ghost use Rattle.plan_desk.specs.Statuses.{ending_of, EndsExplaining, fault_status, IsOfSurroundings, IsStatusOf};
 ghost use Rattle.plan_desk.specs.Words.{text_given};
 ghost use Rattle.plan_desk.specs.declared.desk.Fault.{Fault};
+ghost use Rattle.plan_records.specs.Answer.{answer_of};
 
+use crate::database::load_into;
 use crate::words::{desk_command, value_of};
 use clap::ArgMatches;
 use clap::error::{Error, ErrorKind};
-use plan_basics::{OpKey, Refusal, Watched, minute_of_text};
-use plan_core::Plan;
+use plan_basics::{Refusal, Watched, minute_of_text};
 use plan_import::{ImportFault, read_plan};
-use plan_records::{PlanDraft, Request, What};
+use plan_records::{PlanDraft, Reply};
+use sqlite::{Connection, ErrorCode, File, FileStore};
 use std::alloc::{AllocError, Global};
 use std::io::{Read, Write};
 use std::{fmt, fs, io};
@@ -117,6 +119,21 @@ impl From<io::Error> for Fault {
     }
 }
 
+impl From<sqlite::Error> for Fault {
+    ghost use Rattle.std.specs.Prelude.{◌≡◌};
+    ghost use Rattle.plan_desk.specs.Statuses.{fault_of_store};
+
+    ghost from_gives = { λ error fault. fault ≡ fault_of_store error };
+
+    fn from(error: sqlite::Error) -> Fault {
+        if matches!(error, sqlite::Error::SqliteFailure(ErrorCode::OutOfMemory)) {
+            Fault::Memory
+        } else {
+            Fault::File
+        }
+    }
+}
+
 impl From<AllocError> for Fault {
     ghost use Rattle.std.specs.Prelude.{◌≡◌};
     ghost use Rattle.plan_desk.specs.declared.desk.Fault.{Fault};
@@ -162,44 +179,28 @@ fn plan_of<R: Read + Drop>(alloc: Global, source: R) -> Result<Option<PlanDraft>
     Ok(read_plan(alloc, &mut Watched::new(source))?)
 }
 
-/// What an empty plan answers to the load of a text at a moment: the keys that it names, or the refusal.
-fn load(alloc: Global, at: i64, draft: Option<PlanDraft>) -> Result<Vec<OpKey>, Refusal>
-    ensures { IsAnswerToLoad at draft result }
-{
-    let mut plan = Plan::empty(alloc);
-    let request = Request {
-        at,
-        what: What::Load(draft),
-    };
-    let prepared = plan.prepare(&request)?;
-    Ok(plan.apply(prepared))
-}
-
 /// Shows an answer: that it is accepted and a line for each key that it names, or the refusal.
 #[tactic(auto, using(crate::proofs::Statuses::of_the_surroundings))]
-fn tell<W: Write>(
-    out: &mut Watched<W>,
-    answer: &Result<Vec<OpKey>, Refusal>,
-) -> Result<Ending, Fault>
-    ensures ending { IfOk result (λ ending. ending ≡ ending_of answer.now) }
+fn tell<W: Write>(out: &mut Watched<W>, reply: &Reply) -> Result<Ending, Fault>
+    ensures ending { IfOk result (λ ending. ending ≡ ending_of (answer_of reply.now)) }
     ensures fault { IfErr result IsOfSurroundings }
 {
-    match answer {
-        Ok(named) => {
+    match reply {
+        Reply::Accepted { named } => {
             writeln!(out, "accepted")?;
             for key in named {
                 writeln!(out, "starts {key}")?;
             }
             Ok(Ending::Done)
         }
-        Err(refusal) => {
+        Reply::Refused(refusal) => {
             writeln!(out, "refused {refusal}")?;
             Ok(Ending::Refused)
         }
     }
 }
 
-/// `check`: the plan of a file is loaded into an empty plan in memory. The moment is judged before the file.
+/// `check`: the plan of a file is loaded into the desk of a database in memory. The moment is judged before the file.
 fn check<W: Write>(
     rt: &HostRuntime,
     given: &ArgMatches,
@@ -207,7 +208,36 @@ fn check<W: Write>(
 ) -> Result<Ending, Fault> {
     let at = moment_of(given)?;
     let draft = plan_of(rt.alloc(), fs::open(rt, value_of(given, "plan"))?)?;
-    tell(out, &load(rt.alloc(), at, draft))
+    let conn = Connection::open_in_memory(rt.alloc())?;
+    let (reply, _) = load_into(rt.alloc(), conn, at, draft);
+    tell(out, &reply)
+}
+
+/// Closes a database: what its log has is copied into its file. Where the answer tells of a fault of the store, the
+/// files are let go as they are.
+fn close(conn: Connection<FileStore<File>>, reply: &Reply) -> Result<(), Fault>
+    ensures { IfErr result IsOfSurroundings }
+{
+    if matches!(reply, Reply::Refused(Refusal::Store)) {
+        return Ok(());
+    }
+    Ok(conn.close()?)
+}
+
+/// `load`: the plan of a file is loaded into the desk of a database's file. The moment is judged before the files, and
+/// the plan is read before the database is touched.
+fn load<W: Write>(
+    rt: &HostRuntime,
+    given: &ArgMatches,
+    out: &mut Watched<W>,
+) -> Result<Ending, Fault> {
+    let at = moment_of(given)?;
+    let draft = plan_of(rt.alloc(), fs::open(rt, value_of(given, "plan"))?)?;
+    let conn = Connection::open(rt, value_of(given, "db"))?;
+    let (reply, conn) = load_into(rt.alloc(), conn, at, draft);
+    let told = tell(out, &reply);
+    close(conn, &reply)?;
+    told
 }
 
 /// Shows what `clap` has to say where it hands out no words: help on standard output, else what is wrong with them.
@@ -245,6 +275,7 @@ fn obey<W: Write, E: Write>(
     };
     let ending = match matches.subcommand() {
         Some(("check", given)) => check(rt, given, out)?,
+        Some(("load", given)) => load(rt, given, out)?,
         _ => return Err(Fault::Words),
     };
     out.flush()?;

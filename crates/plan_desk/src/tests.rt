@@ -9,10 +9,10 @@ use std::{env, fs, io, process};
 
 /// What a run wrote, and the status that it ended with.
 #[derive(Drop)]
-struct Ran {
-    out: String,
-    err: String,
-    status: u8,
+pub struct Ran {
+    pub out: String,
+    pub err: String,
+    pub status: u8,
 }
 
 fn words_of(alloc: Global, words: &[&str]) -> Result<Vec<String>, AllocError> {
@@ -23,7 +23,7 @@ fn words_of(alloc: Global, words: &[&str]) -> Result<Vec<String>, AllocError> {
     Ok(owned)
 }
 
-fn run(rt: &HostRuntime, words: &[&str]) -> Result<Ran, Fail> {
+pub fn run(rt: &HostRuntime, words: &[&str]) -> Result<Ran, Fail> {
     let words = words_of(rt.alloc(), words)?;
     let mut out: Vec<u8> = Vec::new(rt.alloc());
     let mut err: Vec<u8> = Vec::new(rt.alloc());
@@ -41,7 +41,7 @@ fn run(rt: &HostRuntime, words: &[&str]) -> Result<Ran, Fail> {
 }
 
 /// A folder of this test's own. It is removed by `fs::remove_dir_all` where the test passes.
-fn own_folder(rt: &HostRuntime, name: &str) -> Result<PathBuf, Fail> {
+pub fn own_folder(rt: &HostRuntime, name: &str) -> Result<PathBuf, Fail> {
     let id = process::id(rt.process());
     let name = format!(in rt.alloc(); "plandesk-{name}-{id}")?;
     let folder = env::temp_dir(rt)?.join(rt.alloc(), name.as_str())?;
@@ -50,26 +50,26 @@ fn own_folder(rt: &HostRuntime, name: &str) -> Result<PathBuf, Fail> {
 }
 
 // The lines of a small plan: a workstation, its interval, an occurrence, its operations 10 and 20, and their dependency.
-const STATION: &[u8] = b"W,CPU1,A,,,,,,,";
+pub const STATION: &[u8] = b"W,CPU1,A,,,,,,,";
 
-const OPEN: &[u8] = b"I,CPU1,1972-01-01T00:00,2071-12-31T23:59,2,0,0,,,";
+pub const OPEN: &[u8] = b"I,CPU1,1972-01-01T00:00,2071-12-31T23:59,2,0,0,,,";
 
-const DAILY: &[u8] = b"O,DAILY,2024-03-01T22:00,5,2024-03-02T05:00,,,,,";
+pub const DAILY: &[u8] = b"O,DAILY,2024-03-01T22:00,5,2024-03-02T05:00,,,,,";
 
-const FIRST: &[u8] = b"P,DAILY,2024-03-01T22:00,10,CPU1,30,0,0,,";
+pub const FIRST: &[u8] = b"P,DAILY,2024-03-01T22:00,10,CPU1,30,0,0,,";
 
-const SECOND: &[u8] = b"P,DAILY,2024-03-01T22:00,20,CPU1,60,0,0,,";
+pub const SECOND: &[u8] = b"P,DAILY,2024-03-01T22:00,20,CPU1,60,0,0,,";
 
-const PAIR: &[u8] = b"D,DAILY,2024-03-01T22:00,10,DAILY,2024-03-01T22:00,20,,,";
+pub const PAIR: &[u8] = b"D,DAILY,2024-03-01T22:00,10,DAILY,2024-03-01T22:00,20,,,";
 
 /// What a run answers: standard output and the status.
-type Answer = (&'static str, u8);
+pub type Answer = (&'static str, u8);
 
-const FIRST_STARTS: Answer = ("accepted\nstarts DAILY/2024-03-01T22:00/010\n", 0);
+pub const FIRST_STARTS: Answer = ("accepted\nstarts DAILY/2024-03-01T22:00/010\n", 0);
 
-const BAD_PLAN: Answer = ("refused 21 BadPlan\n", 1);
+pub const BAD_PLAN: Answer = ("refused 21 BadPlan\n", 1);
 
-const NIGHT: &str = "2024-03-01T22:00";
+pub const NIGHT: &str = "2024-03-01T22:00";
 
 /// The lines of a plan's text, what ends each, and a moment; and what the run answers.
 struct Row {
@@ -185,12 +185,12 @@ const ROWS: [Row; 11] = [
     },
 ];
 
-/// The text of a case's lines.
-fn text_of(alloc: Global, row: &Row) -> Result<Vec<u8>, AllocError> {
+/// The text of these lines, each with this at its end.
+pub fn text_of(alloc: Global, lines: &[&[u8]], end: &[u8]) -> Result<Vec<u8>, AllocError> {
     let mut text = Vec::new(alloc);
-    for line in row.lines {
+    for line in lines {
         text.extend_from_slice(line)?;
-        text.extend_from_slice(row.end)?;
+        text.extend_from_slice(end)?;
     }
     Ok(text)
 }
@@ -200,7 +200,7 @@ fn texts_and_their_answers(rt: HostRuntime) -> Result<(), Fail> {
     let folder = own_folder(&rt, "answers")?;
     let plan = folder.join(rt.alloc(), "plan.csv")?;
     for row in &ROWS {
-        let text = text_of(rt.alloc(), row)?;
+        let text = text_of(rt.alloc(), row.lines, row.end)?;
         fs::write(&rt, plan.as_path(), text.as_slice())?;
         let words = ["plandesk", "check", "--plan", plan.as_str(), "--at", row.at];
         let ran = run(&rt, words.as_slice())?;

@@ -24,12 +24,22 @@ fn check_command<'a>(alloc: Global) -> Result<Command<'a>, AllocError> {
         .arg(option(alloc, "at", "MOMENT", "The moment, as 2024-03-01T22:00"))
 }
 
+/// `load`: a plan is loaded into the desk of a database.
+fn load_command<'a>(alloc: Global) -> Result<Command<'a>, AllocError> {
+    Command::new(alloc, "load")
+        .about("Loads a plan into a database, which is made where there is none")
+        .arg(option(alloc, "db", "FILE", "The database of the desk"))?
+        .arg(option(alloc, "plan", "FILE", "The plan, as records of ten fields"))?
+        .arg(option(alloc, "at", "MOMENT", "The moment, as 2024-03-01T22:00"))
+}
+
 /// All that the program understands.
 pub fn desk_command<'a>(alloc: Global) -> Result<Command<'a>, AllocError> {
     Command::new(alloc, "plandesk")
         .about("The desk of a current plan")
         .subcommand_required(true)
-        .subcommand(check_command(alloc)?)
+        .subcommand(check_command(alloc)?)?
+        .subcommand(load_command(alloc)?)
 }
 
 /// The value of a required option, which a parse that succeeded has given.

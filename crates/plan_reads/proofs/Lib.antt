@@ -1,5 +1,6 @@
 mod QueryTexts
 mod Queried
+mod Faults
 mod RowidOrder
 mod TableHeld
 mod MetaShown

@@ -1,8 +1,11 @@
 -- What reading leaves of a database, and of the rows that it reads.
-use Rattle.std.specs.Prelude.{◌≡◌, Bool, true, false, ◌&&◌, ℤ, int_lt, Option, None, Some, List, [], ◌∷◌, IsTrue}
+use Rattle.std.specs.Prelude.{◌≡◌, Bool, true, false, ◌&&◌, ℤ, int_lt, Option, None, Some, List, [], ◌∷◌, IsTrue, ⊤}
 use Rattle.sqlite.specs.Order.{Row}
 use Rattle.sqlite.specs.State.{State, HasCleanDisk, KeepsCommit, Survives}
 use Rattle.sqlite.specs.Tree.{rowid}
+use Rattle.sqlite.specs.declared.error.Error.{Error}
+use Rattle.sqlite.specs.declared.error.Error.TheVariants.{SqliteFailure, SqlInputError}
+use Rattle.sqlite.specs.declared.error.ErrorCode.TheVariants.{NameTaken}
 use Rattle.sqlite.specs.declared.types.Value.{Value}
 use Rattle.sqlite.specs.declared.types.Value.TheVariants.{Int}
 
@@ -16,6 +19,12 @@ pub record ShowsSame (old new : State) : Type 0 where
   pub was_open : IsTrue new.is_open → IsTrue old.is_open
   pub now_is : new.now ≡ old.now
   pub committed_is : new.committed ≡ old.committed
+
+-- the fault isn't one of the tables: no text is refused, and no name is taken
+abbrev pub IsNotOfTables : Error → Type 0
+IsNotOfTables (SqlInputError fault) = ⊥
+IsNotOfTables (SqliteFailure NameTaken) = ⊥
+IsNotOfTables _ = ⊤
 
 -- the integer of a value
 abbrev pub integer_in : Value → Option ℤ

@@ -1,11 +1,11 @@
 // The rows of one table, as the database shows them.
-ghost use Rattle.std.specs.Prelude.{◌≡◌, [], false, true, IfOk, IsTrue, OnOk};
+ghost use Rattle.std.specs.Prelude.{◌≡◌, [], false, true, IfErr, IfOk, IsTrue, OnOk};
 ghost use Rattle.std.specs.List.Sorted.{IsPermutation};
 ghost use Rattle.sqlite.specs.Effect.{IsDatabase};
 ghost use Rattle.sqlite.specs.Held.{state};
 ghost use Rattle.sqlite.specs.State.{HasCleanDisk, IsLive, IsUnchanged};
 ghost use Rattle.plan_schema.specs.Schema.{schema_9};
-ghost use Rattle.plan_reads.specs.Reads.{OnlyReads};
+ghost use Rattle.plan_reads.specs.Reads.{IsNotOfTables, OnlyReads};
 ghost use Rattle.plan_reads.specs.Tables.{text_for, rows_of};
 
 use plan_schema::{
@@ -38,6 +38,7 @@ pub fn query_table<S: Alter>(conn: &mut Connection<S>, table: Table) -> Result<V
     ensures reads { OnlyReads (state S.Store conn.old) (state S.Store conn.new) }
     ensures same { HasCleanDisk (state S.Store conn.new) → OnOk result (IsUnchanged (state S.Store conn.old) (state S.Store conn.new)) }
     ensures rows { HasCleanDisk (state S.Store conn.new) → IsLive (state S.Store conn.old) → (state S.Store conn.old).now.schema ≡ schema_9 → IfOk result (λ rows. IsPermutation (rows_of table (state S.Store conn.old).now.trees) rows.items) }
+    ensures understood { HasCleanDisk (state S.Store conn.new) → (state S.Store conn.old).now.schema ≡ schema_9 → IfErr result IsNotOfTables }
 {
     conn.query_all(read_text(table), &[])
 }

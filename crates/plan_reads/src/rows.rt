@@ -1,11 +1,11 @@
 // The rows of a plan that all tables hold.
-ghost use Rattle.std.specs.Prelude.{◌≡◌, false, true, IfOk, IsErrOf, IsTrue, MatchBool, MatchOption, OnOk};
+ghost use Rattle.std.specs.Prelude.{◌≡◌, false, true, IfErr, IfOk, IsErrOf, IsTrue, MatchBool, MatchOption, OnOk};
 ghost use Rattle.sqlite.specs.Held.{state};
 ghost use Rattle.sqlite.specs.State.{HasCleanDisk, IsLive, IsUnchanged};
 ghost use Rattle.sqlite.specs.declared.error.Error.TheVariants.{SqliteFailure};
 ghost use Rattle.sqlite.specs.declared.error.ErrorCode.TheVariants.{TransactionState};
 ghost use Rattle.plan_schema.specs.Schema.{schema_9};
-ghost use Rattle.plan_reads.specs.Reads.{OnlyReads, ShowsSame};
+ghost use Rattle.plan_reads.specs.Reads.{IsNotOfTables, OnlyReads, ShowsSame};
 ghost use Rattle.plan_reads.specs.Tables.{AddsTable, AreRead, HasOtherRow, StoresEach};
 
 use crate::queries::query_table;
@@ -40,6 +40,7 @@ fn read_table<S: Alter>(
     ensures reads { OnlyReads (state S.Store conn.old) (state S.Store conn.new) }
     ensures same { HasCleanDisk (state S.Store conn.new) → OnOk result (IsUnchanged (state S.Store conn.old) (state S.Store conn.new)) }
     ensures rows { HasCleanDisk (state S.Store conn.new) → IsLive (state S.Store conn.old) → (state S.Store conn.old).now.schema ≡ schema_9 → IfOk result (λ all. MatchBool all (AddsTable table (state S.Store conn.old).now.trees into.old.items into.new.items) (HasOtherRow (state S.Store conn.old).now.trees)) }
+    ensures understood { HasCleanDisk (state S.Store conn.new) → (state S.Store conn.old).now.schema ≡ schema_9 → IfErr result IsNotOfTables }
 {
     let rows = query_table(conn, table)?;
     if !rowids_rise(&rows) {
@@ -58,6 +59,7 @@ fn read_tables<S: Alter>(
     ensures reads { OnlyReads (state S.Store conn.old) (state S.Store conn.new) }
     ensures same { HasCleanDisk (state S.Store conn.new) → OnOk result (ShowsSame (state S.Store conn.old) (state S.Store conn.new)) }
     ensures rows { HasCleanDisk (state S.Store conn.new) → IsLive (state S.Store conn.old) → (state S.Store conn.old).now.schema ≡ schema_9 → IfOk result (λ found. MatchOption found (HasOtherRow (state S.Store conn.old).now.trees) (λ rows. AreRead tables.now (state S.Store conn.old).now.trees rows.items)) }
+    ensures understood { HasCleanDisk (state S.Store conn.new) → (state S.Store conn.old).now.schema ≡ schema_9 → IfErr result IsNotOfTables }
 {
     let mut rows = Vec::new(alloc);
     for table in tables {
@@ -71,6 +73,7 @@ fn read_tables<S: Alter>(
 // Whether there is a table `meta`. Without it no plan was ever made here.
 fn has_meta<S: Alter>(conn: &Connection<S>) -> bool
     ensures live { IsLive (state S.Store conn.now) }
+    ensures there { (state S.Store conn.now).now.schema ≡ schema_9 → IsTrue result }
 {
     conn.schema().table_named(b"meta").is_some()
 }
@@ -89,6 +92,7 @@ pub fn read_rows<S: Alter>(
     ensures busy { conn.old.in_transaction ≡ true → IsErrOf result (SqliteFailure TransactionState) }
     ensures reads { OnlyReads (state S.Store conn.old) (state S.Store conn.new) }
     ensures rows { HasCleanDisk (state S.Store conn.new) → IsTrue (state S.Store conn.new).is_open → (state S.Store conn.new).committed.schema ≡ schema_9 → IfOk result (λ found. MatchOption found (HasOtherRow (state S.Store conn.new).committed.trees) (λ rows. StoresEach rows.items (state S.Store conn.new).committed)) }
+    ensures understood { HasCleanDisk (state S.Store conn.new) → IsTrue (state S.Store conn.new).is_open → (state S.Store conn.new).committed.schema ≡ schema_9 → IfErr result IsNotOfTables }
 {
     if !conn.is_autocommit() {
         return Err(Error::SqliteFailure(ErrorCode::TransactionState));

@@ -1,5 +1,5 @@
 -- The rows of operations in error, out of the views of all operations.
-use Rattle.std.proofs.Common.{◌≡◌, ◌↔◌, refl, sym, ap, subst, ◌∙◌, List, [], ◌∷◌, map, Contains, Option, Some, None}
+use Rattle.std.proofs.Common.{◌≡◌, refl, sym, ap, subst, ◌∙◌, List, [], ◌∷◌, map, Some}
 use Rattle.std.proofs.lemmas.Option.{same_Some}
 use Rattle.std.specs.FinMap.{get}
 use Rattle.std.specs.List.{AllByRecursion, cons_option}
@@ -10,11 +10,9 @@ use Rattle.plan_basics.specs.declared.keys.OpKey.{OpKey}
 use Rattle.plan_core.specs.Views.{AreOpViews, IsOpView}
 use Rattle.plan_core.specs.declared.views.OpView.{OpView}
 use Rattle.plan_drafts.proofs.Lists.{from_filter, from_map, in_filter}
-use Rattle.plan_model.specs.Contents.{Contents, Operation}
-use Rattle.plan_model.specs.Status.{HasStatus}
+use Rattle.plan_model.specs.Contents.{Contents}
 use Rattle.status_rules.specs.declared.Mark.{Mark}
 use Rattle.status_rules.specs.declared.Mark.TheVariants as mark
-use Rattle.status_rules.specs.declared.Status.TheVariants as status
 use Rattle.plan_tables.specs.Errors.{AreErrorRows, IsErrorRow, error_rows, row_with}
 use Rattle.plan_tables.specs.declared.errors.ErrorRow.{ErrorRow}
 

@@ -55,6 +55,10 @@ pub record HoldsPlan (P : Plan) (db : Database) : Type 0 where
   pub rows : HoldRows (IsRow P) held
   pub no_receipts : held.receipts ≡ []
 
+-- the tables hold the rows of no sound plan
+abbrev pub HoldsNoPlan : Database → Type 0
+HoldsNoPlan db = (P : Plan) → IsSoundPlan P → ¬ HoldsPlan P db
+
 -- the tables are those that a desk makes
 abbrev pub HasTables : StoreState → Type 0
 HasTables s = s.committed.schema ≡ schema_9

@@ -8,15 +8,17 @@ ghost use Rattle.plan_columns.specs.Tables.{written};
 ghost use Rattle.plan_core.specs.Provided.{StartsAreProvided};
 ghost use Rattle.plan_core.specs.State.{IsPreparedFor};
 ghost use Rattle.plan_model.specs.Plan.{no_plan, IsSoundPlan};
+ghost use Rattle.plan_reads.specs.Reads.{OnlyReads};
 ghost use Rattle.plan_records.specs.Answer.{answer_of, refused};
 ghost use Rattle.plan_records.specs.Run.{Answers, plain};
-ghost use Rattle.plan_tables.specs.Desk.{state_of, usability, IsCarriedOut, IsClean, HasTables, HoldsPlan, IsStepCommitted};
+ghost use Rattle.plan_tables.specs.Desk.{state_of, usability, IsCarriedOut, IsClean, HasTables, HoldsNoPlan, HoldsPlan, IsStepCommitted};
 ghost use Rattle.plan_tables.specs.Errors.{AreErrorRows};
 ghost use Rattle.plan_tables.specs.Faults.{IsOpeningRefusal};
 ghost use Rattle.plan_writes.specs.Within.{LeavesMade, Rewrites};
 
 use super::errors::ErrorRows;
 use super::faults::opening_refusal;
+use super::opening::stored_plan;
 use super::writing::write_prepared;
 use plan_basics::Refusal;
 use plan_core::{Plan, Prepared};
@@ -76,6 +78,34 @@ impl<S: Alter + Drop> Desk<S> {
         }
     }
 
+    /// Opens the desk whose tables a database holds: its plan is the sound plan that has just their rows. The caller owes
+    /// that no transaction is open.
+    ///
+    /// Refused as `Damaged` where the tables hold the rows of no sound plan: each column is compared, those too that follow
+    /// from others, as a status or a latest start; and a table that lacks is no plan's. As `Memory` for want of memory, as
+    /// `Store` for any other fault of the store. Nothing is written, and where it is refused the connection is given back.
+    pub fn open(alloc: Global, mut conn: Connection<S>) -> Result<Desk<S>, (Refusal, Connection<S>)>
+        requires { conn.in_transaction ≡ false }
+        ensures sound { IfOk result (λ desk. IsSoundPlan desk.plan) }
+        ensures usable { IfOk result (λ desk. desk.is_usable ≡ true) }
+        ensures tables { IfOk result (λ desk. IsClean (state S.Store desk.conn) → HasTables (state S.Store desk.conn) → HoldsPlan desk.plan (state S.Store desk.conn).committed) }
+        ensures reads { IfOk result (λ desk. OnlyReads (state S.Store conn) (state S.Store desk.conn)) }
+        ensures refused { IfErr result (λ e. IsOpeningRefusal e.0) }
+        ensures damaged { IfErr result (λ e. e.0 ≡ Refusal.Damaged → IsClean (state S.Store e.1) → HasTables (state S.Store e.1) → HoldsNoPlan (state S.Store e.1).committed) }
+        ensures unchanged { IfErr result (λ e. OnlyReads (state S.Store conn) (state S.Store e.1)) }
+    {
+        let plan = match stored_plan(alloc, &mut conn) {
+            Ok(plan) => plan,
+            Err(refusal) => return Err((refusal, conn)),
+        };
+        Ok(Desk {
+            alloc,
+            plan,
+            is_usable: true,
+            conn,
+        })
+    }
+
     /// The plan, which the tables hold.
     pub fn plan(&self) -> &Plan
         ensures plan { result.now.plan ≡ self.now.plan }
@@ -92,9 +122,10 @@ impl<S: Alter + Drop> Desk<S> {
         self.is_usable
     }
 
-    /// Gives the connection back.
+    /// Gives the connection back. No transaction is open, so that a desk can be opened over it again.
     pub fn close(self) -> Connection<S>
-        ensures { result ≡ self.conn }
+        ensures conn { result ≡ self.conn }
+        ensures idle { result.in_transaction ≡ false }
     {
         self.conn
     }

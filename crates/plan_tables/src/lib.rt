@@ -8,6 +8,7 @@
 mod desk;
 mod errors;
 mod faults;
+mod opening;
 mod runs;
 mod writing;
 

@@ -1,0 +1,142 @@
+#!/usr/bin/env python3
+"""Measures accepted requests at the plan of a database: what the store takes of each, beside the C library of SQLite.
+
+    calls.py [--runs N] [--requests N] [--size N] [--program PATH] [--calls PATH]
+
+README.md says how the program `calls` is built, and what each figure is. Exit status: 0 the target is kept, 1 it is
+missed, 2 nothing could be measured.
+"""
+import argparse
+import shutil
+import sqlite3
+import subprocess
+import sys
+import tempfile
+import time
+from pathlib import Path
+from statistics import median
+
+from measure import HERE, MOMENT, PROGRAM, Unmeasured, tell_surroundings
+from stored import FULL, TABLES
+
+CALLS = HERE.parent / "crates" / "bench_calls" / "out" / "bench_calls"
+KEYS = {"meta": 1, "workstation": 1, "interval": 2, "resource": 1, "occurrence": 2, "operation": 3, "dependency": 6,
+        "need": 4, "receipt": 1}
+MOST_TIMES_THE_LIBRARY = 2.0
+
+
+def told_by(words, folder):
+    run = subprocess.run([str(word) for word in words], cwd=folder, capture_output=True, text=True)
+    if run.returncode != 0:
+        raise Unmeasured(f"{words[0]} ended with {run.returncode}: {run.stdout[:100]!r} {run.stderr[:100]!r}")
+    return run.stdout.splitlines()
+
+
+def copy_database(folder, name, to):
+    """A copy of a database that is closed, without its log, which has nothing then."""
+    (folder / f"{to}-wal").unlink(missing_ok=True)
+    shutil.copy(folder / name, folder / to)
+    return to
+
+
+def rows_of(folder, name):
+    with sqlite3.connect(folder / copy_database(folder, name, "look.db")) as database:
+        return {table: set(database.execute(f"SELECT * FROM {table}").fetchall()) for table in TABLES}
+
+
+def changes_of(calls, folder, keys):
+    """For each request the rows that it changes, as the C library reads them before and after."""
+    changes = []
+    name = copy_database(folder, "night.db", "step.db")
+    before = rows_of(folder, name)
+    for key in keys:
+        told_by([calls, "parts", name, key], folder)
+        after = rows_of(folder, name)
+        changes.append([(table, row) for table in TABLES for row in sorted(after[table] - before[table])])
+        before = after
+    return changes
+
+
+def upsert(database, table):
+    columns = [column[1] for column in database.execute(f"PRAGMA table_info({table})")]
+    key, rest = columns[:KEYS[table]], columns[KEYS[table]:]
+    change = "UPDATE SET " + ", ".join(f"{name} = excluded.{name}" for name in rest) if rest else "NOTHING"
+    return f"INSERT INTO {table} VALUES ({', '.join('?' * len(columns))}) ON CONFLICT ({', '.join(key)}) DO {change}"
+
+
+def seconds_by_library(folder, changes):
+    """Seconds that the C library takes, called by Python, for each list of rows, in a transaction with one sync."""
+    database = sqlite3.connect(folder / copy_database(folder, "night.db", "peer.db"), isolation_level=None)
+    database.execute("PRAGMA journal_mode = WAL")
+    database.execute("PRAGMA synchronous = FULL")
+    texts = {table: upsert(database, table) for table in TABLES}
+    taken = []
+    for rows in changes:
+        begun = time.perf_counter()
+        database.execute("BEGIN")
+        for table, row in rows:
+            database.execute(texts[table], row)
+        database.execute("COMMIT")
+        taken.append(time.perf_counter() - begun)
+    database.close()
+    return taken
+
+
+def measured(given, folder):
+    words = [sys.executable, HERE / "generate.py", str(given.size), "plan.csv"]
+    subprocess.run(words, cwd=folder, check=True)
+    told = told_by([given.program, "load", "--db", "night.db", "--plan", "plan.csv", "--at", MOMENT], folder)
+    keys = [line.split(" ")[1] for line in told[1:]][:given.requests]
+    if len(keys) < given.requests:
+        raise Unmeasured(f"only {len(keys)} operations are started")
+    changes = changes_of(given.calls, folder, keys)
+    parts, whole, library = [], [], []
+    for _ in range(given.runs):
+        name = copy_database(folder, "night.db", "parts.db")
+        parts += [[int(part) for part in line.split()] for line in told_by([given.calls, "parts", name, *keys], folder)]
+        library += seconds_by_library(folder, changes)
+        name = copy_database(folder, "night.db", "whole.db")
+        whole += [int(line) for line in told_by([given.calls, "whole", name, *keys], folder)]
+    if [line[3] for line in parts] != [len(rows) for rows in changes] * given.runs:
+        raise Unmeasured("the rows that were written aren't those that changed")
+    return parts, whole, library
+
+
+def tell(parts, whole, library):
+    """Prints the figures in milliseconds; whether the target is kept."""
+    prepare, write, apply, rows = (median(line[part] for line in parts) for part in range(4))
+    peer = median(library) * 1e6
+    print(f"rows      {rows:.0f} median, {min(line[3] for line in parts)} to {max(line[3] for line in parts)}")
+    print(f"prepare   {prepare / 1e3:9.3f} ms median")
+    print(f"write     {write / 1e3:9.3f} ms median: the store's part")
+    print(f"apply     {apply / 1e3:9.3f} ms median")
+    print(f"call      {median(whole) / 1e3:9.3f} ms median: the whole, at the desk")
+    print(f"library   {peer / 1e3:9.3f} ms median, for the same rows in one transaction\n")
+    is_kept = write <= MOST_TIMES_THE_LIBRARY * peer
+    print(f"  {'kept  ' if is_kept else 'MISSED'} {write / peer:9.2f} of at most {MOST_TIMES_THE_LIBRARY:6.1f}  times the library, for the store's part")
+    return is_kept
+
+
+def main():
+    words = argparse.ArgumentParser(description=__doc__.splitlines()[0])
+    words.add_argument("--runs", type=int, default=5, help="runs of each")
+    words.add_argument("--requests", type=int, default=12, help="requests, one after the other")
+    words.add_argument("--size", type=int, default=FULL, help="operations of the plan")
+    words.add_argument("--program", type=Path, default=PROGRAM)
+    words.add_argument("--calls", type=Path, default=CALLS)
+    given = words.parse_args()
+    given.program, given.calls = given.program.resolve(), given.calls.resolve()
+    try:
+        for program in (given.program, given.calls):
+            if not program.exists():
+                raise Unmeasured(f"no program {program}: README.md says how it is built")
+        tell_surroundings(given.calls, given.runs, f"of {given.size} operations", f"SQLite {sqlite3.sqlite_version}")
+        with tempfile.TemporaryDirectory() as folder:
+            return 0 if tell(*measured(given, Path(folder))) else 1
+    except (Unmeasured, OSError, sqlite3.Error, subprocess.CalledProcessError) as fault:
+        print(f"calls: {fault}", file=sys.stderr)
+        return 2
+
+
+if __name__ == "__main__":
+    sys.exit(main())

@@ -1,0 +1,5 @@
+pub mod Texts
+pub mod Fronts
+pub mod Answered
+pub mod Paths
+pub mod RoutesFound

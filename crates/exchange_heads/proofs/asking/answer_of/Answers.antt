@@ -1,0 +1,70 @@
+use Rattle.std.proofs.Common.{refl, List, [], ℕ}
+use Rattle.exchange_heads.specs.declared.asking.Asked.TheVariants as asked
+use Rattle.exchange_heads.specs.declared.routes.Route.TheVariants as route
+use Rattle.exchange_heads.specs.Heads.{request_at}
+use Rattle.exchange_heads.specs.Routes.{path_of, IsPathOf}
+use Rattle.exchange_heads.specs.Tests.{Request, Takes, Fails, Asks}
+use Rattle.exchange_heads.proofs.Texts.{IfSome-each}
+use Rattle.exchange_heads.proofs.Answered.{of_line, sent, refused}
+use Rattle.exchange_heads.proofs.asking.answer_of.Goals as goal
+
+pub returns-in-Err-clause-answer : goal.returns-in-Err-clause-answer
+returns-in-Err-clause-answer g c =
+    let head = c.args.head.now in
+    let P : List ℕ → Type 0 = λ left. Fails (request_at head.bytes.now head.headers.now head.spans left) c.in-Err.test in
+    IfSome-each _ P (λ left. of_line (λ q. Fails q c.in-Err.test) _ _ head.bytes.now head.headers.now head.spans left c.method.ensures c.target-target.ensures (rw c.in-Err.is at c.in_ok-line.ensures))
+
+pub segment_of-requires : goal.segment_of-requires
+segment_of-requires g c =
+    let takes : Takes (record { method = c.method.result.now; target = c.target-target.result.now; fields = []; rest = [] }) c.in-Ok.route = (rw c.in-Ok.is at c.in_ok-line.ensures) [] [] in
+    let path : IsPathOf c.in-Ok.route (path_of c.target-target.result.now) = takes.path.1 in
+    record { ready = rw c.in-Ready.is at path }
+
+pub returns-in-Ok-2-clause-answer : goal.returns-in-Ok-2-clause-answer
+returns-in-Ok-2-clause-answer g c =
+    let head = c.args.head.now in
+    let request : List ℕ → Request = λ left. request_at head.bytes.now head.headers.now head.spans left in
+    let takes : (left : List ℕ) → Takes (request left) route.Report =
+    λ left. rw c.in-Report.is at (of_line (λ q. Takes q c.in-Ok.route) _ _ head.bytes.now head.headers.now head.spans left c.method.ensures c.target-target.ensures (rw c.in-Ok.is at c.in_ok-line.ensures)) in
+    sent _ request route.Report c.in-Ok-2.body.items refl takes (rw c.in-Ok-2.is at c.in_ok-body-in-Report.ensures.body)
+
+pub returns-in-Err-2-clause-answer : goal.returns-in-Err-2-clause-answer
+returns-in-Err-2-clause-answer g c =
+    let head = c.args.head.now in
+    let request : List ℕ → Request = λ left. request_at head.bytes.now head.headers.now head.spans left in
+    let takes : (left : List ℕ) → Takes (request left) route.Report =
+    λ left. rw c.in-Report.is at (of_line (λ q. Takes q c.in-Ok.route) _ _ head.bytes.now head.headers.now head.spans left c.method.ensures c.target-target.ensures (rw c.in-Ok.is at c.in_ok-line.ensures)) in
+    refused _ request route.Report c.in-Err-2.test refl takes (rw c.in-Err-2.is at c.in_ok-body-in-Report.ensures.body)
+
+pub returns-in-Ok-3-clause-answer : goal.returns-in-Ok-3-clause-answer
+returns-in-Ok-3-clause-answer g c =
+    let head = c.args.head.now in
+    let request : List ℕ → Request = λ left. request_at head.bytes.now head.headers.now head.spans left in
+    let takes : (left : List ℕ) → Takes (request left) route.Operator =
+    λ left. rw c.in-Operator.is at (of_line (λ q. Takes q c.in-Ok.route) _ _ head.bytes.now head.headers.now head.spans left c.method.ensures c.target-target.ensures (rw c.in-Ok.is at c.in_ok-line.ensures)) in
+    sent _ request route.Operator c.in-Ok-3.body.items refl takes (rw c.in-Ok-3.is at c.in_ok-body-in-Operator.ensures.body)
+
+pub returns-in-Err-3-clause-answer : goal.returns-in-Err-3-clause-answer
+returns-in-Err-3-clause-answer g c =
+    let head = c.args.head.now in
+    let request : List ℕ → Request = λ left. request_at head.bytes.now head.headers.now head.spans left in
+    let takes : (left : List ℕ) → Takes (request left) route.Operator =
+    λ left. rw c.in-Operator.is at (of_line (λ q. Takes q c.in-Ok.route) _ _ head.bytes.now head.headers.now head.spans left c.method.ensures c.target-target.ensures (rw c.in-Ok.is at c.in_ok-line.ensures)) in
+    refused _ request route.Operator c.in-Err-3.test refl takes (rw c.in-Err-3.is at c.in_ok-body-in-Operator.ensures.body)
+
+pub returns-in_ok-segment_of-in-Ready-clause-answer : goal.returns-in_ok-segment_of-in-Ready-clause-answer
+returns-in_ok-segment_of-in-Ready-clause-answer g c =
+    let head = c.args.head.now in
+    let request : List ℕ → Request = λ left. request_at head.bytes.now head.headers.now head.spans left in
+    let P : List ℕ → Type 0 = λ left. Asks (request left) (asked.Ready c.in_ok-segment_of-in-Ready.field-0) in
+    IfSome-each _ P (λ left. (
+      rw c.in-Ready.is at (of_line (λ q. Takes q c.in-Ok.route) _ _ head.bytes.now head.headers.now head.spans left c.method.ensures c.target-target.ensures (rw c.in-Ok.is at c.in_ok-line.ensures)),
+      rw c.target-target.ensures at c.in_ok-segment_of-in-Ready.ensures.segment,
+    ))
+
+pub returns-in-Occurrences-clause-answer : goal.returns-in-Occurrences-clause-answer
+returns-in-Occurrences-clause-answer g c =
+    let head = c.args.head.now in
+    let P : List ℕ → Type 0 = λ left. Takes (request_at head.bytes.now head.headers.now head.spans left) route.Occurrences in
+    IfSome-each _ P (λ left.
+    rw c.in-Occurrences.is at (of_line (λ q. Takes q c.in-Ok.route) _ _ head.bytes.now head.headers.now head.spans left c.method.ensures c.target-target.ensures (rw c.in-Ok.is at c.in_ok-line.ensures)))

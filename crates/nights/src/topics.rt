@@ -1,0 +1,29 @@
+// All nights.
+use super::additions::ADDITIONS;
+use super::commands::COMMANDS;
+use super::days::DAYS;
+use super::latest::LATEST_STARTS;
+use super::pairs::PAIRS;
+use super::playing::{Deviation, Player, pass};
+use super::reports::REPORTS;
+use super::resources::RESOURCES;
+use std::alloc::Global;
+
+/// Plays the nights of all topics. Returns how many there are, where each goes as it says.
+pub fn play_all<P: Player>(alloc: Global) -> Result<u32, Deviation<'static>> {
+    let reports = pass::<P>(alloc, REPORTS)?;
+    let days = pass::<P>(alloc, DAYS)?;
+    let latest = pass::<P>(alloc, LATEST_STARTS)?;
+    let commands = pass::<P>(alloc, COMMANDS)?;
+    let resources = pass::<P>(alloc, RESOURCES)?;
+    let pairs = pass::<P>(alloc, PAIRS)?;
+    let additions = pass::<P>(alloc, ADDITIONS)?;
+    let by_time = reports.saturating_add(days).saturating_add(latest);
+    let by_others = commands.saturating_add(resources);
+    let by_what_comes_in = pairs.saturating_add(additions);
+    Ok(
+        by_time
+            .saturating_add(by_others)
+            .saturating_add(by_what_comes_in),
+    )
+}

@@ -1,0 +1,5 @@
+pub mod Blanks
+pub mod Joining
+pub mod Keeping
+pub mod Told
+pub mod Listing
