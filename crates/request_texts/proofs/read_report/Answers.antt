@@ -1,0 +1,7 @@
+use Rattle.serde_json.specs.View.{view}
+use Rattle.request_texts.proofs.Exactly.{report_read}
+use Rattle.request_texts.proofs.read_report.Goals as goal
+
+pub returns-in_ok-numbered_request-in-Some-clause-report : goal.returns-in_ok-numbered_request-in-Some-clause-report
+returns-in_ok-numbered_request-in-Some-clause-report c =
+    report_read c.args.body.now (view c.in-Some.value) c.in_ok-numbered_request-in-Some.field-0 (rw c.in-Some.is at c.in_ok-value.ensures) c.in_ok-numbered_request-in-Some.ensures
