@@ -4,6 +4,9 @@
 mod desk;
 #[cfg(test)]
 mod load_tests;
+mod serving;
+#[cfg(test)]
+mod serving_tests;
 #[cfg(test)]
 mod tests;
 mod words;
