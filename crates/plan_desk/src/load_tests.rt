@@ -188,7 +188,12 @@ fn path_of(
 }
 
 /// Runs `load` with these words.
-pub fn run_load<'a>(rt: &HostRuntime, db: &'a str, plan: &'a str, at: &'a str) -> Result<Ran, Fail> {
+pub fn run_load<'a>(
+    rt: &HostRuntime,
+    db: &'a str,
+    plan: &'a str,
+    at: &'a str,
+) -> Result<Ran, Fail> {
     let words = ["plandesk", "load", "--db", db, "--plan", plan, "--at", at];
     run(rt, words.as_slice())
 }

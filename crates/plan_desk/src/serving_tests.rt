@@ -1,7 +1,7 @@
 // Connections over the loopback, in one thread: each client writes before it is served, and reads after it. And what
 // can't be served.
-use crate::serving::serve_listener;
 use crate::load_tests::{DAY, run_load};
+use crate::serving::serve_listener;
 use crate::tests::{NIGHT, Ran, own_folder, run, text_of};
 use plan_basics::{Watched, minute_of_text};
 use plan_import::read_plan;
@@ -46,8 +46,9 @@ fn loaded_desk(rt: &HostRuntime) -> Result<Desk<MemStore>, Fail> {
     let text = text_of(rt.alloc(), DAY, b"\n")?;
     let conn = Connection::open_in_memory(rt.alloc())?;
     let mut desk = Desk::create(rt.alloc(), conn).map_err(|_| Fail::new("no desk"))?;
-    let draft = read_plan(rt.alloc(), &mut Watched::new(text.as_slice()))
-        .map_err(|_| Fail::new("no plan"))?;
+    let draft = read_plan(rt.alloc(), &mut Watched::new(text.as_slice())).map_err(|_| Fail::new(
+        "no plan",
+    ))?;
     let at = minute_of_text(NIGHT.as_bytes()).unwrap_or(0);
     desk.call(&Request {
         at,
@@ -99,7 +100,14 @@ fn a_silent_client_is_let_go(rt: HostRuntime) -> Result<(), Fail> {
 /// A run of `serve` for one connection.
 fn run_serve<'a>(rt: &HostRuntime, db: &'a str, port: &'a str) -> Result<Ran, Fail> {
     let words = [
-        "plandesk", "serve", "--db", db, "--port", port, "--requests", "1",
+        "plandesk",
+        "serve",
+        "--db",
+        db,
+        "--port",
+        port,
+        "--requests",
+        "1",
     ];
     run(rt, words.as_slice())
 }
@@ -107,7 +115,10 @@ fn run_serve<'a>(rt: &HostRuntime, db: &'a str, port: &'a str) -> Result<Ran, Fa
 #[test]
 fn databases_that_are_not_served(rt: HostRuntime) -> Result<(), Fail> {
     let folder = own_folder(&rt, "unserved")?;
-    let (absent, empty) = (folder.join(rt.alloc(), "absent.db")?, folder.join(rt.alloc(), "empty.db")?);
+    let (absent, empty) = (
+        folder.join(rt.alloc(), "absent.db")?,
+        folder.join(rt.alloc(), "empty.db")?,
+    );
     let other = folder.join(rt.alloc(), "other.db")?;
     fs::write(&rt, empty.as_path(), "")?;
     fs::write(&rt, other.as_path(), "a letter, and no database")?;
@@ -130,8 +141,15 @@ fn databases_that_are_not_served(rt: HostRuntime) -> Result<(), Fail> {
 #[test]
 fn ports_that_are_not_had(rt: HostRuntime) -> Result<(), Fail> {
     let folder = own_folder(&rt, "ports")?;
-    let (db, plan) = (folder.join(rt.alloc(), "night.db")?, folder.join(rt.alloc(), "plan.csv")?);
-    fs::write(&rt, plan.as_path(), text_of(rt.alloc(), DAY, b"\n")?.as_slice())?;
+    let (db, plan) = (
+        folder.join(rt.alloc(), "night.db")?,
+        folder.join(rt.alloc(), "plan.csv")?,
+    );
+    fs::write(
+        &rt,
+        plan.as_path(),
+        text_of(rt.alloc(), DAY, b"\n")?.as_slice(),
+    )?;
     run_load(&rt, db.as_str(), plan.as_str(), NIGHT)?;
     let holder = TcpListener::bind(&rt, (Ipv4Addr::LOCALHOST, 0u16))?;
     let taken = format!(in rt.alloc(); "{}", holder.local_addr()?.port())?;

@@ -35,8 +35,9 @@ fn load_command<'a>(alloc: Global) -> Result<Command<'a>, AllocError> {
 
 /// `serve`: the desk of a database answers over HTTP, so many connections.
 fn serve_command<'a>(alloc: Global) -> Result<Command<'a>, AllocError> {
-    let port = option(alloc, "port", "PORT", "The port, on 127.0.0.1: 1 to 65535")
-        .value_parser(clap::value_parser!(u16).range(1..));
+    let port = option(alloc, "port", "PORT", "The port, on 127.0.0.1: 1 to 65535").value_parser(
+        clap::value_parser!(u16).range(1..),
+    );
     let requests = option(
         alloc,
         "requests",
