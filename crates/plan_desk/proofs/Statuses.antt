@@ -21,6 +21,7 @@ fault_at_most fault.Encoding = omega arith
 fault_at_most fault.Words = omega arith
 fault_at_most fault.Moment = omega arith
 fault_at_most fault.File = omega arith
+fault_at_most fault.Network = omega arith
 fault_at_most fault.Memory = omega arith
 
 pub status_at_most : (outcome : Result Ending Fault) → (status : ℕ) → IsStatusOf outcome status → status ≤ 3

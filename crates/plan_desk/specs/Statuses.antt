@@ -27,9 +27,10 @@ fault_status fault.Encoding = 2
 fault_status fault.Words = 2
 fault_status fault.Moment = 2
 fault_status fault.File = 3
+fault_status fault.Network = 3
 fault_status fault.Memory = 3
 
--- the surroundings are at fault: a file, a stream or memory
+-- the surroundings are at fault: a file, a stream, the network or memory
 abbrev pub IsOfSurroundings : Fault → Type 0
 IsOfSurroundings f = fault_status f ≡ 3
 

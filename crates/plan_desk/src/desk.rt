@@ -9,16 +9,19 @@ ghost use Rattle.plan_desk.specs.Words.{text_given};
 ghost use Rattle.plan_desk.specs.declared.desk.Fault.{Fault};
 ghost use Rattle.plan_records.specs.Answer.{answer_of};
 
-use crate::database::load_into;
+use crate::serving::serve_listener;
 use crate::words::{desk_command, value_of};
 use clap::ArgMatches;
 use clap::error::{Error, ErrorKind};
 use plan_basics::{Refusal, Watched, minute_of_text};
 use plan_import::{ImportFault, read_plan};
+use plan_loads::load_into;
 use plan_records::{PlanDraft, Reply};
+use plan_tables::Desk;
 use sqlite::{Connection, ErrorCode, File, FileStore};
 use std::alloc::{AllocError, Global};
 use std::io::{Read, Write};
+use std::net::{Ipv4Addr, TcpListener};
 use std::{fmt, fs, io};
 
 /// How a run ends that has shown its answer.
@@ -58,6 +61,8 @@ pub enum Fault {
     Moment,
     /// A file or a standard stream failed, or the file isn't there.
     File,
+    /// The port can't be had, or it gives no connection.
+    Network,
     /// Memory lacks outside the plan.
     Memory,
 }
@@ -82,7 +87,7 @@ impl Fault {
     {
         match self {
             Fault::Encoding | Fault::Words | Fault::Moment => 2,
-            Fault::File | Fault::Memory => 3,
+            Fault::File | Fault::Network | Fault::Memory => 3,
         }
     }
 }
@@ -99,6 +104,7 @@ impl fmt::Display for Fault {
             Fault::Words => f.write_str("fault words"),
             Fault::Moment => f.write_str("fault moment"),
             Fault::File => f.write_str("fault file"),
+            Fault::Network => f.write_str("fault network"),
             Fault::Memory => f.write_str("fault memory"),
         }
     }
@@ -240,6 +246,50 @@ fn load<W: Write>(
     told
 }
 
+/// The desk of a database's file, which has to be there; or the refusal of the one that can't be opened.
+fn stored_desk(
+    rt: &HostRuntime,
+    path: &str,
+) -> Result<Result<Desk<FileStore<File>>, Refusal>, Fault> {
+    fs::metadata(rt, path)?;
+    match Desk::open(rt.alloc(), Connection::open(rt, path)?) {
+        Ok(desk) => Ok(Ok(desk)),
+        Err((refusal, conn)) => {
+            close(conn, &Reply::Refused(refusal))?;
+            Ok(Err(refusal))
+        }
+    }
+}
+
+/// The port of this machine itself that the words give, taken.
+fn taken_port(rt: &HostRuntime, given: &ArgMatches) -> Result<TcpListener, Fault> {
+    let port = given.get_one::<u16>("port").ok_or(Fault::Words)?;
+    TcpListener::bind(rt, (Ipv4Addr::LOCALHOST, port)).map_err(|_| Fault::Network)
+}
+
+/// `serve`: the desk of a database's file serves so many connections. The database is opened before the port is taken,
+/// and that the port is taken is told before the first connection is.
+fn serve<W: Write>(
+    rt: &HostRuntime,
+    given: &ArgMatches,
+    out: &mut Watched<W>,
+) -> Result<Ending, Fault> {
+    let connections = given.get_one::<u32>("requests").ok_or(Fault::Words)?;
+    let mut desk = match stored_desk(rt, value_of(given, "db"))? {
+        Ok(desk) => desk,
+        Err(refusal) => return tell(out, &Reply::Refused(refusal)),
+    };
+    let listener = taken_port(rt, given)?;
+    writeln!(out, "listening")?;
+    out.flush()?;
+    let served = serve_listener(rt.alloc(), &listener, &mut desk, u64::from(connections));
+    if desk.is_usable() {
+        desk.close().close()?;
+    }
+    served.map_err(|_| Fault::Network)?;
+    Ok(Ending::Done)
+}
+
 /// Shows what `clap` has to say where it hands out no words: help on standard output, else what is wrong with them.
 #[tactic(auto, using(crate::proofs::Statuses::of_the_surroundings))]
 fn explain<W: Write, E: Write>(
@@ -276,6 +326,7 @@ fn obey<W: Write, E: Write>(
     let ending = match matches.subcommand() {
         Some(("check", given)) => check(rt, given, out)?,
         Some(("load", given)) => load(rt, given, out)?,
+        Some(("serve", given)) => serve(rt, given, out)?,
         _ => return Err(Fault::Words),
     };
     out.flush()?;
@@ -304,8 +355,8 @@ fn status_of<E: Write>(outcome: Result<Ending, Fault>, err: &mut Watched<E>) -> 
 }
 
 /// Runs the desk with these words, of which the first is the program's name, and gives the exit status: 0 accepted or
-/// done, 1 refused, 2 a fault of the words or the moment, 3 a fault of a file, a standard stream or memory outside the
-/// plan. Answers go to `out`, faults to `err`. (The words and their meaning: this project's own.)
+/// done, 1 refused, 2 a fault of the words or the moment, 3 a fault of a file, a standard stream, the network or memory
+/// outside the plan. Answers go to `out`, faults to `err`. (The words and their meaning: this project's own.)
 #[tactic(auto, using(crate::proofs::Statuses::status_at_most))]
 pub fn desk_run<W: Write, E: Write>(
     rt: &HostRuntime,

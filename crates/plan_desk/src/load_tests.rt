@@ -32,7 +32,7 @@ struct Load {
     answer: Answer,
 }
 
-const DAY: &[&[u8]] = &[STATION, OPEN, DAILY, FIRST, SECOND, PAIR];
+pub const DAY: &[&[u8]] = &[STATION, OPEN, DAILY, FIRST, SECOND, PAIR];
 
 const LOADED: Answer = ("refused 4 Loaded\n", 1);
 
@@ -188,7 +188,12 @@ fn path_of(
 }
 
 /// Runs `load` with these words.
-fn run_load<'a>(rt: &HostRuntime, db: &'a str, plan: &'a str, at: &'a str) -> Result<Ran, Fail> {
+pub fn run_load<'a>(
+    rt: &HostRuntime,
+    db: &'a str,
+    plan: &'a str,
+    at: &'a str,
+) -> Result<Ran, Fail> {
     let words = ["plandesk", "load", "--db", db, "--plan", plan, "--at", at];
     run(rt, words.as_slice())
 }

@@ -1,10 +1,12 @@
 //! The program plandesk: a current plan at the command line.
 #![tactic(auto)]
 
-mod database;
 mod desk;
 #[cfg(test)]
 mod load_tests;
+mod serving;
+#[cfg(test)]
+mod serving_tests;
 #[cfg(test)]
 mod tests;
 mod words;

@@ -33,13 +33,33 @@ fn load_command<'a>(alloc: Global) -> Result<Command<'a>, AllocError> {
         .arg(option(alloc, "at", "MOMENT", "The moment, as 2024-03-01T22:00"))
 }
 
+/// `serve`: the desk of a database answers over HTTP, so many connections.
+fn serve_command<'a>(alloc: Global) -> Result<Command<'a>, AllocError> {
+    let port = option(alloc, "port", "PORT", "The port, on 127.0.0.1: 1 to 65535").value_parser(
+        clap::value_parser!(u16).range(1..),
+    );
+    let requests = option(
+        alloc,
+        "requests",
+        "NUMBER",
+        "How many connections are served: 1 to 1000000",
+    )
+    .value_parser(clap::value_parser!(u32).range(1..=1_000_000));
+    Command::new(alloc, "serve")
+        .about("Serves trackers and operators over HTTP, one connection after another")
+        .arg(option(alloc, "db", "FILE", "The database of the desk"))?
+        .arg(port)?
+        .arg(requests)
+}
+
 /// All that the program understands.
 pub fn desk_command<'a>(alloc: Global) -> Result<Command<'a>, AllocError> {
     Command::new(alloc, "plandesk")
         .about("The desk of a current plan")
         .subcommand_required(true)
         .subcommand(check_command(alloc)?)?
-        .subcommand(load_command(alloc)?)
+        .subcommand(load_command(alloc)?)?
+        .subcommand(serve_command(alloc)?)
 }
 
 /// The value of a required option, which a parse that succeeded has given.

@@ -1,0 +1,159 @@
+#!/usr/bin/env python3
+"""Kills `plandesk serve` again and again in a stream of numbered reports, and sees that each acted once, none lost.
+
+    stops.py [--reports N] [--stops N] [--trackers N] [--seed N] [--program PATH]
+
+Some trackers report in turn that an operation of theirs has started, is interrupted, has started, and so on. At so many
+of the reports the program is killed (`kill -9`), at a moment drawn by chance from what a report takes. Then it is
+started again over the same file, and each tracker does what a tracker does that doesn't know: it repeats its last
+report, byte for byte. Where that report was answered before, the answer has to be the same; and whatever a tracker
+reported before its last is answered as old. At the end the tables have to be those of the same reports without a stop.
+
+Exit status: 0 all is so, 1 it isn't, 2 nothing could be tried.
+"""
+import argparse
+import http.client
+import random
+import shutil
+import sqlite3
+import sys
+import tempfile
+import threading
+import time
+from pathlib import Path
+
+from measure import MOMENT, PROGRAM, Unmeasured
+from served import Served, load, report_text
+from stored import TABLES
+
+OLD = (409, b'{"name":"Old","refusal":22}')
+CUT = (OSError, http.client.HTTPException)
+
+
+class Lost(Exception):
+    """A report acted twice, or not at all, or was answered differently."""
+
+
+def plan_text(trackers):
+    """An operation for each tracker, all on one manual workstation that has servers for all."""
+    lines = ["W,SETP,S,,,,,,,", f"I,SETP,2024-03-01T22:00,2024-03-02T02:00,{trackers},0,0,,,",
+             "O,PAYROLL,2024-03-01T22:00,5,2024-03-02T05:00,,,,,"]
+    lines += [f"P,PAYROLL,2024-03-01T22:00,{n + 1},SETP,10,0,0,," for n in range(trackers)]
+    return "\n".join(lines) + "\n"
+
+
+class Tracker:
+    """Its reports, each with the answer that it got, if it did."""
+
+    def __init__(self, turn):
+        self.name = f"T{turn + 1}"
+        self.operation = f"PAYROLL/2024-03-01T22:00/{turn + 1:03}"
+        self.texts, self.answers = [], []
+
+    def next_report(self):
+        number = len(self.texts) + 1
+        what = "started" if number % 2 else "interrupted"
+        self.texts.append(report_text(self.name, number, MOMENT, what, self.operation))
+        self.answers.append(None)
+        return self.texts[-1]
+
+    def take(self, answer):
+        if answer[0] != 200:
+            raise Lost(f"{self.name} reports {self.texts[-1]} and is answered {answer}")
+        if self.answers[-1] not in (None, answer):
+            raise Lost(f"{self.name} is answered {answer}, where it was {self.answers[-1]}")
+        self.answers[-1] = answer
+
+
+def rows(folder):
+    """All rows of the tables of a database that nobody has open, its log read with it."""
+    for name in ("night.db", "night.db-wal"):
+        (folder / f"look{name[5:]}").unlink(missing_ok=True)
+        if (folder / name).exists():
+            shutil.copy(folder / name, folder / f"look{name[5:]}")
+    with sqlite3.connect(folder / "look.db") as database:
+        return {table: sorted(database.execute(f"SELECT * FROM {table}").fetchall()) for table in TABLES}
+
+
+def report_and_kill(desk, text, patience):
+    """Sends a report to a desk that is killed meanwhile; the answer, or None where the connection was cut."""
+    killer = threading.Timer(patience, desk.process.kill)
+    killer.start()
+    try:
+        return desk.report(text)
+    except CUT:
+        return None
+    finally:
+        killer.join()
+        desk.kill()
+
+
+def recover(desk, trackers):
+    """Each tracker repeats its last report, and then one of those before."""
+    for tracker in trackers:
+        if tracker.texts:
+            tracker.take(desk.report(tracker.texts[-1]))
+        if len(tracker.texts) > 1:
+            answer = desk.report(tracker.texts[-2])
+            if answer != OLD:
+                raise Lost(f"{tracker.name} reports again {tracker.texts[-2]} and is answered {answer}")
+
+
+def play(given, folder, stops):
+    """Plays the reports, with a stop at each of these; how many stops left a report unanswered, and the last rows."""
+    (folder / "plan.csv").write_text(plan_text(given.trackers))
+    load(given.program, folder, "plan.csv", MOMENT)
+    desk = Served(given.program, folder)
+    trackers = [Tracker(turn) for turn in range(given.trackers)]
+    chance, taken, unanswered = random.Random(given.seed), [0.002], 0
+    try:
+        for turn in range(given.reports):
+            tracker = trackers[turn % len(trackers)]
+            text = tracker.next_report()
+            if turn in stops:
+                answer = report_and_kill(desk, text, chance.uniform(0, 1.2 * max(taken[-20:])))
+                unanswered += answer is None
+                if answer is not None:
+                    tracker.take(answer)
+                desk = Served(given.program, folder)
+                recover(desk, trackers)
+            else:
+                begun = time.perf_counter()
+                tracker.take(desk.report(text))
+                taken.append(time.perf_counter() - begun)
+    finally:
+        desk.kill()
+    return unanswered, rows(folder)
+
+
+def main():
+    words = argparse.ArgumentParser(description=__doc__.splitlines()[0])
+    words.add_argument("--reports", type=int, default=2000, help="reports in all")
+    words.add_argument("--stops", type=int, default=200, help="at how many of them the program is killed")
+    words.add_argument("--trackers", type=int, default=8, help="trackers, which report in turn: 1 to 64")
+    words.add_argument("--seed", type=int, default=1, help="what chance draws the moments of the stops from")
+    words.add_argument("--program", type=Path, default=PROGRAM)
+    given = words.parse_args()
+    given.program = given.program.resolve()
+    stops = set(random.Random(given.seed).sample(range(given.reports), given.stops))
+    try:
+        if not given.program.exists():
+            raise Unmeasured(f"no program {given.program}: bin/build proves and builds it")
+        with tempfile.TemporaryDirectory() as stopped, tempfile.TemporaryDirectory() as whole:
+            unanswered, left = play(given, Path(stopped), stops)
+            _, wanted = play(given, Path(whole), set())
+            if left != wanted:
+                raise Lost("the tables aren't those of the same reports without a stop")
+        print(f"{given.reports} reports of {given.trackers} trackers, {given.stops} stops, {unanswered} of them before the "
+              f"answer: each acted once, none lost")
+        return 0
+    except Lost as lost:
+        print(f"stops: {lost}", file=sys.stderr)
+        return 1
+    except (Unmeasured, OSError, http.client.HTTPException, sqlite3.Error) as fault:
+        print(f"stops: {fault}", file=sys.stderr)
+        return 2
+
+
+if __name__ == "__main__":
+    sys.exit(main())
