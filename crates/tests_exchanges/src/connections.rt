@@ -52,7 +52,7 @@ pub fn served(alloc: Global, desk: &mut Desk<MemStore>, input: &str) -> Option<S
 }
 
 /// The same, by a reader.
-pub fn served_from<R: Read>(
+pub fn served_from<R: Read + Drop>(
     alloc: Global,
     desk: &mut Desk<MemStore>,
     reader: R,

@@ -51,6 +51,7 @@ pub fn get(alloc: Global, path: &str) -> Option<String> {
 }
 
 /// What is reported of an operation of PAYROLL, at a time of the first evening.
+#[derive(Clone, Copy)]
 pub struct Report<'a> {
     pub tracker: &'a str,
     pub number: u64,
