@@ -1,0 +1,88 @@
+-- An exchange: from the bytes of a connection and a desk to the bytes of the reply and the desk after it.
+use Rattle.std.specs.Prelude.{◌≡◌, ◌⊎◌, ℕ, List, Option, IfSome, Result, Ok, Err}
+use Rattle.std.specs.Io.KnownBytes.{Keeps, Appends}
+use Rattle.exchange_heads.specs.Tests.{status_of as status_of_test}
+use Rattle.exchange_heads.specs.Tests as head
+use Rattle.exchange_heads.specs.declared.asking.Asked.{Asked}
+use Rattle.exchange_heads.specs.declared.asking.Asked.TheVariants as asked
+use Rattle.exchange_heads.specs.declared.asking.Rejection.{Rejection}
+use Rattle.exchange_heads.specs.declared.statuses.Status.TheVariants as status
+use Rattle.plan_basics.specs.Watched.{AppendsBeginning}
+use Rattle.plan_records.specs.Answer.{answer_of}
+use Rattle.plan_records.specs.Run.{State, Call, plain, numbered, Usable}
+use Rattle.plan_records.specs.Run as run
+use Rattle.plan_records.specs.declared.Request.{Request}
+use Rattle.plan_tables.specs.Desk.{DeskState, state_of, usability}
+use Rattle.request_texts.specs.Requests.{ReadsAsRequest, ReadsAsReport}
+use Rattle.request_texts.specs.declared.NumberedRequest.{NumberedRequest}
+use Rattle.request_texts.specs.declared.WireFault.TheVariants as fault
+use Rattle.request_texts.specs.declared.WireFault.{WireFault}
+use Rattle.tracker_http.specs.Lists.{TellsReady, TellsOccurrences, TellsList}
+use Rattle.tracker_http.specs.Told.{reply_of}
+use Rattle.tracker_http.specs.declared.told.Told.{Told}
+use Rattle.tracker_http.specs.declared.told.Told.TheVariants as told
+
+-- what is seen of a desk: its plan and receipts, and whether it carries out calls
+pub record Seen : Type 0 where
+  pub state : State
+  pub usable : Usable
+
+-- what is seen of this desk
+abbrev pub seen : {S : Type 0} → DeskState S → Seen
+seen d = record { state = state_of d.plan; usable = usability d.is_usable }
+
+-- the desk is called, and its answer is told
+abbrev pub TellsAnswer : Call → Seen → Told → Seen → Type 0
+TellsAnswer c s (told.Answer reply) t = run.Answers s.state s.usable c (answer_of reply) t.state t.usable
+TellsAnswer c s _ t = ⊥
+
+-- the body is no request: this is told, and nothing changes
+abbrev pub TellsBadBody : Seen → Told → Seen → Type 0
+TellsBadBody s x t = (x ≡ told.Fault status.BadRequest) × (t ≡ s)
+
+-- the call that a report makes: the text that is kept of it is the whole body
+abbrev pub report_call : NumberedRequest → List ℕ → Call
+report_call n body = numbered (record { tracker = n.tracker; number = n.number; text = body; request = n.request })
+
+-- a report is made, if the body is one
+abbrev pub TellsReport : List ℕ → Seen → Told → Seen → Type 0
+TellsReport body s x t =
+    ((n : NumberedRequest) × ReadsAsReport body n × TellsAnswer (report_call n body) s x t)
+    ⊎ (((n : NumberedRequest) → ¬ ReadsAsReport body n) × TellsBadBody s x t)
+
+-- an operator's request is made, if the body is one
+abbrev pub TellsOperator : List ℕ → Seen → Told → Seen → Type 0
+TellsOperator body s x t =
+    ((q : Request) × ReadsAsRequest body q × TellsAnswer (plain q) s x t)
+    ⊎ (((q : Request) → ¬ ReadsAsRequest body q) × TellsBadBody s x t)
+
+-- what a request in good form is told, and the desk after it; lists change nothing
+abbrev pub Tells : Asked → Seen → Told → Seen → Type 0
+Tells (asked.Report body) s x t = TellsReport body.items s x t
+Tells (asked.Operator body) s x t = TellsOperator body.items s x t
+Tells (asked.Ready name) s x t = TellsList (TellsReady name.items) s.usable s.state.plan x × (t ≡ s)
+Tells asked.Occurrences s x t = TellsList TellsOccurrences s.usable s.state.plan x × (t ≡ s)
+
+-- what a request is told: by what it asks for, or by the first test that it fails; then nothing changes
+abbrev pub Replies : Result Asked Rejection → Seen → Told → Seen → Type 0
+Replies (Ok a) s x t = Tells a s x t
+Replies (Err test) s x t = (x ≡ told.Fault (status_of_test test)) × (t ≡ s)
+
+-- the input of a connection leads to this output, and from this state of the desk to that one
+abbrev pub Exchange : List ℕ → Seen → List ℕ → Seen → Type 0
+Exchange input s output t = (found : Result Asked Rejection) × (x : Told) × head.Answers input found × Replies found s x t × (output ≡ reply_of x)
+
+-- some reply to the input, of which this is so, is that of an exchange that leads from this state of the desk to that one; said where the input is known
+abbrev pub Exchanges : Option (List ℕ) → Seen → Seen → (List ℕ → Type 0) → Type 0
+Exchanges known s t IsSo = IfSome known (λ input. (output : List ℕ) × Exchange input s output t × IsSo output)
+
+-- how an exchange may end, and what it leaves: what the reader held, the desk before and after, the writer's bytes before and after
+abbrev pub Ends : {U : Type 0} → Result U WireFault → Option (List ℕ) → Seen → Seen → Option (List ℕ) → Option (List ℕ) → Type 0
+-- the whole reply is written
+Ends (Ok _) known s t old new = Exchanges known s t (Appends old new)
+-- nothing is written, and nothing changes
+Ends (Err fault.Reader) known s t old new = (t ≡ s) × Keeps old new
+-- a beginning of the reply is written, and the request acted as the reply says
+Ends (Err fault.Writer) known s t old new = Exchanges known s t (AppendsBeginning old new)
+-- nothing is written; the request acted as some reply says, or nothing changes
+Ends (Err fault.Memory) known s t old new = Keeps old new × ((t ≡ s) ⊎ Exchanges known s t (λ _. Unit {0}))

@@ -1,0 +1,76 @@
+// One exchange: a request is read, the desk answers it, the reply is written.
+ghost use Rattle.std.specs.Prelude.{◌≡◌, ◌↔◌, ◌⊎◌, Err, true, false, IfOk, IfErr, OnOk, OnErr, IfSome, Result};
+ghost use Rattle.std.specs.Io.KnownBytes.{Appends};
+ghost use Rattle.exchange_heads.specs.Tests.{Answers};
+ghost use Rattle.exchange_heads.specs.declared.asking.Asked.{Asked};
+ghost use Rattle.exchange_heads.specs.declared.asking.Rejection.{Rejection};
+ghost use Rattle.plan_basics.specs.Watched.{inner_of, failed_of, AppendsBeginning};
+ghost use Rattle.tracker_http.specs.Exchange.{seen, Replies, Ends};
+
+use super::asking::tell;
+use super::told::Told;
+use exchange_heads::{ExchangeFault, read_exchange};
+use plan_basics::Watched;
+use plan_tables::Desk;
+use request_texts::WireFault;
+use sqlite::Alter;
+use std::alloc::Global;
+use std::io::{Read, Write};
+
+// Reads a request and asks the desk, or tells the first test that the request fails.
+fn told_to<R: Read, S: Alter + Drop>(
+    alloc: Global,
+    reader: &mut Watched<R>,
+    desk: &mut Desk<S>,
+) -> Result<Told, WireFault>
+    ensures told { IfOk result (λ told. IfSome (R.remaining (inner_of reader.old))
+        (λ input. (found : Result Asked Rejection) × Answers input found × Replies found (seen desk.old) told (seen desk.new))) }
+    ensures reader_fault { (result ≡ Err WireFault.Reader) ↔ (failed_of reader.new ≡ true) }
+    ensures others { IfErr result (λ fault. (fault ≡ WireFault.Reader) ⊎ (fault ≡ WireFault.Memory)) }
+    ensures unchanged { OnErr result (desk.new ≡ desk.old) }
+{
+    match read_exchange(alloc, reader) {
+        Ok(Ok(asked)) => tell(alloc, desk, &asked),
+        Ok(Err(test)) => Ok(Told::Fault(test.status())),
+        Err(ExchangeFault::Memory) => Err(WireFault::Memory),
+        Err(ExchangeFault::Reader) => Err(WireFault::Reader),
+    }
+}
+
+// Writes a reply whole, and flushes it.
+fn send<W: Write>(writer: &mut Watched<W>, reply: &[u8]) -> Result<(), WireFault>
+    requires fresh { failed_of writer.old ≡ false }
+    ensures whole { OnOk result (Appends (W.contents (inner_of writer.old)) (W.contents (inner_of writer.new)) reply.now) }
+    ensures beginning { AppendsBeginning (W.contents (inner_of writer.old)) (W.contents (inner_of writer.new)) reply.now }
+    ensures ok { OnOk result (failed_of writer.new ≡ false) }
+    ensures err { OnErr result (failed_of writer.new ≡ true) }
+    ensures fault { IfErr result (λ fault. fault ≡ WireFault.Writer) }
+{
+    if writer.write_all(reply).is_err() || writer.flush().is_err() {
+        return Err(WireFault::Writer);
+    }
+    Ok(())
+}
+
+/// Serves one request: it is read, in whatever pieces it comes, the desk answers it, and the reply is written and flushed.
+/// No more is read than the request's form needs. The desk is asked once the request is whole, and before any of the reply
+/// is written. Faults of earlier calls of the reader and the writer are forgotten.
+///
+/// `Reader` where the reader answered a fault: nothing is written, and nothing changes. `Writer` where the writer did: a
+/// beginning of the reply is written, and the request acted as the reply says. `Memory` for want of memory: nothing is
+/// written, and the request may have acted, which a tracker learns by repeating it.
+pub fn serve_one<R: Read, W: Write, S: Alter + Drop>(
+    alloc: Global,
+    reader: &mut Watched<R>,
+    writer: &mut Watched<W>,
+    desk: &mut Desk<S>,
+) -> Result<(), WireFault>
+    ensures ends { Ends result (R.remaining (inner_of reader.old)) (seen desk.old) (seen desk.new) (W.contents (inner_of writer.old)) (W.contents (inner_of writer.new)) }
+    ensures reader_fault { (result ≡ Err WireFault.Reader) ↔ (failed_of reader.new ≡ true) }
+    ensures writer_fault { (result ≡ Err WireFault.Writer) ↔ (failed_of writer.new ≡ true) }
+{
+    writer.clear();
+    let told = told_to(alloc, reader, desk)?;
+    let reply = told.reply(alloc)?;
+    send(writer, &reply)
+}
