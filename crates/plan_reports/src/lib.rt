@@ -3,3 +3,5 @@
 #![tactic(auto)]
 
 mod lines;
+mod rows;
+mod texts;

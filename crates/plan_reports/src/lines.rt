@@ -1,5 +1,6 @@
 // Lines of a report, field by field.
 ghost use Rattle.std.specs.Prelude.{◌≡◌, ◌++◌, ◌∷◌, [], ◌-◌, OnOk, map, replicate, codes, decimal, length};
+ghost use Rattle.plan_reports.specs.declared.lines.Field.{Field as Shown};
 ghost use Rattle.plan_reports.specs.Lines.{left, line, right, shown};
 
 use std::alloc::AllocError;
@@ -13,6 +14,13 @@ pub(crate) enum Field<'a> {
     Left(usize, &'a [u8]),
     /// A number at the right of a column of this width, with spaces before it.
     Right(usize, u64),
+}
+
+/// A number at the right of a column of this width.
+pub(crate) fn right<'a>(width: usize, number: u64) -> Field<'a>
+    ensures { result ≡ Shown.Right width number }
+{
+    Field::Right(width, number)
 }
 
 // Puts spaces behind a text.
