@@ -5,3 +5,4 @@ pub mod RowsWritten
 pub mod SameColumns
 pub mod Start
 pub mod PlanWritten
+pub mod ReceiptPut
