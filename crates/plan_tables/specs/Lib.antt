@@ -1,4 +1,5 @@
 pub mod Desk
+pub mod Calls
 pub mod Faults
 pub mod Errors
 pub mod Runs
