@@ -1,34 +1,37 @@
 -- What the tables hold: the rows of no plan where a desk begins, and after a step those of the state that it leaves.
-use Rattle.std.proofs.Common.{◌≡◌, inl, inr, refl, sym, ap, arith, subst, List, IsTrue}
+use Rattle.std.proofs.Common.{◌≡◌, inl, inr, refl, sym, arith, subst, subst₂, List, IsTrue}
+use Rattle.std.specs.FinMap.{insert}
 use Rattle.sqlite.specs.Effect.{Database}
 use Rattle.sqlite.specs.Held.{state}
 use Rattle.sqlite.specs.State.{State as StoreState, HasCleanDisk, Survives}
 use Rattle.sqlite_trees.specs.Tree.{Trees}
 use Rattle.sqlite_trees.specs.declared.store.Store.{Ghosts}
 use Rattle.table_rows.specs.Tables.{no_schema}
+use Rattle.numbered_steps.specs.Steps.{IsNumberedStepFor}
+use Rattle.numbered_steps.specs.declared.steps.NumberedStep.{NumberedStep}
 use Rattle.plan_basics.specs.declared.keys.OpKey.{OpKey}
 use Rattle.plan_columns.proofs.PlanWritten.{step_written}
+use Rattle.plan_columns.proofs.ReceiptPut.{none_are_held, receipt_written, receipts_stay, rows_beside_receipt}
 use Rattle.plan_columns.proofs.Start.{held_at_first}
-use Rattle.plan_columns.specs.Receipts.{HoldReceipts}
+use Rattle.plan_columns.specs.Receipts.{HoldReceipts, stored_receipt, written_numbered}
 use Rattle.plan_columns.specs.Tables.{HoldRows, written}
-use Rattle.plan_core.specs.State.{IsPreparedFor, PreparedState}
-use Rattle.plan_drafts.specs.declared.RowKey.{RowKey}
 use Rattle.plan_model.specs.Plan.{Plan, IsSoundPlan}
 use Rattle.plan_records.specs.Answer.{accepted}
-use Rattle.plan_records.specs.Rows.{AreChanges, IsRow}
-use Rattle.plan_records.specs.Run.{Call, CallStep, State, empty_state}
-use Rattle.plan_records.specs.Step.{Receipts, Step}
-use Rattle.plan_records.specs.declared.PlanRow.{PlanRow}
-use Rattle.plan_records.specs.declared.Request.{Request}
+use Rattle.plan_records.specs.Rows.{IsRow}
+use Rattle.plan_records.specs.Run.{Call, CallStep, State, empty_state, numbered, plain}
+use Rattle.plan_records.specs.Step.{Numbered as NumberedRequest, NumberedMayBeAccepted, Receipts, Step, StepBy, StepsAnew}
 use Rattle.plan_schema.specs.Stored.{Held, Stores, Turns}
+use Rattle.plan_tables.specs.Calls.{change_of, named_by, state_after, IsPreparedAt}
 use Rattle.plan_tables.specs.Desk.{DeskState, HasTables, HoldsState, IsKept, IsStepCommitted, state_of}
+use Rattle.plan_tables.specs.declared.calls.PreparedCall.{PreparedCall}
+use Rattle.plan_tables.specs.declared.calls.PreparedCall.TheVariants.{Plain, Numbered}
 use Rattle.plan_writes.specs.Within.{Begins, IsCommitted, IsUndone, LeavesMade, Rewrites, first_held}
 
 -- ---- where a desk begins
 
 -- the tables that were made hold the rows of no plan, and no receipt
 pub begun_held : (db : Database) → Stores db first_held → HoldsState empty_state db
-begun_held db stores = record { held = first_held; stores = stores; rows = held_at_first; receipts = no_receipts_held first_held refl }
+begun_held db stores = record { held = first_held; stores = stores; rows = held_at_first; receipts = none_are_held first_held refl }
 
 -- the tables that a desk begins with, where there was none before
 pub begun_so : (before after : Database) → Begins before after → before.schema ≡ no_schema → HoldsState empty_state after
@@ -76,11 +79,41 @@ module _ (s t : State) (change : Held → Held) (carries : Carries s t change) w
 pub undone_held : (s : State) (old new : StoreState) → IsUndone old new → HoldsState s old.committed → HoldsState s new.committed
 undone_held s old new undone h = subst (HoldsState s) (sym undone.2) h
 
+-- ---- what was prepared
+
+-- a numbered request's step is one of its request
+plain_step : (P Q : Plan) (T : Receipts) (n : NumberedRequest) (named : List OpKey) → StepBy (NumberedMayBeAccepted P T n) P n.request (accepted named) Q → Step P n.request (accepted named) Q
+plain_step P Q T n named h = record { none_refuses = λ r. (h.none_refuses r).0; is_request = h.is_request; changed = h.changed; changes = h.changes; is_chosen = h.is_chosen; is_after = h.is_after }
+
+-- a numbered request leads to the state that was prepared for it
+pub numbered_step : (s : State) (n : NumberedRequest) (p : NumberedStep) → IsNumberedStepFor (record { plan = s.plan }) s.receipts n p → CallStep s (numbered n) (accepted p.prepared.named) (state_after s (Numbered p))
+numbered_step s n p is = inr (subst (λ t. StepsAnew s.plan s.receipts n (accepted p.prepared.named) p.prepared.plan (insert s.receipts t p.receipt)) (sym is.tracker) is.step)
+
+-- some call leads to the state that was prepared
+pub step_of : (s : State) (p : PreparedCall) → IsPreparedAt s p → (c : Call) × CallStep s c (accepted (named_by p)) (state_after s p)
+step_of s (Plain p) is = (plain is.request, (is.step, refl))
+step_of s (Numbered p) is = (numbered is.0, numbered_step s is.0 p is.1)
+
+-- what it writes leads from the tables of the one to those of the other
+pub prepared_carries : (s : State) (p : PreparedCall) → IsSoundPlan s.plan → IsPreparedAt s p → Carries s (state_after s p) (change_of p)
+prepared_carries s (Plain p) sound is held rows receipts = (
+  step_written s.plan p.plan is.request (accepted p.named) p.rows p.gone sound is.step is.changes held rows,
+  receipts_stay s.receipts p.rows p.gone held receipts,
+)
+prepared_carries s (Numbered p) sound is held rows receipts =
+    let n = is.0 in
+    let q = p.prepared in
+    let step = plain_step s.plan q.plan s.receipts n q.named is.1.step.2 in (
+      rows_beside_receipt (IsRow q.plan) (stored_receipt p.row) (written q.rows q.gone held) (step_written s.plan q.plan n.request (accepted q.named) q.rows q.gone sound step is.1.changes held rows),
+      subst₂ (λ t c. HoldReceipts (insert s.receipts t p.receipt) (written_numbered q.rows q.gone c held)) (sym is.1.tracker) (sym is.1.row) (receipt_written s.receipts n.tracker p.receipt q.rows q.gone held receipts),
+    )
+
 -- ---- at the desk
 
 -- what a prepared call changes was committed
-pub carried_held : {S : Type 0} (g : Ghosts S) (old now : DeskState S) → old ≡ now → IsKept g old → (t : State) (change : Held → Held) → Carries (state_of now) t change → (new : StoreState)
-    → IsCommitted (Rewrites change) (state g old.conn) new → HasCleanDisk (state g old.conn) → HasTables (state g old.conn) → HoldsState t new.committed
-carried_held g old now seen kept t change carries new done clean has =
-    let made = subst (λ (d : DeskState _). Carries (state_of d) t change) (sym seen) carries in
-    step_committed (state_of old) t change made (state g old.conn) new done (kept.tables (clean, done.0) has)
+pub carried_held : {S : Type 0} (g : Ghosts S) (old : DeskState S) → IsKept g old → (p : PreparedCall) → IsPreparedAt (state_of old) p → (t : State) → t ≡ state_after (state_of old) p → (new : StoreState)
+    → IsCommitted (Rewrites (change_of p)) (state g old.conn) new → HasCleanDisk (state g old.conn) → HasTables (state g old.conn) → HoldsState t new.committed
+carried_held g old kept p is t led new done clean has =
+    let s = state_of old in
+    subst (λ u. HoldsState u new.committed) (sym led)
+    (step_committed s (state_after s p) (change_of p) (prepared_carries s p kept.legal.0 is) (state g old.conn) new done (kept.tables (clean, done.0) has))
