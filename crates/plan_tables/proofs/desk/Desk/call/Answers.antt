@@ -10,7 +10,7 @@ use Rattle.plan_records.specs.Rows.{AreChanges}
 use Rattle.plan_records.specs.Run.{Answers, plain}
 use Rattle.plan_records.specs.Step.{Step}
 use Rattle.plan_tables.specs.Desk.{DeskState, IsCarriedOut, IsKept, state_of, usability}
-use Rattle.plan_tables.proofs.Calls.{carried_answers, carried_starts, none_starts, not_prepared}
+use Rattle.plan_tables.proofs.Answered.{carried_answers, carried_starts, none_starts, not_prepared}
 use Rattle.plan_tables.proofs.Held.{step_survives}
 use Rattle.plan_writes.specs.Within.{LeavesMade, Rewrites}
 use Rattle.plan_tables.proofs.desk.Desk.call.Goals as goal
