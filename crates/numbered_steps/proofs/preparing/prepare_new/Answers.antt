@@ -28,7 +28,7 @@ returns-in_err-prepared-clause-refused c =
     let room : HasReceiptRoom T n = (c.if-not-has_room.ensures q).0 refl in
     let r = c.in_err-prepared.field-0.0 in
     let told : (r ≡ refusal.Memory) ⊎ StepBy (NumberedMayBeAccepted P T n) P q (refused r) P =
-        elim c.in_err-prepared.ensures.refused [ inl memory ↦ inl memory | inr step ↦ inr (refused_with_room P T n room r step) ] in
+    elim c.in_err-prepared.ensures.refused [ inl memory ↦ inl memory | inr step ↦ inr (refused_with_room P T n room r step) ] in
     search rules
 
 pub kept-requires : goal.kept-requires
