@@ -1,5 +1,5 @@
 // Requests that fail a test of their form, and bodies that are no requests.
-use super::connections::{loaded, served, status_of_five};
+use super::connections::{Pieces, loaded, served, served_from, status_of_five};
 use super::texts::{START, fault, post, reply};
 use plan_tables::Desk;
 use sqlite::MemStore;
@@ -8,8 +8,7 @@ use std::alloc::Global;
 use std::test::Fail;
 
 // A request, the status of its reply, and what its head has beside.
-const HEADS: [(&str, &str, &str); 14] = [
-    ("", "400 Bad Request", ""),
+const HEADS: [(&str, &str, &str); 13] = [
     ("GET * HTTP/1.1\r\n\r\n", "400 Bad Request", ""),
     ("POST /nothing HTTP/1.1\r\n\r\n", "404 Not Found", ""),
     ("GET /ready/ HTTP/1.1\r\n\r\n", "404 Not Found", ""),
@@ -33,7 +32,7 @@ const HEADS: [(&str, &str, &str); 14] = [
     ("POST /report HTTP/1.1\r\nContent-Length: 0\r\n\r\n", "400 Bad Request", ""),
 ];
 
-// Whether a request gets this reply of a test that it fails.
+// Whether a request gets this reply of a test that it fails, and no more is read: the reader would answer a fault.
 fn is_rejected(
     alloc: Global,
     desk: &mut Desk<MemStore>,
@@ -41,7 +40,19 @@ fn is_rejected(
     status: &str,
     more: &str,
 ) -> Option<bool> {
-    Some(served(alloc, desk, input)? == fault(alloc, status, more)?)
+    let pieces = Pieces {
+        left: input.as_bytes(),
+        most: 8192,
+    };
+    Some(served_from(alloc, desk, pieces).ok()? == fault(alloc, status, more)?)
+}
+
+#[test]
+fn nothing_is_sent(rt: HostRuntime) -> Result<(), Fail> {
+    let mut desk = loaded(rt.alloc()).ok_or("no desk")?;
+    let told = served(rt.alloc(), &mut desk, "");
+    assert!(rt; told.is_some() && told == fault(rt.alloc(), "400 Bad Request", ""));
+    Ok(())
 }
 
 #[test]

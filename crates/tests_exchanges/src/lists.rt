@@ -1,5 +1,5 @@
 // The lists that a desk tells.
-use super::connections::{empty, loaded, served};
+use super::connections::{Pieces, empty, loaded, served_from};
 use super::texts::{get, reply};
 use plan_tables::Desk;
 use sqlite::MemStore;
@@ -14,7 +14,7 @@ const UNKNOWN: &str = "{\"name\":\"UnknownWorkstation\",\"refusal\":7}";
 
 const NOT_LOADED: &str = "{\"name\":\"NotLoaded\",\"refusal\":3}";
 
-// Whether a path is told so.
+// Whether a path is told so, and no more is read than the head: the reader would answer a fault.
 fn is_told(
     alloc: Global,
     desk: &mut Desk<MemStore>,
@@ -24,7 +24,11 @@ fn is_told(
     body: &str,
 ) -> Option<bool> {
     let input = get(alloc, path)?;
-    Some(served(alloc, desk, &input)? == reply(alloc, status, "", length, body)?)
+    let pieces = Pieces {
+        left: input.as_bytes(),
+        most: 8192,
+    };
+    Some(served_from(alloc, desk, pieces).ok()? == reply(alloc, status, "", length, body)?)
 }
 
 #[test]
