@@ -78,7 +78,11 @@ fn is_writer_told(
     let ended = serve_one(alloc, &mut reader, &mut writer, desk);
     let is_told = ended.err() == Some(WireFault::Writer) && writer.failed();
     let written = writer.into_inner().bytes;
-    Some(is_told && wanted.as_bytes().starts_with(&written) && (written.len() < wanted.len()) == (calls < 7))
+    Some(
+        is_told
+            && wanted.as_bytes().starts_with(&written)
+            && (written.len() < wanted.len()) == (calls < 7),
+    )
 }
 
 // Whether a writer that fails at each of its calls is told; the start acts once.

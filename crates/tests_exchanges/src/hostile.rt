@@ -12,8 +12,16 @@ const HEADS: [(&str, &str, &str); 13] = [
     ("GET * HTTP/1.1\r\n\r\n", "400 Bad Request", ""),
     ("POST /nothing HTTP/1.1\r\n\r\n", "404 Not Found", ""),
     ("GET /ready/ HTTP/1.1\r\n\r\n", "404 Not Found", ""),
-    ("GET /report?x=1 HTTP/1.1\r\n\r\n", "405 Method Not Allowed", "Allow: POST\r\n"),
-    ("POST /occurrences HTTP/1.1\r\n\r\n", "405 Method Not Allowed", "Allow: GET\r\n"),
+    (
+        "GET /report?x=1 HTTP/1.1\r\n\r\n",
+        "405 Method Not Allowed",
+        "Allow: POST\r\n",
+    ),
+    (
+        "POST /occurrences HTTP/1.1\r\n\r\n",
+        "405 Method Not Allowed",
+        "Allow: GET\r\n",
+    ),
     (
         "POST /report HTTP/1.1\r\nContent-Length: 2\r\nTransfer-Encoding: chunked\r\n\r\n{}",
         "501 Not Implemented",
@@ -25,11 +33,31 @@ const HEADS: [(&str, &str, &str); 13] = [
         "400 Bad Request",
         "",
     ),
-    ("POST /report HTTP/1.1\r\nContent-Length: +5\r\n\r\n{}   ", "400 Bad Request", ""),
-    ("POST /report HTTP/1.1\r\nContent-Length: 1 2\r\n\r\n{}", "400 Bad Request", ""),
-    ("POST /report HTTP/1.1\r\nContent-Length: 0000000005\r\n\r\n{}   ", "400 Bad Request", ""),
-    ("POST /report HTTP/1.1\r\nContent-Length: 65537\r\n\r\n", "413 Payload Too Large", ""),
-    ("POST /report HTTP/1.1\r\nContent-Length: 0\r\n\r\n", "400 Bad Request", ""),
+    (
+        "POST /report HTTP/1.1\r\nContent-Length: +5\r\n\r\n{}   ",
+        "400 Bad Request",
+        "",
+    ),
+    (
+        "POST /report HTTP/1.1\r\nContent-Length: 1 2\r\n\r\n{}",
+        "400 Bad Request",
+        "",
+    ),
+    (
+        "POST /report HTTP/1.1\r\nContent-Length: 0000000005\r\n\r\n{}   ",
+        "400 Bad Request",
+        "",
+    ),
+    (
+        "POST /report HTTP/1.1\r\nContent-Length: 65537\r\n\r\n",
+        "413 Payload Too Large",
+        "",
+    ),
+    (
+        "POST /report HTTP/1.1\r\nContent-Length: 0\r\n\r\n",
+        "400 Bad Request",
+        "",
+    ),
 ];
 
 // Whether a request gets this reply of a test that it fails, and no more is read: the reader would answer a fault.
@@ -115,14 +143,22 @@ fn is_past(alloc: Global, desk: &mut Desk<MemStore>) -> Option<bool> {
     let at = "\"at\":\"2024-03-01T22:00\"";
     let body = changed(alloc, at, "\"at\":\"1971-12-31T23:59\"")?;
     let input = post(alloc, "/report", &body)?;
-    let wanted = reply(alloc, "409 Conflict", "", 27, "{\"name\":\"Past\",\"refusal\":1}")?;
+    let wanted = reply(
+        alloc,
+        "409 Conflict",
+        "",
+        27,
+        "{\"name\":\"Past\",\"refusal\":1}",
+    )?;
     Some(served(alloc, desk, &input)? == wanted)
 }
 
 // Whether the start is taken whatever the case of the field's name.
 fn is_taken_by_another_name(alloc: Global, desk: &mut Desk<MemStore>) -> Option<bool> {
     let input = START.request(alloc)?;
-    let input = input.replace(alloc, "Content-Length", "content-LENGTH").ok()?;
+    let input = input
+        .replace(alloc, "Content-Length", "content-LENGTH")
+        .ok()?;
     let wanted = reply(alloc, "200 OK", "", 12, "{\"named\":[]}")?;
     Some(served(alloc, desk, &input)? == wanted)
 }

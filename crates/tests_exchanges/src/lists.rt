@@ -6,9 +6,11 @@ use sqlite::MemStore;
 use std::alloc::Global;
 use std::test::Fail;
 
-const SETP: &str = "[{\"duration\":10,\"held\":false,\"latest\":\"2024-03-02T02:59\",\"op\":\"PAYROLL/2024-03-01T22:00/005\",\"priority\":5,\"status\":\"A\"}]";
+const SETP: &str =
+    "[{\"duration\":10,\"held\":false,\"latest\":\"2024-03-02T02:59\",\"op\":\"PAYROLL/2024-03-01T22:00/005\",\"priority\":5,\"status\":\"A\"}]";
 
-const OCCURRENCES: &str = "[{\"deadline\":\"2024-03-02T05:00\",\"occ\":\"PAYROLL/2024-03-01T22:00\",\"priority\":5,\"status\":\"W\"}]";
+const OCCURRENCES: &str =
+    "[{\"deadline\":\"2024-03-02T05:00\",\"occ\":\"PAYROLL/2024-03-01T22:00\",\"priority\":5,\"status\":\"W\"}]";
 
 const UNKNOWN: &str = "{\"name\":\"UnknownWorkstation\",\"refusal\":7}";
 
