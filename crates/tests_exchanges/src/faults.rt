@@ -32,30 +32,39 @@ fn a_reader_that_fails_at_each_read(rt: HostRuntime) -> Result<(), Fail> {
     Ok(())
 }
 
-// Takes at most sixteen bytes a call, and fails once so many calls are made.
+// Takes at most sixteen bytes a call, and fails once so many calls are made, of which a flush is one.
 #[derive(Drop)]
 struct Failing {
     bytes: Vec<u8>,
     calls: u32,
 }
 
+impl Failing {
+    fn count(&mut self) -> io::Result<()> {
+        match self.calls.checked_sub(1) {
+            Some(calls) => {
+                self.calls = calls;
+                Ok(())
+            }
+            None => Err(io::Error::from(io::ErrorKind::ConnectionReset)),
+        }
+    }
+}
+
 impl Write for Failing {
     fn write(&mut self, buf: &[u8]) -> io::Result<usize> {
-        if self.calls == 0 {
-            return Err(io::Error::from(io::ErrorKind::ConnectionReset));
-        }
-        self.calls -= 1;
+        self.count()?;
         let n = buf.len().min(16);
         self.bytes.extend_from_slice(&buf[..n])?;
         Ok(n)
     }
 
     fn flush(&mut self) -> io::Result<()> {
-        Ok(())
+        self.count()
     }
 }
 
-// Whether the start's reply is begun and not ended where the writer fails after so many calls.
+// Whether the start's reply is begun where the writer fails after so many calls, and whole where only its flush does.
 fn is_writer_told(
     alloc: Global,
     desk: &mut Desk<MemStore>,
@@ -69,13 +78,17 @@ fn is_writer_told(
     let ended = serve_one(alloc, &mut reader, &mut writer, desk);
     let is_told = ended.err() == Some(WireFault::Writer) && writer.failed();
     let written = writer.into_inner().bytes;
-    Some(is_told && wanted.as_bytes().starts_with(&written) && written.len() < wanted.len())
+    Some(
+        is_told
+            && wanted.as_bytes().starts_with(&written)
+            && (written.len() < wanted.len()) == (calls < 7),
+    )
 }
 
 // Whether a writer that fails at each of its calls is told; the start acts once.
 fn is_each_writer_told(alloc: Global, desk: &mut Desk<MemStore>) -> Option<bool> {
     let wanted = reply(alloc, "200 OK", "", 12, "{\"named\":[]}")?;
-    for calls in 0..7 {
+    for calls in 0..8 {
         if !is_writer_told(alloc, desk, &wanted, calls)? {
             return Some(false);
         }

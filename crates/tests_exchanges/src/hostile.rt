@@ -1,5 +1,5 @@
 // Requests that fail a test of their form, and bodies that are no requests.
-use super::connections::{loaded, served, status_of_five};
+use super::connections::{Pieces, loaded, served, served_from, status_of_five};
 use super::texts::{START, fault, post, reply};
 use plan_tables::Desk;
 use sqlite::MemStore;
@@ -8,13 +8,20 @@ use std::alloc::Global;
 use std::test::Fail;
 
 // A request, the status of its reply, and what its head has beside.
-const HEADS: [(&str, &str, &str); 14] = [
-    ("", "400 Bad Request", ""),
+const HEADS: [(&str, &str, &str); 13] = [
     ("GET * HTTP/1.1\r\n\r\n", "400 Bad Request", ""),
     ("POST /nothing HTTP/1.1\r\n\r\n", "404 Not Found", ""),
     ("GET /ready/ HTTP/1.1\r\n\r\n", "404 Not Found", ""),
-    ("GET /report?x=1 HTTP/1.1\r\n\r\n", "405 Method Not Allowed", "Allow: POST\r\n"),
-    ("POST /occurrences HTTP/1.1\r\n\r\n", "405 Method Not Allowed", "Allow: GET\r\n"),
+    (
+        "GET /report?x=1 HTTP/1.1\r\n\r\n",
+        "405 Method Not Allowed",
+        "Allow: POST\r\n",
+    ),
+    (
+        "POST /occurrences HTTP/1.1\r\n\r\n",
+        "405 Method Not Allowed",
+        "Allow: GET\r\n",
+    ),
     (
         "POST /report HTTP/1.1\r\nContent-Length: 2\r\nTransfer-Encoding: chunked\r\n\r\n{}",
         "501 Not Implemented",
@@ -26,14 +33,34 @@ const HEADS: [(&str, &str, &str); 14] = [
         "400 Bad Request",
         "",
     ),
-    ("POST /report HTTP/1.1\r\nContent-Length: +5\r\n\r\n{}   ", "400 Bad Request", ""),
-    ("POST /report HTTP/1.1\r\nContent-Length: 1 2\r\n\r\n{}", "400 Bad Request", ""),
-    ("POST /report HTTP/1.1\r\nContent-Length: 0000000005\r\n\r\n{}   ", "400 Bad Request", ""),
-    ("POST /report HTTP/1.1\r\nContent-Length: 65537\r\n\r\n", "413 Payload Too Large", ""),
-    ("POST /report HTTP/1.1\r\nContent-Length: 0\r\n\r\n", "400 Bad Request", ""),
+    (
+        "POST /report HTTP/1.1\r\nContent-Length: +5\r\n\r\n{}   ",
+        "400 Bad Request",
+        "",
+    ),
+    (
+        "POST /report HTTP/1.1\r\nContent-Length: 1 2\r\n\r\n{}",
+        "400 Bad Request",
+        "",
+    ),
+    (
+        "POST /report HTTP/1.1\r\nContent-Length: 0000000005\r\n\r\n{}   ",
+        "400 Bad Request",
+        "",
+    ),
+    (
+        "POST /report HTTP/1.1\r\nContent-Length: 65537\r\n\r\n",
+        "413 Payload Too Large",
+        "",
+    ),
+    (
+        "POST /report HTTP/1.1\r\nContent-Length: 0\r\n\r\n",
+        "400 Bad Request",
+        "",
+    ),
 ];
 
-// Whether a request gets this reply of a test that it fails.
+// Whether a request gets this reply of a test that it fails, and no more is read: the reader would answer a fault.
 fn is_rejected(
     alloc: Global,
     desk: &mut Desk<MemStore>,
@@ -41,7 +68,19 @@ fn is_rejected(
     status: &str,
     more: &str,
 ) -> Option<bool> {
-    Some(served(alloc, desk, input)? == fault(alloc, status, more)?)
+    let pieces = Pieces {
+        left: input.as_bytes(),
+        most: 8192,
+    };
+    Some(served_from(alloc, desk, pieces).ok()? == fault(alloc, status, more)?)
+}
+
+#[test]
+fn nothing_is_sent(rt: HostRuntime) -> Result<(), Fail> {
+    let mut desk = loaded(rt.alloc()).ok_or("no desk")?;
+    let told = served(rt.alloc(), &mut desk, "");
+    assert!(rt; told.is_some() && told == fault(rt.alloc(), "400 Bad Request", ""));
+    Ok(())
 }
 
 #[test]
@@ -104,14 +143,22 @@ fn is_past(alloc: Global, desk: &mut Desk<MemStore>) -> Option<bool> {
     let at = "\"at\":\"2024-03-01T22:00\"";
     let body = changed(alloc, at, "\"at\":\"1971-12-31T23:59\"")?;
     let input = post(alloc, "/report", &body)?;
-    let wanted = reply(alloc, "409 Conflict", "", 27, "{\"name\":\"Past\",\"refusal\":1}")?;
+    let wanted = reply(
+        alloc,
+        "409 Conflict",
+        "",
+        27,
+        "{\"name\":\"Past\",\"refusal\":1}",
+    )?;
     Some(served(alloc, desk, &input)? == wanted)
 }
 
 // Whether the start is taken whatever the case of the field's name.
 fn is_taken_by_another_name(alloc: Global, desk: &mut Desk<MemStore>) -> Option<bool> {
     let input = START.request(alloc)?;
-    let input = input.replace(alloc, "Content-Length", "content-LENGTH").ok()?;
+    let input = input
+        .replace(alloc, "Content-Length", "content-LENGTH")
+        .ok()?;
     let wanted = reply(alloc, "200 OK", "", 12, "{\"named\":[]}")?;
     Some(served(alloc, desk, &input)? == wanted)
 }

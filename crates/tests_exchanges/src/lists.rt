@@ -1,20 +1,22 @@
 // The lists that a desk tells.
-use super::connections::{empty, loaded, served};
+use super::connections::{Pieces, empty, loaded, served_from};
 use super::texts::{get, reply};
 use plan_tables::Desk;
 use sqlite::MemStore;
 use std::alloc::Global;
 use std::test::Fail;
 
-const SETP: &str = "[{\"duration\":10,\"held\":false,\"latest\":\"2024-03-02T02:59\",\"op\":\"PAYROLL/2024-03-01T22:00/005\",\"priority\":5,\"status\":\"A\"}]";
+const SETP: &str =
+    "[{\"duration\":10,\"held\":false,\"latest\":\"2024-03-02T02:59\",\"op\":\"PAYROLL/2024-03-01T22:00/005\",\"priority\":5,\"status\":\"A\"}]";
 
-const OCCURRENCES: &str = "[{\"deadline\":\"2024-03-02T05:00\",\"occ\":\"PAYROLL/2024-03-01T22:00\",\"priority\":5,\"status\":\"W\"}]";
+const OCCURRENCES: &str =
+    "[{\"deadline\":\"2024-03-02T05:00\",\"occ\":\"PAYROLL/2024-03-01T22:00\",\"priority\":5,\"status\":\"W\"}]";
 
 const UNKNOWN: &str = "{\"name\":\"UnknownWorkstation\",\"refusal\":7}";
 
 const NOT_LOADED: &str = "{\"name\":\"NotLoaded\",\"refusal\":3}";
 
-// Whether a path is told so.
+// Whether a path is told so, and no more is read than the head: the reader would answer a fault.
 fn is_told(
     alloc: Global,
     desk: &mut Desk<MemStore>,
@@ -24,7 +26,11 @@ fn is_told(
     body: &str,
 ) -> Option<bool> {
     let input = get(alloc, path)?;
-    Some(served(alloc, desk, &input)? == reply(alloc, status, "", length, body)?)
+    let pieces = Pieces {
+        left: input.as_bytes(),
+        most: 8192,
+    };
+    Some(served_from(alloc, desk, pieces).ok()? == reply(alloc, status, "", length, body)?)
 }
 
 #[test]

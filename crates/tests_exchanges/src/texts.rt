@@ -41,8 +41,7 @@ pub fn post(alloc: Global, path: &str, body: &str) -> Option<String> {
     let length = body.len();
     format!(in alloc;
         "POST {path} HTTP/1.1\r\nHost: localhost\r\nContent-Length: {length}\r\n\r\n{body}"
-    )
-    .ok()
+    ).ok()
 }
 
 /// A request without a body.
@@ -72,8 +71,7 @@ impl Report<'_> {
         } = self;
         format!(in alloc;
             "{{\"tracker\":\"{tracker}\",\"number\":{number},\"at\":\"2024-03-01T{at}\",\"do\":\"{verb}\",\"op\":\"PAYROLL/2024-03-01T22:00/{op}\"}}"
-        )
-        .ok()
+        ).ok()
     }
 
     /// The request that makes it.
@@ -92,17 +90,10 @@ pub const START: Report<'static> = Report {
 };
 
 /// A whole reply: its status with the phrase, further lines of its head, each with its end, the length and the body.
-pub fn reply(
-    alloc: Global,
-    status: &str,
-    more: &str,
-    length: usize,
-    body: &str,
-) -> Option<String> {
+pub fn reply(alloc: Global, status: &str, more: &str, length: usize, body: &str) -> Option<String> {
     format!(in alloc;
         "HTTP/1.1 {status}\r\nContent-Type: application/json\r\nContent-Length: {length}\r\nConnection: close\r\n{more}\r\n{body}"
-    )
-    .ok()
+    ).ok()
 }
 
 /// The reply to a request that fails a test of its form: its body has the code of the status.

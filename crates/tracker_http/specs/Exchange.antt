@@ -72,11 +72,11 @@ Replies (Err test) s x t = (x ≡ told.Fault (status_of_test test)) × (t ≡ s)
 abbrev pub Exchange : List ℕ → Seen → List ℕ → Seen → Type 0
 Exchange input s output t = (found : Result Asked Rejection) × (x : Told) × head.Answers input found × Replies found s x t × (output ≡ reply_of x)
 
--- some reply to the input, of which this is so, is that of an exchange that leads from this state of the desk to that one; said where the input is known
+-- where the input is known: it leads to an output of which this is so, and from this state of the desk to that one
 abbrev pub Exchanges : Option (List ℕ) → Seen → Seen → (List ℕ → Type 0) → Type 0
 Exchanges known s t IsSo = IfSome known (λ input. (output : List ℕ) × Exchange input s output t × IsSo output)
 
--- how an exchange may end, and what it leaves: what the reader held, the desk before and after, the writer's bytes before and after
+-- how an exchange ends: by what the reader held, the desk before and after, and the writer's bytes before and after
 abbrev pub Ends : {U : Type 0} → Result U WireFault → Option (List ℕ) → Seen → Seen → Option (List ℕ) → Option (List ℕ) → Type 0
 -- the whole reply is written
 Ends (Ok _) known s t old new = Exchanges known s t (Appends old new)

@@ -52,13 +52,13 @@ fn send<W: Write>(writer: &mut Watched<W>, reply: &[u8]) -> Result<(), WireFault
     Ok(())
 }
 
-/// Serves one request: it is read, in whatever pieces it comes, the desk answers it, and the reply is written and flushed.
-/// No more is read than the request's form needs. The desk is asked once the request is whole, and before any of the reply
-/// is written. Faults of earlier calls of the reader and the writer are forgotten.
+/// Serves one request: it is read, in whatever pieces it comes, the desk answers it, and the reply is written and
+/// flushed. No more is read than the request's form needs. The desk is asked once the request is whole, and before any
+/// of the reply is written. Faults of earlier calls of the reader and the writer are forgotten.
 ///
-/// `Reader` where the reader answered a fault: nothing is written, and nothing changes. `Writer` where the writer did: a
-/// beginning of the reply is written, and the request acted as the reply says. `Memory` for want of memory: nothing is
-/// written, and the request may have acted, which a tracker learns by repeating it.
+/// `Reader` where the reader answered a fault: nothing is written, and nothing changes. `Writer` where the writer did:
+/// a beginning of the reply is written, and the request acted as the reply says. `Memory` for want of memory: nothing
+/// is written, and the request may have acted, which a tracker learns by repeating it.
 pub fn serve_one<R: Read, W: Write, S: Alter + Drop>(
     alloc: Global,
     reader: &mut Watched<R>,

@@ -1,5 +1,5 @@
-//! One exchange of a tracker or an operator with the desk: a request over HTTP is read, the desk answers it, and the reply
-//! is written.
+//! One exchange of a tracker or an operator with the desk: a request over HTTP is read, the desk answers it, and the
+//! reply is written.
 //!
 //! | Request | What is told |
 //! |---|---|
@@ -8,8 +8,8 @@
 //! | `GET /ready/WS` | the ready list of a workstation, in ready order |
 //! | `GET /occurrences` | the occurrences of the plan, in key order |
 //!
-//! The bodies are JSON (`request_texts`), the heads HTTP (`exchange_heads`); which status each answer has is this project's
-//! own. What an exchange is, from the bytes of a connection to those of the reply, is one relation (`specs/Exchange.antt`).
+//! Bodies are JSON (`request_texts`), heads HTTP (`exchange_heads`); which status an answer has is this project's own.
+//! What an exchange is, from the bytes of a connection to those of the reply, is one relation (`specs/Exchange.antt`).
 #![tactic(auto)]
 
 mod asking;
