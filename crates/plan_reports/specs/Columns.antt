@@ -4,6 +4,7 @@ use Rattle.plan_basics.specs.MomentTexts.{moment_text}
 use Rattle.status_rules.specs.Texts.{occurrence_letter, status_letter}
 use Rattle.plan_core.specs.declared.views.OccView.{OccView}
 use Rattle.plan_core.specs.declared.views.OpView.{OpView}
+use Rattle.plan_tables.specs.declared.errors.ErrorRow.{ErrorRow}
 use Rattle.plan_reports.specs.Lines.{left, right}
 
 -- a latest start: the text of its moment, or sixteen hyphens where it is none
@@ -39,6 +40,16 @@ occurrence_columns v =
     ∷ left 16 (moment_text v.deadline)
     ∷ right 5 v.operations
     ∷ right 5 v.complete
+    ∷ []
+
+-- an operation in error
+abbrev pub error_columns : ErrorRow → List (List ℕ)
+error_columns r =
+    left 16 r.op.occurrence.app
+    ∷ left 16 (moment_text r.op.occurrence.arrival)
+    ∷ right 3 r.op.number
+    ∷ left 4 r.ws
+    ∷ left 4 r.code
     ∷ []
 
 -- an operation that is late

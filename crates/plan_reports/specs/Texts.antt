@@ -4,7 +4,8 @@ use Rattle.plan_basics.specs.Keys.{Name}
 use Rattle.plan_basics.specs.MomentTexts.{moment_text}
 use Rattle.plan_core.specs.declared.views.OccView.{OccView}
 use Rattle.plan_core.specs.declared.views.OpView.{OpView}
-use Rattle.plan_reports.specs.Columns.{late_columns, occurrence_columns, ready_columns}
+use Rattle.plan_tables.specs.declared.errors.ErrorRow.{ErrorRow}
+use Rattle.plan_reports.specs.Columns.{error_columns, late_columns, occurrence_columns, ready_columns}
 use Rattle.plan_reports.specs.Lines.{report}
 
 -- what a first line ends with: the moment of the clock
@@ -18,6 +19,10 @@ ready_text workstation clock views = report (codes "READY" ∷ workstation ∷ a
 -- these are the occurrences
 abbrev pub occurrences_text : ℕ → List OccView → List ℕ
 occurrences_text clock views = report (codes "OCCURRENCES" ∷ at_moment clock) (map occurrence_columns views)
+
+-- these are in error
+abbrev pub errors_text : ℕ → List ErrorRow → List ℕ
+errors_text clock rows = report (codes "ERRORS" ∷ at_moment clock) (map error_columns rows)
 
 -- these are late
 abbrev pub late_text : ℕ → List OpView → List ℕ

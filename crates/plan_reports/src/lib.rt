@@ -2,6 +2,11 @@
 //! late, each as lines of text.
 #![tactic(auto)]
 
+mod late;
 mod lines;
+mod made;
+mod reports;
 mod rows;
 mod texts;
+
+pub use reports::{ReportFault, error_report, late_report, occurrence_report, ready_report};

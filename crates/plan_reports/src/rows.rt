@@ -1,12 +1,13 @@
 // The rows of the reports, column by column.
 ghost use Rattle.std.specs.Prelude.{◌≡◌, ◌++◌, OnOk};
 ghost use Rattle.plan_basics.specs.MomentTexts.{moment_text};
-ghost use Rattle.plan_reports.specs.Columns.{held_text, late_columns, latest_text, occurrence_columns, ready_columns};
+ghost use Rattle.plan_reports.specs.Columns.{error_columns, held_text, late_columns, latest_text, occurrence_columns, ready_columns};
 ghost use Rattle.plan_reports.specs.Lines.{line};
 
 use super::lines::{Field, put_line, right};
 use plan_basics::{Moment, OccKey, minute_text};
 use plan_core::{OccView, OpView};
+use plan_tables::ErrorRow;
 use std::alloc::AllocError;
 
 /// The text of a moment.
@@ -65,6 +66,23 @@ pub(crate) fn put_occurrence(text: &mut Vec<u8>, view: &OccView) -> Result<(), A
             Field::Left(16, &moment_text(view.deadline)),
             right(5, u64::from(view.operations)),
             right(5, u64::from(view.complete)),
+        ],
+    )
+}
+
+/// Puts the row of an operation in error behind a text. It fails for want of memory only.
+pub(crate) fn put_error(text: &mut Vec<u8>, row: &ErrorRow) -> Result<(), AllocError>
+    ensures { OnOk result (text.new.items ≡ text.old.items ++ line (error_columns row.now)) }
+{
+    let OccKey { app, arrival } = row.op.occurrence;
+    put_line(
+        text,
+        &[
+            Field::Left(16, app.as_bytes()),
+            Field::Left(16, &moment_text(arrival)),
+            right(3, u64::from(row.op.number)),
+            Field::Left(4, row.ws.as_bytes()),
+            Field::Left(4, row.code.as_bytes()),
         ],
     )
 }
