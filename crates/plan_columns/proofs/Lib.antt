@@ -6,3 +6,4 @@ pub mod SameColumns
 pub mod Start
 pub mod PlanWritten
 pub mod ReceiptPut
+pub mod SameReceipts
