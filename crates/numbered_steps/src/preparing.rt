@@ -1,22 +1,23 @@
 // What a numbered request is told before anything is written.
-ghost use Rattle.std.specs.Prelude.{◌≡◌, ◌⊎◌, ◌≤◌, IfErr, IfOk};
+ghost use Rattle.std.specs.Prelude.{◌≡◌, ◌⊎◌, ◌+◌, ◌≤◌, ℕ, IfErr, IfOk};
 ghost use Rattle.std.specs.FinMap.{get};
 ghost use Rattle.plan_basics.specs.Refusals.{IsLeastRefusal};
 ghost use Rattle.plan_basics.specs.declared.limits.TheConstants.{GREATEST_REQUEST_NUMBER};
 ghost use Rattle.plan_core.specs.Provided.{StartsAreProvided};
+ghost use Rattle.plan_model.specs.Plan.{IsSoundPlan};
 ghost use Rattle.plan_records.specs.Answer.{accepted, refused};
-ghost use Rattle.plan_records.specs.Step.{AnswersAgain, HasReceiptRoom, IsNumbered, Numbered, NumberedMayBeAccepted, NumberedStep as NumberedStepOf, Receipts as LastReceipts};
+ghost use Rattle.plan_records.specs.Step.{AnswersAgain, HasReceiptRoom, IsNumbered, Numbered, NumberedMayBeAccepted, NumberedStep as NumberedStepOf, Receipts as LastReceipts, StepBy, last_number};
 ghost use Rattle.plan_records.specs.declared.Request.{Request};
 ghost use Rattle.tracker_receipts.specs.Judging.{numbered_by};
 ghost use Rattle.tracker_receipts.specs.Stored.{columns_of};
 ghost use Rattle.numbered_steps.specs.Steps.{IfAgain, IfNew, IsNumberedStepFor};
 
 use super::steps::{NumberedStep, Outcome};
-use plan_basics::{Refusal, TrackerName};
-use plan_core::{Plan, Prepared};
+use plan_basics::{OpKey, Refusal, TrackerName};
+use plan_core::Plan;
 use plan_records::Request;
 use std::alloc::{AllocError, Global};
-use tracker_receipts::{Judged, Receipt, ReceiptRow, Receipts, reply_text};
+use tracker_receipts::{Judged, Receipt, ReceiptRow, Receipts};
 
 /// What a tracker's request of this number, read from this text, leads to, if it isn't refused: by its number and its text
 /// it is told at first, whatever it asks, and a new one is prepared over the plan, with its receipt. All memory is taken
@@ -40,15 +41,53 @@ pub fn prepare_numbered(
     ensures refused { IfErr result (λ r. (r ≡ Refusal.Memory) ⊎ NumberedStepOf plan.old.plan receipts.now (numbered_by tracker.now number text.now request.now) (refused r) plan.old.plan receipts.now) }
 {
     match receipts.judge(tracker, number, text) {
-        Judged::Again(named) => Ok(Outcome::Again(Vec::from_slice(alloc, named)?)),
-        Judged::Refused(refusal) => Err(refusal),
-        Judged::New if receipts.has_room(tracker, number, text) => {
-            let prepared = plan.prepare(request)?;
-            let step = with_receipt(alloc, prepared, tracker, number, text)?;
+        Judged::New => {
+            let step = prepare_new(alloc, plan, receipts, tracker, number, text, request)?;
             Ok(Outcome::New(step))
         }
-        Judged::New => Err(refused_without_room(plan, request)),
+        Judged::Again(named) => Ok(Outcome::Again(Vec::from_slice(alloc, named)?)),
+        Judged::Refused(refusal) => Err(refusal),
     }
+}
+
+// What a tracker's next request leads to, if it isn't refused.
+fn prepare_new(
+    alloc: Global,
+    plan: &mut Plan,
+    receipts: &Receipts,
+    tracker: &TrackerName,
+    number: u64,
+    text: &[u8],
+    request: &Request,
+) -> Result<NumberedStep, Refusal>
+    requires { number ≡ last_number (get receipts.now tracker.now) + 1 }
+    ensures unchanged { plan.new ≡ plan.old }
+    ensures step { IfOk result (IsNumberedStepFor plan.old receipts.now (numbered_by tracker.now number text.now request.now)) }
+    ensures starts { IfOk result (λ p. StartsAreProvided plan.old.plan request.now (accepted p.prepared.named) p.prepared.plan) }
+    ensures refused { IfErr result (λ r. (r ≡ Refusal.Memory) ⊎ StepBy (NumberedMayBeAccepted plan.old.plan receipts.now (numbered_by tracker.now number text.now request.now)) plan.old.plan request.now (refused r) plan.old.plan) }
+{
+    look_at(plan, tracker, text);
+    if !receipts.has_room(tracker, number, text) {
+        return Err(refused_without_room(plan, request));
+    }
+    let prepared = plan.prepare(request)?;
+    let (receipt, row) = kept(alloc, tracker, number, text, prepared.named())?;
+    Ok(NumberedStep {
+        tracker: *tracker,
+        prepared,
+        receipt,
+        row,
+    })
+}
+
+// The plan, the tracker's name and the text are looked at for the proof alone, which learns that they are sound and legal.
+fn look_at(plan: &Plan, tracker: &TrackerName, text: &[u8])
+    ensures sound { IsSoundPlan plan.now.plan }
+    ensures legal { (number : ℕ) → (q : Request) → IsNumbered (numbered_by tracker.now number text.now q) }
+{
+    let _ = plan.clock();
+    let _ = tracker.as_bytes();
+    let _ = text.len();
 }
 
 // What a request is refused for where there is no room for its receipt: for a lower number that applies, else as `Limit`.
@@ -56,40 +95,29 @@ fn refused_without_room(plan: &mut Plan, request: &Request) -> Refusal
     ensures unchanged { plan.new ≡ plan.old }
     ensures least { (result ≡ Refusal.Memory) ⊎ ((T : LastReceipts) → (n : Numbered) → n.request ≡ request.now → ¬ HasReceiptRoom T n → IsLeastRefusal (NumberedMayBeAccepted plan.old.plan T n) result) }
 {
-    match plan.prepare(request) {
-        Err(Refusal::Memory) => Refusal::Memory,
-        Err(refusal) if refusal.number() < Refusal::Limit.number() => refusal,
-        _ => Refusal::Limit,
+    let Err(refusal) = plan.prepare(request) else {
+        return Refusal::Limit;
+    };
+    if refusal == Refusal::Memory || refusal.number() < Refusal::Limit.number() {
+        return refusal;
     }
+    Refusal::Limit
 }
 
-// The step of a tracker's request, with its receipt and the row of that.
-fn with_receipt(
+// The receipt of a tracker's request that named these keys, and the row of it.
+fn kept(
     alloc: Global,
-    prepared: Prepared,
     tracker: &TrackerName,
     number: u64,
     text: &[u8],
-) -> Result<NumberedStep, AllocError>
+    named: &[OpKey],
+) -> Result<(Receipt, ReceiptRow), AllocError>
     requires { number ≤ GREATEST_REQUEST_NUMBER }
-    ensures tracker { IfOk result (λ p. p.tracker ≡ tracker.now) }
-    ensures prepared { IfOk result (λ p. p.prepared ≡ prepared) }
-    ensures receipt { IfOk result (λ p. p.receipt ≡ record { number = number; text = text.now; named = prepared.named }) }
-    ensures row { IfOk result (λ p. p.row ≡ columns_of tracker.now p.receipt) }
-    ensures legal { (q : Request) → IsNumbered (numbered_by tracker.now number text.now q) }
+    ensures receipt { IfOk result (λ p. p.0 ≡ record { number = number; text = text.now; named = named.now }) }
+    ensures row { IfOk result (λ p. p.1 ≡ columns_of tracker.now p.0) }
 {
-    let row = ReceiptRow::new(
-        Vec::from_slice(alloc, tracker.as_bytes())?,
-        number as i64,
-        Vec::from_slice(alloc, text)?,
-        reply_text(alloc, prepared.named())?.into_bytes(),
-    );
-    let named = Vec::from_slice(alloc, prepared.named())?;
+    let named = Vec::from_slice(alloc, named)?;
     let receipt = Receipt::new(number, Vec::from_slice(alloc, text)?, named);
-    Ok(NumberedStep {
-        tracker: *tracker,
-        prepared,
-        receipt,
-        row,
-    })
+    let row = ReceiptRow::of_receipt(alloc, tracker, &receipt)?;
+    Ok((receipt, row))
 }

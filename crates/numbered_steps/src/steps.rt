@@ -39,7 +39,8 @@ impl NumberedStep {
         ensures receipts { receipts.new ≡ insert receipts.old self.tracker self.receipt }
         ensures named { result.items ≡ self.prepared.named }
     {
-        receipts.put(&self.tracker, self.receipt);
+        let tracker = self.tracker;
+        receipts.put(&tracker, self.receipt);
         plan.apply(self.prepared)
     }
 }
