@@ -18,8 +18,7 @@ use Rattle.plan_records.specs.declared.Request.{Request}
 use Rattle.plan_schema.specs.Schema.{schema_9}
 use Rattle.plan_tables.specs.Desk.{HasTables, HoldsPlan, IsClean, state_of, usability}
 use Rattle.plan_tables.specs.Faults.{IsOpeningRefusal}
-use Rattle.plan_desk.specs.Databases.{HasNoTable, HasSchema, IsAnswerToLoad, IsPlanAt}
-use Rattle.plan_desk.specs.Loads.{load_request}
+use Rattle.plan_loads.specs.Databases.{HasNoTable, HasSchema, IsAnswerToLoad, IsPlanAt, load_request}
 
 -- what is found of a schema that has no table
 pub no_table_found : (found schema : Schema) (b : Bool) → found ≡ schema → found.tables ≡ [] → b ≡ list_any (λ view. is_some view.foreign) found.views → IsTrue (not b) ↔ HasNoTable schema

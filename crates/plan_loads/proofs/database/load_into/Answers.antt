@@ -1,8 +1,8 @@
 use Rattle.std.proofs.Common.{◌≡◌, w64, FitsSigned, to_z-of_z}
 use Rattle.sqlite.specs.Held.{state}
 use Rattle.plan_records.specs.Answer.{answer_of}
-use Rattle.plan_desk.proofs.Databases.{load_answered}
-use Rattle.plan_desk.proofs.database.load_into.Goals as goal
+use Rattle.plan_loads.proofs.Databases.{load_answered}
+use Rattle.plan_loads.proofs.database.load_into.Goals as goal
 
 pub returns : goal.returns
 returns g c =

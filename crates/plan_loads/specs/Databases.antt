@@ -11,7 +11,8 @@ use Rattle.plan_records.specs.Step.{Step}
 use Rattle.plan_schema.specs.Schema.{schema_9}
 use Rattle.plan_tables.specs.Desk.{HoldsPlan, IsClean}
 use Rattle.plan_tables.specs.Faults.{IsOpeningRefusal}
-use Rattle.plan_desk.specs.Loads.{load_request}
+use Rattle.plan_records.specs.declared.Request.{Request}
+use Rattle.plan_records.specs.declared.What.TheVariants.{Load}
 
 -- there is no table: none that SQL reaches, and none that is kept as it is
 abbrev pub HasNoTable : Schema → Type 0
@@ -25,6 +26,10 @@ HasSchema s schema = (s.now.schema ≡ schema) × (s.committed.schema ≡ schema
 pub record IsPlanAt (old new : StoreState) (P : Plan) : Type 0 where
   pub made : HasNoTable old.now.schema → P ≡ no_plan
   pub opened : IsClean new → HasSchema old schema_9 → HoldsPlan P old.committed
+
+-- the load of a draft at a minute; of none, for a text that denotes none
+abbrev pub load_request : ℤ → Option Contents → Request
+load_request at draft = record { at = at; what = Load draft }
 
 -- the load of a draft at a minute is answered as at the plan of the database's desk, and where it is accepted the tables hold the plan after it; or the tables are no plan's, memory lacks, or the store failed. What is refused leaves a desk's tables as they were
 abbrev pub IsAnswerToLoad : StoreState → StoreState → ℤ → Option Contents → Answer → Type 0

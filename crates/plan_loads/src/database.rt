@@ -4,7 +4,7 @@ ghost use Rattle.std.specs.List.{list_any};
 ghost use Rattle.sqlite.specs.Held.{state};
 ghost use Rattle.plan_model.specs.Plan.{no_plan};
 ghost use Rattle.plan_records.specs.Answer.{answer_of};
-ghost use Rattle.plan_desk.specs.Databases.{HasNoTable, HasSchema, IsAnswerToLoad, IsPlanAt};
+ghost use Rattle.plan_loads.specs.Databases.{HasNoTable, HasSchema, IsAnswerToLoad, IsPlanAt};
 ghost use Rattle.plan_schema.specs.Schema.{schema_9};
 ghost use Rattle.plan_tables.specs.Desk.{HoldsPlan, IsClean};
 ghost use Rattle.plan_tables.specs.Faults.{IsOpeningRefusal};

@@ -1,8 +1,8 @@
 use Rattle.std.proofs.Common.{◌≡◌, ◌∙◌, ap, is_some, rules}
 use Rattle.std.specs.List.{list_any}
 use Rattle.sqlite_schema.specs.declared.schema.View.{View}
-use Rattle.plan_desk.proofs.Databases.{no_table_found}
-use Rattle.plan_desk.proofs.database.has_no_table.Goals as goal
+use Rattle.plan_loads.proofs.Databases.{no_table_found}
+use Rattle.plan_loads.proofs.database.has_no_table.Goals as goal
 
 pub returns-then-is_empty : goal.returns-then-is_empty
 returns-then-is_empty g c =
