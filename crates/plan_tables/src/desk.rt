@@ -1,13 +1,11 @@
 // The desk: its plan and the receipts of trackers, and the store in which their rows stand.
 ghost use Rattle.std.specs.Prelude.{◌≡◌, true, false, IfOk, IfErr, IsTrue};
-ghost use Rattle.std.specs.FinMap as map;
 ghost use Rattle.std.specs.FinMap.{get};
 ghost use Rattle.sqlite.specs.Held.{state};
 ghost use Rattle.sqlite.specs.State.{Survives};
 ghost use Rattle.table_rows.specs.Tables.{no_schema};
 ghost use Rattle.plan_basics.specs.declared.Refusal.{Refusal};
 ghost use Rattle.plan_core.specs.Provided.{StartsAreProvided};
-ghost use Rattle.plan_model.specs.Plan.{no_plan};
 ghost use Rattle.plan_reads.specs.Reads.{OnlyReads};
 ghost use Rattle.plan_records.specs.Answer.{answer_of, refused};
 ghost use Rattle.plan_records.specs.Run.{Answers, empty_state, numbered, plain};
@@ -69,8 +67,7 @@ impl<S: Alter + Drop> Desk<S> {
         mut conn: Connection<S>,
     ) -> Result<Desk<S>, (Refusal, Connection<S>)>
         requires { conn.in_transaction ≡ false }
-        ensures plan { IfOk result (λ desk. desk.plan ≡ no_plan) }
-        ensures receipts { IfOk result (λ desk. desk.receipts ≡ map.empty) }
+        ensures empty { IfOk result (λ desk. state_of desk ≡ empty_state) }
         ensures usable { IfOk result (λ desk. desk.is_usable ≡ true) }
         ensures tables { IfOk result (λ desk. IsClean (state S.Store desk.conn) → (state S.Store conn).committed.schema ≡ no_schema → HoldsState empty_state (state S.Store desk.conn).committed) }
         ensures refused { IfErr result (λ e. IsOpeningRefusal e.0) }

@@ -25,3 +25,8 @@ invariant_of-result g c =
 pub returns-in-Ok-clause-tables : goal.returns-in-Ok-clause-tables
 returns-in-Ok-clause-tables g c clean none =
     begun_so (state g.S.Store c.args.conn).committed (state g.S.Store c.create_tables.new.conn).committed (c.in-Ok-2.ensures.ok clean.0).3 none
+
+pub returns-in-Ok-clause-empty : goal.returns-in-Ok-clause-empty
+returns-in-Ok-clause-empty g c =
+    let s : State = record { plan = c.empty.result.plan; receipts = c.in-Ok.receipts } in
+    states_alike s empty_state c.empty.ensures c.in-Ok.ensures
