@@ -1,11 +1,10 @@
 -- The receipt that an accepted request becomes is well formed.
-use Rattle.std.proofs.Common.{◌≡◌, refl, sym, ap, ◌∙◌, arith, inl, inr, ◌+◌, ◌<◌, cond, List, All, Some}
+use Rattle.std.proofs.Common.{◌≡◌, refl, sym, ap, ◌∙◌, arith, inr, ◌+◌, cond, List, Some}
 use Rattle.std.specs.Cmp.{eq_by_cmp_equiv}
-use Rattle.std.specs.FinMap.{get, get-empty, get-insert, insert, len, len-empty}
+use Rattle.std.specs.FinMap.{get, get-empty, get-insert, insert, len-empty}
 use Rattle.std.specs.FinMap as map
-use Rattle.plan_basics.specs.Keys.{IsOperationKey, name_cmp, name_cmp_total}
+use Rattle.plan_basics.specs.Keys.{name_cmp, name_cmp_total}
 use Rattle.plan_basics.specs.declared.keys.OpKey.{OpKey}
-use Rattle.plan_basics.specs.declared.limits.TheConstants.{MOST_TRACKERS}
 use Rattle.plan_laws.proofs.Receipts.{answer_keeps_receipts, empty_is_desk_state}
 use Rattle.plan_model.specs.Plan.{Plan, IsSoundPlan}
 use Rattle.plan_records.specs.Answer.{accepted}
@@ -24,9 +23,9 @@ module _ (P after : Plan) (os : List OpKey) (sound : IsSoundPlan P) where
       let then : State = record { plan = after; receipts = insert map.empty n.tracker (receipt_of n os) } in
       let next : n.number ≡ last_number (get {R = name_cmp} map.empty n.tracker) + 1 = first ∙ ap (λ last. last_number last + 1) (sym (get-empty name_cmp n.tracker)) in
       let kept : IsDeskState then =
-          answer_keeps_receipts before then usable usable (numbered n) (accepted os)
-          (sound, record { each = empty_is_desk_state.1.each; few = empty_is_desk_state.1.few; before_load = λ none. refl })
-          (inr (next, λ chosen is. legal, accepted_with_room P map.empty n room os after step, refl), refl) in
+      answer_keeps_receipts before then usable usable (numbered n) (accepted os)
+      (sound, record { each = empty_is_desk_state.1.each; few = empty_is_desk_state.1.few; before_load = λ none. refl })
+      (inr (next, λ chosen is. legal, accepted_with_room P map.empty n room os after step, refl), refl) in
       kept.1.each n.tracker (receipt_of n os)
       (get-insert name_cmp_total map.empty n.tracker (receipt_of n os) n.tracker ∙ ap (λ b. cond b (Some (receipt_of n os)) (get {R = name_cmp} map.empty n.tracker)) ((eq_by_cmp_equiv name_cmp_total).refl n.tracker))
 

@@ -1,5 +1,5 @@
 -- The refusals of a new request, with room for its receipt or without.
-use Rattle.std.proofs.Common.{◌≡◌, refl, ap, arith, ◌<◌, ◌≤◌, List}
+use Rattle.std.proofs.Common.{refl, ap, arith, ◌<◌, List}
 use Rattle.plan_basics.specs.Refusals.{number_of, IsLeastRefusal}
 use Rattle.plan_basics.specs.declared.Refusal.{Refusal}
 use Rattle.plan_basics.specs.declared.Refusal.TheVariants as refusal

@@ -1,5 +1,5 @@
 use Rattle.std.proofs.Common.{inr, subst, sym}
-use Rattle.plan_basics.specs.Refusals.{IsLeastRefusal, NoneRefuses}
+use Rattle.plan_basics.specs.Refusals.{NoneRefuses}
 use Rattle.plan_records.specs.Acceptance.{MayBeAccepted}
 use Rattle.plan_records.specs.declared.Request.{Request}
 use Rattle.numbered_steps.proofs.Rooms.{limit_refuses}
