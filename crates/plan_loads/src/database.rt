@@ -2,11 +2,11 @@
 ghost use Rattle.std.specs.Prelude.{◌≡◌, ◌↔◌, true, false, is_some, IsTrue, IfOk, IfErr};
 ghost use Rattle.std.specs.List.{list_any};
 ghost use Rattle.sqlite.specs.Held.{state};
-ghost use Rattle.plan_model.specs.Plan.{no_plan};
 ghost use Rattle.plan_records.specs.Answer.{answer_of};
-ghost use Rattle.plan_loads.specs.Databases.{HasNoTable, HasSchema, IsAnswerToLoad, IsPlanAt};
+ghost use Rattle.plan_records.specs.Run.{empty_state};
+ghost use Rattle.plan_loads.specs.Databases.{HasNoTable, HasSchema, IsAnswerToLoad, IsStateAt};
 ghost use Rattle.plan_schema.specs.Schema.{schema_9};
-ghost use Rattle.plan_tables.specs.Desk.{HoldsPlan, IsClean};
+ghost use Rattle.plan_tables.specs.Desk.{state_of, HoldsState, IsClean};
 ghost use Rattle.plan_tables.specs.Faults.{IsOpeningRefusal};
 ghost use Rattle.table_rows.specs.Tables.{no_schema};
 
@@ -38,9 +38,9 @@ fn desk_of<S: Alter + Drop>(
     conn: Connection<S>,
 ) -> Result<Desk<S>, (Refusal, Connection<S>)>
     requires { conn.in_transaction ≡ false }
-    ensures plan { IfOk result (λ desk. IsPlanAt (state S.Store conn) (state S.Store desk.conn) desk.plan) }
+    ensures state { IfOk result (λ desk. IsStateAt (state S.Store conn) (state S.Store desk.conn) (state_of desk)) }
     ensures usable { IfOk result (λ desk. desk.is_usable ≡ true) }
-    ensures made { IfOk result (λ desk. IsClean (state S.Store desk.conn) → HasSchema (state S.Store conn) no_schema → HoldsPlan no_plan (state S.Store desk.conn).committed) }
+    ensures made { IfOk result (λ desk. IsClean (state S.Store desk.conn) → HasSchema (state S.Store conn) no_schema → HoldsState empty_state (state S.Store desk.conn).committed) }
     ensures opened { IfOk result (λ desk. IsClean (state S.Store desk.conn) → HasSchema (state S.Store conn) schema_9 → (state S.Store desk.conn).committed ≡ (state S.Store conn).committed) }
     ensures refused { IfErr result (λ e. IsOpeningRefusal e.0) }
     ensures unchanged { IfErr result (λ e. IsClean (state S.Store e.1) → (state S.Store e.1).committed ≡ (state S.Store conn).committed) }

@@ -1,32 +1,28 @@
 -- What the rows tell that the tables hold: the plan and the receipts whose rows they are, or that there are none.
-use Rattle.std.proofs.Common.{◌≡◌, ◌↔◌, refl, sym, subst, ap, ◌∙◌, Bool, true, false, List, [], ◌∷◌, Contains, Some}
-use Rattle.std.proofs.lemmas.Bool.{false≢true}
+use Rattle.std.proofs.Common.{◌≡◌, refl, sym, subst, ◌∙◌, Bool, true, false, List, [], ◌∷◌, Some}
+use Rattle.std.proofs.lemmas.Bool.{true≢false}
 use Rattle.std.proofs.lemmas.Option.{none-some}
 use Rattle.std.specs.FinMap as map
 use Rattle.sqlite.specs.Effect.{Database}
 use Rattle.sqlite.specs.declared.error.Error.{Error}
 use Rattle.sqlite.specs.declared.error.Error.TheVariants.{SqliteFailure, SqlInputError}
 use Rattle.sqlite.specs.declared.error.ErrorCode.TheVariants as code
-use Rattle.sqlite_rules.specs.Lists.{Has}
 use Rattle.plan_basics.proofs.Members.{contains_head, contains_none}
-use Rattle.plan_basics.specs.Keys.{Name, name_cmp}
+use Rattle.plan_basics.specs.Keys.{name_cmp}
 use Rattle.plan_basics.specs.declared.Refusal.TheVariants as refusal
-use Rattle.plan_columns.proofs.SameColumns.{listed_held}
-use Rattle.plan_columns.specs.Receipts.{HoldReceipts, stored_receipt}
 use Rattle.plan_laws.proofs.Tabling.{rows_tell_receipts}
 use Rattle.plan_model.specs.Plan.{Plan}
 use Rattle.plan_opening.specs.Opening.{AreOfNoPlan, IsPlanOf}
-use Rattle.plan_reads.proofs.RowsStored.{none_stored, one_kept, one_stored}
+use Rattle.plan_reads.proofs.ReceiptsStored.{IsRowIn, hold_receipts, receipts_stored, rows_of_receipts}
+use Rattle.plan_reads.proofs.RowsStored.{none_stored, plan_stored, rows_of_plan}
 use Rattle.plan_reads.specs.Reads.{IsNotOfTables}
 use Rattle.plan_reads.specs.Tables.{HasOtherRow, StoresEach, StoresRows}
-use Rattle.plan_records.specs.Receipts.{AreReceipts, IsReceiptRow}
-use Rattle.plan_records.specs.Rows.{AreRows, IsRow}
+use Rattle.plan_records.specs.Receipts.{AreReceipts}
+use Rattle.plan_records.specs.Rows.{IsRow}
 use Rattle.plan_records.specs.Run.{State}
-use Rattle.plan_records.specs.Schedules.{IsDeskState}
-use Rattle.plan_records.specs.Step.{Receipt, Receipts}
+use Rattle.plan_records.specs.Step.{Receipts}
 use Rattle.plan_records.specs.declared.PlanRow.{PlanRow}
 use Rattle.plan_records.specs.declared.PlanRow.TheVariants as row
-use Rattle.plan_schema.specs.Stored.{Held, StoredReceipt}
 use Rattle.tracker_receipts.specs.Stored.{AreRowsOf, Columns, columns_of}
 use Rattle.plan_tables.specs.Desk.{HoldsNoState, HoldsState}
 use Rattle.plan_tables.specs.Faults.{opening_refusal}
@@ -34,10 +30,6 @@ use Rattle.plan_tables.specs.Opening.{AreOfNoState, IsStateOf}
 use Rattle.plan_tables.proofs.InRange.{sound_in_range}
 
 -- ---- the receipts that have these rows
-
--- these are the columns of one of the receipts
-abbrev IsOneOf : Receipts → Columns → Type 0
-IsOneOf T c = (tracker : Name) × (receipt : Receipt) × IsReceiptRow T tracker receipt × (c ≡ columns_of tracker receipt)
 
 -- receipts without rows are of no tracker
 no_rows : (T : Receipts) → AreRowsOf T [] → T ≡ map.empty
@@ -76,7 +68,7 @@ no_plan_of rows receipts none s is = none s.plan (record { sound = is.legal.0; a
 
 pub no_receipts_of : (rows : List PlanRow) (receipts : List Columns) → ((T : Receipts) → AreReceipts true T → ¬ AreRowsOf T receipts) → AreOfNoState rows receipts
 no_receipts_of rows receipts none s is =
-    none s.receipts (record { each = is.legal.1.each; few = is.legal.1.few; before_load = λ e. absurd (false≢true (sym e)) }) is.are_receipts
+    none s.receipts (record { each = is.legal.1.each; few = is.legal.1.few; before_load = λ e. absurd (true≢false e) }) is.are_receipts
 
 -- nor where they are receipts' before a plan is loaded
 pub receipts_before_load : (P : Plan) (rows : List PlanRow) (receipts : List Columns) → IsPlanOf rows P → P.loaded ≡ false → ¬ (receipts ≡ []) → AreOfNoState rows receipts
@@ -91,37 +83,19 @@ pub state_opened : (s : State) (rows : List PlanRow) (receipts : List Columns) (
 state_opened s rows receipts db is h = record {
   held = h.stores.held;
   stores = h.stores.stores;
-  rows = (listed_held s.plan rows h.stores.held is.are_rows).0 h.stores.rows;
-  receipts = λ x. (
-    λ has.
-        let c = (h.stores.receipts x).0 has in
-        let it = (is.are_receipts.each c.0).0 c.1 in
-        (it.0, it.1, it.2, c.2 ∙ ap stored_receipt it.3),
-    λ it. (h.stores.receipts x).1 (columns_of it.0 it.1, (is.are_receipts.each (columns_of it.0 it.1)).1 (it.0, it.1, it.2, refl), it.3),
-  );
+  rows = plan_stored s.plan rows receipts db is.are_rows h;
+  receipts = receipts_stored s.receipts rows receipts db is.are_receipts h;
 }
 
 -- what tables of a state hold, as rows of a plan and columns of receipts
-as_stored : (s : State) (db : Database) → HoldsState s db → StoresRows (IsRow s.plan) (IsOneOf s.receipts) db
-as_stored s db h = record {
-  held = h.held;
-  stores = h.stores;
-  rows = h.rows;
-  receipts = λ x. (
-    λ has. let it = (h.receipts x).0 has in (columns_of it.0 it.1, (it.0, it.1, it.2, refl), it.3),
-    λ c. (h.receipts x).1 (c.1.0, c.1.1, c.1.2, c.2 ∙ ap stored_receipt c.1.3),
-  );
-}
+as_stored : (s : State) (db : Database) → HoldsState s db → StoresRows (IsRow s.plan) (IsRowIn s.receipts) db
+as_stored s db h = record { held = h.held; stores = h.stores; rows = h.rows; receipts = (hold_receipts s.receipts h.held).1 h.receipts }
 
 -- where the rows are those of no state, the tables hold none
 pub none_opened : (rows : List PlanRow) (receipts : List Columns) (db : Database) → AreOfNoState rows receipts → StoresEach rows receipts db → HoldsNoState db
 none_opened rows receipts db none h s legal holds =
     let k = as_stored s db holds in
-    none s (record {
-      legal = legal;
-      are_rows = record { has_all = one_stored h.stores k; once = h.once };
-      are_receipts = record { each = one_kept h.stores k; once = h.once_receipts };
-    })
+    none s (record { legal = legal; are_rows = rows_of_plan s.plan rows receipts db h k; are_receipts = rows_of_receipts s.receipts rows receipts db h k })
 
 -- where a row is none of a plan, the tables hold none: the rows of a sound plan are in their ranges
 pub other_opened : (db : Database) → HasOtherRow db.trees → HoldsNoState db

@@ -10,7 +10,27 @@ use super::calls::PreparedCall;
 use super::faults::request_refusal;
 use plan_basics::Refusal;
 use plan_writes::{write_changes, write_numbered};
-use sqlite::{Alter, Connection};
+use sqlite::{Alter, Connection, Error};
+
+// Writes what a prepared call changes, in one transaction: wholly or not at all.
+fn write_changed<S: Alter>(conn: &mut Connection<S>, call: &PreparedCall) -> Result<(), Error>
+    requires { conn.old.in_transaction ≡ false }
+    ensures idle { conn.new.in_transaction ≡ false }
+    ensures ok { HasCleanDisk (state S.Store conn.new) → OnOk result (IsCommitted (Rewrites (change_of call.now)) (state S.Store conn.old) (state S.Store conn.new)) }
+    ensures err { HasCleanDisk (state S.Store conn.new) → IsTrue (state S.Store conn.new).is_open → OnErr result (IsUndone (state S.Store conn.old) (state S.Store conn.new)) }
+    ensures crash { Survives (state S.Store conn.old) (state S.Store conn.new) (LeavesMade (Rewrites (change_of call.now)) (state S.Store conn.old)) }
+{
+    match call {
+        PreparedCall::Plain(prepared) => {
+            let changes = prepared.changes();
+            write_changes(conn, &changes.rows, &changes.gone)
+        }
+        PreparedCall::Numbered(step) => {
+            let changes = step.prepared.changes();
+            write_numbered(conn, &changes.rows, &changes.gone, &step.row)
+        }
+    }
+}
 
 /// Writes what a prepared call changes, in one transaction: wholly or not at all, the receipt of a numbered request with
 /// the rows that it changes. Refused as `Memory` for want of memory, as `Store` for any other fault.
@@ -22,17 +42,7 @@ pub fn write_call<S: Alter>(conn: &mut Connection<S>, call: &PreparedCall) -> Re
     ensures refused { IfErr result (λ r. (r ≡ Refusal.Memory) ⊎ (r ≡ Refusal.Store)) }
     ensures crash { Survives (state S.Store conn.old) (state S.Store conn.new) (LeavesMade (Rewrites (change_of call.now)) (state S.Store conn.old)) }
 {
-    let written = match call {
-        PreparedCall::Plain(prepared) => {
-            let changes = prepared.changes();
-            write_changes(conn, &changes.rows, &changes.gone)
-        }
-        PreparedCall::Numbered(step) => {
-            let changes = step.prepared.changes();
-            write_numbered(conn, &changes.rows, &changes.gone, &step.row)
-        }
-    };
-    match written {
+    match write_changed(conn, call) {
         Ok(()) => Ok(()),
         Err(error) => Err(request_refusal(&error)),
     }
