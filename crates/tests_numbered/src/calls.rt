@@ -17,7 +17,7 @@ pub struct Night {
 }
 
 /// The night of the runs is loaded at 21:00, and no tracker has asked yet.
-pub fn night(rt: &impl Abort, alloc: Global) -> Night {
+pub fn loaded_night(rt: &impl Abort, alloc: Global) -> Night {
     let turn = "21:00 load STATIONS RUNS PRINTING CHAIN LAST FILE KEEPS | names -";
     let load = request(alloc, turn).expect(rt, "a load");
     let mut plan = Plan::empty(alloc);

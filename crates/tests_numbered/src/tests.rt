@@ -1,5 +1,5 @@
 // Each outcome of a numbered request: values from outside.
-use super::calls::{night, tracker};
+use super::calls::{loaded_night, tracker};
 use plan_records::{Request, What};
 use tracker_receipts::{ReceiptRow, receipts_of};
 
@@ -30,7 +30,7 @@ const TURNS: [(u64, &str, &str); 9] = [
 
 #[test]
 fn a_trackers_turns(rt: HostRuntime) {
-    let mut night = night(&rt, rt.alloc());
+    let mut night = loaded_night(&rt, rt.alloc());
     let t1 = tracker(&rt, "T1");
     for (number, turn, answer) in TURNS {
         night.check_turn(&rt, &t1, number, turn, answer);
@@ -40,7 +40,7 @@ fn a_trackers_turns(rt: HostRuntime) {
 /// A refused request has no receipt: its number is free for another text.
 #[test]
 fn a_refused_requests_number(rt: HostRuntime) {
-    let mut night = night(&rt, rt.alloc());
+    let mut night = loaded_night(&rt, rt.alloc());
     let t1 = tracker(&rt, "T1");
     night.check_turn(&rt, &t1, 1, "21:59 started 5 | refused Closed", "Closed");
     night.check_turn(&rt, &t1, 1, "22:00 started 5 | names -", "names []");
@@ -49,7 +49,7 @@ fn a_refused_requests_number(rt: HostRuntime) {
 /// Of those that have asked already the 65th tracker's first request isn't, and there is no room for its receipt.
 #[test]
 fn the_sixty_fifth_tracker(rt: HostRuntime) {
-    let mut night = night(&rt, rt.alloc());
+    let mut night = loaded_night(&rt, rt.alloc());
     for place in 0..64 {
         let name = format!(in rt.alloc(); "T{place}").expect(&rt, "memory");
         night.check_turn(
@@ -69,7 +69,7 @@ fn the_sixty_fifth_tracker(rt: HostRuntime) {
 /// Texts of 65,536 bytes and of one more.
 #[test]
 fn the_longest_text(rt: HostRuntime) {
-    let mut night = night(&rt, rt.alloc());
+    let mut night = loaded_night(&rt, rt.alloc());
     let t1 = tracker(&rt, "T1");
     let mut text = Vec::new(rt.alloc());
     text.resize(65_537, b' ').expect(&rt, "memory");
@@ -84,7 +84,7 @@ fn the_longest_text(rt: HostRuntime) {
 /// A text that denotes nothing is refused as `BadPlan`, where there is room for a receipt.
 #[test]
 fn a_text_that_denotes_nothing(rt: HostRuntime) {
-    let mut night = night(&rt, rt.alloc());
+    let mut night = loaded_night(&rt, rt.alloc());
     let t1 = tracker(&rt, "T1");
     let mut text = Vec::new(rt.alloc());
     text.resize(65_537, b' ').expect(&rt, "memory");
@@ -99,7 +99,7 @@ fn a_text_that_denotes_nothing(rt: HostRuntime) {
 /// A tracker's number after 999,999,999.
 #[test]
 fn the_greatest_number(rt: HostRuntime) {
-    let mut night = night(&rt, rt.alloc());
+    let mut night = loaded_night(&rt, rt.alloc());
     let name = Vec::from_slice(rt.alloc(), b"T1").expect(&rt, "memory");
     let empty = || Vec::new(rt.alloc());
     let row = ReceiptRow::new(name, 999_999_999, empty(), empty());
