@@ -1,5 +1,5 @@
 -- Requests whose other members are counted, and those whose members are named.
-use Rattle.std.proofs.Common.{◌≡◌, inl, inr, ℕ, suc, ◌+◌, ◌≤◌, List, [], ◌∷◌, ◌++◌, length, Bool, true, ◌||◌, true≢false, Option, Some, None, refl, sym, ap, subst, ◌∙◌, codes, arith, length-append}
+use Rattle.std.proofs.Common.{◌≡◌, inl, inr, ℕ, suc, ◌+◌, ◌≤◌, List, [], ◌∷◌, ◌++◌, length, Bool, true, ◌||◌, true≢false, Option, Some, None, option_and_then, refl, sym, ap, subst, ◌∙◌, codes, arith, length-append}
 use Rattle.std.specs.List.{AllByRecursion}
 use Rattle.std.specs.Str.{bytes_eq}
 use Rattle.plan_basics.specs.Names.{IsName}
@@ -9,6 +9,7 @@ use Rattle.plan_records.specs.declared.Request.{Request}
 use Rattle.plan_records.specs.declared.What.{What}
 use Rattle.plan_records.specs.declared.What.TheVariants as what
 use Rattle.serde_json.specs.Data.{Data, string}
+use Rattle.serde_json.specs.Find.{get, as_str}
 use Rattle.request_texts.specs.Intervals.{whole}
 use Rattle.request_texts.specs.Members.{Member, IsJsonOf, HasMember, IsNameAt}
 use Rattle.request_texts.specs.Requests.{Asks, IsReport, SaysRequest, SaysReport, ReadsAsRequest, ReadsAsReport}
@@ -86,6 +87,17 @@ report_said d n h =
     let others : List Member = (codes "tracker", string n.tracker) ∷ (codes "number", whole n.number) ∷ [] in
     let s = beside_of d others n.request h.3 in
     ((h.0, s.1.0), (h.1, s.1.1.0), (h.3.1, h.3.5.1.1.0, verb_of_report n.request.what h.3.1 h.3.2 h.2 h.3.4), s.0)
+
+-- without a `do` that is a text there is no report
+pub no_verb : (d : Data) → None ≡ option_and_then as_str (get (codes "do") d) → (n : NumberedRequest) → ¬ SaysReport d n
+no_verb d none n h = let said = (report_said d n h).2 in absurd (cc (rw said.1 at none))
+
+-- nor with another `do` than a report's
+pub no_report_verb : (d : Data) (verb : List ℕ) → HasMember d (codes "do", string verb) → ¬ IsReportVerb verb → (n : NumberedRequest) → ¬ SaysReport d n
+no_report_verb d verb there other n h =
+    let said = (report_said d n h).2 in
+    let same : said.0 ≡ verb = cc (said.1, there) in
+    other (rw same at said.2)
 
 -- without a request beside tracker and number there is no report
 pub no_report : (d : Data) → ((r : Request) → ¬ SaysBeside d 2 r) → (n : NumberedRequest) → ¬ SaysReport d n

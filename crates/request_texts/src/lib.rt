@@ -136,6 +136,3 @@ fn read_value(alloc: Global, body: &[u8]) -> Result<Option<Value>, AllocError>
         Err(_) => Ok(None),
     }
 }
-
-#[cfg(test)]
-mod tests;

@@ -27,7 +27,7 @@ pub fn text_at<'v>(value: &'v Value, name: &str) -> Option<&'v str>
     ensures { option_map (λ text. text.now) result
         ≡ option_and_then as_str (get name.now (view value.now)) }
 {
-    value.get(name).and_then(Value::as_str)
+    value.get(name)?.as_str()
 }
 
 /// The values of a member that is an array.
@@ -92,7 +92,7 @@ pub fn number_at(value: &Value) -> Option<u64>
     ensures { IsReading (λ n. (n ≤ GREATEST_REQUEST_NUMBER)
         × HasMember (view value.now) (codes "number", whole n)) result }
 {
-    let number = value.get("number").and_then(Value::as_u64)?;
+    let number = value.get("number")?.as_u64()?;
     if number <= u64::from(GREATEST_REQUEST_NUMBER) {
         Some(number)
     } else {

@@ -119,7 +119,7 @@ fn read_available(value: &Value, count: usize) -> Option<What>
         return None;
     }
     let resource = resource_at(value)?;
-    let available = value.get("value").and_then(Value::as_bool)?;
+    let available = value.get("value")?.as_bool()?;
     Some(What::SetAvailable(resource, available))
 }
 

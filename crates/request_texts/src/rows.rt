@@ -11,7 +11,7 @@ use status_rules::{OccStatus, Status};
 use std::alloc::{AllocError, Global};
 
 /// An operation of a ready list.
-#[derive(Clone, Copy, Debug, PartialEq, Eq)]
+#[derive(Clone, Copy)]
 pub struct ReadyRow {
     pub op: OpKey,
     /// Its occurrence's priority, from 1 (low) to 9 (urgent).
@@ -26,7 +26,7 @@ pub struct ReadyRow {
 }
 
 /// An occurrence of a list of occurrences.
-#[derive(Clone, Copy, Debug, PartialEq, Eq)]
+#[derive(Clone, Copy)]
 pub struct OccurrenceRow {
     pub occurrence: OccKey,
     /// From 1 (low) to 9 (urgent).
