@@ -1,2 +1,1 @@
-pub mod Databases
 pub mod Statuses

@@ -1,4 +1,3 @@
-pub mod Databases
 pub mod Loads
 pub mod Statuses
 pub mod Words

@@ -9,12 +9,12 @@ ghost use Rattle.plan_desk.specs.Words.{text_given};
 ghost use Rattle.plan_desk.specs.declared.desk.Fault.{Fault};
 ghost use Rattle.plan_records.specs.Answer.{answer_of};
 
-use crate::database::load_into;
 use crate::words::{desk_command, value_of};
 use clap::ArgMatches;
 use clap::error::{Error, ErrorKind};
 use plan_basics::{Refusal, Watched, minute_of_text};
 use plan_import::{ImportFault, read_plan};
+use plan_loads::load_into;
 use plan_records::{PlanDraft, Reply};
 use sqlite::{Connection, ErrorCode, File, FileStore};
 use std::alloc::{AllocError, Global};

@@ -1,7 +1,6 @@
 //! The program plandesk: a current plan at the command line.
 #![tactic(auto)]
 
-mod database;
 mod desk;
 #[cfg(test)]
 mod load_tests;

@@ -1,5 +1,5 @@
--- No row of a plan stands twice in its table, since the key of a table is unique.
-use Rattle.std.proofs.Common.{◌≡◌, ◌≢◌, ◌&&◌, ℕ, zero, suc, not, true, List, [], ◌∷◌, ◌++◌, drop, get_or, map, refl, sym, ap, subst, ◌∙◌, inl, inr, arith}
+-- No row of a plan stands twice in its table, and no tracker has two receipts, since the key of a table is unique.
+use Rattle.std.proofs.Common.{◌≡◌, ◌≢◌, ◌&&◌, ℕ, zero, suc, not, true, List, [], ◌∷◌, ◌++◌, drop, get_or, map, take, refl, sym, ap, subst, ◌∙◌, inl, inr, arith}
 use Rattle.std.specs.List.{range_with_len, AllByRecursion, AllPairs, AllZip}
 use Rattle.std.proofs.lemmas.Bool.{cases_Bool, true≢false}
 use Rattle.std.proofs.lemmas.List.Elements.{Contains-get_or}
@@ -7,7 +7,7 @@ use Rattle.sqlite.specs.Effect.{Database, IsDatabase}
 use Rattle.sqlite.specs.Order.{Row, column}
 use Rattle.sqlite.specs.Table.{Table as SqlTable}
 use Rattle.sqlite.specs.Tree.{Trees, rowid, has_rowid, IsAscending}
-use Rattle.sqlite.specs.declared.types.Value.TheVariants.{Int}
+use Rattle.sqlite.specs.declared.types.Value.TheVariants.{Int, Text}
 use Rattle.sqlite_rules.specs.Edit.{id_in}
 use Rattle.sqlite_rules.specs.Lists.{Has}
 use Rattle.sqlite_rules.proofs.ListLemmas.{all_from, all_has, has_contained, some_from, test_has}
@@ -23,14 +23,17 @@ use Rattle.table_rows.proofs.Keys.{one_key}
 use Rattle.table_rows.proofs.Queries.{has_mapped}
 use Rattle.table_rows.proofs.Rowids.{differs, numbered_has, rowid_is}
 use Rattle.plan_records.specs.declared.PlanRow.{PlanRow}
-use Rattle.plan_schema.specs.Schema.{schema_9, workstation, interval, resource, occurrence, operation, dependency, need}
+use Rattle.plan_schema.specs.Schema.{schema_9, workstation, interval, resource, occurrence, operation, dependency, need, receipt}
+use Rattle.plan_schema.specs.Stored.{receipt_row}
+use Rattle.plan_columns.specs.Receipts.{stored_receipt}
+use Rattle.stored_rows.specs.Receipts.{IsReceiptStoredAs}
 use Rattle.stored_rows.specs.Rows.{columns_of, IsStoredAs}
 use Rattle.stored_rows.specs.declared.Table.{Table}
 use Rattle.stored_rows.specs.declared.Table.TheVariants as table
 use Rattle.stored_rows.proofs.Decoded.{stored_for}
-use Rattle.plan_reads.specs.Tables.{all_tables, rows_of, AllDiffer}
+use Rattle.tracker_receipts.specs.Stored.{Columns}
+use Rattle.plan_reads.specs.Tables.{all_tables, receipt_rows, rows_of, AllDiffer}
 use Rattle.plan_reads.proofs.PlanTables.{workstation_table, interval_table, resource_table, occurrence_table, operation_table, dependency_table, need_table}
-use Rattle.plan_reads.proofs.RowsStored.{no_receipt}
 
 -- ---- two rows of one key are one
 
@@ -60,8 +63,11 @@ whole_row : (key : ℕ) (a v : Row) → BeginsExactly (suc key) v → drop 1 a �
 whole_row key [] v exact e = absurd (subst (BeginsExactly (suc key)) (sym e) exact)
 whole_row key (x ∷ a) v exact e = ap (λ l. x ∷ l) e
 
+begin_alike : (key : ℕ) (a b v w : Row) → BeginsExactly (suc key) v → BeginsExactly (suc key) w → drop 1 a ≡ v → drop 1 b ≡ w → take (suc key) w ≡ take (suc key) v → same_key (suc key) b a ≡ true
+begin_alike key a b v w exact other p q same = (λ i. same_key (suc key) (whole_row key b w other q i) (whole_row key a v exact p i)) ∙ one_key (suc key) (rowid b) (rowid a) w v other exact same
+
 alike_of : (key : ℕ) (a b v : Row) → BeginsExactly (suc key) v → drop 1 a ≡ v → drop 1 b ≡ v → same_key (suc key) b a ≡ true
-alike_of key a b v exact p q = (λ i. same_key (suc key) (whole_row key b v exact q i) (whole_row key a v exact p i)) ∙ one_key (suc key) (rowid b) (rowid a) v v exact exact refl
+alike_of key a b v exact p q = begin_alike key a b v v exact exact p q refl
 
 -- ---- in each table
 
@@ -107,22 +113,32 @@ module _ (db : Database) (sound : IsDatabase db) (has : db.schema ≡ schema_9) 
       let x = need_table.forth r is_a.0 in
       let exact : BeginsExactly 4 (columns_of r) = subst (BeginsExactly 4) (sym (need_table.back r x.0 x.1).1) (tt, (tt, (tt, (tt, tt)))) in
       twin db.trees (placed need.name need.columns 4 13) 4 (inr (inr (inr (inr (inr (inr (inr (inl refl)))))))) (_, (inr (inr (inr (inr (inr (inr (inl refl))))))), refl, refl, refl) unique numbered a b at_a at_b (alike_of 3 a b (columns_of r) exact is_a.2 is_b.2)
-  singly table.Receipt numbered a b r at_a at_b is_a is_b = absurd (no_receipt r is_a.0)
+
+  -- two rows of receipts of one tracker have one rowid
+  pub receipt_singly : AreNumbered (receipt_rows db.trees) → (a b : Row) (c d : Columns) → Has (receipt_rows db.trees) a → Has (receipt_rows db.trees) b → IsReceiptStoredAs a c → IsReceiptStoredAs b d → c.tracker ≡ d.tracker → rowid a ≡ rowid b
+  receipt_singly numbered a b c d at_a at_b is_a is_b same =
+      twin db.trees (placed receipt.name receipt.columns 1 15) 1 (inr (inr (inr (inr (inr (inr (inr (inr (inl refl))))))))) (_, (inr (inr (inr (inr (inr (inr (inr (inl refl)))))))), refl, refl, refl) unique numbered a b at_a at_b
+      (begin_alike 0 a b (receipt_row (stored_receipt c)) (receipt_row (stored_receipt d)) (tt, tt) (tt, tt) is_a is_b (ap (λ t. Text t ∷ []) (sym same)))
 
 -- ---- lists whose elements differ
+
+-- what is read of rows with rowids of their own, of which two that are read alike have one rowid
+pub read_apart : {X : Type 0} (IsOf : Row → X → Type 0) (Alike : X → X → Type 0) (stored : List Row) (read : List X) → ((a b : Row) (x y : X) → Has stored a → Has stored b → IsOf a x → IsOf b y → Alike x y → rowid a ≡ rowid b) → IsAscending (λ a b. rowid a ≢ rowid b) stored
+    → AllZip IsOf stored read → IsAscending (λ x y. ¬ Alike x y) read
+read_apart IsOf Alike [] [] single apart all = tt
+read_apart IsOf Alike [] (x ∷ read) single apart all = absurd all
+read_apart IsOf Alike (u ∷ stored) [] single apart all = tt
+read_apart IsOf Alike (u ∷ stored) (x ∷ read) single apart all = (
+  all_from (λ y. ¬ Alike x y) read (λ y there. λ alike.
+      let s = stored_for IsOf stored read all.1 y there in
+      all_has (λ v. rowid u ≢ rowid v) stored s.0 apart.0 s.1 (single u s.0 x y (inl refl) (inr s.1) all.0 s.2 alike)),
+  read_apart IsOf Alike stored read (λ a b x y at_a at_b. single a b x y (inr at_a) (inr at_b)) apart.1 all.1,
+)
 
 -- what is read of a table differs
 pub read_differ : (t : Table) (trees : Trees) → HoldsSingly t trees → (stored : List Row) (read : List PlanRow) → ((s : Row) → Has stored s → Has (rows_of t trees) s) → IsAscending (λ a b. rowid a ≢ rowid b) stored → AllZip (IsStoredAs t) stored read
     → AllDiffer read
-read_differ t trees single [] [] among apart all = tt
-read_differ t trees single [] (r ∷ read) among apart all = absurd all
-read_differ t trees single (x ∷ stored) [] among apart all = tt
-read_differ t trees single (x ∷ stored) (r ∷ read) among apart all = (
-  all_from (λ q. r ≢ q) read (λ q there. λ same.
-      let s = stored_for t stored read all.1 q there in
-      all_has (λ y. rowid x ≢ rowid y) stored s.0 apart.0 s.1 (single x s.0 r (among x (inl refl)) (among s.0 (inr s.1)) all.0 (subst (IsStoredAs t s.0) (sym same) s.2))),
-  read_differ t trees single stored read (λ s there. among s (inr there)) apart.1 all.1,
-)
+read_differ t trees single stored read among apart all = read_apart (IsStoredAs t) (λ r q. r ≡ q) stored read (λ a b r q at_a at_b is_a is_b same. single a b r (among a at_a) (among b at_b) is_a (subst (IsStoredAs t b) (sym same) is_b)) apart all
 
 -- two lists that have nothing in common
 pub joined_differ : {X : Type 0} (xs ys : List X) → AllDiffer xs → AllDiffer ys → ((x y : X) → Has xs x → Has ys y → x ≢ y) → AllDiffer (xs ++ ys)
@@ -148,11 +164,11 @@ differ_front {X = X} (z ∷ xs) x h =
     parts [] h = (tt, h.0)
     parts (y ∷ ys) h = let it = parts ys h.1 in ((h.0, it.0), it.1)
 
-pub pairs_differ : {X : Type 0} (xs : List X) → AllDiffer xs → AllPairs (λ a b. a ≢ b) xs
-pairs_differ [] h i j d below within = absurd (omega (arith, within))
-pairs_differ (x ∷ xs) h i zero d below within = absurd (omega (arith, below))
-pairs_differ (x ∷ xs) h zero (suc j) d below within = all_has (λ y. x ≢ y) xs (get_or xs j d) h.0 (has_contained xs (get_or xs j d) (Contains-get_or xs j d (omega (arith, within))))
-pairs_differ (x ∷ xs) h (suc i) (suc j) d below within = pairs_differ xs h.1 i j d (omega (arith, below)) (omega (arith, within))
+pub pairs_apart : {X : Type 0} (IsApart : X → X → Type 0) (xs : List X) → IsAscending IsApart xs → AllPairs IsApart xs
+pairs_apart IsApart [] h i j d below within = absurd (omega (arith, within))
+pairs_apart IsApart (x ∷ xs) h i zero d below within = absurd (omega (arith, below))
+pairs_apart IsApart (x ∷ xs) h zero (suc j) d below within = all_has (λ y. IsApart x y) xs (get_or xs j d) h.0 (has_contained xs (get_or xs j d) (Contains-get_or xs j d (omega (arith, within))))
+pairs_apart IsApart (x ∷ xs) h (suc i) (suc j) d below within = pairs_apart IsApart xs h.1 i j d (omega (arith, below)) (omega (arith, within))
 
 pub tables_differ : AllDiffer all_tables
-tables_differ = ((λ e. absurd cc, (λ e. absurd cc, (λ e. absurd cc, (λ e. absurd cc, (λ e. absurd cc, (λ e. absurd cc, (λ e. absurd cc, (λ e. absurd cc, tt)))))))), ((λ e. absurd cc, (λ e. absurd cc, (λ e. absurd cc, (λ e. absurd cc, (λ e. absurd cc, (λ e. absurd cc, (λ e. absurd cc, tt))))))), ((λ e. absurd cc, (λ e. absurd cc, (λ e. absurd cc, (λ e. absurd cc, (λ e. absurd cc, (λ e. absurd cc, tt)))))), ((λ e. absurd cc, (λ e. absurd cc, (λ e. absurd cc, (λ e. absurd cc, (λ e. absurd cc, tt))))), ((λ e. absurd cc, (λ e. absurd cc, (λ e. absurd cc, (λ e. absurd cc, tt)))), ((λ e. absurd cc, (λ e. absurd cc, (λ e. absurd cc, tt))), ((λ e. absurd cc, (λ e. absurd cc, tt)), ((λ e. absurd cc, tt), (tt, tt)))))))))
+tables_differ = ((λ e. absurd cc, (λ e. absurd cc, (λ e. absurd cc, (λ e. absurd cc, (λ e. absurd cc, (λ e. absurd cc, (λ e. absurd cc, tt))))))), ((λ e. absurd cc, (λ e. absurd cc, (λ e. absurd cc, (λ e. absurd cc, (λ e. absurd cc, (λ e. absurd cc, tt)))))), ((λ e. absurd cc, (λ e. absurd cc, (λ e. absurd cc, (λ e. absurd cc, (λ e. absurd cc, tt))))), ((λ e. absurd cc, (λ e. absurd cc, (λ e. absurd cc, (λ e. absurd cc, tt)))), ((λ e. absurd cc, (λ e. absurd cc, (λ e. absurd cc, tt))), ((λ e. absurd cc, (λ e. absurd cc, tt)), ((λ e. absurd cc, tt), (tt, tt))))))))

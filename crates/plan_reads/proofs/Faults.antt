@@ -1,5 +1,5 @@
 -- Why a table can't be read: where the schema is the desk's, never since its text is refused.
-use Rattle.std.proofs.Common.{◌≡◌, ℕ, inl, inr, refl, sym, ap, subst, ◌∙◌, Option, Result, Ok, Err, IfErr, IsTrue, [], Vec, codes, is_some}
+use Rattle.std.proofs.Common.{◌≡◌, ℕ, inl, inr, refl, sym, ap, subst, ◌∙◌, List, Option, Result, Ok, Err, IfErr, IsTrue, [], Vec, codes, is_some}
 use Rattle.std.specs.declared.alloc.Global.{Global}
 use Rattle.sqlite.proofs.Callers.{IsPlain}
 use Rattle.sqlite.specs.Clock.{timed}
@@ -15,7 +15,6 @@ use Rattle.sqlite_resolve.specs.declared.error.CompileError.{CompileError}
 use Rattle.sqlite_tied.specs.Compute.{everything}
 use Rattle.sqlite_trees.specs.declared.error.StoreError.{StoreError}
 use Rattle.sqlite_trees.specs.declared.error.StoreError.TheVariants.{OutOfMemory, Io, Corrupt, Full, Broken, Unstorable}
-use Rattle.plan_records.specs.declared.PlanRow.{PlanRow}
 use Rattle.plan_schema.specs.Schema.{schema_9}
 use Rattle.plan_schema.proofs.DependencyTexts as dependencies
 use Rattle.plan_schema.proofs.IntervalTexts as intervals
@@ -23,14 +22,13 @@ use Rattle.plan_schema.proofs.MetaTexts as metas
 use Rattle.plan_schema.proofs.NeedTexts as needs
 use Rattle.plan_schema.proofs.OccurrenceTexts as occurrences
 use Rattle.plan_schema.proofs.OperationTexts as operations
-use Rattle.plan_schema.proofs.ReceiptTexts as receipts
 use Rattle.plan_schema.proofs.ResourceTexts as resources
 use Rattle.plan_schema.proofs.WorkstationTexts as workstations
 use Rattle.stored_rows.specs.declared.Table.{Table}
 use Rattle.stored_rows.specs.declared.Table.TheVariants as table
 use Rattle.plan_reads.specs.Reads.{IsNotOfTables}
 use Rattle.plan_reads.specs.Tables.{text_for}
-use Rattle.plan_reads.proofs.QueryTexts.{shows_alone}
+use Rattle.plan_reads.proofs.QueryTexts.{IsQuery, shows_alone}
 
 -- ---- what isn't the tables' fault
 
@@ -53,7 +51,7 @@ query_is_other limit _ db params e h = subst IsNotOfTables (sym h) tt
 
 -- ---- the texts
 
-each_plain : (t : Table) → IsPlain (understood schema_9 (text_for t))
+pub each_plain : (t : Table) → IsPlain (understood schema_9 (text_for t))
 each_plain table.Meta = metas.read_plain
 each_plain table.Workstation = workstations.read_plain
 each_plain table.Interval = intervals.read_plain
@@ -62,14 +60,13 @@ each_plain table.Occurrence = occurrences.read_plain
 each_plain table.Operation = operations.read_plain
 each_plain table.Dependency = dependencies.read_plain
 each_plain table.Need = needs.read_plain
-each_plain table.Receipt = receipts.read_plain
 
-module _ (t : Table) (old new : State) (has : old.now.schema ≡ schema_9) where
+module _ (text : List ℕ) (query : IsQuery text) (plain : IsPlain (understood schema_9 text)) (old new : State) (has : old.now.schema ≡ schema_9) where
   -- none is refused
-  not_refused : (fault : CompileError) → ¬ (understood old.now.schema (text_for t) ≡ Err fault)
-  not_refused fault is = subst IsPlain (sym (ap (λ s. understood s (text_for t)) has) ∙ is) (each_plain t)
+  not_refused : (fault : CompileError) → ¬ (understood old.now.schema text ≡ Err fault)
+  not_refused fault is = subst IsPlain (sym (ap (λ s. understood s text) has) ∙ is) plain
 
-  not_run_is_other : (e : Error) → IsNotRun old new (text_for t) [] e → IsNotOfTables e
+  not_run_is_other : (e : Error) → IsNotRun old new text [] e → IsNotOfTables e
   unfolding IsNotRun
   not_run_is_other e (inl (inl h, same)) = absurd (not_refused h.0 h.1)
   not_run_is_other e (inl (inr (c, is, inl h), same)) = subst IsNotOfTables (sym h.1) tt
@@ -77,16 +74,16 @@ module _ (t : Table) (old new : State) (has : old.now.schema ≡ schema_9) where
   not_run_is_other e (inl (inr (c, is, inr (inr h)), same)) = subst IsNotOfTables (sym h.1) tt
   not_run_is_other e (inr h) = subst IsNotOfTables (sym h.1) (failure_is_other h.0)
 
-  fault_is_other : (e : Error) → FailsToQuery (text_for t) [] old new e → IsNotOfTables e
+  fault_is_other : (e : Error) → FailsToQuery text [] old new e → IsNotOfTables e
   unfolding FailsToQuery
   fault_is_other e (inl h) = not_run_is_other e h
   fault_is_other e (inr h) =
-      let none = shows_alone t old.now.schema h.0 h.1.is in
+      let none = shows_alone text query old.now.schema h.0 h.1.is in
       let params = timed [] h.0.formats h.1.now in
-      let refused = subst (FailsToShow old new (text_for t) h.0 params e) none h.2 in
+      let refused = subst (FailsToShow old new text h.0 params e) none h.2 in
       query_is_other old.step_limit h.0.command refused.0 params e refused.2
 
-  pub query_faults : (r : Result (Vec Row Global) Error) → IfErr r (FailsToQuery (text_for t) [] old new) → IfErr r IsNotOfTables
+  pub query_faults : (r : Result (Vec Row Global) Error) → IfErr r (FailsToQuery text [] old new) → IfErr r IsNotOfTables
   query_faults (Ok rows) h = tt
   query_faults (Err e) h = fault_is_other e h
 
@@ -98,7 +95,7 @@ unfolding everything
 meta_named = refl
 
 -- outside a transaction the schema that is committed is the one that was read by
-pub committed_faults : (old new : State) (r : Result (Option (Vec PlanRow Global)) Error) → (IsTrue old.is_open → old.now ≡ old.committed) → KeepsCommit old new → IsTrue new.is_open → (old.now.schema ≡ schema_9 → IfErr r IsNotOfTables)
+pub committed_faults : {X : Type 0} (old new : State) (r : Result X Error) → (IsTrue old.is_open → old.now ≡ old.committed) → KeepsCommit old new → IsTrue new.is_open → (old.now.schema ≡ schema_9 → IfErr r IsNotOfTables)
     → new.committed.schema ≡ schema_9 → IfErr r IsNotOfTables
 committed_faults old new r settled kept is_open faults has =
     let same : new.committed ≡ old.now = kept.committed is_open ∙ sym (settled (kept.was_open is_open)) in

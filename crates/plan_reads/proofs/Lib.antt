@@ -5,6 +5,7 @@ mod RowidOrder
 mod TableHeld
 mod MetaShown
 mod PlanTables
+pub mod ReceiptsStored
 pub mod RowsStored
 mod EachOnce
 mod Reading

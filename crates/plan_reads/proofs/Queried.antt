@@ -1,5 +1,5 @@
 -- What a query of a table leaves, and what it shows.
-use Rattle.std.proofs.Common.{◌≡◌, List, [], inl, inr, Ok, Err, Result, OnOk, IfOk, IfErr, is_some, Vec, sym, ap, subst, ◌∙◌}
+use Rattle.std.proofs.Common.{◌≡◌, ℕ, List, [], inl, inr, Ok, Err, Result, OnOk, IfOk, IfErr, is_some, Vec, sym, ap, subst, ◌∙◌}
 use Rattle.std.proofs.lemmas.Bool.{true≢false}
 use Rattle.std.specs.declared.alloc.Global.{Global}
 use Rattle.std.specs.List.Sorted.{IsPermutation}
@@ -19,12 +19,11 @@ use Rattle.plan_schema.proofs.Occurrences.{occurrence_read}
 use Rattle.plan_schema.proofs.Operations.{operation_read}
 use Rattle.plan_schema.proofs.Dependencies.{dependency_read}
 use Rattle.plan_schema.proofs.Needs.{need_read}
-use Rattle.plan_schema.proofs.Receipts.{receipt_read}
 use Rattle.stored_rows.specs.declared.Table.{Table}
 use Rattle.stored_rows.specs.declared.Table.TheVariants as table
 use Rattle.plan_reads.specs.Reads.{OnlyReads}
 use Rattle.plan_reads.specs.Tables.{rows_of, text_for}
-use Rattle.plan_reads.proofs.QueryTexts.{shows_alone}
+use Rattle.plan_reads.proofs.QueryTexts.{IsQuery, shows_alone}
 
 -- ---- what it leaves
 
@@ -34,51 +33,51 @@ unchanged_keeps old new same = record { was_open = λ _. same.0.was_open; commit
 rolled_back_keeps : (old new : State) → IsRolledBack old new → KeepsCommit old new
 rolled_back_keeps old new back = record { was_open = back.was_open; committed = λ is_open. (back.undone is_open).1 }
 
-module _ (t : Table) (old new : State) where
+module _ (text : List ℕ) (query : IsQuery text) (old new : State) where
   -- what is shown changes nothing
-  pub shown_leaves : (rows : List Row) → Shown (text_for t) [] old new rows → IsUnchanged old new
+  pub shown_leaves : (rows : List Row) → Shown text [] old new rows → IsUnchanged old new
   unfolding Shown
   shown_leaves rows h =
-      let none = shows_alone t old.now.schema h.0 h.1.is in
-      (subst (ShowsRows old new (text_for t) h.0 (timed [] h.0.formats h.1.now) rows) none h.2).3
+      let none = shows_alone text query old.now.schema h.0 h.1.is in
+      (subst (ShowsRows old new text h.0 (timed [] h.0.formats h.1.now) rows) none h.2).3
 
-  not_run_keeps : (e : Error) → IsNotRun old new (text_for t) [] e → KeepsCommit old new
+  not_run_keeps : (e : Error) → IsNotRun old new text [] e → KeepsCommit old new
   unfolding IsNotRun
   not_run_keeps e (inl h) = unchanged_keeps old new h.1
   not_run_keeps e (inr h) = rolled_back_keeps old new h.3
 
   -- what fails commits nothing
-  failed_keeps : (e : Error) → FailsToQuery (text_for t) [] old new e → KeepsCommit old new
+  failed_keeps : (e : Error) → FailsToQuery text [] old new e → KeepsCommit old new
   unfolding FailsToQuery
   failed_keeps e (inl h) = not_run_keeps e h
   failed_keeps e (inr h) =
-      let none = shows_alone t old.now.schema h.0 h.1.is in
-      unchanged_keeps old new (subst (FailsToShow old new (text_for t) h.0 (timed [] h.0.formats h.1.now) e) none h.2).3
+      let none = shows_alone text query old.now.schema h.0 h.1.is in
+      unchanged_keeps old new (subst (FailsToShow old new text h.0 (timed [] h.0.formats h.1.now) e) none h.2).3
 
-  never : (db : Trees) → ¬ CommitsShowing (text_for t) [] old db
+  never : (db : Trees) → ¬ CommitsShowing text [] old db
   unfolding CommitsShowing
-  never db h = true≢false (sym h.2 ∙ ap is_some (shows_alone t old.now.schema h.0 h.1.is))
+  never db h = true≢false (sym h.2 ∙ ap is_some (shows_alone text query old.now.schema h.0 h.1.is))
 
   -- whatever is answered, nothing is committed
-  pub only_reads : (r : Result (Vec Row Global) Error) → (HasCleanDisk new → IfOk r (λ rows. Shown (text_for t) [] old new rows.items)) → (HasCleanDisk new → IfErr r (FailsToQuery (text_for t) [] old new))
-      → Survives old new (CommitsShowing (text_for t) [] old) → OnlyReads old new
+  pub only_reads : (r : Result (Vec Row Global) Error) → (HasCleanDisk new → IfOk r (λ rows. Shown text [] old new rows.items)) → (HasCleanDisk new → IfErr r (FailsToQuery text [] old new))
+      → Survives old new (CommitsShowing text [] old) → OnlyReads old new
   only_reads r ok err survives = record {
     kept = λ clean. keeps r (ok clean) (err clean);
     survives = survives_weaker old new _ (λ _. ⊥) (λ _ db. never db) survives;
   }
     where
-      keeps : (r : Result (Vec Row Global) Error) → IfOk r (λ rows. Shown (text_for t) [] old new rows.items) → IfErr r (FailsToQuery (text_for t) [] old new) → KeepsCommit old new
+      keeps : (r : Result (Vec Row Global) Error) → IfOk r (λ rows. Shown text [] old new rows.items) → IfErr r (FailsToQuery text [] old new) → KeepsCommit old new
       keeps (Ok rows) h k = unchanged_keeps old new (shown_leaves rows.items h)
       keeps (Err e) h k = failed_keeps e k
 
-  pub same_shown : (r : Result (Vec Row Global) Error) → IfOk r (λ rows. Shown (text_for t) [] old new rows.items) → OnOk r (IsUnchanged old new)
+  pub same_shown : (r : Result (Vec Row Global) Error) → IfOk r (λ rows. Shown text [] old new rows.items) → OnOk r (IsUnchanged old new)
   same_shown (Ok rows) h = shown_leaves rows.items h
   same_shown (Err e) h = tt
 
 -- ---- what it shows
 
 -- the rows that are shown are those of the table
-rows_shown : (t : Table) (old new : State) (rows : List Row) → IsDatabase old.now → old.now.schema ≡ schema_9 → Shown (text_for t) [] old new rows → IsPermutation (rows_of t old.now.trees) rows
+pub rows_shown : (t : Table) (old new : State) (rows : List Row) → IsDatabase old.now → old.now.schema ≡ schema_9 → Shown (text_for t) [] old new rows → IsPermutation (rows_of t old.now.trees) rows
 rows_shown table.Meta old new rows sound has shown = meta_read old new rows has shown
 rows_shown table.Workstation old new rows sound has shown = workstation_read old new rows sound has shown
 rows_shown table.Interval old new rows sound has shown = interval_read old new rows sound has shown
@@ -87,11 +86,11 @@ rows_shown table.Occurrence old new rows sound has shown = occurrence_read old n
 rows_shown table.Operation old new rows sound has shown = operation_read old new rows sound has shown
 rows_shown table.Dependency old new rows sound has shown = dependency_read old new rows sound has shown
 rows_shown table.Need old new rows sound has shown = need_read old new rows sound has shown
-rows_shown table.Receipt old new rows sound has shown = receipt_read old new rows sound has shown
 
-pub all_shown : (t : Table) (old new : State) (r : Result (Vec Row Global) Error) → IsLive old → old.now.schema ≡ schema_9 → IfOk r (λ rows. Shown (text_for t) [] old new rows.items)
-    → IfOk r (λ rows. IsPermutation (rows_of t old.now.trees) rows.items)
-all_shown t old new (Ok rows) live has h =
-    let was = (shown_leaves t old new rows.items h).0.was_open in
-    rows_shown t old new rows.items (live was).0 has h
-all_shown t old new (Err e) live has h = tt
+-- what is answered are these rows, where whatever the text shows are these
+pub all_shown : (text : List ℕ) → IsQuery text → (old new : State) (there : List Row) → ((rows : List Row) → IsDatabase old.now → Shown text [] old new rows → IsPermutation there rows) → (r : Result (Vec Row Global) Error) → IsLive old → IfOk r (λ rows. Shown text [] old new rows.items)
+    → IfOk r (λ rows. IsPermutation there rows.items)
+all_shown text query old new there are (Ok rows) live h =
+    let was = (shown_leaves text query old new rows.items h).0.was_open in
+    are rows.items (live was).0 h
+all_shown text query old new there are (Err e) live h = tt

@@ -28,45 +28,48 @@ abbrev says_query : Checked Parsed → Bool
 says_query (Ok p) = is_query p.statement
 says_query (Err e) = false
 
+abbrev pub IsQuery : List ℕ → Type 0
+IsQuery text = says_query (first text) ≡ true
+
 -- ---- each text
 
-meta_is_query : says_query (first READ_META.now) ≡ true
+meta_is_query : IsQuery READ_META.now
 unfolding everything
 meta_is_query = refl
 
-workstation_is_query : says_query (first READ_WORKSTATION.now) ≡ true
+workstation_is_query : IsQuery READ_WORKSTATION.now
 unfolding everything
 workstation_is_query = refl
 
-interval_is_query : says_query (first READ_INTERVAL.now) ≡ true
+interval_is_query : IsQuery READ_INTERVAL.now
 unfolding everything
 interval_is_query = refl
 
-resource_is_query : says_query (first READ_RESOURCE.now) ≡ true
+resource_is_query : IsQuery READ_RESOURCE.now
 unfolding everything
 resource_is_query = refl
 
-occurrence_is_query : says_query (first READ_OCCURRENCE.now) ≡ true
+occurrence_is_query : IsQuery READ_OCCURRENCE.now
 unfolding everything
 occurrence_is_query = refl
 
-operation_is_query : says_query (first READ_OPERATION.now) ≡ true
+operation_is_query : IsQuery READ_OPERATION.now
 unfolding everything
 operation_is_query = refl
 
-dependency_is_query : says_query (first READ_DEPENDENCY.now) ≡ true
+dependency_is_query : IsQuery READ_DEPENDENCY.now
 unfolding everything
 dependency_is_query = refl
 
-need_is_query : says_query (first READ_NEED.now) ≡ true
+need_is_query : IsQuery READ_NEED.now
 unfolding everything
 need_is_query = refl
 
-receipt_is_query : says_query (first READ_RECEIPT.now) ≡ true
+pub receipt_is_query : IsQuery READ_RECEIPT.now
 unfolding everything
 receipt_is_query = refl
 
-each_is_query : (t : Table) → says_query (first (text_for t)) ≡ true
+pub each_is_query : (t : Table) → IsQuery (text_for t)
 each_is_query table.Meta = meta_is_query
 each_is_query table.Workstation = workstation_is_query
 each_is_query table.Interval = interval_is_query
@@ -75,7 +78,6 @@ each_is_query table.Occurrence = occurrence_is_query
 each_is_query table.Operation = operation_is_query
 each_is_query table.Dependency = dependency_is_query
 each_is_query table.Need = need_is_query
-each_is_query table.Receipt = receipt_is_query
 
 -- ---- a query has no RETURNING
 
@@ -119,11 +121,11 @@ selected : (r : Checked Compiled) (c : Compiled) → if_select r ≡ Ok c → r 
 selected (Ok k) c is = kept_by k c (is_select k.command) is
 selected (Err e) c is = absurd cc
 
--- in no schema has one of the texts a RETURNING
-pub shows_alone : (t : Table) (schema : Schema) (c : Compiled) → understood schema (text_for t) ≡ Ok c → c.returning ≡ None
+-- in no schema has such a text a RETURNING
+pub shows_alone : (text : List ℕ) → IsQuery text → (schema : Schema) (c : Compiled) → understood schema text ≡ Ok c → c.returning ≡ None
 unfolding understood
-shows_alone t schema c is = by_listing (reads_listing schema (text_for t)) is
+shows_alone text query schema c is = by_listing (reads_listing schema text) is
   where
-    by_listing : (b : Bool) → (if b then if_select (compiled listing_schema (text_for t)) else compiled schema (text_for t)) ≡ Ok c → c.returning ≡ None
-    by_listing true e = schema_query listing_schema (text_for t) c (each_is_query t) (selected (compiled listing_schema (text_for t)) c e)
-    by_listing false e = schema_query schema (text_for t) c (each_is_query t) e
+    by_listing : (b : Bool) → (if b then if_select (compiled listing_schema text) else compiled schema text) ≡ Ok c → c.returning ≡ None
+    by_listing true e = schema_query listing_schema text c query (selected (compiled listing_schema text) c e)
+    by_listing false e = schema_query schema text c query e

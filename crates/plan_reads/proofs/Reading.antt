@@ -1,6 +1,7 @@
 -- Tables that are read one after another.
-use Rattle.std.proofs.Common.{◌≡◌, inl, inr, refl, sym, ap, ap₂, subst, ℕ, ◌+◌, ◌<◌, ◌∙◌, arith, Bool, true, false, List, [], ◌∷◌, ◌++◌, take, length, get_or, Option, Some, None, Result, Ok, Err, IfOk, IsTrue, MatchBool, MatchOption, Any, Vec}
+use Rattle.std.proofs.Common.{◌≡◌, ◌≢◌, inl, inr, refl, sym, ap, ap₂, subst, ℕ, ◌+◌, ◌<◌, ◌∙◌, arith, Bool, true, false, List, [], ◌∷◌, ◌++◌, take, length, get_or, Option, Some, None, Result, Ok, Err, IfOk, IsTrue, MatchBool, MatchOption, Any, Vec}
 use Rattle.std.specs.declared.alloc.Global.{Global}
+use Rattle.std.specs.List.{AllPairs, AllZip}
 use Rattle.std.specs.List.Sorted.{IsPermutation}
 use Rattle.std.proofs.lemmas.List.{take_more}
 use Rattle.std.proofs.lemmas.List.Sorted.{IsPermutation-sym}
@@ -16,12 +17,15 @@ use Rattle.table_rows.proofs.Queries.{has_permuted}
 use Rattle.table_rows.proofs.Reading.{numbered_permuted}
 use Rattle.plan_records.specs.declared.PlanRow.{PlanRow}
 use Rattle.plan_schema.specs.Schema.{schema_9}
+use Rattle.stored_rows.specs.Receipts.{IsNoReceipt, IsReceiptStoredAs}
 use Rattle.stored_rows.specs.Rows.{table_for, AppendsRows, IsNoRow, IsStoredAs}
 use Rattle.stored_rows.specs.declared.Table.{Table}
 use Rattle.stored_rows.proofs.Decoded.{row_for, stored_for}
 use Rattle.plan_reads.specs.Reads.{OnlyReads, ShowsSame, rise_above}
-use Rattle.plan_reads.specs.Tables.{all_tables, rows_of, AddsTable, AreRead, HasOtherRow, AllDiffer, IsTableRead, StoresEach}
-use Rattle.plan_reads.proofs.EachOnce.{differ_front, joined_differ, pairs_differ, read_differ, singly, tables_differ, HoldsSingly}
+use Rattle.tracker_receipts.specs.Stored.{Columns}
+use Rattle.plan_reads.specs.declared.rows.StoredTables.{StoredTables}
+use Rattle.plan_reads.specs.Tables.{all_tables, receipt_rows, rows_of, AddsTable, AreRead, AreReceiptsRead, HasOtherRow, AllDiffer, IsTableRead, StoresEach}
+use Rattle.plan_reads.proofs.EachOnce.{differ_front, joined_differ, pairs_apart, read_apart, read_differ, receipt_singly, singly, tables_differ, HoldsSingly}
 use Rattle.plan_reads.proofs.RowidOrder.{rising_numbered}
 use Rattle.plan_reads.proofs.RowsStored.{all_read}
 
@@ -34,7 +38,16 @@ table_added t trees stored before after true same rises added =
     record { numbered = numbered_permuted stored (rows_of t trees) (IsPermutation-sym (rows_of t trees) stored same) (rising_numbered stored rises); stored = stored; same = same; added = added }
 table_added t trees stored before after false same rises some =
     let it = any_has (IsNoRow t) stored some in
-    (t, it.0, has_permuted stored (rows_of t trees) it.0 (IsPermutation-sym (rows_of t trees) stored same) it.1, it.2)
+    inl (t, it.0, has_permuted stored (rows_of t trees) it.0 (IsPermutation-sym (rows_of t trees) stored same) it.1, it.2)
+
+-- the rows of the table of receipts that are decoded
+pub receipts_decoded : (trees : Trees) (stored : List Row) (found : Option (Vec Columns Global)) → IsPermutation (receipt_rows trees) stored → rise_above None stored ≡ true → MatchOption found (Any IsNoReceipt stored) (λ receipts. AllZip IsReceiptStoredAs stored receipts.items)
+    → MatchOption found (HasOtherRow trees) (λ receipts. AreReceiptsRead trees receipts.items)
+receipts_decoded trees stored (Some receipts) same rises read =
+    record { numbered = numbered_permuted stored (receipt_rows trees) (IsPermutation-sym (receipt_rows trees) stored same) (rising_numbered stored rises); stored = stored; same = same; read = read }
+receipts_decoded trees stored None same rises some =
+    let it = any_has IsNoReceipt stored some in
+    inr (it.0, has_permuted stored (receipt_rows trees) it.0 (IsPermutation-sym (receipt_rows trees) stored same) it.1, it.2)
 
 module _ (tables : List Table) (trees : Trees) (rows more : List PlanRow) (t : Table) (read : AreRead tables trees rows) (adds : AddsTable t trees rows more) (single : HoldsSingly t trees) where
   has_more : (r : PlanRow) → Has rows r → Has more r
@@ -44,7 +57,7 @@ module _ (tables : List Table) (trees : Trees) (rows more : List PlanRow) (t : T
   new_one = record {
     numbered = adds.numbered;
     every = λ stored there.
-        let it = row_for t adds.stored adds.added.0 adds.added.2 stored (has_permuted (rows_of t trees) adds.stored stored adds.same there) in
+        let it = row_for (IsStoredAs t) adds.stored adds.added.0 adds.added.2 stored (has_permuted (rows_of t trees) adds.stored stored adds.same there) in
         (it.0, subst (λ l. Has l it.0) (sym adds.added.1) (has_right rows adds.added.0 it.0 it.1), it.2);
   }
 
@@ -53,7 +66,7 @@ module _ (tables : List Table) (trees : Trees) (rows more : List PlanRow) (t : T
 
   new_row : (r : PlanRow) → Has adds.added.0 r → (stored : Row) × Has (rows_of (table_for r) trees) stored × IsStoredAs (table_for r) stored r
   new_row r there =
-      let it = stored_for t adds.stored adds.added.0 adds.added.2 r there in
+      let it = stored_for (IsStoredAs t) adds.stored adds.added.0 adds.added.2 r there in
       let own : table_for r ≡ t = it.2.0 in
       let place = has_permuted adds.stored (rows_of t trees) it.0 (IsPermutation-sym (rows_of t trees) adds.stored adds.same) it.1 in
       (it.0, subst (λ u. Has (rows_of u trees) it.0) (sym own) place, (refl, it.2.1, it.2.2))
@@ -65,11 +78,11 @@ module _ (tables : List Table) (trees : Trees) (rows more : List PlanRow) (t : T
       let back = λ (s : Row) (there : Has adds.stored s). has_permuted adds.stored (rows_of t trees) s (IsPermutation-sym (rows_of t trees) adds.stored adds.same) there in
       let own = read_differ t trees single adds.stored adds.added.0 back (numbered_permuted (rows_of t trees) adds.stored adds.same adds.numbered).0 adds.added.2 in
       subst AllDiffer (sym adds.added.1) (joined_differ rows adds.added.0 (read.once front.0) own (λ a b at_a at_b. λ same.
-      let it = stored_for t adds.stored adds.added.0 adds.added.2 b at_b in
+      let it = stored_for (IsStoredAs t) adds.stored adds.added.0 adds.added.2 b at_b in
       front.1 (table_for a) (read.listed a at_a) (ap table_for same ∙ it.2.0)))
 
   new_listed : (r : PlanRow) → Has adds.added.0 r → Has (tables ++ t ∷ []) (table_for r)
-  new_listed r there = has_right tables (t ∷ []) (table_for r) (inl (stored_for t adds.stored adds.added.0 adds.added.2 r there).2.0)
+  new_listed r there = has_right tables (t ∷ []) (table_for r) (inl (stored_for (IsStoredAs t) adds.stored adds.added.0 adds.added.2 r there).2.0)
 
   -- one more table is read
   pub one_more : AreRead (tables ++ t ∷ []) trees more
@@ -170,22 +183,36 @@ module _ (old now new : State) (tables : List Table) (rows more : List PlanRow) 
 
 -- ---- all tables
 
+-- no two receipts that were read are of one tracker
+receipts_apart : (db : Database) → IsDatabase db → db.schema ≡ schema_9 → (receipts : List Columns) → AreReceiptsRead db.trees receipts → AllPairs (λ a b. a.tracker ≢ b.tracker) receipts
+receipts_apart db sound has receipts read =
+    let back = λ (s : Row) (there : Has read.stored s). has_permuted read.stored (receipt_rows db.trees) s (IsPermutation-sym (receipt_rows db.trees) read.stored read.same) there in
+    let own = (numbered_permuted (receipt_rows db.trees) read.stored read.same read.numbered).0 in
+    pairs_apart (λ a b. a.tracker ≢ b.tracker) receipts
+    (read_apart IsReceiptStoredAs (λ c d. c.tracker ≡ d.tracker) read.stored receipts (λ a b c d at_a at_b is_a is_b same. receipt_singly db sound has read.numbered a b c d (back a at_a) (back b at_b) is_a is_b same) own read.read)
+
+-- what is read of all tables of this database
+abbrev pub IsAllRead : Database → Option StoredTables → Type 0
+IsAllRead db found = MatchOption found (HasOtherRow db.trees) (λ tables. AreRead all_tables db.trees tables.rows.items × AreReceiptsRead db.trees tables.receipts.items)
+
+-- what is answered of it
+abbrev pub IsAnswered : Database → Option StoredTables → Type 0
+IsAnswered db found = MatchOption found (HasOtherRow db.trees) (λ tables. StoresEach tables.rows.items tables.receipts.items db)
+
+all_answered : (db : Database) (found : Option StoredTables) → IsAllRead db found → db.schema ≡ schema_9 → IsDatabase db → IsAnswered db found
+all_answered db None other has sound = other
+all_answered db (Some tables) read has sound = record {
+  stores = all_read db sound has tables.rows.items tables.receipts.items read.0 read.1;
+  once = pairs_apart (λ a b. a ≢ b) tables.rows.items (read.0.once tables_differ);
+  once_receipts = receipts_apart db sound has tables.receipts.items read.1;
+}
+
 -- outside a transaction what is read is what is committed
-pub committed_rows : (old new : State) (r : Result (Option (Vec PlanRow Global)) Error) → (IsTrue old.is_open → old.now ≡ old.committed) → IsLive old → KeepsCommit old new → IsTrue new.is_open
-    → (old.now.schema ≡ schema_9 → IfOk r (λ found. MatchOption found (HasOtherRow old.now.trees) (λ rows. AreRead all_tables old.now.trees rows.items)))
-    → new.committed.schema ≡ schema_9 → IfOk r (λ found. MatchOption found (HasOtherRow new.committed.trees) (λ rows. StoresEach rows.items new.committed))
-committed_rows old new r settled live kept is_open read has =
+pub committed_rows : (old new : State) (r : Result (Option StoredTables) Error) → (IsTrue old.is_open → old.now ≡ old.committed) → IsLive old → KeepsCommit old new → IsTrue new.is_open → (old.now.schema ≡ schema_9 → IfOk r (IsAllRead old.now))
+    → new.committed.schema ≡ schema_9 → IfOk r (IsAnswered new.committed)
+committed_rows old new (Err e) settled live kept is_open read has = tt
+committed_rows old new (Ok found) settled live kept is_open read has =
     let was = kept.was_open is_open in
     let same : new.committed ≡ old.now = kept.committed is_open ∙ sym (settled was) in
     let own : old.now.schema ≡ schema_9 = ap (λ (db : Database). db.schema) (sym same) ∙ has in
-    subst (λ (db : Database). IfOk r (λ found. MatchOption found (HasOtherRow db.trees) (λ rows. StoresEach rows.items db))) (sym same) (by_result r (read own) own (live was).0)
-  where
-    by_option : (found : Option (Vec PlanRow Global)) → MatchOption found (HasOtherRow old.now.trees) (λ rows. AreRead all_tables old.now.trees rows.items) → old.now.schema ≡ schema_9 → IsDatabase old.now
-        → MatchOption found (HasOtherRow old.now.trees) (λ rows. StoresEach rows.items old.now)
-    by_option None other own sound = other
-    by_option (Some rows) all own sound = record { stores = all_read old.now sound own rows.items all; once = pairs_differ rows.items (all.once tables_differ) }
-
-    by_result : (r : Result (Option (Vec PlanRow Global)) Error) → IfOk r (λ found. MatchOption found (HasOtherRow old.now.trees) (λ rows. AreRead all_tables old.now.trees rows.items)) → old.now.schema ≡ schema_9 → IsDatabase old.now
-        → IfOk r (λ found. MatchOption found (HasOtherRow old.now.trees) (λ rows. StoresEach rows.items old.now))
-    by_result (Err e) h own sound = tt
-    by_result (Ok found) h own sound = by_option found h own sound
+    subst (λ db. IsAnswered db found) (sym same) (all_answered old.now found (read own) own (live was).0)

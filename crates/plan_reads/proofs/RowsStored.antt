@@ -1,5 +1,5 @@
--- The rows of a plan that the nine tables of a database store.
-use Rattle.std.proofs.Common.{◌≡◌, ◌↔◌, refl, sym, subst, ◌∙◌, inl, inr, Contains, List, [], drop, Some}
+-- The rows of a plan that the nine tables of a database store beside those of receipts.
+use Rattle.std.proofs.Common.{◌≡◌, ◌↔◌, refl, sym, subst, ◌∙◌, inl, inr, Contains, List, drop, map, Some}
 use Rattle.std.specs.List.{filter_map}
 use Rattle.sqlite.specs.Effect.{Database, IsDatabase}
 use Rattle.sqlite.specs.Order.{Row}
@@ -7,10 +7,10 @@ use Rattle.sqlite_rules.specs.Lists.{Has}
 use Rattle.plan_model.specs.Plan.{Plan}
 use Rattle.plan_records.specs.Rows.{AreRows, IsRow}
 use Rattle.plan_records.specs.declared.PlanRow.{PlanRow}
-use Rattle.plan_records.specs.declared.PlanRow.TheVariants as row
 use Rattle.plan_schema.specs.Schema.{schema_9}
 use Rattle.plan_schema.specs.Stored.{Held, Stores, StoredMeta, StoredWorkstation, StoredInterval, StoredResource, StoredOccurrence, StoredOperation, StoredDependency, StoredNeed}
 use Rattle.plan_schema.proofs.Metas.{meta_stored}
+use Rattle.plan_columns.specs.Receipts.{stored_receipt}
 use Rattle.plan_columns.specs.Tables.{HoldRows}
 use Rattle.plan_columns.proofs.EachTable.{meta_of, workstation_of, interval_of, resource_of, occurrence_of, operation_of, dependency_of, need_of, meta_rows, workstation_rows, interval_rows, resource_rows, occurrence_rows, operation_rows, dependency_rows, need_rows}
 use Rattle.plan_columns.proofs.SameColumns.{listed_held}
@@ -18,27 +18,18 @@ use Rattle.stored_rows.specs.Rows.{columns_of, table_for, IsInRange}
 use Rattle.stored_rows.specs.declared.Table.{Table}
 use Rattle.stored_rows.specs.declared.Table.TheVariants as table
 use Rattle.stored_rows.proofs.Decoded.{one_of_columns}
-use Rattle.plan_reads.specs.Tables.{rows_of, all_tables, AreRead, HasOtherRow, StoresRows, StoresEach}
+use Rattle.tracker_receipts.specs.Stored.{Columns}
+use Rattle.plan_reads.specs.Tables.{rows_of, all_tables, AreRead, AreReceiptsRead, HasOtherRow, StoresRows, StoresEach}
 use Rattle.plan_reads.proofs.MetaShown.{meta_shown, meta_held}
 use Rattle.plan_reads.proofs.PlanTables.{meta_table, workstation_table, interval_table, resource_table, occurrence_table, operation_table, dependency_table, need_table}
+use Rattle.plan_reads.proofs.ReceiptsStored.{receipt_of, receipts_held, receipts_listed}
 use Rattle.plan_reads.proofs.TableHeld.{held_of, picked, stored_in, row_in}
-
--- no row of a plan is of the receipts
-pub no_receipt : (r : PlanRow) → table_for r ≡ table.Receipt → ⊥
-no_receipt (row.Meta version loaded clock) e = absurd cc
-no_receipt (row.Workstation name a) e = absurd cc
-no_receipt (row.Interval w i) e = absurd cc
-no_receipt (row.Resource name available) e = absurd cc
-no_receipt (row.Occurrence c priority deadline status) e = absurd cc
-no_receipt (row.Operation o) e = absurd cc
-no_receipt (row.Dependency p s) e = absurd cc
-no_receipt (row.Need o n) e = absurd cc
 
 -- ---- all tables were read
 
--- the values of the rows of a list
-abbrev held_by : List PlanRow → Held
-held_by rows = record {
+-- the values of the rows of a list, and of those of receipts
+abbrev held_by : List PlanRow → List Columns → Held
+held_by rows receipts = record {
   metas = filter_map meta_of rows;
   workstations = filter_map workstation_of rows;
   intervals = filter_map interval_of rows;
@@ -47,12 +38,12 @@ held_by rows = record {
   operations = filter_map operation_of rows;
   dependencies = filter_map dependency_of rows;
   needs = filter_map need_of rows;
-  receipts = [];
+  receipts = map stored_receipt receipts;
 }
 
 -- they are those of the rows that the list contains
-rows_held : (rows : List PlanRow) → HoldRows (Contains rows) (held_by rows)
-rows_held rows = record {
+rows_held : (rows : List PlanRow) (receipts : List Columns) → HoldRows (Contains rows) (held_by rows receipts)
+rows_held rows receipts = record {
   metas = λ x. let named = meta_rows (Contains rows) x in let all = picked meta_of rows x in (λ there. named.1 (all.0 there), λ it. all.1 (named.0 it));
   workstations = λ x. let named = workstation_rows (Contains rows) x in let all = picked workstation_of rows x in (λ there. named.1 (all.0 there), λ it. all.1 (named.0 it));
   intervals = λ x. let named = interval_rows (Contains rows) x in let all = picked interval_of rows x in (λ there. named.1 (all.0 there), λ it. all.1 (named.0 it));
@@ -63,8 +54,8 @@ rows_held rows = record {
   needs = λ x. let named = need_rows (Contains rows) x in let all = picked need_of rows x in (λ there. named.1 (all.0 there), λ it. all.1 (named.0 it));
 }
 
-module _ (db : Database) (sound : IsDatabase db) (has : db.schema ≡ schema_9) (rows : List PlanRow) (read : AreRead all_tables db.trees rows) where
-  stores_read : Stores db (held_by rows)
+module _ (db : Database) (sound : IsDatabase db) (has : db.schema ≡ schema_9) (rows : List PlanRow) (receipts : List Columns) (read : AreRead all_tables db.trees rows) (receipts_read : AreReceiptsRead db.trees receipts) where
+  stores_read : Stores db (held_by rows receipts)
   stores_read = record {
     sound = sound;
     schema_is = has;
@@ -76,20 +67,16 @@ module _ (db : Database) (sound : IsDatabase db) (has : db.schema ≡ schema_9) 
     operations = held_of operation_table db.trees all_tables rows (inr (inr (inr (inr (inr (inl refl)))))) read;
     dependencies = held_of dependency_table db.trees all_tables rows (inr (inr (inr (inr (inr (inr (inl refl))))))) read;
     needs = held_of need_table db.trees all_tables rows (inr (inr (inr (inr (inr (inr (inr (inl refl)))))))) read;
-    receipts = record {
-      numbered = (read.tables_read table.Receipt (inr (inr (inr (inr (inr (inr (inr (inr (inl refl)))))))))).numbered;
-      sound = λ stored there. let it = (read.tables_read table.Receipt (inr (inr (inr (inr (inr (inr (inr (inr (inl refl)))))))))).every stored there in absurd (no_receipt it.0 it.2.0);
-      complete = λ x there. absurd there;
-    };
+    receipts = receipts_held db.trees receipts receipts_read;
   }
 
   -- the database stores the rows that were read
-  pub all_read : StoresRows (Contains rows) db
-  all_read = record { held = held_by rows; stores = stores_read; rows = rows_held rows; no_receipts = refl }
+  pub all_read : StoresRows (Contains rows) (Contains receipts) db
+  all_read = record { held = held_by rows receipts; stores = stores_read; rows = rows_held rows receipts; receipts = receipts_listed receipts }
 
 -- ---- the rows that a database stores
 
-module _ {IsIn : PlanRow → Type 0} {db : Database} (h : StoresRows IsIn db) where
+module _ {IsIn : PlanRow → Type 0} {HasReceipt : Columns → Type 0} {db : Database} (h : StoresRows IsIn HasReceipt db) where
   meta_named : (x : StoredMeta) → Has h.held.metas x ↔ ((r : PlanRow) × IsIn r × (meta_of r ≡ Some x))
   meta_named x = let named = meta_rows IsIn x in (λ there. named.0 ((h.rows.metas x).0 there), λ it. (h.rows.metas x).1 (named.1 it))
 
@@ -124,7 +111,6 @@ module _ {IsIn : PlanRow → Type 0} {db : Database} (h : StoresRows IsIn db) wh
   stored_of table.Operation r in_it own = stored_in operation_table db.trees IsIn h.held.operations h.stores.operations operation_named r in_it own
   stored_of table.Dependency r in_it own = stored_in dependency_table db.trees IsIn h.held.dependencies h.stores.dependencies dependency_named r in_it own
   stored_of table.Need r in_it own = stored_in need_table db.trees IsIn h.held.needs h.stores.needs need_named r in_it own
-  stored_of table.Receipt r in_it own = absurd (no_receipt r own)
 
   -- what stands in a table is one of the rows
   row_of : (t : Table) (stored : Row) → Has (rows_of t db.trees) stored → (r : PlanRow) × IsIn r × (table_for r ≡ t) × (drop 1 stored ≡ columns_of r)
@@ -136,32 +122,30 @@ module _ {IsIn : PlanRow → Type 0} {db : Database} (h : StoresRows IsIn db) wh
   row_of table.Operation stored there = row_in operation_table db.trees IsIn h.held.operations h.stores.operations operation_named stored there
   row_of table.Dependency stored there = row_in dependency_table db.trees IsIn h.held.dependencies h.stores.dependencies dependency_named stored there
   row_of table.Need stored there = row_in need_table db.trees IsIn h.held.needs h.stores.needs need_named stored there
-  row_of table.Receipt stored there =
-      let it = h.stores.receipts.sound stored there in
-      absurd (subst (λ xs. Has xs it.0) h.no_receipts it.1)
 
--- where a row is none of a plan, the database stores no set of rows that are in range
-pub none_stored : {IsIn : PlanRow → Type 0} {db : Database} → HasOtherRow db.trees → ((r : PlanRow) → IsIn r → IsInRange r) → ¬ StoresRows IsIn db
-none_stored other legal h =
+-- where a row is none of a plan or of a receipt, the database stores no set of rows that are in range
+pub none_stored : {IsIn : PlanRow → Type 0} {HasReceipt : Columns → Type 0} {db : Database} → HasOtherRow db.trees → ((r : PlanRow) → IsIn r → IsInRange r) → ¬ StoresRows IsIn HasReceipt db
+none_stored (inl other) legal h =
     let it = row_of h other.0 other.1 other.2 in
     other.3 it.0 (it.2, legal it.0 it.1, it.3)
+none_stored (inr other) legal h = let it = receipt_of h other.0 other.1 in other.2 it.0 it.2
 
-within : {A B : PlanRow → Type 0} {db : Database} → StoresRows A db → StoresRows B db → (r : PlanRow) → A r → B r
+within : {A B : PlanRow → Type 0} {R S : Columns → Type 0} {db : Database} → StoresRows A R db → StoresRows B S db → (r : PlanRow) → A r → B r
 within {A} {B} h k r in_a =
     let stored = stored_of h (table_for r) r in_a refl in
     let it = row_of k (table_for r) stored.0 stored.1 in
     subst B (one_of_columns it.0 r it.2 (sym it.3 ∙ stored.2)) it.1
 
 -- a database stores one set of rows
-pub one_stored : {A B : PlanRow → Type 0} {db : Database} → StoresRows A db → StoresRows B db → (r : PlanRow) → A r ↔ B r
+pub one_stored : {A B : PlanRow → Type 0} {R S : Columns → Type 0} {db : Database} → StoresRows A R db → StoresRows B S db → (r : PlanRow) → A r ↔ B r
 one_stored h k r = (within h k r, within k h r)
 
 -- ---- a plan's rows
 
--- where the rows of a list are a plan's, a database that stores the ones stores the others
-pub plan_stored : (P : Plan) (rows : List PlanRow) (db : Database) → AreRows P rows → StoresEach rows db → StoresRows (IsRow P) db
-plan_stored P rows db are h = record { held = h.stores.held; stores = h.stores.stores; rows = (listed_held P rows h.stores.held are).0 h.stores.rows; no_receipts = h.stores.no_receipts }
+-- where the rows of a list are a plan's, a database that stores the ones holds the others
+pub plan_stored : (P : Plan) (rows : List PlanRow) (receipts : List Columns) (db : Database) → AreRows P rows → (h : StoresEach rows receipts db) → HoldRows (IsRow P) h.stores.held
+plan_stored P rows receipts db are h = (listed_held P rows h.stores.held are).0 h.stores.rows
 
 -- where a database stores a plan's rows, those that it stores each once are the plan's
-pub rows_of_plan : (P : Plan) (rows : List PlanRow) (db : Database) → StoresEach rows db → StoresRows (IsRow P) db → AreRows P rows
-rows_of_plan P rows db h k = record { has_all = one_stored h.stores k; once = h.once }
+pub rows_of_plan : {R : Columns → Type 0} (P : Plan) (rows : List PlanRow) (receipts : List Columns) (db : Database) → StoresEach rows receipts db → StoresRows (IsRow P) R db → AreRows P rows
+rows_of_plan P rows receipts db h k = record { has_all = one_stored h.stores k; once = h.once }

@@ -1,5 +1,6 @@
--- The rows that stand in each table, and those of a plan that a database stores.
-use Rattle.std.specs.Prelude.{◌≡◌, ◌≢◌, ℕ, List, [], ◌∷◌, map, AllPairs, Contains}
+-- The rows that stand in each table, and those of a plan and of receipts that a database stores.
+use Rattle.std.specs.Prelude.{◌≡◌, ◌≢◌, ◌↔◌, ◌⊎◌, ℕ, List, [], ◌∷◌, map, AllPairs, Contains}
+use Rattle.std.specs.List.{AllZip}
 use Rattle.std.specs.List.Sorted.{IsPermutation}
 use Rattle.sqlite.specs.Effect.{Database}
 use Rattle.sqlite.specs.Order.{Row}
@@ -7,14 +8,17 @@ use Rattle.sqlite.specs.Tree.{Trees, IsAscending}
 use Rattle.sqlite_rules.specs.Lists.{Has}
 use Rattle.table_rows.specs.Rows.{AreNumbered, shown_by_rowid}
 use Rattle.plan_records.specs.declared.PlanRow.{PlanRow}
-use Rattle.plan_schema.specs.Stored.{Held, Stores}
-use Rattle.plan_schema.specs.declared.TheConstants.{READ_META, READ_WORKSTATION, READ_INTERVAL, READ_RESOURCE, READ_OCCURRENCE, READ_OPERATION, READ_DEPENDENCY, READ_NEED, READ_RECEIPT}
+use Rattle.plan_schema.specs.Stored.{Held, StoredReceipt, Stores}
+use Rattle.plan_schema.specs.declared.TheConstants.{READ_META, READ_WORKSTATION, READ_INTERVAL, READ_RESOURCE, READ_OCCURRENCE, READ_OPERATION, READ_DEPENDENCY, READ_NEED}
+use Rattle.plan_columns.specs.Receipts.{stored_receipt}
 use Rattle.plan_columns.specs.Tables.{HoldRows}
+use Rattle.stored_rows.specs.Receipts.{IsNoReceipt, IsReceiptStoredAs}
 use Rattle.stored_rows.specs.Rows.{AppendsRows, IsNoRow, IsStoredAs, table_for}
 use Rattle.stored_rows.specs.declared.Table.{Table}
 use Rattle.stored_rows.specs.declared.Table.TheVariants as table
+use Rattle.tracker_receipts.specs.Stored.{Columns}
 
--- the text that reads a table
+-- the text that reads a table of a plan
 abbrev pub text_for : Table → List ℕ
 text_for table.Meta = READ_META.now
 text_for table.Workstation = READ_WORKSTATION.now
@@ -24,7 +28,6 @@ text_for table.Occurrence = READ_OCCURRENCE.now
 text_for table.Operation = READ_OPERATION.now
 text_for table.Dependency = READ_DEPENDENCY.now
 text_for table.Need = READ_NEED.now
-text_for table.Receipt = READ_RECEIPT.now
 
 -- the rows of a table, as they are read: the rowid, and then each column. In `meta` the rowid is the first column too
 abbrev pub rows_of : Table → Trees → List Row
@@ -36,27 +39,31 @@ rows_of table.Occurrence trees = trees 7
 rows_of table.Operation trees = trees 9
 rows_of table.Dependency trees = trees 11
 rows_of table.Need trees = trees 13
-rows_of table.Receipt trees = trees 15
 
--- all tables, in the order in which they are read
+-- the rows of the table of receipts, as they are read
+abbrev pub receipt_rows : Trees → List Row
+receipt_rows trees = trees 15
+
+-- all tables of a plan, in the order in which they are read
 abbrev pub all_tables : List Table
-all_tables = table.Meta ∷ table.Workstation ∷ table.Interval ∷ table.Resource ∷ table.Occurrence ∷ table.Operation ∷ table.Dependency ∷ table.Need ∷ table.Receipt ∷ []
+all_tables = table.Meta ∷ table.Workstation ∷ table.Interval ∷ table.Resource ∷ table.Occurrence ∷ table.Operation ∷ table.Dependency ∷ table.Need ∷ []
 
--- in some table stands a row that is none of a plan: it has a value out of its range, or it is a receipt
+-- a row in a table of a plan is none of a plan, since a value is out of its range; or one of receipts is no receipt's
 abbrev pub HasOtherRow : Trees → Type 0
-HasOtherRow trees = (t : Table) × (stored : Row) × Has (rows_of t trees) stored × IsNoRow t stored
+HasOtherRow trees = ((t : Table) × (stored : Row) × Has (rows_of t trees) stored × IsNoRow t stored) ⊎ ((stored : Row) × Has (receipt_rows trees) stored × IsNoReceipt stored)
 
--- the nine tables are there, and hold these rows of a plan and no others; there is no receipt
-pub record StoresRows (IsIn : PlanRow → Type 0) (db : Database) : Type 0 where
+-- the nine tables are there, and hold these rows of a plan and these of receipts, and no others
+pub record StoresRows (IsIn : PlanRow → Type 0) (HasReceipt : Columns → Type 0) (db : Database) : Type 0 where
   pub held : Held
   pub stores : Stores db held
   pub rows : HoldRows IsIn held
-  pub no_receipts : held.receipts ≡ []
+  pub receipts : (x : StoredReceipt) → Has held.receipts x ↔ ((c : Columns) × HasReceipt c × (x ≡ stored_receipt c))
 
--- the nine tables are there, and hold just these rows of a plan, each once
-pub record StoresEach (rows : List PlanRow) (db : Database) : Type 0 where
-  pub stores : StoresRows (Contains rows) db
+-- the nine tables are there, and hold just these rows of a plan, each once, and of receipts, no two of one tracker
+pub record StoresEach (rows : List PlanRow) (receipts : List Columns) (db : Database) : Type 0 where
+  pub stores : StoresRows (Contains rows) (Contains receipts) db
   pub once : AllPairs (λ a b. a ≢ b) rows
+  pub once_receipts : AllPairs (λ a b. a.tracker ≢ b.tracker) receipts
 
 -- the rows of a table, which their rowids tell apart, are read in some order, and appended as the rows of a plan that they are
 pub record AddsTable (t : Table) (trees : Trees) (before after : List PlanRow) : Type 0 where
@@ -64,6 +71,13 @@ pub record AddsTable (t : Table) (trees : Trees) (before after : List PlanRow) :
   pub stored : List Row
   pub same : IsPermutation (rows_of t trees) stored
   pub added : AppendsRows t stored before after
+
+-- the rows of the table of receipts, which their rowids tell apart, are read in some order: these receipts'
+pub record AreReceiptsRead (trees : Trees) (receipts : List Columns) : Type 0 where
+  pub numbered : AreNumbered (receipt_rows trees)
+  pub stored : List Row
+  pub same : IsPermutation (receipt_rows trees) stored
+  pub read : AllZip IsReceiptStoredAs stored receipts
 
 -- each row of the table is one of these rows of a plan
 pub record IsTableRead (trees : Trees) (rows : List PlanRow) (t : Table) : Type 0 where

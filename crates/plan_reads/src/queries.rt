@@ -6,7 +6,7 @@ ghost use Rattle.sqlite.specs.Held.{state};
 ghost use Rattle.sqlite.specs.State.{HasCleanDisk, IsLive, IsUnchanged};
 ghost use Rattle.plan_schema.specs.Schema.{schema_9};
 ghost use Rattle.plan_reads.specs.Reads.{IsNotOfTables, OnlyReads};
-ghost use Rattle.plan_reads.specs.Tables.{text_for, rows_of};
+ghost use Rattle.plan_reads.specs.Tables.{receipt_rows, rows_of, text_for};
 
 use plan_schema::{
     READ_DEPENDENCY, READ_INTERVAL, READ_META, READ_NEED, READ_OCCURRENCE, READ_OPERATION,
@@ -15,7 +15,7 @@ use plan_schema::{
 use sqlite::{Alter, Connection, Error, Row};
 use stored_rows::Table;
 
-// The text that reads a table: its rowids first, and its rows in their order.
+// The text that reads a table of a plan: its rowids first, and its rows in their order.
 fn read_text(table: Table) -> &'static str
     ensures { result.now ≡ text_for table }
 {
@@ -28,11 +28,10 @@ fn read_text(table: Table) -> &'static str
         Table::Operation => READ_OPERATION,
         Table::Dependency => READ_DEPENDENCY,
         Table::Need => READ_NEED,
-        Table::Receipt => READ_RECEIPT,
     }
 }
 
-// All rows of a table, each behind its rowid.
+// All rows of a table of a plan, each behind its rowid.
 pub fn query_table<S: Alter>(conn: &mut Connection<S>, table: Table) -> Result<Vec<Row>, Error>
     ensures idle { conn.old.in_transaction ≡ false → conn.new.in_transaction ≡ false }
     ensures reads { OnlyReads (state S.Store conn.old) (state S.Store conn.new) }
@@ -41,4 +40,15 @@ pub fn query_table<S: Alter>(conn: &mut Connection<S>, table: Table) -> Result<V
     ensures understood { HasCleanDisk (state S.Store conn.new) → (state S.Store conn.old).now.schema ≡ schema_9 → IfErr result IsNotOfTables }
 {
     conn.query_all(read_text(table), &[])
+}
+
+// All rows of the table of receipts, each behind its rowid.
+pub fn query_receipts<S: Alter>(conn: &mut Connection<S>) -> Result<Vec<Row>, Error>
+    ensures idle { conn.old.in_transaction ≡ false → conn.new.in_transaction ≡ false }
+    ensures reads { OnlyReads (state S.Store conn.old) (state S.Store conn.new) }
+    ensures same { HasCleanDisk (state S.Store conn.new) → OnOk result (IsUnchanged (state S.Store conn.old) (state S.Store conn.new)) }
+    ensures rows { HasCleanDisk (state S.Store conn.new) → IsLive (state S.Store conn.old) → (state S.Store conn.old).now.schema ≡ schema_9 → IfOk result (λ rows. IsPermutation (receipt_rows (state S.Store conn.old).now.trees) rows.items) }
+    ensures understood { HasCleanDisk (state S.Store conn.new) → (state S.Store conn.old).now.schema ≡ schema_9 → IfErr result IsNotOfTables }
+{
+    conn.query_all(READ_RECEIPT, &[])
 }

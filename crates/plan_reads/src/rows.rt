@@ -1,4 +1,4 @@
-// The rows of a plan that all tables hold.
+// The rows of a plan and of receipts that all tables hold.
 ghost use Rattle.std.specs.Prelude.{◌≡◌, false, true, IfErr, IfOk, IsErrOf, IsTrue, MatchBool, MatchOption, OnOk};
 ghost use Rattle.sqlite.specs.Held.{state};
 ghost use Rattle.sqlite.specs.State.{HasCleanDisk, IsLive, IsUnchanged};
@@ -6,18 +6,28 @@ ghost use Rattle.sqlite.specs.declared.error.Error.TheVariants.{SqliteFailure};
 ghost use Rattle.sqlite.specs.declared.error.ErrorCode.TheVariants.{TransactionState};
 ghost use Rattle.plan_schema.specs.Schema.{schema_9};
 ghost use Rattle.plan_reads.specs.Reads.{IsNotOfTables, OnlyReads, ShowsSame};
-ghost use Rattle.plan_reads.specs.Tables.{AddsTable, AreRead, HasOtherRow, StoresEach};
+ghost use Rattle.plan_reads.specs.Tables.{AddsTable, AreRead, AreReceiptsRead, HasOtherRow, StoresEach, all_tables};
 
-use crate::queries::query_table;
+use crate::queries::{query_receipts, query_table};
 use crate::rising::rowids_rise;
 use plan_records::PlanRow;
 use sqlite::{Alter, Connection, Error, ErrorCode};
 use sqlite_resolve::CompileError;
 use std::alloc::Global;
-use stored_rows::{Table, decode_all};
+use stored_rows::{Table, decode_all, decode_receipts};
+use tracker_receipts::ReceiptRow;
 
-// All tables, in the order in which they are read.
-const ALL_TABLES: [Table; 9] = [
+/// What the nine tables hold.
+#[derive(Debug, Drop)]
+pub struct StoredTables {
+    /// The rows of a plan, each once.
+    pub rows: Vec<PlanRow>,
+    /// The rows of receipts, no two of one tracker.
+    pub receipts: Vec<ReceiptRow>,
+}
+
+// All tables of a plan, in the order in which they are read.
+const ALL_TABLES: [Table; 8] = [
     Table::Meta,
     Table::Workstation,
     Table::Interval,
@@ -26,10 +36,9 @@ const ALL_TABLES: [Table; 9] = [
     Table::Operation,
     Table::Dependency,
     Table::Need,
-    Table::Receipt,
 ];
 
-// Reads one table, and appends its rows. Answers `false` where one of them is no row of a plan. Refused as
+// Reads one table of a plan, and appends its rows. Answers `false` where one of them is no row of a plan. Refused as
 // `DatabaseCorrupt` where the rowids don't rise, which no sound store shows.
 fn read_table<S: Alter>(
     conn: &mut Connection<S>,
@@ -49,7 +58,7 @@ fn read_table<S: Alter>(
     Ok(decode_all(table, &rows, into)?)
 }
 
-// Reads these tables, one after another. Answers `None` where a row of one of them is no row of a plan.
+// Reads these tables of a plan, one after another. Answers `None` where a row of one of them is no row of a plan.
 fn read_tables<S: Alter>(
     alloc: Global,
     conn: &mut Connection<S>,
@@ -70,6 +79,44 @@ fn read_tables<S: Alter>(
     Ok(Some(rows))
 }
 
+// Reads the table of receipts. Answers `None` where one of its rows is no row of a receipt. Refused as
+// `DatabaseCorrupt` where the rowids don't rise, which no sound store shows.
+fn read_receipts<S: Alter>(
+    alloc: Global,
+    conn: &mut Connection<S>,
+) -> Result<Option<Vec<ReceiptRow>>, Error>
+    ensures idle { conn.old.in_transaction ≡ false → conn.new.in_transaction ≡ false }
+    ensures reads { OnlyReads (state S.Store conn.old) (state S.Store conn.new) }
+    ensures same { HasCleanDisk (state S.Store conn.new) → OnOk result (IsUnchanged (state S.Store conn.old) (state S.Store conn.new)) }
+    ensures rows { HasCleanDisk (state S.Store conn.new) → IsLive (state S.Store conn.old) → (state S.Store conn.old).now.schema ≡ schema_9 → IfOk result (λ found. MatchOption found (HasOtherRow (state S.Store conn.old).now.trees) (λ receipts. AreReceiptsRead (state S.Store conn.old).now.trees receipts.items)) }
+    ensures understood { HasCleanDisk (state S.Store conn.new) → (state S.Store conn.old).now.schema ≡ schema_9 → IfErr result IsNotOfTables }
+{
+    let stored = query_receipts(conn)?;
+    if !rowids_rise(&stored) {
+        return Err(Error::SqliteFailure(ErrorCode::DatabaseCorrupt));
+    }
+    Ok(decode_receipts(alloc, &stored)?)
+}
+
+// Reads all tables. Answers `None` where a row of one of them is no row of a plan, or none of a receipt.
+fn read_all<S: Alter>(
+    alloc: Global,
+    conn: &mut Connection<S>,
+) -> Result<Option<StoredTables>, Error>
+    ensures idle { conn.old.in_transaction ≡ false → conn.new.in_transaction ≡ false }
+    ensures reads { OnlyReads (state S.Store conn.old) (state S.Store conn.new) }
+    ensures rows { HasCleanDisk (state S.Store conn.new) → IsLive (state S.Store conn.old) → (state S.Store conn.old).now.schema ≡ schema_9 → IfOk result (λ found. MatchOption found (HasOtherRow (state S.Store conn.old).now.trees) (λ tables. AreRead all_tables (state S.Store conn.old).now.trees tables.rows.items × AreReceiptsRead (state S.Store conn.old).now.trees tables.receipts.items)) }
+    ensures understood { HasCleanDisk (state S.Store conn.new) → (state S.Store conn.old).now.schema ≡ schema_9 → IfErr result IsNotOfTables }
+{
+    let Some(rows) = read_tables(alloc, conn, &ALL_TABLES)? else {
+        return Ok(None);
+    };
+    let Some(receipts) = read_receipts(alloc, conn)? else {
+        return Ok(None);
+    };
+    Ok(Some(StoredTables { rows, receipts }))
+}
+
 // Whether there is a table `meta`. Without it no plan was ever made here.
 fn has_meta<S: Alter>(conn: &Connection<S>) -> bool
     ensures live { IsLive (state S.Store conn.now) }
@@ -78,7 +125,8 @@ fn has_meta<S: Alter>(conn: &Connection<S>) -> bool
     conn.schema().table_named(b"meta").is_some()
 }
 
-/// Reads all tables: the rows of a plan that they hold, each once, or `None` where they hold a row that is no plan's.
+/// Reads all tables: the rows of a plan that they hold, each once, and those of receipts, no two of one tracker; or
+/// `None` where they hold a row that is no plan's and no receipt's.
 ///
 /// Nothing is written, and what was committed stays. Refused as `TransactionState` in a transaction; as
 /// `SqlInputError` where a table or a column lacks; as `DatabaseCorrupt` where a table's rowids don't rise, which no
@@ -87,11 +135,11 @@ fn has_meta<S: Alter>(conn: &Connection<S>) -> bool
 pub fn read_rows<S: Alter>(
     alloc: Global,
     conn: &mut Connection<S>,
-) -> Result<Option<Vec<PlanRow>>, Error>
+) -> Result<Option<StoredTables>, Error>
     ensures idle { conn.old.in_transaction ≡ false → conn.new.in_transaction ≡ false }
     ensures busy { conn.old.in_transaction ≡ true → IsErrOf result (SqliteFailure TransactionState) }
     ensures reads { OnlyReads (state S.Store conn.old) (state S.Store conn.new) }
-    ensures rows { HasCleanDisk (state S.Store conn.new) → IsTrue (state S.Store conn.new).is_open → (state S.Store conn.new).committed.schema ≡ schema_9 → IfOk result (λ found. MatchOption found (HasOtherRow (state S.Store conn.new).committed.trees) (λ rows. StoresEach rows.items (state S.Store conn.new).committed)) }
+    ensures rows { HasCleanDisk (state S.Store conn.new) → IsTrue (state S.Store conn.new).is_open → (state S.Store conn.new).committed.schema ≡ schema_9 → IfOk result (λ found. MatchOption found (HasOtherRow (state S.Store conn.new).committed.trees) (λ tables. StoresEach tables.rows.items tables.receipts.items (state S.Store conn.new).committed)) }
     ensures understood { HasCleanDisk (state S.Store conn.new) → IsTrue (state S.Store conn.new).is_open → (state S.Store conn.new).committed.schema ≡ schema_9 → IfErr result IsNotOfTables }
 {
     if !conn.is_autocommit() {
@@ -100,5 +148,5 @@ pub fn read_rows<S: Alter>(
     if !has_meta(conn) {
         return Err(Error::SqlInputError(CompileError::NoSuchTable));
     }
-    read_tables(alloc, conn, &ALL_TABLES)
+    read_all(alloc, conn)
 }

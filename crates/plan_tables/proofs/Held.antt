@@ -1,92 +1,119 @@
--- What the tables hold: the rows of no plan where a desk begins, and after a step those of the plan that it leaves.
-use Rattle.std.proofs.Common.{◌≡◌, inl, inr, refl, sym, ap, ◌∙◌, arith, subst, List, IsTrue}
+-- What the tables hold: the rows of no plan where a desk begins, and after a step those of the state that it leaves.
+use Rattle.std.proofs.Common.{◌≡◌, inl, inr, refl, sym, arith, subst, subst₂, List, IsTrue}
+use Rattle.std.specs.FinMap.{insert}
 use Rattle.sqlite.specs.Effect.{Database}
-use Rattle.sqlite.specs.State.{State, HasCleanDisk, Survives}
-use Rattle.sqlite_trees.specs.Tree.{Trees}
-use Rattle.plan_basics.specs.declared.keys.OpKey.{OpKey}
-use Rattle.plan_columns.proofs.PlanWritten.{step_written}
-use Rattle.plan_columns.proofs.RowsWritten.{receipts_beside}
-use Rattle.plan_columns.proofs.Start.{held_at_first}
-use Rattle.plan_columns.specs.Tables.{written}
-use Rattle.plan_drafts.specs.declared.RowKey.{RowKey}
-use Rattle.plan_model.specs.Plan.{Plan, no_plan, IsSoundPlan}
-use Rattle.plan_records.specs.Answer.{accepted}
-use Rattle.plan_records.specs.Rows.{AreChanges}
-use Rattle.plan_records.specs.Step.{Step}
-use Rattle.plan_records.specs.declared.PlanRow.{PlanRow}
-use Rattle.plan_records.specs.declared.Request.{Request}
-use Rattle.plan_schema.specs.Stored.{Stores, Turns}
-use Rattle.plan_core.specs.State.{IsPreparedFor, PreparedState}
 use Rattle.sqlite.specs.Held.{state}
+use Rattle.sqlite.specs.State.{State as StoreState, HasCleanDisk, Survives}
+use Rattle.sqlite_trees.specs.Tree.{Trees}
 use Rattle.sqlite_trees.specs.declared.store.Store.{Ghosts}
 use Rattle.table_rows.specs.Tables.{no_schema}
-use Rattle.plan_tables.specs.Desk.{DeskState, HasTables, HoldsPlan, IsKept, IsStepCommitted}
+use Rattle.numbered_steps.specs.Steps.{IsNumberedStepFor}
+use Rattle.numbered_steps.specs.declared.steps.NumberedStep.{NumberedStep}
+use Rattle.plan_basics.specs.declared.keys.OpKey.{OpKey}
+use Rattle.plan_columns.proofs.PlanWritten.{step_written}
+use Rattle.plan_columns.proofs.ReceiptPut.{none_are_held, receipt_written, receipts_stay, rows_beside_receipt}
+use Rattle.plan_columns.proofs.Start.{held_at_first}
+use Rattle.plan_columns.specs.Receipts.{HoldReceipts, stored_receipt, written_numbered}
+use Rattle.plan_columns.specs.Tables.{HoldRows, written}
+use Rattle.plan_model.specs.Plan.{Plan, IsSoundPlan}
+use Rattle.plan_records.specs.Answer.{accepted}
+use Rattle.plan_records.specs.Rows.{IsRow}
+use Rattle.plan_records.specs.Run.{Call, CallStep, State, empty_state, numbered, plain}
+use Rattle.plan_records.specs.Step.{Numbered as NumberedRequest, NumberedMayBeAccepted, Receipts, Step, StepBy, StepsAnew}
+use Rattle.plan_schema.specs.Stored.{Held, Stores, Turns}
+use Rattle.plan_tables.specs.Calls.{change_of, named_by, state_after, IsPreparedAt}
+use Rattle.plan_tables.specs.Desk.{DeskState, HasTables, HoldsState, IsKept, IsStepCommitted, state_of}
+use Rattle.plan_tables.specs.declared.calls.PreparedCall.{PreparedCall}
+use Rattle.plan_tables.specs.declared.calls.PreparedCall.TheVariants.{Plain, Numbered}
 use Rattle.plan_writes.specs.Within.{Begins, IsCommitted, IsUndone, LeavesMade, Rewrites, first_held}
 
 -- ---- where a desk begins
 
--- the tables that were made hold the rows of no plan
-pub begun_held : (db : Database) → Stores db first_held → HoldsPlan no_plan db
-begun_held db stores = record { held = first_held; stores = stores; rows = held_at_first; no_receipts = refl }
+-- the tables that were made hold the rows of no plan, and no receipt
+pub begun_held : (db : Database) → Stores db first_held → HoldsState empty_state db
+begun_held db stores = record { held = first_held; stores = stores; rows = held_at_first; receipts = none_are_held first_held refl }
+
+-- the tables that a desk begins with, where there was none before
+pub begun_so : (before after : Database) → Begins before after → before.schema ≡ no_schema → HoldsState empty_state after
+begun_so before after begins none = begun_held after (begins.stores (record { schema_is = none; empty = tt }))
 
 -- ---- a step
 
--- what a call makes of the tables turns them by these rows and keys
-abbrev pub Writes : List PlanRow → List RowKey → (Database → Database → Type 0) → Type 0
-Writes rows gone Makes = (before after : Database) → Makes before after → Turns (written rows gone) before after
+-- tables of the one state, so changed, are those of the other
+abbrev pub Carries : State → State → (Held → Held) → Type 0
+Carries s t change = (held : Held) → HoldRows (IsRow s.plan) held → HoldReceipts s.receipts held → HoldRows (IsRow t.plan) (change held) × HoldReceipts t.receipts (change held)
 
-module _ (P Q : Plan) (q : Request) (named : List OpKey) (rows : List PlanRow) (gone : List RowKey) (sound : IsSoundPlan P) (step : Step P q (accepted named) Q) (are : AreChanges P Q rows gone) where
-  -- tables of the plan before it, with its changes written, are those of the plan after it
-  pub step_held : (before after : Database) → Turns (written rows gone) before after → HoldsPlan P before → HoldsPlan Q after
-  step_held before after turns h = record {
-    held = written rows gone h.held;
-    stores = turns h.held h.stores;
-    rows = step_written P Q q (accepted named) rows gone sound step are h.held h.rows;
-    no_receipts = receipts_beside rows gone h.held ∙ h.no_receipts;
-  }
+module _ (s t : State) (change : Held → Held) (carries : Carries s t change) where
+  pub step_held : (before after : Database) → Turns change before after → HoldsState s before → HoldsState t after
+  step_held before after turns h =
+      let both = carries h.held h.rows h.receipts in
+      record { held = change h.held; stores = turns h.held h.stores; rows = both.0; receipts = both.1 }
 
-  module _ (Makes : Database → Database → Type 0) (writes : Writes rows gone Makes) (old : State) where
+  module _ (old : StoreState) where
     -- so are they where the changes were committed
-    pub step_committed : (new : State) → IsCommitted Makes old new → HoldsPlan P old.committed → HoldsPlan Q new.committed
-    step_committed new done h = step_held old.committed new.committed (writes old.committed new.committed done.3) h
+    pub step_committed : (new : StoreState) → IsCommitted (Rewrites change) old new → HoldsState s old.committed → HoldsState t new.committed
+    step_committed new done h = step_held old.committed new.committed done.3.turns h
 
-    -- and where a crash leaves the changes made
-    pub step_left : (trees : Trees) → IsTrue old.is_open → HoldsPlan P old.committed → LeavesMade Makes old trees → IsStepCommitted P q trees
-    step_left trees is_open h left = (Q, named, step, left.0, step_held old.committed left.0 (writes old.committed left.0 (left.1 is_open)) h, left.2)
+    module _ (c : Call) (named : List OpKey) (step : CallStep s c (accepted named) t) where
+      -- and where a crash leaves the changes made
+      pub step_left : (trees : Trees) → IsTrue old.is_open → HoldsState s old.committed → LeavesMade (Rewrites change) old trees → IsStepCommitted s c trees
+      step_left trees is_open h left = (t, named, step, left.0, step_held old.committed left.0 (left.1 is_open).turns h, left.2)
 
-    -- so a crash leaves what there was, or the tables after this step
-    pub step_survives : (new : State) → (HasCleanDisk old → IsTrue old.is_open × HoldsPlan P old.committed) → Survives old new (LeavesMade Makes old) → Survives old new (IsStepCommitted P q)
-    step_survives new held s = record {
-      clean = s.clean;
-      shield = s.shield;
-      counts = s.counts;
-      limit = s.limit;
-      closes = s.closes;
-      crash = λ clean trees may. elim (s.crash clean trees may) [
-        | inl was ↦ inl was
-        | inr left ↦ inr (let was = held (omega (arith, clean, s.clean)) in step_left trees was.0 was.1 left)
-      ];
-    }
+      -- so a crash leaves what there was, or the tables after this step
+      pub step_survives : (new : StoreState) → (HasCleanDisk old → IsTrue old.is_open × HoldsState s old.committed) → Survives old new (LeavesMade (Rewrites change) old) → Survives old new (IsStepCommitted s c)
+      step_survives new held survives = record {
+        clean = survives.clean;
+        shield = survives.shield;
+        counts = survives.counts;
+        limit = survives.limit;
+        closes = survives.closes;
+        crash = λ clean trees may. elim (survives.crash clean trees may) [
+          | inl was ↦ inl was
+          | inr left ↦ inr (let was = held (omega (arith, clean, survives.clean)) in step_left trees was.0 was.1 left)
+        ];
+      }
 
 -- ---- nothing changed
 
 -- a transaction that was undone leaves the tables as they were
-pub undone_held : (P : Plan) (old new : State) → IsUndone old new → HoldsPlan P old.committed → HoldsPlan P new.committed
-undone_held P old new undone h = subst (HoldsPlan P) (sym undone.2) h
+pub undone_held : (s : State) (old new : StoreState) → IsUndone old new → HoldsState s old.committed → HoldsState s new.committed
+undone_held s old new undone h = subst (HoldsState s) (sym undone.2) h
+
+-- ---- what was prepared
+
+-- a numbered request's step is one of its request
+plain_step : (P Q : Plan) (T : Receipts) (n : NumberedRequest) (named : List OpKey) → StepBy (NumberedMayBeAccepted P T n) P n.request (accepted named) Q → Step P n.request (accepted named) Q
+plain_step P Q T n named h = record { none_refuses = λ r. (h.none_refuses r).0; is_request = h.is_request; changed = h.changed; changes = h.changes; is_chosen = h.is_chosen; is_after = h.is_after }
+
+-- a numbered request leads to the state that was prepared for it
+pub numbered_step : (s : State) (n : NumberedRequest) (p : NumberedStep) → IsNumberedStepFor (record { plan = s.plan }) s.receipts n p → CallStep s (numbered n) (accepted p.prepared.named) (state_after s (Numbered p))
+numbered_step s n p is = inr (subst (λ t. StepsAnew s.plan s.receipts n (accepted p.prepared.named) p.prepared.plan (insert s.receipts t p.receipt)) (sym is.tracker) is.step)
+
+-- some call leads to the state that was prepared
+pub step_of : (s : State) (p : PreparedCall) → IsPreparedAt s p → (c : Call) × CallStep s c (accepted (named_by p)) (state_after s p)
+step_of s (Plain p) is = (plain is.request, (is.step, refl))
+step_of s (Numbered p) is = (numbered is.0, numbered_step s is.0 p is.1)
+
+-- what it writes leads from the tables of the one to those of the other
+pub prepared_carries : (s : State) (p : PreparedCall) → IsSoundPlan s.plan → IsPreparedAt s p → Carries s (state_after s p) (change_of p)
+prepared_carries s (Plain p) sound is held rows receipts = (
+  step_written s.plan p.plan is.request (accepted p.named) p.rows p.gone sound is.step is.changes held rows,
+  receipts_stay s.receipts p.rows p.gone held receipts,
+)
+prepared_carries s (Numbered p) sound is held rows receipts =
+    let n = is.0 in
+    let q = p.prepared in
+    let step = plain_step s.plan q.plan s.receipts n q.named is.1.step.2 in (
+      rows_beside_receipt (IsRow q.plan) (stored_receipt p.row) (written q.rows q.gone held) (step_written s.plan q.plan n.request (accepted q.named) q.rows q.gone sound step is.1.changes held rows),
+      subst₂ (λ t c. HoldReceipts (insert s.receipts t p.receipt) (written_numbered q.rows q.gone c held)) (sym is.1.tracker) (sym is.1.row) (receipt_written s.receipts n.tracker p.receipt q.rows q.gone held receipts),
+    )
 
 -- ---- at the desk
 
--- the tables that a desk begins with, where there was none before
-pub begun_so : (before after : Database) → Begins before after → before.schema ≡ no_schema → HoldsPlan no_plan after
-begun_so before after begins none = begun_held after (begins.stores (record { schema_is = none; empty = tt }))
-
--- what a prepared request changes was committed
-pub carried_held : {S : Type 0} (g : Ghosts S) (old now : DeskState S) → old ≡ now → IsKept g old → (p : PreparedState) → IsPreparedFor (record { plan = now.plan }) p → (new : State) (Q : Plan) → Q ≡ p.plan
-    → IsCommitted (Rewrites (written p.rows p.gone)) (state g old.conn) new → HasCleanDisk (state g old.conn) → HasTables (state g old.conn) → HoldsPlan Q new.committed
-carried_held g old now seen kept p prepared new Q is done clean has =
-    let plan = ap (λ (d : DeskState _). d.plan) (sym seen) in
-    let step = subst (λ P. Step P prepared.request (accepted p.named) p.plan) plan prepared.step in
-    let are = subst (λ P. AreChanges P p.plan p.rows p.gone) plan prepared.changes in
-    let holds = kept.tables (clean, done.0) has in
-    subst (λ P. HoldsPlan P new.committed) (sym is)
-    (step_committed old.plan p.plan prepared.request p.named p.rows p.gone kept.sound step are (Rewrites (written p.rows p.gone)) (λ before after h. h.turns) (state g old.conn) new done holds)
+-- what a prepared call changes was committed
+pub carried_held : {S : Type 0} (g : Ghosts S) (old : DeskState S) → IsKept g old → (p : PreparedCall) → IsPreparedAt (state_of old) p → (t : State) → t ≡ state_after (state_of old) p → (new : StoreState)
+    → IsCommitted (Rewrites (change_of p)) (state g old.conn) new → HasCleanDisk (state g old.conn) → HasTables (state g old.conn) → HoldsState t new.committed
+carried_held g old kept p is t led new done clean has =
+    let s = state_of old in
+    subst (λ u. HoldsState u new.committed) (sym led)
+    (step_committed s (state_after s p) (change_of p) (prepared_carries s p kept.legal.0 is) (state g old.conn) new done (kept.tables (clean, done.0) has))

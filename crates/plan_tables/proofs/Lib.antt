@@ -1,6 +1,6 @@
 pub mod ErrorLists
 pub mod Held
-pub mod Calls
+pub mod Answered
 pub mod Running
 pub mod InRange
 pub mod Opened

@@ -1,38 +1,105 @@
--- What the rows tell that the tables hold: the plan whose rows they are, or that there is none.
-use Rattle.std.proofs.Common.{◌≡◌, List}
+-- What the rows tell that the tables hold: the plan and the receipts whose rows they are, or that there are none.
+use Rattle.std.proofs.Common.{◌≡◌, refl, sym, subst, ◌∙◌, Bool, true, false, List, [], ◌∷◌, Some}
+use Rattle.std.proofs.lemmas.Bool.{true≢false}
+use Rattle.std.proofs.lemmas.Option.{none-some}
+use Rattle.std.specs.FinMap as map
 use Rattle.sqlite.specs.Effect.{Database}
 use Rattle.sqlite.specs.declared.error.Error.{Error}
 use Rattle.sqlite.specs.declared.error.Error.TheVariants.{SqliteFailure, SqlInputError}
 use Rattle.sqlite.specs.declared.error.ErrorCode.TheVariants as code
+use Rattle.plan_basics.proofs.Members.{contains_head, contains_none}
+use Rattle.plan_basics.specs.Keys.{name_cmp}
 use Rattle.plan_basics.specs.declared.Refusal.TheVariants as refusal
+use Rattle.plan_laws.proofs.Tabling.{rows_tell_receipts}
 use Rattle.plan_model.specs.Plan.{Plan}
 use Rattle.plan_opening.specs.Opening.{AreOfNoPlan, IsPlanOf}
+use Rattle.plan_reads.proofs.ReceiptsStored.{IsRowIn, hold_receipts, receipts_stored, rows_of_receipts}
 use Rattle.plan_reads.proofs.RowsStored.{none_stored, plan_stored, rows_of_plan}
 use Rattle.plan_reads.specs.Reads.{IsNotOfTables}
 use Rattle.plan_reads.specs.Tables.{HasOtherRow, StoresEach, StoresRows}
+use Rattle.plan_records.specs.Receipts.{AreReceipts}
 use Rattle.plan_records.specs.Rows.{IsRow}
+use Rattle.plan_records.specs.Run.{State}
+use Rattle.plan_records.specs.Step.{Receipts}
 use Rattle.plan_records.specs.declared.PlanRow.{PlanRow}
-use Rattle.plan_tables.specs.Desk.{HoldsNoPlan, HoldsPlan}
+use Rattle.plan_records.specs.declared.PlanRow.TheVariants as row
+use Rattle.tracker_receipts.specs.Stored.{AreRowsOf, Columns, columns_of}
+use Rattle.plan_tables.specs.Desk.{HoldsNoState, HoldsState}
 use Rattle.plan_tables.specs.Faults.{opening_refusal}
+use Rattle.plan_tables.specs.Opening.{AreOfNoState, IsStateOf}
 use Rattle.plan_tables.proofs.InRange.{sound_in_range}
 
-rows_held : {P : Plan} {db : Database} → StoresRows (IsRow P) db → HoldsPlan P db
-rows_held h = record { held = h.held; stores = h.stores; rows = h.rows; no_receipts = h.no_receipts }
+-- ---- the receipts that have these rows
 
-rows_stored : {P : Plan} {db : Database} → HoldsPlan P db → StoresRows (IsRow P) db
-rows_stored h = record { held = h.held; stores = h.stores; rows = h.rows; no_receipts = h.no_receipts }
+-- receipts without rows are of no tracker
+no_rows : (T : Receipts) → AreRowsOf T [] → T ≡ map.empty
+no_rows T are = rows_tell_receipts T map.empty (λ tracker receipt. (
+  λ has. absurd (contains_none (columns_of tracker receipt) ((are.each (columns_of tracker receipt)).1 (tracker, receipt, has, refl))),
+  λ has. absurd (none-some receipt (sym (map.get-empty name_cmp tracker) ∙ has)),
+))
 
--- tables that hold just the rows of a plan hold that plan
-pub plan_opened : (P : Plan) (rows : List PlanRow) (db : Database) → IsPlanOf rows P → StoresEach rows db → HoldsPlan P db
-plan_opened P rows db is h = rows_held (plan_stored P rows db is.are_rows h)
+-- receipts of no tracker have no rows
+rows_of_none : (T : Receipts) (rows : List Columns) → T ≡ map.empty → AreRowsOf T rows → rows ≡ []
+rows_of_none T [] none are = refl
+rows_of_none T (c ∷ rows) none are =
+    let it = (are.each c).0 (contains_head c rows) in
+    absurd (none-some it.1 (sym (map.get-empty name_cmp it.0) ∙ subst (λ (U : Receipts). map.get U it.0 ≡ Some it.1) none it.2))
 
--- where the rows are those of no sound plan, the tables hold none
-pub none_opened : (rows : List PlanRow) (db : Database) → AreOfNoPlan rows → StoresEach rows db → HoldsNoPlan db
-none_opened rows db none h P sound holds = none P (record { sound = sound; are_rows = rows_of_plan P rows db h (rows_stored holds) })
+-- before a plan is loaded there are none
+legal_beside : (loaded : Bool) (T : Receipts) (rows : List Columns) → AreReceipts true T → AreRowsOf T rows → (loaded ≡ false → rows ≡ []) → AreReceipts loaded T
+legal_beside loaded T rows legal are none = record {
+  each = legal.each;
+  few = legal.few;
+  before_load = λ not_loaded. no_rows T (subst (AreRowsOf T) (none not_loaded) are);
+}
+
+-- ---- the state that has these rows
+
+pub is_state : (P : Plan) (T : Receipts) (rows : List PlanRow) (receipts : List Columns) → IsPlanOf rows P → AreReceipts true T → AreRowsOf T receipts → (P.loaded ≡ false → receipts ≡ []) → IsStateOf rows receipts (record { plan = P; receipts = T })
+is_state P T rows receipts plan legal are none = record {
+  legal = (plan.sound, legal_beside P.loaded T receipts legal are none);
+  are_rows = plan.are_rows;
+  are_receipts = are;
+}
+
+-- where the rows are those of no sound plan, or of no well formed receipts, they are of no state
+pub no_plan_of : (rows : List PlanRow) (receipts : List Columns) → AreOfNoPlan rows → AreOfNoState rows receipts
+no_plan_of rows receipts none s is = none s.plan (record { sound = is.legal.0; are_rows = is.are_rows })
+
+pub no_receipts_of : (rows : List PlanRow) (receipts : List Columns) → ((T : Receipts) → AreReceipts true T → ¬ AreRowsOf T receipts) → AreOfNoState rows receipts
+no_receipts_of rows receipts none s is =
+    none s.receipts (record { each = is.legal.1.each; few = is.legal.1.few; before_load = λ e. absurd (true≢false e) }) is.are_receipts
+
+-- nor where they are receipts' before a plan is loaded
+pub receipts_before_load : (P : Plan) (rows : List PlanRow) (receipts : List Columns) → IsPlanOf rows P → P.loaded ≡ false → ¬ (receipts ≡ []) → AreOfNoState rows receipts
+receipts_before_load P rows receipts plan not_loaded some s is =
+    let meta = (is.are_rows.has_all (row.Meta 1 P.loaded P.clock)).0 ((plan.are_rows.has_all (row.Meta 1 P.loaded P.clock)).1 (refl, refl, refl)) in
+    some (rows_of_none s.receipts receipts (is.legal.1.before_load (sym meta.1 ∙ not_loaded)) is.are_receipts)
+
+-- ---- the tables
+
+-- tables that hold just the rows of a state hold that state
+pub state_opened : (s : State) (rows : List PlanRow) (receipts : List Columns) (db : Database) → IsStateOf rows receipts s → StoresEach rows receipts db → HoldsState s db
+state_opened s rows receipts db is h = record {
+  held = h.stores.held;
+  stores = h.stores.stores;
+  rows = plan_stored s.plan rows receipts db is.are_rows h;
+  receipts = receipts_stored s.receipts rows receipts db is.are_receipts h;
+}
+
+-- what tables of a state hold, as rows of a plan and columns of receipts
+as_stored : (s : State) (db : Database) → HoldsState s db → StoresRows (IsRow s.plan) (IsRowIn s.receipts) db
+as_stored s db h = record { held = h.held; stores = h.stores; rows = h.rows; receipts = (hold_receipts s.receipts h.held).1 h.receipts }
+
+-- where the rows are those of no state, the tables hold none
+pub none_opened : (rows : List PlanRow) (receipts : List Columns) (db : Database) → AreOfNoState rows receipts → StoresEach rows receipts db → HoldsNoState db
+none_opened rows receipts db none h s legal holds =
+    let k = as_stored s db holds in
+    none s (record { legal = legal; are_rows = rows_of_plan s.plan rows receipts db h k; are_receipts = rows_of_receipts s.receipts rows receipts db h k })
 
 -- where a row is none of a plan, the tables hold none: the rows of a sound plan are in their ranges
-pub other_opened : (db : Database) → HasOtherRow db.trees → HoldsNoPlan db
-other_opened db other P sound holds = none_stored other (sound_in_range P sound) (rows_stored holds)
+pub other_opened : (db : Database) → HasOtherRow db.trees → HoldsNoState db
+other_opened db other s legal holds = none_stored other (sound_in_range s.plan legal.0) (as_stored s db holds)
 
 -- a fault that isn't one of the tables isn't told as one
 pub not_told_damaged : (e : Error) → IsNotOfTables e → ¬ (opening_refusal e ≡ refusal.Damaged)

@@ -1,7 +1,6 @@
 -- What callers see of a desk, and what its store holds.
-use Rattle.std.specs.Prelude.{◌≡◌, Bool, true, false, List, [], IsTrue, refl}
+use Rattle.std.specs.Prelude.{◌≡◌, Bool, true, false, List, IsTrue, refl}
 use Rattle.std.specs.Coded.{Coded, code_by, coded×, coded_bool}
-use Rattle.std.specs.FinMap as map
 use Rattle.sqlite.specs.Effect.{Database}
 use Rattle.sqlite.specs.Held.{Held as Connected, held_code, state}
 use Rattle.sqlite.specs.State.{State as StoreState, HasCleanDisk}
@@ -9,35 +8,37 @@ use Rattle.sqlite_trees.specs.Tree.{Trees}
 use Rattle.sqlite_trees.specs.declared.store.Store.{Ghosts}
 use Rattle.plan_basics.specs.declared.keys.OpKey.{OpKey}
 use Rattle.plan_basics.specs.declared.Refusal.TheVariants as refusal
+use Rattle.plan_columns.specs.Receipts.{HoldReceipts}
 use Rattle.plan_columns.specs.Tables.{HoldRows}
 use Rattle.plan_model.specs.Code.{plan_code}
-use Rattle.plan_model.specs.Plan.{Plan, IsSoundPlan}
-use Rattle.plan_core.specs.State.{PreparedState}
+use Rattle.plan_model.specs.Plan.{Plan}
 use Rattle.plan_records.specs.Answer.{Answer, accepted, refused}
 use Rattle.plan_records.specs.Rows.{IsRow}
-use Rattle.plan_records.specs.Run.{State, Usable, usable, to_be_reopened}
-use Rattle.plan_records.specs.Step.{Step}
-use Rattle.plan_records.specs.declared.Request.{Request}
+use Rattle.plan_records.specs.Run.{Call, CallStep, State, Usable, usable, to_be_reopened}
+use Rattle.plan_records.specs.Schedules.{IsDeskState}
+use Rattle.plan_records.specs.Step.{Receipts}
 use Rattle.plan_schema.specs.Schema.{schema_9}
 use Rattle.plan_schema.specs.Stored.{Held, Stores}
+use Rattle.tracker_receipts.specs.Codes.{receipts_code}
 
--- the plan, whether requests are carried out, and the connection to the store
+-- the plan, the receipts of trackers, whether requests are carried out, and the connection to the store
 pub record DeskState (S : Type 0) : Type 0 where
   pub plan : Plan
+  pub receipts : Receipts
   pub is_usable : Bool
   pub conn : Connected S
 
--- it is stored as these three
+-- it is stored as these four
 abbrev pub desk_code : {S : Type 0} → Coded S → Coded (DeskState S)
 desk_code {S} store =
-    code_by (Plan × (Bool × Connected S)) (coded× plan_code (coded× coded_bool (held_code store)))
-    (λ d. (d.plan, (d.is_usable, d.conn)))
-    (λ p. record { plan = p.0; is_usable = p.1.0; conn = p.1.1 })
+    code_by ((Plan × Receipts) × (Bool × Connected S)) (coded× (coded× plan_code receipts_code) (coded× coded_bool (held_code store)))
+    (λ d. ((d.plan, d.receipts), (d.is_usable, d.conn)))
+    (λ p. record { plan = p.0.0; receipts = p.0.1; is_usable = p.1.0; conn = p.1.1 })
     (λ _. refl)
 
--- the plan, and the receipts beside it: none are kept yet
-abbrev pub state_of : Plan → State
-state_of P = record { plan = P; receipts = map.empty }
+-- its plan, and the receipts beside it
+abbrev pub state_of : {S : Type 0} → DeskState S → State
+state_of d = record { plan = d.plan; receipts = d.receipts }
 
 -- whether the next request is carried out
 abbrev pub usability : Bool → Usable
@@ -48,34 +49,34 @@ usability false = to_be_reopened
 abbrev pub IsClean : StoreState → Type 0
 IsClean s = HasCleanDisk s × IsTrue s.is_open
 
--- the nine tables are there, and hold the rows of this plan and no others
-pub record HoldsPlan (P : Plan) (db : Database) : Type 0 where
+-- the nine tables are there, and hold the rows of this plan and of these receipts, and no others
+pub record HoldsState (s : State) (db : Database) : Type 0 where
   pub held : Held
   pub stores : Stores db held
-  pub rows : HoldRows (IsRow P) held
-  pub no_receipts : held.receipts ≡ []
+  pub rows : HoldRows (IsRow s.plan) held
+  pub receipts : HoldReceipts s.receipts held
 
--- the tables hold the rows of no sound plan
-abbrev pub HoldsNoPlan : Database → Type 0
-HoldsNoPlan db = (P : Plan) → IsSoundPlan P → ¬ HoldsPlan P db
+-- the tables hold the rows of no sound plan with well formed receipts beside it
+abbrev pub HoldsNoState : Database → Type 0
+HoldsNoState db = (s : State) → IsDeskState s → ¬ HoldsState s db
 
 -- the tables are those that a desk makes
 abbrev pub HasTables : StoreState → Type 0
 HasTables s = s.committed.schema ≡ schema_9
 
--- the plan is sound, no transaction is open, and the tables of a clean store are those of the plan
+-- the plan is sound and the receipts are well formed, no transaction is open, and the tables of a clean store are those of both
 pub record IsKept {S : Type 0} (g : Ghosts S) (d : DeskState S) : Type 0 where
-  pub sound : IsSoundPlan d.plan
+  pub legal : IsDeskState (state_of d)
   pub idle : d.conn.in_transaction ≡ false
-  pub tables : IsClean (state g d.conn) → HasTables (state g d.conn) → HoldsPlan d.plan (state g d.conn).committed
+  pub tables : IsClean (state g d.conn) → HasTables (state g d.conn) → HoldsState (state_of d) (state g d.conn).committed
 
--- these are the tables after some accepted step of this plan by this request
-abbrev pub IsStepCommitted : Plan → Request → Trees → Type 0
-IsStepCommitted P q trees = (after : Plan) × (named : List OpKey) × Step P q (accepted named) after × (db : Database) × HoldsPlan after db × (trees ≡ db.trees)
+-- these are the tables after some accepted step of this state by this call: the plan's and the receipts' together
+abbrev pub IsStepCommitted : State → Call → Trees → Type 0
+IsStepCommitted s c trees = (t : State) × (named : List OpKey) × CallStep s c (accepted named) t × (db : Database) × HoldsState t db × (trees ≡ db.trees)
 
--- a prepared request is carried out: its step is taken; or memory lacked, or the store failed, and the plan is as it was, and after a fault of the store the desk carries out nothing
-abbrev pub IsCarriedOut : {S : Type 0} → DeskState S → PreparedState → Answer → DeskState S → Type 0
-IsCarriedOut old p (accepted named) new = (named ≡ p.named) × (new.plan ≡ p.plan) × (new.is_usable ≡ true)
-IsCarriedOut old p (refused refusal.Memory) new = (new.plan ≡ old.plan) × (new.is_usable ≡ true)
-IsCarriedOut old p (refused refusal.Store) new = (new.plan ≡ old.plan) × (new.is_usable ≡ false)
-IsCarriedOut old p (refused r) new = ⊥
+-- a call that was prepared is carried out: these keys are named, and the desk has that plan and those receipts; or memory lacked, or the store failed, and both are as they were, and after a fault of the store the desk carries out nothing
+abbrev pub IsCarriedOut : {S : Type 0} → DeskState S → List OpKey → State → Answer → DeskState S → Type 0
+IsCarriedOut old named t (accepted chosen) new = (chosen ≡ named) × (new.plan ≡ t.plan) × (new.receipts ≡ t.receipts) × (new.is_usable ≡ true)
+IsCarriedOut old named t (refused refusal.Memory) new = (new.plan ≡ old.plan) × (new.receipts ≡ old.receipts) × (new.is_usable ≡ true)
+IsCarriedOut old named t (refused refusal.Store) new = (new.plan ≡ old.plan) × (new.receipts ≡ old.receipts) × (new.is_usable ≡ false)
+IsCarriedOut old named t (refused r) new = ⊥

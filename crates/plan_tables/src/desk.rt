@@ -1,39 +1,45 @@
-// The desk: its plan, and the store in which the plan's rows stand.
+// The desk: its plan and the receipts of trackers, and the store in which their rows stand.
 ghost use Rattle.std.specs.Prelude.{◌≡◌, true, false, IfOk, IfErr, IsTrue};
+ghost use Rattle.std.specs.FinMap.{get};
 ghost use Rattle.sqlite.specs.Held.{state};
 ghost use Rattle.sqlite.specs.State.{Survives};
 ghost use Rattle.table_rows.specs.Tables.{no_schema};
 ghost use Rattle.plan_basics.specs.declared.Refusal.{Refusal};
-ghost use Rattle.plan_columns.specs.Tables.{written};
 ghost use Rattle.plan_core.specs.Provided.{StartsAreProvided};
-ghost use Rattle.plan_core.specs.State.{IsPreparedFor};
-ghost use Rattle.plan_model.specs.Plan.{no_plan, IsSoundPlan};
 ghost use Rattle.plan_reads.specs.Reads.{OnlyReads};
 ghost use Rattle.plan_records.specs.Answer.{answer_of, refused};
-ghost use Rattle.plan_records.specs.Run.{Answers, plain};
-ghost use Rattle.plan_tables.specs.Desk.{state_of, usability, IsCarriedOut, IsClean, HasTables, HoldsNoPlan, HoldsPlan, IsStepCommitted};
+ghost use Rattle.plan_records.specs.Run.{Answers, empty_state, numbered, plain};
+ghost use Rattle.plan_records.specs.Schedules.{IsDeskState};
+ghost use Rattle.plan_records.specs.Step.{AnswersAgain};
+ghost use Rattle.plan_tables.specs.Calls.{change_of, named_by, state_after, IsPreparedAt};
+ghost use Rattle.plan_tables.specs.Desk.{state_of, usability, IsCarriedOut, IsClean, HasTables, HoldsNoState, HoldsState, IsStepCommitted};
 ghost use Rattle.plan_tables.specs.Errors.{AreErrorRows};
 ghost use Rattle.plan_tables.specs.Faults.{IsOpeningRefusal};
 ghost use Rattle.plan_writes.specs.Within.{LeavesMade, Rewrites};
+ghost use Rattle.tracker_receipts.specs.Judging.{numbered_by};
 
+use super::calls::PreparedCall;
 use super::errors::ErrorRows;
 use super::faults::opening_refusal;
-use super::opening::stored_plan;
-use super::writing::write_prepared;
-use plan_basics::Refusal;
-use plan_core::{Plan, Prepared};
+use super::opening::stored_state;
+use super::writing::write_call;
+use numbered_steps::{Outcome, prepare_numbered};
+use plan_basics::{Refusal, TrackerName};
+use plan_core::Plan;
 use plan_records::{Reply, Request};
 use plan_writes::create_tables;
 use sqlite::{Alter, Connection};
-use std::alloc::Global;
+use std::alloc::{AllocError, Global};
 use std::marker::Model;
+use tracker_receipts::Receipts;
 
-/// A plan, and the store in which its rows stand as tables. Contracts see it as that plan, whether requests are carried
-/// out, and the connection to the store.
+/// A plan, the receipts of trackers, and the store in which the rows of both stand as tables. Contracts see it as that plan
+/// and those receipts, whether requests are carried out, and the connection to the store.
 #[derive(Drop)]
 pub struct Desk<S: Alter + Drop> {
     alloc: Global,
     plan: Plan,
+    receipts: Receipts,
     is_usable: bool,
     conn: Connection<S>,
 }
@@ -45,14 +51,14 @@ impl<S: Alter + Drop> Model for Desk<S> {
 
     ghost coded = { desk_code S.code };
 
-    ghost view = { λ d. record { plan = d.plan.plan; is_usable = d.is_usable; conn = d.conn } };
+    ghost view = { λ d. record { plan = d.plan.plan; receipts = d.receipts; is_usable = d.is_usable; conn = d.conn } };
 
-    ghost invariant = { λ d. IsKept S.Store (record { plan = d.plan.plan; is_usable = d.is_usable; conn = d.conn }) };
+    ghost invariant = { λ d. IsKept S.Store (record { plan = d.plan.plan; receipts = d.receipts; is_usable = d.is_usable; conn = d.conn }) };
 }
 
 impl<S: Alter + Drop> Desk<S> {
-    /// Makes the nine tables in a database that has none of them, and a desk over it at which nothing is loaded. The
-    /// caller owes that no transaction is open.
+    /// Makes the nine tables in a database that has none of them, and a desk over it at which nothing is loaded and no
+    /// receipt is kept. The caller owes that no transaction is open.
     ///
     /// Refused as `Damaged` where one of the tables' names is taken, as `Memory` for want of memory, as `Store` for any
     /// other fault of the store; the connection is given back, and the store holds what it held.
@@ -61,16 +67,21 @@ impl<S: Alter + Drop> Desk<S> {
         mut conn: Connection<S>,
     ) -> Result<Desk<S>, (Refusal, Connection<S>)>
         requires { conn.in_transaction ≡ false }
-        ensures plan { IfOk result (λ desk. desk.plan ≡ no_plan) }
+        ensures empty { IfOk result (λ desk. state_of desk ≡ empty_state) }
         ensures usable { IfOk result (λ desk. desk.is_usable ≡ true) }
-        ensures tables { IfOk result (λ desk. IsClean (state S.Store desk.conn) → (state S.Store conn).committed.schema ≡ no_schema → HoldsPlan no_plan (state S.Store desk.conn).committed) }
+        ensures tables { IfOk result (λ desk. IsClean (state S.Store desk.conn) → (state S.Store conn).committed.schema ≡ no_schema → HoldsState empty_state (state S.Store desk.conn).committed) }
         ensures refused { IfErr result (λ e. IsOpeningRefusal e.0) }
         ensures unchanged { IfErr result (λ e. IsClean (state S.Store e.1) → (state S.Store e.1).committed ≡ (state S.Store conn).committed) }
     {
+        let receipts = match Receipts::new(alloc) {
+            Ok(receipts) => receipts,
+            Err(AllocError) => return Err((Refusal::Memory, conn)),
+        };
         match create_tables(&mut conn) {
             Ok(()) => Ok(Desk {
                 alloc,
                 plan: Plan::empty(alloc),
+                receipts,
                 is_usable: true,
                 conn,
             }),
@@ -78,29 +89,31 @@ impl<S: Alter + Drop> Desk<S> {
         }
     }
 
-    /// Opens the desk whose tables a database holds: its plan is the sound plan that has just their rows. The caller owes
-    /// that no transaction is open.
+    /// Opens the desk whose tables a database holds: its plan and its receipts are the sound plan and the well formed
+    /// receipts that have just their rows. The caller owes that no transaction is open.
     ///
-    /// Refused as `Damaged` where the tables hold the rows of no sound plan: each column is compared, those too that follow
-    /// from others, as a status or a latest start; and a table that lacks is no plan's. As `Memory` for want of memory, as
-    /// `Store` for any other fault of the store. Nothing is written, and where it is refused the connection is given back.
+    /// Refused as `Damaged` where the tables hold the rows of no such plan and receipts: each column is compared, those too
+    /// that follow from others, as a status or a latest start; no receipt is kept before a plan is loaded; and a table that
+    /// lacks is no plan's. As `Memory` for want of memory, as `Store` for any other fault of the store. Nothing is written,
+    /// and where it is refused the connection is given back.
     pub fn open(alloc: Global, mut conn: Connection<S>) -> Result<Desk<S>, (Refusal, Connection<S>)>
         requires { conn.in_transaction ≡ false }
-        ensures sound { IfOk result (λ desk. IsSoundPlan desk.plan) }
+        ensures sound { IfOk result (λ desk. IsDeskState (state_of desk)) }
         ensures usable { IfOk result (λ desk. desk.is_usable ≡ true) }
-        ensures tables { IfOk result (λ desk. IsClean (state S.Store desk.conn) → HasTables (state S.Store desk.conn) → HoldsPlan desk.plan (state S.Store desk.conn).committed) }
+        ensures tables { IfOk result (λ desk. IsClean (state S.Store desk.conn) → HasTables (state S.Store desk.conn) → HoldsState (state_of desk) (state S.Store desk.conn).committed) }
         ensures reads { IfOk result (λ desk. OnlyReads (state S.Store conn) (state S.Store desk.conn)) }
         ensures refused { IfErr result (λ e. IsOpeningRefusal e.0) }
-        ensures damaged { IfErr result (λ e. e.0 ≡ Refusal.Damaged → IsClean (state S.Store e.1) → HasTables (state S.Store e.1) → HoldsNoPlan (state S.Store e.1).committed) }
+        ensures damaged { IfErr result (λ e. e.0 ≡ Refusal.Damaged → IsClean (state S.Store e.1) → HasTables (state S.Store e.1) → HoldsNoState (state S.Store e.1).committed) }
         ensures unchanged { IfErr result (λ e. OnlyReads (state S.Store conn) (state S.Store e.1)) }
     {
-        let plan = match stored_plan(alloc, &mut conn) {
-            Ok(plan) => plan,
+        let (plan, receipts) = match stored_state(alloc, &mut conn) {
+            Ok(found) => found,
             Err(refusal) => return Err((refusal, conn)),
         };
         Ok(Desk {
             alloc,
             plan,
+            receipts,
             is_usable: true,
             conn,
         })
@@ -109,10 +122,17 @@ impl<S: Alter + Drop> Desk<S> {
     /// The plan, which the tables hold.
     pub fn plan(&self) -> &Plan
         ensures plan { result.now.plan ≡ self.now.plan }
-        ensures sound { IsSoundPlan self.now.plan }
-        ensures tables { IsClean (state S.Store self.now.conn) → HasTables (state S.Store self.now.conn) → HoldsPlan self.now.plan (state S.Store self.now.conn).committed }
+        ensures sound { IsDeskState (state_of self.now) }
+        ensures tables { IsClean (state S.Store self.now.conn) → HasTables (state S.Store self.now.conn) → HoldsState (state_of self.now) (state S.Store self.now.conn).committed }
     {
         &self.plan
+    }
+
+    /// The last receipt of each tracker, which the tables hold.
+    pub fn receipts(&self) -> &Receipts
+        ensures { result.now ≡ self.now.receipts }
+    {
+        &self.receipts
     }
 
     /// Whether requests are carried out: not after a fault of the store, until the desk is opened again.
@@ -143,19 +163,19 @@ impl<S: Alter + Drop> Desk<S> {
         Ok(ErrorRows::new(self.plan.ops(), &self.conn))
     }
 
-    // Writes what a prepared request changes, and takes its step only once that is committed.
-    fn carry_out(&mut self, prepared: Prepared) -> Reply
-        requires prepared { IsPreparedFor (record { plan = self.old.plan }) prepared }
+    // Writes what a prepared call changes, and takes its step only once that is committed.
+    fn carry_out(&mut self, call: PreparedCall) -> Reply
+        requires prepared { IsPreparedAt (state_of self.old) call }
         requires usable { self.old.is_usable ≡ true }
-        ensures reply { IsCarriedOut self.old prepared (answer_of result) self.new }
+        ensures reply { IsCarriedOut self.old (named_by call) (state_after (state_of self.old) call) (answer_of result) self.new }
         ensures clean { IsClean (state S.Store self.new.conn) → IsClean (state S.Store self.old.conn) }
-        ensures tables { IsClean (state S.Store self.new.conn) → HasTables (state S.Store self.old.conn) → HoldsPlan self.new.plan (state S.Store self.new.conn).committed }
+        ensures tables { IsClean (state S.Store self.new.conn) → HasTables (state S.Store self.old.conn) → HoldsState (state_of self.new) (state S.Store self.new.conn).committed }
         ensures refused { IsClean (state S.Store self.new.conn) → (r : Refusal) → answer_of result ≡ refused r → (state S.Store self.new.conn).committed ≡ (state S.Store self.old.conn).committed }
-        ensures stops { Survives (state S.Store self.old.conn) (state S.Store self.new.conn) (LeavesMade (Rewrites (written prepared.rows prepared.gone)) (state S.Store self.old.conn)) }
+        ensures stops { Survives (state S.Store self.old.conn) (state S.Store self.new.conn) (LeavesMade (Rewrites (change_of call)) (state S.Store self.old.conn)) }
     {
-        match write_prepared(&mut self.conn, &prepared) {
+        match write_call(&mut self.conn, &call) {
             Ok(()) => Reply::Accepted {
-                named: self.plan.apply(prepared),
+                named: call.apply(&mut self.plan, &mut self.receipts),
             },
             Err(Refusal::Memory) => Reply::Refused(Refusal::Memory),
             Err(refusal) => {
@@ -169,30 +189,77 @@ impl<S: Alter + Drop> Desk<S> {
     /// neither. It is refused as `Reopen` after a fault of the store, else for the least number that applies; as `Memory`
     /// for want of memory, as `Store` for any other fault of the store.
     ///
-    /// Where the store is clean after it, the tables hold the rows of the plan and no others (`tables`). A stop at any
-    /// moment of it, of a store that is open, leaves what there was, or the tables after an accepted step by it (`stops`).
+    /// Where the store is clean after it, the tables hold the rows of the plan and the receipts and no others (`tables`). A
+    /// stop at any moment of it, of a store that is open, leaves what there was, or the tables after an accepted step by it
+    /// (`stops`).
     pub fn call(&mut self, request: &Request) -> Reply
-        ensures answers { Answers (state_of self.old.plan) (usability self.old.is_usable) (plain request.now) (answer_of result) (state_of self.new.plan) (usability self.new.is_usable) }
-        ensures sound { IsSoundPlan self.new.plan }
+        ensures answers { Answers (state_of self.old) (usability self.old.is_usable) (plain request.now) (answer_of result) (state_of self.new) (usability self.new.is_usable) }
+        ensures sound { IsDeskState (state_of self.new) }
         ensures starts { StartsAreProvided self.old.plan request.now (answer_of result) self.new.plan }
         ensures clean { IsClean (state S.Store self.new.conn) → IsClean (state S.Store self.old.conn) }
-        ensures tables { IsClean (state S.Store self.new.conn) → HasTables (state S.Store self.old.conn) → HoldsPlan self.new.plan (state S.Store self.new.conn).committed }
+        ensures tables { IsClean (state S.Store self.new.conn) → HasTables (state S.Store self.old.conn) → HoldsState (state_of self.new) (state S.Store self.new.conn).committed }
         ensures refused { IsClean (state S.Store self.new.conn) → (r : Refusal) → answer_of result ≡ refused r → (state S.Store self.new.conn).committed ≡ (state S.Store self.old.conn).committed }
-        ensures stops { IsTrue (state S.Store self.old.conn).is_open → HasTables (state S.Store self.old.conn) → Survives (state S.Store self.old.conn) (state S.Store self.new.conn) (IsStepCommitted self.old.plan request.now) }
+        ensures stops { IsTrue (state S.Store self.old.conn).is_open → HasTables (state S.Store self.old.conn) → Survives (state S.Store self.old.conn) (state S.Store self.new.conn) (IsStepCommitted (state_of self.old) (plain request.now)) }
     {
         if !self.is_usable {
             return Reply::Refused(Refusal::Reopen);
         }
         match self.plan.prepare(request) {
-            Ok(prepared) => self.carry_out(prepared),
+            Ok(prepared) => self.carry_out(PreparedCall::Plain(prepared)),
+            Err(refusal) => Reply::Refused(refusal),
+        }
+    }
+
+    /// Makes a tracker's numbered request, which was read from this text: as `call` does where it has the next number after
+    /// the tracker's last accepted request, and then an accepted one becomes the tracker's receipt, in the same transaction
+    /// as its changes. It is refused as `Limit` too where there is no room for that receipt.
+    ///
+    /// A repeated request, of the last number and the last text, is answered with the keys that were named then, whatever it
+    /// asks; it is refused as `Reused` where its text is another, as `Gap` for a number too far on, as `Old` for one of the
+    /// past or 0. In all these cases nothing changes, and nothing is written (`again`). After a fault of the store each is
+    /// refused as `Reopen`.
+    ///
+    /// A stop at any moment of it, of a store that is open, leaves what there was, or the tables after an accepted step by
+    /// it: with the receipt, if with its changes (`stops`).
+    pub fn call_numbered(
+        &mut self,
+        tracker: &TrackerName,
+        number: u64,
+        text: &[u8],
+        request: &Request,
+    ) -> Reply
+        ensures answers { Answers (state_of self.old) (usability self.old.is_usable) (numbered (numbered_by tracker.now number text.now request.now)) (answer_of result) (state_of self.new) (usability self.new.is_usable) }
+        ensures sound { IsDeskState (state_of self.new) }
+        ensures starts { StartsAreProvided self.old.plan request.now (answer_of result) self.new.plan }
+        ensures clean { IsClean (state S.Store self.new.conn) → IsClean (state S.Store self.old.conn) }
+        ensures tables { IsClean (state S.Store self.new.conn) → HasTables (state S.Store self.old.conn) → HoldsState (state_of self.new) (state S.Store self.new.conn).committed }
+        ensures refused { IsClean (state S.Store self.new.conn) → (r : Refusal) → answer_of result ≡ refused r → (state S.Store self.new.conn).committed ≡ (state S.Store self.old.conn).committed }
+        ensures again { AnswersAgain (get self.old.receipts tracker.now) (numbered_by tracker.now number text.now request.now) (answer_of result) → self.new ≡ self.old }
+        ensures stops { IsTrue (state S.Store self.old.conn).is_open → HasTables (state S.Store self.old.conn) → Survives (state S.Store self.old.conn) (state S.Store self.new.conn) (IsStepCommitted (state_of self.old) (numbered (numbered_by tracker.now number text.now request.now))) }
+    {
+        if !self.is_usable {
+            return Reply::Refused(Refusal::Reopen);
+        }
+        let alloc = self.alloc;
+        match prepare_numbered(
+            alloc,
+            &mut self.plan,
+            &self.receipts,
+            tracker,
+            number,
+            text,
+            request,
+        ) {
+            Ok(Outcome::Again(named)) => Reply::Accepted { named },
+            Ok(Outcome::New(step)) => self.carry_out(PreparedCall::Numbered(step)),
             Err(refusal) => Reply::Refused(refusal),
         }
     }
 
     /// What memory is taken from. Its clauses say what holds of each desk.
     pub(crate) fn alloc(&self) -> Global
-        ensures sound { IsSoundPlan self.now.plan }
-        ensures tables { IsClean (state S.Store self.now.conn) → HasTables (state S.Store self.now.conn) → HoldsPlan self.now.plan (state S.Store self.now.conn).committed }
+        ensures sound { IsDeskState (state_of self.now) }
+        ensures tables { IsClean (state S.Store self.now.conn) → HasTables (state S.Store self.now.conn) → HoldsState (state_of self.now) (state S.Store self.now.conn).committed }
     {
         self.alloc
     }

@@ -1,10 +1,12 @@
-//! The desk: a plan whose rows stand in the tables of a SQLite database, one transaction for each request that is
-//! accepted.
+//! The desk: a plan and the receipts of trackers, whose rows stand in the tables of a SQLite database, one transaction for
+//! each request that is accepted.
 //!
-//! Requests are answered by the plan in memory (`plan_core`); what a request changes is written before the plan in memory
-//! takes it, so that both agree after each call. The store may be a file or lie in memory.
+//! Requests are answered by the plan in memory (`plan_core`), those of trackers by their receipts first (`numbered_steps`);
+//! what a request changes is written before the plan and the receipts in memory take it, so that both agree after each
+//! call. The store may be a file or lie in memory.
 #![tactic(auto)]
 
+mod calls;
 mod desk;
 mod errors;
 mod faults;

@@ -1,49 +1,73 @@
-// The plan whose rows the tables hold.
-ghost use Rattle.std.specs.Prelude.{◌≡◌, false, IfErr, IfOk};
+// The plan and the receipts whose rows the tables hold.
+ghost use Rattle.std.specs.Prelude.{◌≡◌, false, IfErr, IfOk, MatchOption};
 ghost use Rattle.sqlite.specs.Held.{state};
 ghost use Rattle.plan_basics.specs.declared.Refusal.{Refusal};
-ghost use Rattle.plan_model.specs.Plan.{IsSoundPlan};
 ghost use Rattle.plan_reads.specs.Reads.{OnlyReads};
 ghost use Rattle.plan_reads.specs.Tables.{StoresEach};
-ghost use Rattle.plan_tables.specs.Desk.{HasTables, HoldsNoPlan, HoldsPlan, IsClean};
+ghost use Rattle.plan_records.specs.Schedules.{IsDeskState};
+ghost use Rattle.plan_tables.specs.Desk.{HasTables, HoldsNoState, HoldsState, IsClean};
 ghost use Rattle.plan_tables.specs.Faults.{IsOpeningRefusal};
+ghost use Rattle.plan_tables.specs.Opening.{AreOfNoState, IsStateOf};
 
 use super::faults::opening_refusal;
 use plan_basics::Refusal;
 use plan_core::Plan;
-use plan_reads::read_rows;
-use plan_records::PlanRow;
+use plan_reads::{StoredTables, read_rows};
 use sqlite::{Alter, Connection};
 use std::alloc::Global;
+use tracker_receipts::{Receipts, receipts_of};
 
-// The rows of a plan that the tables hold. Refused as `Damaged` where one of theirs is no row of a plan.
-fn kept_rows<S: Alter>(alloc: Global, conn: &mut Connection<S>) -> Result<Vec<PlanRow>, Refusal>
+// The rows that the tables hold. Refused as `Damaged` where one of theirs is no row of a plan or of receipts.
+fn kept_tables<S: Alter>(alloc: Global, conn: &mut Connection<S>) -> Result<StoredTables, Refusal>
     ensures idle { conn.old.in_transaction ≡ false → conn.new.in_transaction ≡ false }
     ensures reads { OnlyReads (state S.Store conn.old) (state S.Store conn.new) }
-    ensures rows { IfOk result (λ rows. IsClean (state S.Store conn.new) → HasTables (state S.Store conn.new) → StoresEach rows.items (state S.Store conn.new).committed) }
+    ensures rows { IfOk result (λ tables. IsClean (state S.Store conn.new) → HasTables (state S.Store conn.new) → StoresEach tables.rows.items tables.receipts.items (state S.Store conn.new).committed) }
     ensures refused { IfErr result IsOpeningRefusal }
-    ensures damaged { IfErr result (λ r. r ≡ Refusal.Damaged → IsClean (state S.Store conn.new) → HasTables (state S.Store conn.new) → HoldsNoPlan (state S.Store conn.new).committed) }
+    ensures damaged { IfErr result (λ r. r ≡ Refusal.Damaged → IsClean (state S.Store conn.new) → HasTables (state S.Store conn.new) → HoldsNoState (state S.Store conn.new).committed) }
 {
     match read_rows(alloc, conn) {
-        Ok(Some(rows)) => Ok(rows),
+        Ok(Some(tables)) => Ok(tables),
         Ok(None) => Err(Refusal::Damaged),
         Err(error) => Err(opening_refusal(&error)),
     }
 }
 
-/// The plan whose rows the tables hold. Refused as `Damaged` where they hold those of no sound plan, as `Memory` for want
-/// of memory, as `Store` for any other fault of the store.
-pub fn stored_plan<S: Alter>(alloc: Global, conn: &mut Connection<S>) -> Result<Plan, Refusal>
+// The sound plan and the well formed receipts that have just these rows; `None` where there are none such, or receipts are
+// kept and no plan is loaded. The error is always `Memory`.
+fn state_in(alloc: Global, tables: &StoredTables) -> Result<Option<(Plan, Receipts)>, Refusal>
+    ensures state { IfOk result (λ found. MatchOption found
+        (AreOfNoState tables.now.rows.items tables.now.receipts.items)
+        (λ it. IsStateOf tables.now.rows.items tables.now.receipts.items (record { plan = it.0.plan; receipts = it.1 }))) }
+    ensures refused { IfErr result (λ r. r ≡ Refusal.Memory) }
+{
+    let Some(plan) = Plan::from_rows(alloc, &tables.rows)? else {
+        return Ok(None);
+    };
+    let Some(receipts) = receipts_of(alloc, &tables.receipts)? else {
+        return Ok(None);
+    };
+    if !plan.is_loaded() && !tables.receipts.is_empty() {
+        return Ok(None);
+    }
+    Ok(Some((plan, receipts)))
+}
+
+/// The plan and the receipts whose rows the tables hold. Refused as `Damaged` where they hold those of no sound plan with
+/// well formed receipts, as `Memory` for want of memory, as `Store` for any other fault of the store.
+pub fn stored_state<S: Alter>(
+    alloc: Global,
+    conn: &mut Connection<S>,
+) -> Result<(Plan, Receipts), Refusal>
     ensures idle { conn.old.in_transaction ≡ false → conn.new.in_transaction ≡ false }
     ensures reads { OnlyReads (state S.Store conn.old) (state S.Store conn.new) }
-    ensures sound { IfOk result (λ plan. IsSoundPlan plan.plan) }
-    ensures tables { IfOk result (λ plan. IsClean (state S.Store conn.new) → HasTables (state S.Store conn.new) → HoldsPlan plan.plan (state S.Store conn.new).committed) }
+    ensures sound { IfOk result (λ found. IsDeskState (record { plan = found.0.plan; receipts = found.1 })) }
+    ensures tables { IfOk result (λ found. IsClean (state S.Store conn.new) → HasTables (state S.Store conn.new) → HoldsState (record { plan = found.0.plan; receipts = found.1 }) (state S.Store conn.new).committed) }
     ensures refused { IfErr result IsOpeningRefusal }
-    ensures damaged { IfErr result (λ r. r ≡ Refusal.Damaged → IsClean (state S.Store conn.new) → HasTables (state S.Store conn.new) → HoldsNoPlan (state S.Store conn.new).committed) }
+    ensures damaged { IfErr result (λ r. r ≡ Refusal.Damaged → IsClean (state S.Store conn.new) → HasTables (state S.Store conn.new) → HoldsNoState (state S.Store conn.new).committed) }
 {
-    let rows = kept_rows(alloc, conn)?;
-    match Plan::from_rows(alloc, &rows)? {
-        Some(plan) => Ok(plan),
+    let tables = kept_tables(alloc, conn)?;
+    match state_in(alloc, &tables)? {
+        Some(found) => Ok(found),
         None => Err(Refusal::Damaged),
     }
 }

@@ -2,9 +2,9 @@
 ghost use Rattle.std.specs.Prelude.{◌≡◌, map, IfOk, IfErr};
 ghost use Rattle.sqlite.specs.Held.{state};
 ghost use Rattle.plan_basics.specs.declared.Refusal.{Refusal};
-ghost use Rattle.plan_model.specs.Plan.{IsSoundPlan};
 ghost use Rattle.plan_records.specs.Answer.{answer_of};
-ghost use Rattle.plan_tables.specs.Desk.{usability, IsClean, HasTables, HoldsPlan};
+ghost use Rattle.plan_records.specs.Schedules.{IsDeskState};
+ghost use Rattle.plan_tables.specs.Desk.{state_of, usability, IsClean, HasTables, HoldsState};
 ghost use Rattle.plan_tables.specs.Runs.{AreAnswered, AcceptedAreAnswered, StartsAreProvidedIn};
 
 use super::desk::Desk;
@@ -15,19 +15,20 @@ use sqlite::Alter;
 /// Makes these requests at the desk, one after the other. The error is always `Memory`: the list of replies found no
 /// memory, and nothing changed.
 ///
-/// Whatever the requests: their replies and the plan are those of the definitions (`answers`); the accepted requests alone
-/// would have been answered the same and led to the same plan (`alone`); the tables, where the store is clean, hold the
-/// rows of that plan and no others (`tables`); no operation became started unless its predecessors were satisfied, its
-/// workstation was open, and servers, fixed and special resources sufficed then (`starts`).
+/// Whatever the requests: their replies and the plan are those of the definitions, and the receipts stay (`answers`); the
+/// accepted requests alone would have been answered the same and led to the same plan (`alone`); the tables, where the
+/// store is clean, hold the rows of that plan and of the receipts and no others (`tables`); no operation became started
+/// unless its predecessors were satisfied, its workstation was open, and servers, fixed and special resources sufficed
+/// then (`starts`).
 pub fn run_all<S: Alter + Drop>(
     desk: &mut Desk<S>,
     requests: &[Request],
 ) -> Result<Vec<Reply>, Refusal>
-    ensures answers { IfOk result (λ replies. AreAnswered desk.old.plan (usability desk.old.is_usable) requests.now (map answer_of replies.items) desk.new.plan (usability desk.new.is_usable)) }
-    ensures alone { IfOk result (λ replies. AcceptedAreAnswered desk.old.plan requests.now (map answer_of replies.items) desk.new.plan) }
-    ensures tables { IsClean (state S.Store desk.new.conn) → HasTables (state S.Store desk.old.conn) → HoldsPlan desk.new.plan (state S.Store desk.new.conn).committed }
-    ensures starts { IfOk result (λ replies. StartsAreProvidedIn desk.old.plan (usability desk.old.is_usable) requests.now (map answer_of replies.items) desk.new.plan (usability desk.new.is_usable)) }
-    ensures sound { IsSoundPlan desk.new.plan }
+    ensures answers { IfOk result (λ replies. AreAnswered (state_of desk.old) (usability desk.old.is_usable) requests.now (map answer_of replies.items) (state_of desk.new) (usability desk.new.is_usable)) }
+    ensures alone { IfOk result (λ replies. AcceptedAreAnswered (state_of desk.old) requests.now (map answer_of replies.items) (state_of desk.new)) }
+    ensures tables { IsClean (state S.Store desk.new.conn) → HasTables (state S.Store desk.old.conn) → HoldsState (state_of desk.new) (state S.Store desk.new.conn).committed }
+    ensures starts { IfOk result (λ replies. StartsAreProvidedIn (state_of desk.old) (usability desk.old.is_usable) requests.now (map answer_of replies.items) (state_of desk.new) (usability desk.new.is_usable)) }
+    ensures sound { IsDeskState (state_of desk.new) }
     ensures memory { IfErr result (λ r. (r ≡ Refusal.Memory) × (desk.new ≡ desk.old)) }
 {
     let mut replies = Vec::with_capacity(desk.alloc(), requests.len())?;

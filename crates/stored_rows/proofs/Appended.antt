@@ -8,6 +8,11 @@ use Rattle.plan_records.specs.declared.PlanRow.{PlanRow}
 use Rattle.stored_rows.specs.Rows.{IsStoredAs, AppendsRows}
 use Rattle.stored_rows.specs.declared.Table.{Table}
 
+-- the next one is of the next row
+pub zipped_more : {X : Type 0} (IsOf : Row → X → Type 0) (stored : List Row) (i : ℕ) (s : Row) (read : List X) (x : X) → i < length stored → s ≡ get_or stored i s → AllZip IsOf (take i stored) read → IsOf s x → AllZip IsOf (take (i + 1) stored) (read ++ x ∷ [])
+zipped_more IsOf stored i s read x in_range is so_far next =
+    subst (λ l. AllZip IsOf l (read ++ x ∷ [])) (sym (take_more stored i s in_range ∙ ap (λ y. take i stored ++ y ∷ []) (sym is))) (all_zipped_more IsOf (take i stored) read s x so_far next)
+
 module _ (t : Table) (stored : List Row) where
   -- none are read yet
   pub appends_none : (before : List PlanRow) → AppendsRows t (take 0 stored) before before
@@ -25,5 +30,5 @@ module _ (t : Table) (stored : List Row) where
       let one = only s next.0 next.2 in (
         earlier.0 ++ one.0 ∷ [],
         next.1 ∙ ap (λ l. so_far ++ l) one.1 ∙ ap (λ l. l ++ one.0 ∷ []) earlier.1 ∙ append_assoc before earlier.0 (one.0 ∷ []),
-        subst (λ l. AllZip (IsStoredAs t) l (earlier.0 ++ one.0 ∷ [])) (sym (take_more stored i s in_range ∙ ap (λ x. take i stored ++ x ∷ []) (sym is))) (all_zipped_more (IsStoredAs t) (take i stored) earlier.0 s one.0 earlier.2 one.2),
+        zipped_more (IsStoredAs t) stored i s earlier.0 one.0 in_range is earlier.2 one.2,
       )

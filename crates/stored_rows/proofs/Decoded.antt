@@ -1,20 +1,22 @@
--- A row of a table is one row of a plan, and each row that was decoded is of a row of the table.
+-- A row of a table is one row of a plan, or of receipts, and each row that was decoded is of a row of the table.
 use Rattle.std.proofs.Common.{◌≡◌, inl, inr, ℕ, ℤ, pos, List, [], ◌∷◌, drop, refl, sym, ap, subst, ◌∙◌}
 use Rattle.std.specs.List.{AllZip}
 use Rattle.sqlite.specs.Order.{Row, column}
 use Rattle.sqlite.specs.declared.types.Value.{Value}
-use Rattle.sqlite.specs.declared.types.Value.TheVariants.{Int, Text}
+use Rattle.sqlite.specs.declared.types.Value.TheVariants.{Blob, Int, Text}
 use Rattle.sqlite_rules.specs.Lists.{Has}
 use Rattle.plan_records.specs.declared.PlanRow.{PlanRow}
 use Rattle.plan_records.specs.declared.PlanRow.TheVariants as row
 use Rattle.plan_schema.specs.Stored.{StoredMeta, StoredWorkstation, StoredInterval, StoredResource, StoredOccurrence, StoredOperation, StoredDependency, StoredNeed}
 use Rattle.plan_columns.proofs.SameColumns.{meta_columns_injective, workstation_columns_injective, interval_columns_injective, resource_columns_injective, occurrence_columns_injective, operation_columns_injective, dependency_columns_injective, need_columns_injective}
+use Rattle.stored_rows.specs.Receipts.{IsReceiptStoredAs}
 use Rattle.stored_rows.specs.Rows.{table_for, columns_of, IsStoredAs}
 use Rattle.stored_rows.specs.declared.Table.{Table}
+use Rattle.tracker_receipts.specs.Stored.{Columns}
 
 -- ---- the fields of a record, by the columns of its row
 
--- what a column says as a number, and as a text
+-- what a column says as a number, as a text, and as bytes
 abbrev number_in : Value → ℤ
 number_in (Int n) = n
 number_in _ = pos 0
@@ -22,6 +24,10 @@ number_in _ = pos 0
 abbrev text_in : Value → List ℕ
 text_in (Text t) = t
 text_in _ = []
+
+abbrev bytes_in : Value → List ℕ
+bytes_in (Blob b) = b
+bytes_in _ = []
 
 abbrev number_at : ℕ → Row → ℤ
 number_at i v = number_in (column v i)
@@ -70,6 +76,9 @@ dependency_in v = record { papp = text_at 0 v; pia = number_at 1 v; pnum = numbe
 abbrev need_in : Row → StoredNeed
 need_in v = record { app = text_at 0 v; ia = number_at 1 v; num = number_at 2 v; resource = text_at 3 v; mode = text_at 4 v; keep = text_at 5 v }
 
+abbrev receipt_in : Row → Columns
+receipt_in v = record { tracker = text_at 0 v; number = number_at 1 v; text = bytes_in (column v 2); reply = text_at 3 v }
+
 -- ---- one row
 
 -- rows of a plan in one table, with the same columns, are one row
@@ -88,6 +97,10 @@ one_of_columns _ _ t e = absurd (cc t)
 pub one_row : (t : Table) (s : Row) (r q : PlanRow) → IsStoredAs t s r → IsStoredAs t s q → r ≡ q
 one_row t s r q h k = one_of_columns r q (h.0 ∙ sym k.0) (sym h.2 ∙ k.2)
 
+-- a row of the table of receipts is one receipt's row
+pub one_receipt : (s : Row) (c d : Columns) → IsReceiptStoredAs s c → IsReceiptStoredAs s d → c ≡ d
+one_receipt s c d h k = ap receipt_in (sym h ∙ k)
+
 -- behind their rowids, the rows of a table that are one row of a plan are equal
 pub same_columns : (t : Table) (s u : Row) (r : PlanRow) → IsStoredAs t s r → IsStoredAs t u r → drop 1 s ≡ drop 1 u
 same_columns t s u r h k = h.2 ∙ sym k.2
@@ -95,15 +108,15 @@ same_columns t s u r h k = h.2 ∙ sym k.2
 -- ---- the rows that were decoded
 
 -- each row of the table is one of them
-pub row_for : (t : Table) (stored : List Row) (read : List PlanRow) → AllZip (IsStoredAs t) stored read → (s : Row) → Has stored s → (r : PlanRow) × Has read r × IsStoredAs t s r
-row_for t (x ∷ stored) (r ∷ read) all s (inl first) = (r, inl refl, subst (λ y. IsStoredAs t y r) (sym first) all.0)
-row_for t (x ∷ stored) (r ∷ read) all s (inr later) = let it = row_for t stored read all.1 s later in (it.0, inr it.1, it.2)
-row_for t (x ∷ stored) [] all s has = absurd all
-row_for t [] read all s has = absurd has
+pub row_for : {X : Type 0} (IsOf : Row → X → Type 0) (stored : List Row) (read : List X) → AllZip IsOf stored read → (s : Row) → Has stored s → (x : X) × Has read x × IsOf s x
+row_for IsOf (u ∷ stored) (x ∷ read) all s (inl first) = (x, inl refl, subst (λ y. IsOf y x) (sym first) all.0)
+row_for IsOf (u ∷ stored) (x ∷ read) all s (inr later) = let it = row_for IsOf stored read all.1 s later in (it.0, inr it.1, it.2)
+row_for IsOf (u ∷ stored) [] all s has = absurd all
+row_for IsOf [] read all s has = absurd has
 
 -- each of them is of a row of the table
-pub stored_for : (t : Table) (stored : List Row) (read : List PlanRow) → AllZip (IsStoredAs t) stored read → (r : PlanRow) → Has read r → (s : Row) × Has stored s × IsStoredAs t s r
-stored_for t (x ∷ stored) (q ∷ read) all r (inl first) = (x, inl refl, subst (IsStoredAs t x) (sym first) all.0)
-stored_for t (x ∷ stored) (q ∷ read) all r (inr later) = let it = stored_for t stored read all.1 r later in (it.0, inr it.1, it.2)
-stored_for t [] (q ∷ read) all r has = absurd all
-stored_for t stored [] all r has = absurd has
+pub stored_for : {X : Type 0} (IsOf : Row → X → Type 0) (stored : List Row) (read : List X) → AllZip IsOf stored read → (x : X) → Has read x → (s : Row) × Has stored s × IsOf s x
+stored_for IsOf (u ∷ stored) (y ∷ read) all x (inl first) = (u, inl refl, subst (IsOf u) (sym first) all.0)
+stored_for IsOf (u ∷ stored) (y ∷ read) all x (inr later) = let it = stored_for IsOf stored read all.1 x later in (it.0, inr it.1, it.2)
+stored_for IsOf [] (y ∷ read) all x has = absurd all
+stored_for IsOf stored [] all x has = absurd has

@@ -1,3 +1,4 @@
 pub mod Cells
 pub mod Operations
+pub mod Receipts
 pub mod Rows

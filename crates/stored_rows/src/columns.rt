@@ -1,7 +1,7 @@
 // Single columns of a row, as values of the types that they store.
 ghost use Rattle.std.specs.Prelude.{◌≡◌, ℕ, ◌+◌, ◌^◌, ◌<◌, pos, List, [], ◌∷◌, MatchOption};
 ghost use Rattle.sqlite.specs.Order.{column};
-ghost use Rattle.sqlite.specs.declared.types.Value.TheVariants.{Int, Text};
+ghost use Rattle.sqlite.specs.declared.types.Value.TheVariants.{Blob, Int, Text};
 ghost use Rattle.plan_basics.specs.Attributes.{attribute_letter};
 ghost use Rattle.plan_basics.specs.Minutes.{IsMoment};
 ghost use Rattle.plan_basics.specs.Names.{IsName, IsResourceName};
@@ -34,6 +34,18 @@ pub fn text<'a>(row: &'a Row, at: usize) -> Option<&'a [u8]>
 {
     match row.get_ref(at) {
         Ok(ValueRef::Text(text)) => Some(text),
+        _ => None,
+    }
+}
+
+// The bytes in a column that are no text.
+pub fn bytes<'a>(row: &'a Row, at: usize) -> Option<&'a [u8]>
+    ensures { MatchOption result
+        ((b : List ℕ) → ¬ (column row.now at ≡ Blob b))
+        (λ b. column row.now at ≡ Blob b.now) }
+{
+    match row.get_ref(at) {
+        Ok(ValueRef::Blob(bytes)) => Some(bytes),
         _ => None,
     }
 }

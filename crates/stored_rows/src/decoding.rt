@@ -1,4 +1,4 @@
-// The rows of any table, as rows of a plan.
+// The rows of any table of a plan, as rows of a plan.
 ghost use Rattle.std.specs.Prelude.{[], ◌∷◌, IfOk, MatchBool, Any};
 ghost use Rattle.plan_items.specs.Parts.{IsReading};
 ghost use Rattle.stored_rows.specs.Rows.{AppendsRows, IsNoRow, IsStoredAs};
@@ -26,7 +26,6 @@ pub fn decode(table: Table, row: &Row) -> Option<PlanRow>
         Table::Operation => read_operation(row),
         Table::Dependency => read_dependency(row),
         Table::Need => read_need(row),
-        Table::Receipt => None,
     }
 }
 

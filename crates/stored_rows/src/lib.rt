@@ -1,17 +1,20 @@
-//! The rows of a plan, read back from the tables that store them.
+//! The rows of a plan, and those of receipts beside it, read back from the tables that store them.
 //!
 //! A row of a table is read as the row of a plan that has its columns, or as none where no row of a plan has them: a
-//! column isn't in its range, a letter or a text stands for nothing, a name isn't legal.
+//! column isn't in its range, a letter or a text stands for nothing, a name isn't legal. A row of the table of receipts
+//! is read with its columns as they are; whether there is such a receipt is not looked at here.
 #![tactic(auto)]
 
 mod columns;
 mod decoding;
 mod operations;
+mod receipts;
 mod records;
 
 pub use decoding::{decode, decode_all};
+pub use receipts::decode_receipts;
 
-/// One of the nine tables.
+/// One of the eight tables of a plan.
 #[derive(Clone, Copy, Debug, PartialEq, Eq)]
 pub enum Table {
     /// Whether a plan is loaded, and the clock.
@@ -30,6 +33,4 @@ pub enum Table {
     Dependency,
     /// Special resources that operations need.
     Need,
-    /// The last accepted requests of trackers. Its rows are no plan's.
-    Receipt,
 }

@@ -5,6 +5,8 @@
 #[cfg(test)]
 mod connections;
 #[cfg(test)]
+mod numbered;
+#[cfg(test)]
 mod players;
 #[cfg(test)]
 mod plays;

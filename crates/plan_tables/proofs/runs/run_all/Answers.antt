@@ -16,10 +16,10 @@ loop-request-init g c =
     let d = c.args.desk.now in
     let none = c.in_ok-replies.ensures.items in
     record {
-      so_far = subst (λ (xs : List Reply). AreAnswered d.plan (usability d.is_usable) [] (map answer_of xs) d.plan (usability d.is_usable)) (sym none) (refl, refl);
+      so_far = subst (λ (xs : List Reply). AreAnswered (state_of d) (usability d.is_usable) [] (map answer_of xs) (state_of d) (usability d.is_usable)) (sym none) (refl, refl);
       sound = c.alloc.ensures.sound;
       tables = c.alloc.ensures.tables;
-      provided = subst (λ (xs : List Reply). StartsAreProvidedIn d.plan (usability d.is_usable) [] (map answer_of xs) d.plan (usability d.is_usable)) (sym none) (refl, refl);
+      provided = subst (λ (xs : List Reply). StartsAreProvidedIn (state_of d) (usability d.is_usable) [] (map answer_of xs) (state_of d) (usability d.is_usable)) (sym none) (refl, refl);
       told = search rules;
       room = search rules;
     }
@@ -40,10 +40,10 @@ loop-request-preserved g c =
     let answers : map answer_of c.push.new.self.items ≡ map answer_of replies ++ answer_of reply ∷ [] = ap (map answer_of) items ∙ map-append answer_of replies (reply ∷ []) in
     let far = c.loop-request.invariant in
     record {
-      so_far = rw (calls, answers) (run_more (state_of first.plan) (state_of old.plan) (state_of new.plan) (usability first.is_usable) (usability old.is_usable) (usability new.is_usable) (map plain (take i requests)) (map answer_of replies) (plain item) (answer_of reply) far.so_far c.call-reply.ensures.answers);
+      so_far = rw (calls, answers) (run_more (state_of first) (state_of old) (state_of new) (usability first.is_usable) (usability old.is_usable) (usability new.is_usable) (map plain (take i requests)) (map answer_of replies) (plain item) (answer_of reply) far.so_far c.call-reply.ensures.answers);
       sound = c.call-reply.ensures.sound;
       tables = λ clean has. c.call-reply.ensures.tables clean (far.tables (c.call-reply.ensures.clean clean) has).stores.schema_is;
-      provided = rw (front, answers) (starts_more first.plan old.plan new.plan (usability first.is_usable) (usability old.is_usable) (usability new.is_usable) (take i requests) (map answer_of replies) item (answer_of reply) far.provided c.call-reply.ensures.answers c.call-reply.ensures.sound c.call-reply.ensures.starts);
+      provided = rw (front, answers) (starts_more (state_of first) (state_of old) (state_of new) (usability first.is_usable) (usability old.is_usable) (usability new.is_usable) (take i requests) (map answer_of replies) item (answer_of reply) far.provided c.call-reply.ensures.answers c.call-reply.ensures.sound c.call-reply.ensures.starts);
       told = omega (arith, ap length items, length-append replies (reply ∷ []), far.told, c.push.new.self.ok.0, c.loop-request.replies.ok.0);
       room = omega (arith, c.push.ensures.capacity, far.room);
     }
@@ -55,5 +55,5 @@ returns-clause-alone g c =
     let requests = c.args.requests.now in
     let answers = map answer_of c.loop-request.replies.items in
     let whole = take_all c.loop-request.request-index requests (let ge = c.loop-request-test.false in omega (arith, ge)) in
-    accepted_answered d.plan after.plan (usability d.is_usable) (usability after.is_usable) requests answers
-    (subst (λ (qs : List Request). AreAnswered d.plan (usability d.is_usable) qs answers after.plan (usability after.is_usable)) whole c.loop-request.invariant.so_far)
+    accepted_answered (state_of d) (state_of after) (usability d.is_usable) (usability after.is_usable) requests answers
+    (subst (λ (qs : List Request). AreAnswered (state_of d) (usability d.is_usable) qs answers (state_of after) (usability after.is_usable)) whole c.loop-request.invariant.so_far)

@@ -1,18 +1,18 @@
 use Rattle.std.proofs.Common.{◌≡◌, ◌≤◌, take, length, map, vec_len}
 use Rattle.std.specs.Vec.{vec_capacity}
 use Rattle.sqlite.specs.Held.{state}
-use Rattle.plan_model.specs.Plan.{IsSoundPlan}
 use Rattle.plan_records.specs.Answer.{answer_of}
-use Rattle.plan_tables.specs.Desk.{HasTables, HoldsPlan, IsClean, usability}
+use Rattle.plan_records.specs.Schedules.{IsDeskState}
+use Rattle.plan_tables.specs.Desk.{HasTables, HoldsState, IsClean, state_of, usability}
 use Rattle.plan_tables.specs.Runs.{AreAnswered, StartsAreProvidedIn}
 use Rattle.plan_tables.proofs.runs.run_all.Given as goal
 
 abbrev pub invariant-loop-request : goal.invariant-loop-request
 invariant-loop-request g l = record {
-  so_far : AreAnswered l.fn.desk.plan (usability l.fn.desk.is_usable) (take l.request-index l.requests) (map answer_of l.replies.items) l.desk.plan (usability l.desk.is_usable);
-  sound : IsSoundPlan l.desk.plan;
-  tables : IsClean (state g.S.Store l.desk.conn) → HasTables (state g.S.Store l.fn.desk.conn) → HoldsPlan l.desk.plan (state g.S.Store l.desk.conn).committed;
-  provided : StartsAreProvidedIn l.fn.desk.plan (usability l.fn.desk.is_usable) (take l.request-index l.requests) (map answer_of l.replies.items) l.desk.plan (usability l.desk.is_usable);
+  so_far : AreAnswered (state_of l.fn.desk) (usability l.fn.desk.is_usable) (take l.request-index l.requests) (map answer_of l.replies.items) (state_of l.desk) (usability l.desk.is_usable);
+  sound : IsDeskState (state_of l.desk);
+  tables : IsClean (state g.S.Store l.desk.conn) → HasTables (state g.S.Store l.fn.desk.conn) → HoldsState (state_of l.desk) (state g.S.Store l.desk.conn).committed;
+  provided : StartsAreProvidedIn (state_of l.fn.desk) (usability l.fn.desk.is_usable) (take l.request-index l.requests) (map answer_of l.replies.items) (state_of l.desk) (usability l.desk.is_usable);
   told : vec_len l.replies ≡ l.request-index;
   room : length l.requests ≤ vec_capacity l.replies;
 }

@@ -1,17 +1,18 @@
-use Rattle.std.proofs.Common.{◌≡◌, ◌⊎◌, rules, ap, sym, subst, subst₂, ◌∙◌, true}
+use Rattle.std.proofs.Common.{◌≡◌, ◌⊎◌, rules, refl, ap, sym, subst, ◌∙◌, true}
 use Rattle.sqlite.specs.Held.{state}
 use Rattle.sqlite.specs.State.{Survives}
 use Rattle.plan_basics.specs.declared.Refusal.TheVariants as refusal
-use Rattle.plan_columns.specs.Tables.{written}
 use Rattle.plan_core.specs.Provided.{StartsAreProvided}
-use Rattle.plan_core.specs.State.{PlanState}
+use Rattle.plan_core.specs.State.{IsPreparedFor, PlanState}
 use Rattle.plan_records.specs.Answer.{accepted, answer_of, refused}
 use Rattle.plan_records.specs.Rows.{AreChanges}
 use Rattle.plan_records.specs.Run.{Answers, plain}
 use Rattle.plan_records.specs.Step.{Step}
+use Rattle.plan_tables.specs.Calls.{change_of, state_after}
 use Rattle.plan_tables.specs.Desk.{DeskState, IsCarriedOut, IsKept, state_of, usability}
-use Rattle.plan_tables.proofs.Calls.{carried_answers, carried_starts, none_starts, not_prepared}
-use Rattle.plan_tables.proofs.Held.{step_survives}
+use Rattle.plan_tables.specs.declared.calls.PreparedCall.TheVariants.{Plain}
+use Rattle.plan_tables.proofs.Answered.{carried_answers, carried_starts, none_starts, plain_not_prepared}
+use Rattle.plan_tables.proofs.Held.{prepared_carries, step_survives}
 use Rattle.plan_writes.specs.Within.{LeavesMade, Rewrites}
 use Rattle.plan_tables.proofs.desk.Desk.call.Goals as goal
 
@@ -22,11 +23,12 @@ returns-in-Ok-clause-answers g c =
     let q = c.args.request.now in
     let p = c.in-Ok.prepared in
     let x = answer_of c.carry_out.result in
-    let same = ap (λ (s : PlanState). (let d : DeskState _ = record { plan = s.plan; is_usable = c.self.inside.is_usable; conn = c.self.inside.conn } in d)) c.prepare.ensures.unchanged ∙ c.self.view_is in
+    let same = ap (λ (s : PlanState). (let d : DeskState _ = record { plan = s.plan; receipts = c.self.inside.receipts; is_usable = c.self.inside.is_usable; conn = c.self.inside.conn } in d)) c.prepare.ensures.unchanged ∙ c.self.view_is in
     let usable : c.self.inside.is_usable ≡ true = search rules in
     let was : old.is_usable ≡ true = sym (ap (λ (d : DeskState _). d.is_usable) c.self.view_is) ∙ usable in
     let step = subst (λ P. Step P q (accepted p.named) p.plan) (ap (λ (d : DeskState _). d.plan) c.self.view_is) c.in-Ok.ensures.step in
-    carried_answers old new p q was step x (subst (λ (d : DeskState _). IsCarriedOut d p x new) same c.carry_out.ensures.reply)
+    carried_answers old new (plain q) p.named (state_after (state_of old) (Plain p)) was (step, refl) x
+    (subst (λ (d : DeskState _). IsCarriedOut d p.named (state_after (state_of d) (Plain p)) x new) same c.carry_out.ensures.reply)
 
 pub returns-in-Ok-clause-starts : goal.returns-in-Ok-clause-starts
 returns-in-Ok-clause-starts g c =
@@ -36,12 +38,13 @@ returns-in-Ok-clause-starts g c =
     let p = c.in-Ok.prepared in
     let x = answer_of c.carry_out.result in
     let plan = ap (λ (d : DeskState _). d.plan) c.self.view_is in
-    let same = ap (λ (s : PlanState). (let d : DeskState _ = record { plan = s.plan; is_usable = c.self.inside.is_usable; conn = c.self.inside.conn } in d)) c.prepare.ensures.unchanged ∙ c.self.view_is in
+    let same = ap (λ (s : PlanState). (let d : DeskState _ = record { plan = s.plan; receipts = c.self.inside.receipts; is_usable = c.self.inside.is_usable; conn = c.self.inside.conn } in d)) c.prepare.ensures.unchanged ∙ c.self.view_is in
     let usable : c.self.inside.is_usable ≡ true = search rules in
     let was : old.is_usable ≡ true = sym (ap (λ (d : DeskState _). d.is_usable) c.self.view_is) ∙ usable in
     let step = subst (λ P. Step P q (accepted p.named) p.plan) plan c.in-Ok.ensures.step in
     let starts = subst (λ P. StartsAreProvided P q (accepted p.named) p.plan) plan c.in-Ok.ensures.starts in
-    carried_starts old new p q was step x (subst (λ (d : DeskState _). IsCarriedOut d p x new) same c.carry_out.ensures.reply) starts
+    carried_starts old new (plain q) p.named (state_after (state_of old) (Plain p)) was (step, refl) q x
+    (subst (λ (d : DeskState _). IsCarriedOut d p.named (state_after (state_of d) (Plain p)) x new) same c.carry_out.ensures.reply) starts
 
 pub returns-in-Ok-clause-stops : goal.returns-in-Ok-clause-stops
 returns-in-Ok-clause-stops g c is_open has =
@@ -49,13 +52,14 @@ returns-in-Ok-clause-stops g c is_open has =
     let new = c.carry_out.new.self in
     let q = c.args.request.now in
     let p = c.in-Ok.prepared in
-    let Makes = Rewrites (written p.rows p.gone) in
+    let Makes = Rewrites (change_of (Plain p)) in
     let plan = ap (λ (d : DeskState _). d.plan) c.self.view_is in
     let kept = subst (IsKept g.S.Store) c.self.view_is c.self.invariant in
     let step = subst (λ P. Step P q (accepted p.named) p.plan) plan c.in-Ok.ensures.step in
     let are = subst (λ P. AreChanges P p.plan p.rows p.gone) plan c.in-Ok.ensures.changes in
+    let carries = prepared_carries (state_of old) (Plain p) kept.legal.0 (record { request = q; step = step; changes = are }) in
     let stops = subst (λ (d : DeskState _). Survives (state g.S.Store d.conn) (state g.S.Store new.conn) (LeavesMade Makes (state g.S.Store d.conn))) c.self.view_is c.carry_out.ensures.stops in
-    step_survives old.plan p.plan q p.named p.rows p.gone kept.sound step are Makes (λ before after h. h.turns) (state g.S.Store old.conn) (state g.S.Store new.conn)
+    step_survives (state_of old) (state_after (state_of old) (Plain p)) (change_of (Plain p)) carries (state g.S.Store old.conn) (plain q) p.named (step, refl) (state g.S.Store new.conn)
     (λ clean. (is_open, kept.tables (clean, is_open) has)) stops
 
 pub returns-in-Err-clause-answers : goal.returns-in-Err-clause-answers
@@ -64,11 +68,11 @@ returns-in-Err-clause-answers g c =
     let q = c.args.request.now in
     let r = c.in-Err.refusal in
     let plan = ap (λ (d : DeskState _). d.plan) c.self.view_is in
-    let after = ap (λ (s : PlanState). s.plan) c.prepare.ensures.unchanged ∙ plan in
-    let usage = ap (λ (d : DeskState _). d.is_usable) c.self.view_is in
+    let same = ap (λ (s : PlanState). (let d : DeskState _ = record { plan = s.plan; receipts = c.self.inside.receipts; is_usable = c.self.inside.is_usable; conn = c.self.inside.conn } in d)) c.prepare.ensures.unchanged ∙ c.self.view_is in
     let usable : c.self.inside.is_usable ≡ true = search rules in
+    let was : old.is_usable ≡ true = sym (ap (λ (d : DeskState _). d.is_usable) c.self.view_is) ∙ usable in
     let why = subst (λ P. (r ≡ refusal.Memory) ⊎ Step P q (refused r) P) plan c.in-Err.ensures.refused in
-    subst₂ (λ P b. Answers (state_of old.plan) (usability old.is_usable) (plain q) (refused r) (state_of P) (usability b)) (sym after) (sym usage) (not_prepared old.plan q old.is_usable r (sym usage ∙ usable) why)
+    subst (λ (d : DeskState _). Answers (state_of old) (usability old.is_usable) (plain q) (refused r) (state_of d) (usability d.is_usable)) (sym same) (plain_not_prepared (state_of old) q old.is_usable r was why)
 
 pub returns-in-Err-clause-starts : goal.returns-in-Err-clause-starts
 returns-in-Err-clause-starts g c =

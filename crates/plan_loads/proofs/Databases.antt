@@ -1,0 +1,85 @@
+-- The plan at the desk of a database, and what a load there is answered.
+use Rattle.std.proofs.Common.{◌≡◌, ◌⊎◌, ◌↔◌, inl, inr, refl, sym, ap, ◌∙◌, subst, arith, ℤ, Bool, true, false, not, IsTrue, Option, is_some, [], length}
+use Rattle.std.proofs.lemmas.Bool.{true≢false, false≢true}
+use Rattle.std.specs.List.{list_any}
+use Rattle.sqlite.specs.Effect.{Database}
+use Rattle.sqlite.specs.Schema.{Schema}
+use Rattle.sqlite.specs.State.{State as StoreState}
+use Rattle.table_rows.specs.Tables.{no_schema}
+use Rattle.plan_basics.specs.declared.Refusal.{Refusal}
+use Rattle.plan_basics.specs.declared.Refusal.TheVariants as refusal
+use Rattle.plan_model.specs.Contents.{Contents}
+use Rattle.plan_reads.specs.Reads.{OnlyReads}
+use Rattle.plan_records.specs.Answer.{Answer, accepted, refused}
+use Rattle.plan_records.specs.Run.{Answers, CallStep, State, empty_state, plain, usable}
+use Rattle.plan_records.specs.Step.{Step}
+use Rattle.plan_records.specs.declared.Request.{Request}
+use Rattle.plan_schema.specs.Schema.{schema_9}
+use Rattle.plan_tables.specs.Desk.{HasTables, HoldsState, IsClean, usability}
+use Rattle.plan_tables.specs.Faults.{IsOpeningRefusal}
+use Rattle.plan_loads.specs.Databases.{HasNoTable, HasSchema, IsAnswerToLoad, IsStateAt, load_request}
+
+-- what is found of a schema that has no table
+pub no_table_found : (found schema : Schema) (b : Bool) → found ≡ schema → found.tables ≡ [] → b ≡ list_any (λ view. is_some view.foreign) found.views → IsTrue (not b) ↔ HasNoTable schema
+no_table_found found schema true is none any = (λ e. absurd (false≢true e), λ h. absurd (true≢false (any ∙ subst (λ (s : Schema). list_any (λ view. is_some view.foreign) s.views ≡ false) (sym is) h.1)))
+no_table_found found schema false is none any = (λ _. subst HasNoTable is (none, sym any), λ _. refl)
+
+-- a desk's tables are tables
+pub nine_are_tables : ¬ HasNoTable schema_9
+nine_are_tables none = let e : length schema_9.tables ≡ 0 = ap length none.0 in omega (arith, e)
+
+module _ (old new : StoreState) where
+  -- the state of a desk that was made
+  pub made_state : HasNoTable old.now.schema → (s : State) → s ≡ empty_state → IsStateAt old new s
+  made_state none s is = record {
+    made = λ _. is;
+    opened = λ clean has. absurd (nine_are_tables (subst HasNoTable has.0 none));
+  }
+
+  -- that of a desk that was opened
+  pub opened_state : ¬ HasNoTable old.now.schema → OnlyReads old new → (s : State) → (IsClean new → HasTables new → HoldsState s new.committed) → IsStateAt old new s
+  opened_state some reads s holds = record {
+    made = λ none. absurd (some none);
+    opened = λ clean has.
+        let same = (reads.kept clean.0).committed clean.1 in
+        subst (HoldsState s) same (holds clean (ap (λ (db : Database). db.schema) same ∙ has.1));
+  }
+
+-- what isn't a step at a usable desk is want of memory or a fault of the store
+pub refused_step : (s t : State) (q : Request) (v : Bool) (r : Refusal) → Answers s usable (plain q) (refused r) t (usability v) → IsOpeningRefusal r ⊎ CallStep s (plain q) (refused r) s
+refused_step s t q v refusal.Memory h = inl (inr (inl refl))
+refused_step s t q v refusal.Store h = inl (inr (inr refl))
+refused_step s t q v r h = inr (subst (λ X. Step s.plan q (refused r) X) h.0.0.is_after h.0.0, refl)
+
+-- the desk of a database, `mid`, was asked for a load, which left `new`
+module _ (old mid new : StoreState) (s t : State) (at : ℤ) (draft : Option Contents) (u v : Bool)
+    (found : IsStateAt old mid s)
+    (in_use : u ≡ true)
+    (made : IsClean mid → HasSchema old no_schema → HoldsState empty_state mid.committed)
+    (opened : IsClean mid → HasSchema old schema_9 → mid.committed ≡ old.committed)
+    (clean_before : IsClean new → IsClean mid) where
+  state_kept : IsStateAt old new s
+  state_kept = record { made = found.made; opened = λ clean. found.opened (clean_before clean) }
+
+  has_tables : IsClean new → HasSchema old schema_9 ⊎ HasSchema old no_schema → HasTables mid
+  has_tables clean (inl has) = ap (λ (db : Database). db.schema) (opened (clean_before clean) has) ∙ has.1
+  has_tables clean (inr none) = (made (clean_before clean) none).stores.schema_is
+
+  load_of : (x : Answer) → Answers s usable (plain (load_request at draft)) x t (usability v)
+      → (IsClean new → HasTables mid → HoldsState t new.committed)
+      → (IsClean new → (r : Refusal) → x ≡ refused r → new.committed ≡ mid.committed)
+      → IsAnswerToLoad old new at draft x
+  load_of (accepted named) answers holds kept = (s, t, state_kept, answers.0, λ clean has. holds clean (has_tables clean has))
+  load_of (refused r) answers holds kept = (
+    elim (refused_step s t (load_request at draft) v r answers) [
+      | inl why ↦ inl why
+      | inr step ↦ inr (s, state_kept, step)
+    ],
+    λ clean has. kept clean r refl ∙ opened (clean_before clean) has,
+  )
+
+  pub load_answered : (x : Answer) → Answers s (usability u) (plain (load_request at draft)) x t (usability v)
+      → (IsClean new → HasTables mid → HoldsState t new.committed)
+      → (IsClean new → (r : Refusal) → x ≡ refused r → new.committed ≡ mid.committed)
+      → IsAnswerToLoad old new at draft x
+  load_answered x answers = load_of x (subst (λ b. Answers s (usability b) (plain (load_request at draft)) x t (usability v)) in_use answers)

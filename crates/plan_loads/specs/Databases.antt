@@ -1,0 +1,40 @@
+-- The desk of a database, and what it answers to the load of a text's plan.
+use Rattle.std.specs.Prelude.{◌≡◌, ◌⊎◌, ℤ, false, [], Option, is_some}
+use Rattle.std.specs.List.{list_any}
+use Rattle.sqlite.specs.Schema.{Schema}
+use Rattle.sqlite.specs.State.{State as StoreState}
+use Rattle.table_rows.specs.Tables.{no_schema}
+use Rattle.plan_model.specs.Contents.{Contents}
+use Rattle.plan_records.specs.Answer.{Answer, accepted, refused}
+use Rattle.plan_records.specs.Run.{CallStep, State, empty_state, plain}
+use Rattle.plan_schema.specs.Schema.{schema_9}
+use Rattle.plan_tables.specs.Desk.{HoldsState, IsClean}
+use Rattle.plan_tables.specs.Faults.{IsOpeningRefusal}
+use Rattle.plan_records.specs.declared.Request.{Request}
+use Rattle.plan_records.specs.declared.What.TheVariants.{Load}
+
+-- there is no table: none that SQL reaches, and none that is kept as it is
+abbrev pub HasNoTable : Schema → Type 0
+HasNoTable schema = (schema.tables ≡ []) × (list_any (λ view. is_some view.foreign) schema.views ≡ false)
+
+-- the database has this schema, and did so at its last commit
+abbrev pub HasSchema : StoreState → Schema → Type 0
+HasSchema s schema = (s.now.schema ≡ schema) × (s.committed.schema ≡ schema)
+
+-- the plan and the receipts at the desk of a database: neither is there where the database had no table; where it had a desk's tables, they hold their rows
+pub record IsStateAt (old new : StoreState) (s : State) : Type 0 where
+  pub made : HasNoTable old.now.schema → s ≡ empty_state
+  pub opened : IsClean new → HasSchema old schema_9 → HoldsState s old.committed
+
+-- the load of a draft at a minute; of none, for a text that denotes none
+abbrev pub load_request : ℤ → Option Contents → Request
+load_request at draft = record { at = at; what = Load draft }
+
+-- the load of a draft at a minute is answered as at the plan of the database's desk, and where it is accepted the tables hold the plan after it; or the tables are no plan's, memory lacks, or the store failed. What is refused leaves a desk's tables as they were
+abbrev pub IsAnswerToLoad : StoreState → StoreState → ℤ → Option Contents → Answer → Type 0
+IsAnswerToLoad old new at draft (accepted named) =
+    (before : State) × (after : State) × IsStateAt old new before × CallStep before (plain (load_request at draft)) (accepted named) after
+    × (IsClean new → HasSchema old schema_9 ⊎ HasSchema old no_schema → HoldsState after new.committed)
+IsAnswerToLoad old new at draft (refused r) =
+    (IsOpeningRefusal r ⊎ ((before : State) × IsStateAt old new before × CallStep before (plain (load_request at draft)) (refused r) before))
+    × (IsClean new → HasSchema old schema_9 → new.committed ≡ old.committed)

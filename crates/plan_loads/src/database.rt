@@ -1,0 +1,77 @@
+// The desk of a database, and what it answers to a load.
+ghost use Rattle.std.specs.Prelude.{◌≡◌, ◌↔◌, true, false, is_some, IsTrue, IfOk, IfErr};
+ghost use Rattle.std.specs.List.{list_any};
+ghost use Rattle.sqlite.specs.Held.{state};
+ghost use Rattle.plan_records.specs.Answer.{answer_of};
+ghost use Rattle.plan_records.specs.Run.{empty_state};
+ghost use Rattle.plan_loads.specs.Databases.{HasNoTable, HasSchema, IsAnswerToLoad, IsStateAt};
+ghost use Rattle.plan_schema.specs.Schema.{schema_9};
+ghost use Rattle.plan_tables.specs.Desk.{state_of, HoldsState, IsClean};
+ghost use Rattle.plan_tables.specs.Faults.{IsOpeningRefusal};
+ghost use Rattle.table_rows.specs.Tables.{no_schema};
+
+use plan_basics::Refusal;
+use plan_records::{PlanDraft, Reply, Request, What};
+use plan_tables::Desk;
+use sqlite::{Alter, Connection};
+use sqlite_schema::schema::View;
+use std::alloc::Global;
+
+// Whether one of these is no view, but a table that SQL doesn't reach, or what belongs to it.
+fn has_foreign(views: &[View]) -> bool
+    ensures { result ≡ list_any (λ view. is_some view.foreign) views.now }
+{
+    views.iter().any(|view| view.foreign.is_some())
+}
+
+// Whether a database has no table. One that SQL doesn't reach is listed among the views.
+fn has_no_table<S: Alter>(conn: &Connection<S>) -> bool
+    ensures { IsTrue result ↔ HasNoTable (state S.Store conn.now).now.schema }
+{
+    let schema = conn.schema();
+    schema.tables.is_empty() && !has_foreign(schema.views.as_slice())
+}
+
+// The desk of a database: made where it has no table, else opened.
+fn desk_of<S: Alter + Drop>(
+    alloc: Global,
+    conn: Connection<S>,
+) -> Result<Desk<S>, (Refusal, Connection<S>)>
+    requires { conn.in_transaction ≡ false }
+    ensures state { IfOk result (λ desk. IsStateAt (state S.Store conn) (state S.Store desk.conn) (state_of desk)) }
+    ensures usable { IfOk result (λ desk. desk.is_usable ≡ true) }
+    ensures made { IfOk result (λ desk. IsClean (state S.Store desk.conn) → HasSchema (state S.Store conn) no_schema → HoldsState empty_state (state S.Store desk.conn).committed) }
+    ensures opened { IfOk result (λ desk. IsClean (state S.Store desk.conn) → HasSchema (state S.Store conn) schema_9 → (state S.Store desk.conn).committed ≡ (state S.Store conn).committed) }
+    ensures refused { IfErr result (λ e. IsOpeningRefusal e.0) }
+    ensures unchanged { IfErr result (λ e. IsClean (state S.Store e.1) → (state S.Store e.1).committed ≡ (state S.Store conn).committed) }
+{
+    if has_no_table(&conn) {
+        Desk::create(alloc, conn)
+    } else {
+        Desk::open(alloc, conn)
+    }
+}
+
+/// Loads the plan of a text, if it denotes one, into the desk of a database at a moment: the desk is made where the
+/// database has no table, else opened. The caller owes that no transaction is open.
+///
+/// The answer is the desk's, or the refusal of the one that could not be made or opened. The connection is given back.
+pub fn load_into<S: Alter + Drop>(
+    alloc: Global,
+    conn: Connection<S>,
+    at: i64,
+    draft: Option<PlanDraft>,
+) -> (Reply, Connection<S>)
+    requires { conn.in_transaction ≡ false }
+    ensures { IsAnswerToLoad (state S.Store conn) (state S.Store result.1) at draft (answer_of result.0) }
+{
+    let mut desk = match desk_of(alloc, conn) {
+        Ok(desk) => desk,
+        Err((refusal, conn)) => return (Reply::Refused(refusal), conn),
+    };
+    let reply = desk.call(&Request {
+        at,
+        what: What::Load(draft),
+    });
+    (reply, desk.close())
+}
