@@ -29,7 +29,7 @@ pub record Seen : Type 0 where
 
 -- what is seen of this desk
 abbrev pub seen : {S : Type 0} → DeskState S → Seen
-seen d = record { state = state_of d.plan; usable = usability d.is_usable }
+seen d = record { state = state_of d; usable = usability d.is_usable }
 
 -- the desk is called, and its answer is told
 abbrev pub TellsAnswer : Call → Seen → Told → Seen → Type 0

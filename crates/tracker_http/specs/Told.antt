@@ -1,5 +1,5 @@
 -- What a reply tells, its status and its bytes.
-use Rattle.std.specs.Prelude.{◌≡◌, ℕ, nat_lt, if◌then◌else◌, List, map}
+use Rattle.std.specs.Prelude.{ℕ, nat_lt, if◌then◌else◌, List, map}
 use Rattle.exchange_heads.specs.Replies.{reply}
 use Rattle.exchange_heads.specs.Statuses.{code_of}
 use Rattle.exchange_heads.specs.declared.statuses.Status.{Status}
