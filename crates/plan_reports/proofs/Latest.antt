@@ -1,5 +1,5 @@
 -- How a latest start is shown.
-use Rattle.std.proofs.Common.{◌≡◌, ℕ, ℤ, pos, negsuc, List, inl, inr, replicate, nat_lt, arith, ◌<◌, sym, ap, ◌∙◌, refl}
+use Rattle.std.proofs.Common.{◌≡◌, ℕ, ℤ, pos, negsuc, List, inl, inr, replicate, nat_lt, arith, sym, ap, ◌∙◌, refl}
 use Rattle.std.proofs.lemmas.Bool.{cond_both, ltb-true, ltb-false}
 use Rattle.plan_basics.specs.Minutes.{IsMoment, IsShownAs}
 use Rattle.plan_basics.specs.MomentTexts.{moment_text}

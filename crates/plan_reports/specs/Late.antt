@@ -1,5 +1,5 @@
 -- Which operations of a plan are late, and how they are listed.
-use Rattle.std.specs.Prelude.{◌≡◌, ◌↔◌, ◌&&◌, ℕ, ℤ, pos, ◌<ℤ◌, int_lt, Bool, List, map, Contains}
+use Rattle.std.specs.Prelude.{◌↔◌, ◌&&◌, ℕ, ℤ, pos, ◌<ℤ◌, int_lt, Bool, List, map, Contains}
 use Rattle.std.specs.List.Sorted.{IsStrictlySortedBy}
 use Rattle.std.specs.Ordering.{int_cmp, ordering_then}
 use Rattle.std.specs.declared.cmp.Ordering.{Ordering}

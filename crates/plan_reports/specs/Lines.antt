@@ -1,5 +1,5 @@
 -- How the lines of a report are laid out.
-use Rattle.std.specs.Prelude.{ℕ, ◌-◌, List, [], ◌∷◌, ◌++◌, map, length, replicate, flat_map, codes, decimal}
+use Rattle.std.specs.Prelude.{ℕ, ◌-◌, List, [], ◌∷◌, ◌++◌, length, replicate, flat_map, codes, decimal}
 use Rattle.plan_reports.specs.declared.lines.Field.{Field}
 use Rattle.plan_reports.specs.declared.lines.Field.TheVariants.{Left, Right, Word}
 

@@ -20,7 +20,11 @@ fn refused_before_a_plan_is_loaded(rt: HostRuntime) {
     let alloc = rt.alloc();
     let desk = empty_desk(alloc).expect(&rt, "a desk");
     for name in ["occurrences", "errors", "late", "CPU1"] {
-        assert_eq!(rt; refusal(alloc, &desk, name), Some(Refusal::NotLoaded), "{name}");
+        assert_eq!(rt;
+            refusal(alloc, &desk, name),
+            Some(Refusal::NotLoaded),
+            "{name}"
+        );
     }
 }
 
@@ -28,7 +32,10 @@ fn refused_before_a_plan_is_loaded(rt: HostRuntime) {
 fn refused_for_a_workstation(rt: HostRuntime) {
     let alloc = rt.alloc();
     let desk = desk_after(alloc, "21:00 load OPEN OLD | names -\n").expect(&rt, "a desk");
-    assert_eq!(rt; refusal(alloc, &desk, "CPU2"), Some(Refusal::UnknownWorkstation));
+    assert_eq!(rt;
+        refusal(alloc, &desk, "CPU2"),
+        Some(Refusal::UnknownWorkstation)
+    );
     assert_eq!(rt; refusal(alloc, &desk, "CPU1"), None);
 }
 
@@ -46,5 +53,8 @@ fn cut_at_twenty(alloc: Global, desk: &Desk<MemStore>, name: &str) -> Option<[u8
 fn cut_by_its_writer(rt: HostRuntime) {
     let alloc = rt.alloc();
     let desk = desk_after(alloc, "21:00 load OPEN OLD | names -\n").expect(&rt, "a desk");
-    assert_eq!(rt; cut_at_twenty(alloc, &desk, "CPU1"), Some(*b"READY CPU1 AT 2024-0"));
+    assert_eq!(rt;
+        cut_at_twenty(alloc, &desk, "CPU1"),
+        Some(*b"READY CPU1 AT 2024-0")
+    );
 }
