@@ -5,3 +5,5 @@ pub mod RowsWritten
 pub mod SameColumns
 pub mod Start
 pub mod PlanWritten
+pub mod ReceiptPut
+pub mod SameReceipts

@@ -85,7 +85,7 @@ rows_alike {held = held} same h =
 -- ---- a row is put in
 
 -- what is put in stands first, and behind it what was there of other keys
-puts_by_key : {X : Type 0} (key : ℕ) (row : X → Row) → ((x : X) → BeginsExactly key (row x)) → PutsByKey (BeginAlike key row) (with_value key row)
+pub puts_by_key : {X : Type 0} (key : ℕ) (row : X → Row) → ((x : X) → BeginsExactly key (row x)) → PutsByKey (BeginAlike key row) (with_value key row)
 puts_by_key key row exact x xs y =
     let rest = without_key_has key row (row x) xs y (exact x) (exact y) in (
       λ there. elim there [ inl own ↦ inl own | inr old ↦ inr (rest.0 old) ],

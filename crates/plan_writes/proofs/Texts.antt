@@ -2,7 +2,7 @@
 use Rattle.std.proofs.Common.{◌≡◌, true, refl}
 use Rattle.sqlite_resolve.specs.Compile.{first}
 use Rattle.sqlite_tied.specs.Compute.{everything}
-use Rattle.plan_schema.specs.declared.TheConstants.{CREATE_META, CREATE_WORKSTATION, CREATE_INTERVAL, CREATE_RESOURCE, CREATE_OCCURRENCE, CREATE_OPERATION, CREATE_DEPENDENCY, CREATE_NEED, CREATE_RECEIPT, PUT_META, PUT_RESOURCE, PUT_NEED, PUT_WORKSTATION, PUT_INTERVAL, PUT_OCCURRENCE, PUT_OPERATION, PUT_DEPENDENCY, DROP_INTERVAL}
+use Rattle.plan_schema.specs.declared.TheConstants.{CREATE_META, CREATE_WORKSTATION, CREATE_INTERVAL, CREATE_RESOURCE, CREATE_OCCURRENCE, CREATE_OPERATION, CREATE_DEPENDENCY, CREATE_NEED, CREATE_RECEIPT, PUT_META, PUT_RESOURCE, PUT_NEED, PUT_WORKSTATION, PUT_INTERVAL, PUT_OCCURRENCE, PUT_OPERATION, PUT_DEPENDENCY, PUT_RECEIPT, DROP_INTERVAL}
 use Rattle.plan_writes.proofs.Growth.{makes_table, reads_as, writes_rows}
 
 pub makes_meta : reads_as makes_table (first CREATE_META.now) ≡ true
@@ -72,6 +72,10 @@ writes_operation = refl
 pub writes_dependency : reads_as writes_rows (first PUT_DEPENDENCY.now) ≡ true
 unfolding first everything
 writes_dependency = refl
+
+pub writes_receipt : reads_as writes_rows (first PUT_RECEIPT.now) ≡ true
+unfolding first everything
+writes_receipt = refl
 
 pub drops_interval : reads_as writes_rows (first DROP_INTERVAL.now) ≡ true
 unfolding first everything

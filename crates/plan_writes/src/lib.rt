@@ -7,11 +7,14 @@ mod creation;
 mod creation_first;
 mod creation_second;
 mod creation_third;
+mod numbered;
 mod operation_rows;
+mod receipt_rows;
 mod resource_rows;
 mod rows;
 mod workstation_rows;
 
 pub use changes::write_changes;
 pub use creation::create_tables;
+pub use numbered::write_numbered;
 pub use rows::write_and_drop;

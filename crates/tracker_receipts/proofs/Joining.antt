@@ -17,7 +17,7 @@ use Rattle.tracker_receipts.proofs.Blanks.{IsNoBlank, in_key}
 some_text : (k : OpKey) → 0 < length (operation_text k)
 some_text k = omega (arith, length-append (occurrence_text k.occurrence ++ codes "/") (digits 3 k.number), length_push (occurrence_text k.occurrence) 47)
 
-some_joined : (k : OpKey) (ks : List OpKey) → 0 < length (joined (k ∷ ks))
+pub some_joined : (k : OpKey) (ks : List OpKey) → 0 < length (joined (k ∷ ks))
 some_joined k [] = some_text k
 some_joined k (l ∷ ks) = omega (arith, some_text k, length-append (operation_text k) (32 ∷ joined (l ∷ ks)))
 
@@ -53,7 +53,7 @@ no_blanks : (keys : List OpKey) → AllByRecursion IsOperationKey keys → AllBy
 no_blanks [] legal = tt
 no_blanks (k ∷ ks) legal = (in_key k legal.0, no_blanks ks legal.1)
 
-parts_are : (text : List ℕ) (keys : List OpKey) → Joins text keys → 0 < length text → parts text ≡ map operation_text keys
+pub parts_are : (text : List ℕ) (keys : List OpKey) → Joins text keys → 0 < length text → parts text ≡ map operation_text keys
 parts_are text [] joins some = let none : length text ≡ 0 = ap length joins.1 in absurd (omega (arith, none, some))
 parts_are text (k ∷ ks) joins some =
     ap parts joins.1 ∙ split_joined (operation_text k) (map operation_text ks) (no_blanks (k ∷ ks) (recursion_from_All IsOperationKey (k ∷ ks) joins.0))

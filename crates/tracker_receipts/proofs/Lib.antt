@@ -3,3 +3,4 @@ pub mod Joining
 pub mod Keeping
 pub mod Told
 pub mod Listing
+pub mod SameReceipt

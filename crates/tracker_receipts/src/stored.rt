@@ -5,10 +5,10 @@ ghost use Rattle.plan_basics.specs.Names.{IsName};
 ghost use Rattle.plan_items.specs.Parts.{IsReading};
 ghost use Rattle.plan_records.specs.Receipts.{AreReceipts};
 ghost use Rattle.plan_records.specs.Step.{Receipts as LastReceipts};
-ghost use Rattle.tracker_receipts.specs.Stored.{AreRowsOf, IsRequestText, IsRowOf};
+ghost use Rattle.tracker_receipts.specs.Stored.{AreRowsOf, IsRequestText, IsRowOf, columns_of};
 
 use super::kept::{Receipt, Receipts};
-use super::replies::keys_of_text;
+use super::replies::{keys_of_text, reply_text};
 use plan_basics::TrackerName;
 use plan_basics::limits::{GREATEST_REQUEST_NUMBER, LONGEST_REQUEST_TEXT};
 use std::alloc::{AllocError, Global};
@@ -43,6 +43,52 @@ impl ReceiptRow {
             text,
             reply,
         }
+    }
+
+    /// The row of a tracker's receipt: what is stored of it.
+    pub fn of_receipt(
+        alloc: Global,
+        tracker: &TrackerName,
+        receipt: &Receipt,
+    ) -> Result<ReceiptRow, AllocError>
+        requires { receipt.now.number ≤ GREATEST_REQUEST_NUMBER }
+        ensures { IfOk result (λ row. row ≡ columns_of tracker.now receipt.now) }
+    {
+        let reply = reply_text(alloc, receipt.named())?;
+        Ok(ReceiptRow::new(
+            Vec::from_slice(alloc, tracker.as_bytes())?,
+            receipt.number() as i64,
+            Vec::from_slice(alloc, receipt.text())?,
+            reply.into_bytes(),
+        ))
+    }
+
+    /// The tracker's name, as it is stored.
+    pub fn tracker_name(&self) -> &[u8]
+        ensures { result.now ≡ self.now.tracker }
+    {
+        &self.tracker
+    }
+
+    /// The request's number, as it is stored.
+    pub fn number(&self) -> i64
+        ensures { result ≡ self.now.number }
+    {
+        self.number
+    }
+
+    /// The request's text.
+    pub fn text(&self) -> &[u8]
+        ensures { result.now ≡ self.now.text }
+    {
+        &self.text
+    }
+
+    /// The keys that the reply named, as one text.
+    pub fn reply(&self) -> &[u8]
+        ensures { result.now ≡ self.now.reply }
+    {
+        &self.reply
     }
 
     // The tracker, where its name is legal.

@@ -1,5 +1,5 @@
 // A tracker's numbers, as many trackers as may be, and what rows and texts say: values from outside.
-use super::{Judged, ReceiptRow, Receipts, keys_of_text, receipts_of, reply_text};
+use super::{Judged, Receipt, ReceiptRow, Receipts, keys_of_text, receipts_of, reply_text};
 use plan_basics::{OpKey, Refusal, TrackerName};
 use std::alloc::{AllocError, Global};
 use std::process::Abort;
@@ -80,6 +80,23 @@ fn a_trackers_numbers(rt: HostRuntime) -> Result<(), Fail> {
     assert_eq!(rt; none.judge(&t1, 0, b"tick"), Judged::Refused(Refusal::Old));
     assert_eq!(rt; none.judge(&t1, 1, b"tick"), Judged::New);
     assert_eq!(rt; none.judge(&t1, 2, b"tick"), Judged::Refused(Refusal::Gap));
+    Ok(())
+}
+
+#[test]
+fn what_is_stored_of_a_receipt(rt: HostRuntime) -> Result<(), Fail> {
+    let alloc = rt.alloc();
+    let mut named = Vec::new(alloc);
+    named.push(key(&rt, "PAYROLL/2024-03-01T22:00/020"))?;
+    let receipt = Receipt::new(4, Vec::from_slice(alloc, b"ended 10")?, named);
+    let row = ReceiptRow::of_receipt(alloc, &tracker(&rt, "T1"), &receipt)?;
+    assert!(rt; row.tracker_name() == b"T1".as_slice(), "the tracker");
+    assert_eq!(rt; row.number(), 4);
+    assert!(rt; row.text() == b"ended 10".as_slice(), "the text");
+    assert!(rt;
+        row.reply() == b"PAYROLL/2024-03-01T22:00/020".as_slice(),
+        "the keys"
+    );
     Ok(())
 }
 
