@@ -1,0 +1,3 @@
+mod Rooms
+mod Receipts
+pub mod Prepared

@@ -1,0 +1,43 @@
+use Rattle.std.proofs.Common.{rules, ◌≡◌, ◌⊎◌, inl, inr, refl, sym, ap, ◌∙◌, true≢false}
+use Rattle.plan_basics.specs.declared.Refusal.TheVariants as refusal
+use Rattle.plan_records.specs.Answer.{refused}
+use Rattle.plan_records.specs.Step.{HasReceiptRoom, Numbered, NumberedMayBeAccepted, StepBy}
+use Rattle.tracker_receipts.specs.Judging.{numbered_by}
+use Rattle.numbered_steps.proofs.Prepared.{step_is}
+use Rattle.numbered_steps.proofs.Rooms.{refused_with_room}
+use Rattle.numbered_steps.proofs.preparing.prepare_new.Goals as goal
+use Rattle.numbered_steps.specs.Steps.{receipt_of}
+use Rattle.numbered_steps.specs.declared.steps.NumberedStep.{NumberedStep}
+
+pub returns-then-not-has_room-clause-refused : goal.returns-then-not-has_room-clause-refused
+returns-then-not-has_room-clause-refused c =
+    let q = c.args.request.now in
+    let n : Numbered = numbered_by c.args.tracker.now c.args.number c.args.text.now q in
+    let full : ¬ HasReceiptRoom c.args.receipts.now n = λ room. true≢false (sym ((c.if-not-has_room.ensures q).1 room)) in
+    elim c.refused_without_room.ensures.least [
+      | inl memory ↦ inl memory
+      | inr least ↦ inr (record { least = least c.args.receipts.now n refl full; is_after = refl })
+    ]
+
+pub returns-in_err-prepared-clause-refused : goal.returns-in_err-prepared-clause-refused
+returns-in_err-prepared-clause-refused c =
+    let P = c.args.plan.now.plan in
+    let T = c.args.receipts.now in
+    let q = c.args.request.now in
+    let n : Numbered = numbered_by c.args.tracker.now c.args.number c.args.text.now q in
+    let room : HasReceiptRoom T n = (c.if-not-has_room.ensures q).0 refl in
+    let r = c.in_err-prepared.field-0.0 in
+    let told : (r ≡ refusal.Memory) ⊎ StepBy (NumberedMayBeAccepted P T n) P q (refused r) P =
+    elim c.in_err-prepared.ensures.refused [ inl memory ↦ inl memory | inr step ↦ inr (refused_with_room P T n room r step) ] in
+    search rules
+
+pub kept-requires : goal.kept-requires
+kept-requires c = ((c.if-not-has_room.ensures c.args.request.now).0 refl).2
+
+pub returns-clause-step : goal.returns-clause-step
+returns-clause-step c =
+    let q = c.args.request.now in
+    let n : Numbered = numbered_by c.args.tracker.now c.args.number c.args.text.now q in
+    let p : NumberedStep = record { tracker = c.args.tracker.now; prepared = c.in_ok-prepared.prepared; receipt = c.in_ok-receipt.receipt; row = c.in_ok-receipt.row } in
+    step_is c.args.plan.now c.args.receipts.now n p c.look_at.ensures.sound (c.look_at.ensures.legal c.args.number q) c.requires ((c.if-not-has_room.ensures q).0 refl)
+    c.in_ok-prepared.ensures.step c.in_ok-prepared.ensures.changes refl (c.in_ok-receipt.ensures.receipt ∙ ap (receipt_of n) c.named.ensures) c.in_ok-receipt.ensures.row
