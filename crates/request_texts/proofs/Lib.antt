@@ -1,0 +1,10 @@
+pub mod Texts
+pub mod Said
+pub mod Beside
+pub mod Fives
+pub mod Parts
+pub mod Counts
+pub mod Written
+pub mod OnOperation
+pub mod Wholes
+pub mod Exactly

@@ -1,0 +1,5 @@
+pub mod Members
+pub mod Intervals
+pub mod Requests
+pub mod Counted
+pub mod Replies
