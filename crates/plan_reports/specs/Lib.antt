@@ -1,0 +1,5 @@
+pub mod Lines
+pub mod Columns
+pub mod Texts
+pub mod Late
+pub mod Reports

@@ -1,0 +1,12 @@
+//! The reports of a desk: what is ready on a workstation, all occurrences, the operations in error, and those that are
+//! late, each as lines of text.
+#![tactic(auto)]
+
+mod late;
+mod lines;
+mod made;
+mod reports;
+mod rows;
+mod texts;
+
+pub use reports::{ReportFault, error_report, late_report, occurrence_report, ready_report};

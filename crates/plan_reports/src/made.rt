@@ -1,0 +1,102 @@
+// The text of each report of a desk, or why there is none.
+ghost use Rattle.std.specs.Prelude.{◌≡◌, IfErr, IfOk, None, Some};
+ghost use Rattle.plan_basics.specs.declared.Refusal.{Refusal};
+ghost use Rattle.plan_tables.specs.Errors.{AreErrorRows};
+ghost use Rattle.plan_reports.specs.Reports.{IsErrorReport, IsLateReport, IsOccurrenceReport, IsOwed, IsReadyReport, ready_refusal_of, refusal_of};
+
+use super::late::late_views;
+use super::texts::{errors_text, late_text, occurrences_text, ready_text};
+use plan_basics::{Refusal, WsName};
+use plan_core::{OccView, OpView, Plan};
+use plan_tables::{Desk, ErrorRow};
+use sqlite::Alter;
+use std::alloc::Global;
+
+// The plan of a desk, if there is one to report of.
+fn loaded_plan<S: Alter + Drop>(desk: &Desk<S>) -> Result<&Plan, Refusal>
+    ensures plan { IfOk result (λ plan. plan.now.plan ≡ desk.now.plan) }
+    ensures none_owed { IfOk result (λ plan. refusal_of desk.now.is_usable desk.now.plan ≡ None) }
+    ensures refused { IfErr result (λ r. refusal_of desk.now.is_usable desk.now.plan ≡ Some r) }
+{
+    if !desk.is_usable() {
+        return Err(Refusal::Reopen);
+    }
+    let plan = desk.plan();
+    if !plan.is_loaded() {
+        return Err(Refusal::NotLoaded);
+    }
+    Ok(plan)
+}
+
+/// What is ready on a workstation. Refused as the desk owes it, or else as `Memory`.
+pub(crate) fn ready_made<S: Alter + Drop>(
+    alloc: Global,
+    desk: &Desk<S>,
+    workstation: &WsName,
+) -> Result<Vec<u8>, Refusal>
+    ensures text { IfOk result (λ text. IsReadyReport desk.now.plan workstation.now text.items) }
+    ensures none_owed { IfOk result (λ text. ready_refusal_of desk.now.is_usable desk.now.plan workstation.now ≡ None) }
+    ensures refused { IfErr result (IsOwed (ready_refusal_of desk.now.is_usable desk.now.plan workstation.now)) }
+{
+    let plan = loaded_plan(desk)?;
+    let Some(ready) = plan.ready(workstation) else {
+        return Err(Refusal::UnknownWorkstation);
+    };
+    let views: Vec<OpView> = ready.collect(alloc)?;
+    Ok(ready_text(alloc, workstation, plan.clock(), &views)?)
+}
+
+/// All occurrences. Refused as the desk owes it, or else as `Memory`.
+pub(crate) fn occurrences_made<S: Alter + Drop>(
+    alloc: Global,
+    desk: &Desk<S>,
+) -> Result<Vec<u8>, Refusal>
+    ensures text { IfOk result (λ text. IsOccurrenceReport desk.now.plan text.items) }
+    ensures none_owed { IfOk result (λ text. refusal_of desk.now.is_usable desk.now.plan ≡ None) }
+    ensures refused { IfErr result (IsOwed (refusal_of desk.now.is_usable desk.now.plan)) }
+{
+    let plan = loaded_plan(desk)?;
+    let views: Vec<OccView> = plan.occs().collect(alloc)?;
+    Ok(occurrences_text(alloc, plan.clock(), &views)?)
+}
+
+// The operations in error. Refused as `Reopen` where the desk is to be opened again, or else as `Memory`.
+fn error_rows<S: Alter + Drop>(alloc: Global, desk: &Desk<S>) -> Result<Vec<ErrorRow>, Refusal>
+    requires { refusal_of desk.now.is_usable desk.now.plan ≡ None }
+    ensures rows { IfOk result (λ rows. AreErrorRows desk.now.plan.contents rows.items) }
+    ensures refused { IfErr result (λ r. r ≡ Refusal.Memory) }
+{
+    let mut left = desk.errors()?;
+    let mut rows = Vec::new(alloc);
+    while let Some(row) = left.next()? {
+        if rows.push(row).is_err() {
+            return Err(Refusal::Memory);
+        }
+    }
+    Ok(rows)
+}
+
+/// The operations in error. Refused as the desk owes it, or else as `Memory`.
+pub(crate) fn errors_made<S: Alter + Drop>(
+    alloc: Global,
+    desk: &Desk<S>,
+) -> Result<Vec<u8>, Refusal>
+    ensures text { IfOk result (λ text. IsErrorReport desk.now.plan text.items) }
+    ensures none_owed { IfOk result (λ text. refusal_of desk.now.is_usable desk.now.plan ≡ None) }
+    ensures refused { IfErr result (IsOwed (refusal_of desk.now.is_usable desk.now.plan)) }
+{
+    let plan = loaded_plan(desk)?;
+    let rows = error_rows(alloc, desk)?;
+    Ok(errors_text(alloc, plan.clock(), &rows)?)
+}
+
+/// The operations that are late. Refused as the desk owes it, or else as `Memory`.
+pub(crate) fn late_made<S: Alter + Drop>(alloc: Global, desk: &Desk<S>) -> Result<Vec<u8>, Refusal>
+    ensures text { IfOk result (λ text. IsLateReport desk.now.plan text.items) }
+    ensures none_owed { IfOk result (λ text. refusal_of desk.now.is_usable desk.now.plan ≡ None) }
+    ensures refused { IfErr result (IsOwed (refusal_of desk.now.is_usable desk.now.plan)) }
+{
+    let plan = loaded_plan(desk)?;
+    let views = late_views(alloc, plan)?;
+    Ok(late_text(alloc, plan.clock(), &views)?)
+}
