@@ -7,6 +7,3 @@ mod steps;
 
 pub use preparing::prepare_numbered;
 pub use steps::{NumberedStep, Outcome};
-
-#[cfg(test)]
-mod tests;

@@ -19,12 +19,12 @@ use plan_records::Request;
 use std::alloc::{AllocError, Global};
 use tracker_receipts::{Judged, Receipt, ReceiptRow, Receipts};
 
-/// What a tracker's request of this number, read from this text, leads to, if it isn't refused: by its number and its text
-/// it is told at first, whatever it asks, and a new one is prepared over the plan, with its receipt. All memory is taken
+/// What a tracker's request of this number, read from this text, leads to, if it isn't refused: at first it is told by
+/// its number and its text, whatever it asks; a new one is prepared over the plan, with its receipt. All memory is taken
 /// here, and the plan stays as it is.
 ///
-/// It is refused as `Old`, `Gap` or `Reused` by its number and its text; a new one for the least number that applies, which
-/// is `Limit` too where there is no room for its receipt; and as `Memory` for want of memory.
+/// It is refused as `Old`, `Gap` or `Reused` by its number and its text; a new one for the least number that applies,
+/// where `Limit` applies too if there is no room for its receipt; and as `Memory` for want of memory.
 pub fn prepare_numbered(
     alloc: Global,
     plan: &mut Plan,
@@ -80,7 +80,8 @@ fn prepare_new(
     })
 }
 
-// The plan, the tracker's name and the text are looked at for the proof alone, which learns that they are sound and legal.
+// The plan, the tracker's name and the text are looked at for the proof alone, which learns that they are sound and
+// legal.
 fn look_at(plan: &Plan, tracker: &TrackerName, text: &[u8])
     ensures sound { IsSoundPlan plan.now.plan }
     ensures legal { (number : ℕ) → (q : Request) → IsNumbered (numbered_by tracker.now number text.now q) }
@@ -90,7 +91,7 @@ fn look_at(plan: &Plan, tracker: &TrackerName, text: &[u8])
     let _ = text.len();
 }
 
-// What a request is refused for where there is no room for its receipt: for a lower number that applies, else as `Limit`.
+// What a request is refused for where there is no room for its receipt: a lower number that applies, else `Limit`.
 fn refused_without_room(plan: &mut Plan, request: &Request) -> Refusal
     ensures unchanged { plan.new ≡ plan.old }
     ensures least { (result ≡ Refusal.Memory) ⊎ ((T : LastReceipts) → (n : Numbered) → n.request ≡ request.now → ¬ HasReceiptRoom T n → IsLeastRefusal (NumberedMayBeAccepted plan.old.plan T n) result) }

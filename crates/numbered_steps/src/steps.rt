@@ -8,7 +8,8 @@ use plan_basics::{OpKey, TrackerName};
 use plan_core::{Plan, Prepared};
 use tracker_receipts::{Receipt, ReceiptRow, Receipts};
 
-/// A tracker's new request that is accepted, with all that it takes: its step of the plan, its receipt, and the row of that.
+/// A tracker's new request that is accepted, with all that it takes: its step of the plan, its receipt, and the row of
+/// that.
 #[derive(Drop)]
 pub struct NumberedStep {
     /// Who asks.
@@ -31,8 +32,8 @@ pub enum Outcome {
 }
 
 impl NumberedStep {
-    /// Takes the step that was prepared for this plan and these receipts, and gives the operations that are named to start,
-    /// in order. It takes no memory.
+    /// Takes the step that was prepared for this plan and these receipts, and gives the operations that are named to
+    /// start, in order. It takes no memory.
     pub fn apply(self, plan: &mut Plan, receipts: &mut Receipts) -> Vec<OpKey>
         requires { (n : Numbered) × IsNumberedStepFor plan.old receipts.old n self }
         ensures plan { plan.new.plan ≡ self.prepared.plan }

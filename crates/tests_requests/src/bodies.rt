@@ -1,24 +1,46 @@
-// Bodies of JSON, made of the members that a test tells.
+// Bodies of JSON, and what they are read as.
 use plan_basics::OpKey;
+use plan_records::Request;
 use request_texts::{WireFault, read_operator, read_report};
 use std::alloc::{AllocError, Global};
+use std::process::Abort;
 
-/// The text of an object with these members and `at`.
-pub fn object(alloc: Global, members: &str) -> Result<String, AllocError> {
-    format!(in alloc; "{{\"at\":\"2024-03-01T22:00\",{members}}}")
+/// What stands before and after the members that a test tells: an object with `at`.
+pub const OBJECT: (&str, &str) = ("{\"at\":\"2024-03-01T22:00\",", "}");
+
+/// Nothing stands around a body that is told whole.
+pub const WHOLE: (&str, &str) = ("", "");
+
+/// Each part makes a request of an operator with what stands around it, or none does.
+pub fn each_asks(
+    rt: &impl Abort,
+    alloc: Global,
+    around: (&str, &str),
+    parts: &[&str],
+    expected: bool,
+) {
+    let (before, after) = around;
+    for part in parts {
+        let body = format!(in alloc; "{before}{part}{after}").expect(rt, "memory");
+        let found = is_request(alloc, body.as_bytes()).expect(rt, "memory");
+        assert!(rt; found == expected, "{part}");
+    }
 }
 
-/// The text of an object whose `at` is first so many arrays, one in the other, and then a time.
-pub fn nested(alloc: Global, arrays: usize) -> Result<String, AllocError> {
-    let mut text = String::from_str(alloc, "{\"at\":")?;
-    for _ in 0..arrays {
-        text.push('[')?;
+/// Each part makes a report of a tracker with what stands around it, or none does.
+pub fn each_reports(
+    rt: &impl Abort,
+    alloc: Global,
+    around: (&str, &str),
+    parts: &[&str],
+    expected: bool,
+) {
+    let (before, after) = around;
+    for part in parts {
+        let body = format!(in alloc; "{before}{part}{after}").expect(rt, "memory");
+        let found = is_report(alloc, body.as_bytes()).expect(rt, "memory");
+        assert!(rt; found == expected, "{part}");
     }
-    for _ in 0..arrays {
-        text.push(']')?;
-    }
-    text.push_str(",\"at\":\"2024-03-01T22:00\",\"do\":\"tick\"}")?;
-    Ok(text)
 }
 
 /// Whether a body is a request of an operator.
@@ -26,9 +48,24 @@ pub fn is_request(alloc: Global, body: &[u8]) -> Result<bool, WireFault> {
     Ok(read_operator(alloc, body)?.is_some())
 }
 
-/// Whether a body is a report of a tracker.
-pub fn is_report(alloc: Global, body: &[u8]) -> Result<bool, WireFault> {
+// Whether a body is a report of a tracker.
+fn is_report(alloc: Global, body: &[u8]) -> Result<bool, WireFault> {
     Ok(read_report(alloc, body)?.is_some())
+}
+
+/// The request of an operator that a body is.
+pub fn asked(rt: &impl Abort, alloc: Global, body: &str) -> Request {
+    let found = read_operator(alloc, body.as_bytes()).expect(rt, "memory");
+    found.expect(rt, "a request")
+}
+
+/// The text of an object whose `at` is first so many arrays, one in the other, and then a time.
+pub fn nested(alloc: Global, arrays: usize) -> Result<String, AllocError> {
+    let mut text = String::from_str(alloc, "{\"at\":")?;
+    text.push_str(&"[".repeat(alloc, arrays)?)?;
+    text.push_str(&"]".repeat(alloc, arrays)?)?;
+    text.push_str(",\"at\":\"2024-03-01T22:00\",\"do\":\"tick\"}")?;
+    Ok(text)
 }
 
 /// Whether an operation has this key.

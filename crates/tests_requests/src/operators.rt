@@ -1,7 +1,6 @@
 // What an operator may ask, as JSON.
-use super::bodies::{is_named, is_report, is_request, nested, object};
+use super::bodies::{OBJECT, WHOLE, asked, each_asks, each_reports, is_named, is_request, nested};
 use plan_records::{Request, What};
-use request_texts::read_operator;
 use std::test::Fail;
 
 // The members beside `at`, once for each `do`.
@@ -27,13 +26,9 @@ const REQUESTS: [&str; 18] = [
 ];
 
 #[test]
-fn each_do_is_a_request(rt: HostRuntime) -> Result<(), Fail> {
-    for members in REQUESTS {
-        let body = object(rt.alloc(), members)?;
-        assert!(rt; is_request(rt.alloc(), body.as_bytes())?, "{members}");
-        assert!(rt; !is_report(rt.alloc(), body.as_bytes())?, "{members}");
-    }
-    Ok(())
+fn each_do_is_a_request(rt: HostRuntime) {
+    each_asks(&rt, rt.alloc(), OBJECT, &REQUESTS, true);
+    each_reports(&rt, rt.alloc(), OBJECT, &REQUESTS, false);
 }
 
 // Members beside `at` that make no request.
@@ -61,13 +56,15 @@ const NO_REQUESTS: [&str; 20] = [
 ];
 
 #[test]
-fn other_members_make_no_request(rt: HostRuntime) -> Result<(), Fail> {
-    for members in NO_REQUESTS {
-        let body = object(rt.alloc(), members)?;
-        assert!(rt; !is_request(rt.alloc(), body.as_bytes())?, "{members}");
-    }
-    Ok(())
+fn other_members_make_no_request(rt: HostRuntime) {
+    each_asks(&rt, rt.alloc(), OBJECT, &NO_REQUESTS, false);
 }
+
+// What stands around the key of an operation that is held.
+const HOLD: (&str, &str) = (
+    "{\"at\":\"2024-03-01T22:00\",\"do\":\"hold\",\"op\":\"",
+    "\"}",
+);
 
 // Texts that are no key of an operation.
 const NO_KEYS: [&str; 12] = [
@@ -86,14 +83,15 @@ const NO_KEYS: [&str; 12] = [
 ];
 
 #[test]
-fn other_keys_make_no_request(rt: HostRuntime) -> Result<(), Fail> {
-    for key in NO_KEYS {
-        let members = format!(in rt.alloc(); "\"do\":\"hold\",\"op\":\"{key}\"")?;
-        let body = object(rt.alloc(), &members)?;
-        assert!(rt; !is_request(rt.alloc(), body.as_bytes())?, "{key}");
-    }
-    Ok(())
+fn other_keys_make_no_request(rt: HostRuntime) {
+    each_asks(&rt, rt.alloc(), HOLD, &NO_KEYS, false);
 }
+
+// What stands around the one interval that a workstation gets.
+const INTERVALS: (&str, &str) = (
+    "{\"at\":\"2024-03-01T22:00\",\"do\":\"intervals\",\"ws\":\"CPU1\",\"intervals\":[",
+    "]}",
+);
 
 // Values that are no interval.
 const NO_INTERVALS: [&str; 13] = [
@@ -113,15 +111,8 @@ const NO_INTERVALS: [&str; 13] = [
 ];
 
 #[test]
-fn other_intervals_make_no_request(rt: HostRuntime) -> Result<(), Fail> {
-    for interval in NO_INTERVALS {
-        let members = format!(in rt.alloc();
-            "\"do\":\"intervals\",\"ws\":\"CPU1\",\"intervals\":[{interval}]"
-        )?;
-        let body = object(rt.alloc(), &members)?;
-        assert!(rt; !is_request(rt.alloc(), body.as_bytes())?, "{interval}");
-    }
-    Ok(())
+fn other_intervals_make_no_request(rt: HostRuntime) {
+    each_asks(&rt, rt.alloc(), INTERVALS, &NO_INTERVALS, false);
 }
 
 // Requests in another spelling: with blanks, in another order, with escapes, with a member twice, at any time.
@@ -135,10 +126,12 @@ const SPELLINGS: [&str; 6] = [
 ];
 
 #[test]
-fn spelling_is_free(rt: HostRuntime) -> Result<(), Fail> {
-    for body in SPELLINGS {
-        assert!(rt; is_request(rt.alloc(), body.as_bytes())?, "{body}");
-    }
+fn spelling_is_free(rt: HostRuntime) {
+    each_asks(&rt, rt.alloc(), WHOLE, &SPELLINGS, true);
+}
+
+#[test]
+fn what_is_nested_too_deep_is_no_request(rt: HostRuntime) -> Result<(), Fail> {
     let deep = nested(rt.alloc(), 126)?;
     assert!(rt; is_request(rt.alloc(), deep.as_bytes())?);
     let deeper = nested(rt.alloc(), 127)?;
@@ -147,30 +140,33 @@ fn spelling_is_free(rt: HostRuntime) -> Result<(), Fail> {
 }
 
 // Bodies that are no JSON, or no object, or that have no time.
-const OTHERS: [&[u8]; 16] = [
-    b"",
-    b"\xef\xbb\xbf{\"at\":\"2024-03-01T22:00\",\"do\":\"tick\"}",
-    b"{\"at\":\"2024-03-01T22:00\",\"do\":\"tick\"}x",
-    b"{\"at\":\"2024-03-01T22:00\",\"do\":\"tick\"}\x0c",
-    b"{\"at\":\"2024-03-01T22:00\",\"do\":\"tick\"",
-    b"{\"at\":\"2024-03-01T22:00\",\"do\":\"tick\",}",
-    b"{\"at\":1e400,\"at\":\"2024-03-01T22:00\",\"do\":\"tick\"}",
-    b"{\"at\":01,\"at\":\"2024-03-01T22:00\",\"do\":\"tick\"}",
-    b"{\"at\":\"\xff\",\"at\":\"2024-03-01T22:00\",\"do\":\"tick\"}",
-    b"{\"at\":\"\\ud800\",\"at\":\"2024-03-01T22:00\",\"do\":\"tick\"}",
-    b"[{\"at\":\"2024-03-01T22:00\",\"do\":\"tick\"}]",
-    b"[\"at\",\"do\"]",
-    b"{\"do\":\"tick\"}",
-    b"{\"at\":1,\"do\":\"tick\"}",
-    b"{\"at\":\"2024-02-30T22:00\",\"do\":\"tick\"}",
-    b"{\"at\":\"2024-03-01T24:00\",\"do\":\"tick\"}",
+const OTHERS: [&str; 15] = [
+    "",
+    "\u{feff}{\"at\":\"2024-03-01T22:00\",\"do\":\"tick\"}",
+    "{\"at\":\"2024-03-01T22:00\",\"do\":\"tick\"}x",
+    "{\"at\":\"2024-03-01T22:00\",\"do\":\"tick\"}\u{c}",
+    r#"{"at":"2024-03-01T22:00","do":"tick""#,
+    r#"{"at":"2024-03-01T22:00","do":"tick",}"#,
+    r#"{"at":1e400,"at":"2024-03-01T22:00","do":"tick"}"#,
+    r#"{"at":01,"at":"2024-03-01T22:00","do":"tick"}"#,
+    r#"{"at":"\ud800","at":"2024-03-01T22:00","do":"tick"}"#,
+    r#"[{"at":"2024-03-01T22:00","do":"tick"}]"#,
+    r#"["at","do"]"#,
+    r#"{"do":"tick"}"#,
+    r#"{"at":1,"do":"tick"}"#,
+    r#"{"at":"2024-02-30T22:00","do":"tick"}"#,
+    r#"{"at":"2024-03-01T24:00","do":"tick"}"#,
 ];
 
 #[test]
 fn other_bodies_are_no_requests(rt: HostRuntime) -> Result<(), Fail> {
-    for (place, body) in OTHERS.iter().enumerate() {
-        assert!(rt; !is_request(rt.alloc(), body)?, "{place}");
-    }
+    each_asks(&rt, rt.alloc(), WHOLE, &OTHERS, false);
+    assert!(rt;
+        !is_request(
+            rt.alloc(),
+            b"{\"at\":\"\xff\",\"at\":\"2024-03-01T22:00\",\"do\":\"tick\"}"
+        )?
+    );
     assert!(rt; !is_request(rt.alloc(), &[b'['; 200])?);
     Ok(())
 }
@@ -186,12 +182,10 @@ fn adds_from_40_to_5(request: &Request) -> bool {
 }
 
 #[test]
-fn dependency_goes_from_from_to_to(rt: HostRuntime) -> Result<(), Fail> {
+fn dependency_goes_from_from_to_to(rt: HostRuntime) {
     let body =
         r#"{"at":"1971-12-31T23:59","do":"depend","to":"A/1972-01-01T00:00/005","from":"A/1972-01-01T00:00/040"}"#;
-    let request = read_operator(rt.alloc(), body.as_bytes())?.ok_or("none")?;
-    assert!(rt; adds_from_40_to_5(&request));
-    Ok(())
+    assert!(rt; adds_from_40_to_5(&asked(&rt, rt.alloc(), body)));
 }
 
 // Whether a request gives CPU1 the one interval of the night, with one server, 3 of R1 and nothing of R2.
@@ -208,10 +202,8 @@ fn gives_the_night(request: &Request) -> bool {
 }
 
 #[test]
-fn interval_has_servers_r1_and_r2(rt: HostRuntime) -> Result<(), Fail> {
+fn interval_has_servers_r1_and_r2(rt: HostRuntime) {
     let body =
         r#"{"at":"2024-03-01T22:05","do":"intervals","ws":"CPU1","intervals":[["2024-03-01T22:00","2024-03-02T06:00",1,3,0]]}"#;
-    let request = read_operator(rt.alloc(), body.as_bytes())?.ok_or("none")?;
-    assert!(rt; gives_the_night(&request));
-    Ok(())
+    assert!(rt; gives_the_night(&asked(&rt, rt.alloc(), body)));
 }

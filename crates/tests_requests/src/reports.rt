@@ -1,8 +1,14 @@
 // What a tracker may report, as JSON.
-use super::bodies::{is_named, is_report, is_request, object};
+use super::bodies::{each_asks, each_reports, is_named};
 use plan_records::What;
 use request_texts::{NumberedRequest, read_report};
 use std::test::Fail;
+
+// What stands around the members of a first report.
+const FIRST: (&str, &str) = (
+    "{\"at\":\"2024-03-01T22:00\",\"tracker\":\"T1\",\"number\":1,",
+    "}",
+);
 
 // The members beside `at`, `tracker` and `number` that a report may have.
 const REPORTS: [&str; 5] = [
@@ -25,25 +31,21 @@ const COMMANDS: [&str; 7] = [
 ];
 
 #[test]
-fn five_are_reports(rt: HostRuntime) -> Result<(), Fail> {
-    for report in REPORTS {
-        let members = format!(in rt.alloc(); "\"tracker\":\"T1\",\"number\":1,{report}")?;
-        let body = object(rt.alloc(), &members)?;
-        assert!(rt; is_report(rt.alloc(), body.as_bytes())?, "{report}");
-        assert!(rt; !is_request(rt.alloc(), body.as_bytes())?, "{report}");
-    }
-    Ok(())
+fn five_are_reports(rt: HostRuntime) {
+    each_reports(&rt, rt.alloc(), FIRST, &REPORTS, true);
+    each_asks(&rt, rt.alloc(), FIRST, &REPORTS, false);
 }
 
 #[test]
-fn commands_are_no_reports(rt: HostRuntime) -> Result<(), Fail> {
-    for command in COMMANDS {
-        let members = format!(in rt.alloc(); "\"tracker\":\"T1\",\"number\":1,{command}")?;
-        let body = object(rt.alloc(), &members)?;
-        assert!(rt; !is_report(rt.alloc(), body.as_bytes())?, "{command}");
-    }
-    Ok(())
+fn commands_are_no_reports(rt: HostRuntime) {
+    each_reports(&rt, rt.alloc(), FIRST, &COMMANDS, false);
 }
+
+// What stands around tracker and number of a report.
+const ENDED: (&str, &str) = (
+    "{",
+    ",\"at\":\"2024-03-01T22:00\",\"do\":\"ended\",\"op\":\"A/1972-01-01T00:00/001\"}",
+);
 
 // The tracker and the number of a report.
 const NUMBERED: [&str; 4] = [
@@ -73,27 +75,13 @@ const NOT_NUMBERED: [&str; 15] = [
 ];
 
 #[test]
-fn reports_have_tracker_and_number(rt: HostRuntime) -> Result<(), Fail> {
-    for numbered in NUMBERED {
-        let members = format!(in rt.alloc();
-            "{numbered},\"do\":\"ended\",\"op\":\"A/1972-01-01T00:00/001\""
-        )?;
-        let body = object(rt.alloc(), &members)?;
-        assert!(rt; is_report(rt.alloc(), body.as_bytes())?, "{numbered}");
-    }
-    Ok(())
+fn reports_have_tracker_and_number(rt: HostRuntime) {
+    each_reports(&rt, rt.alloc(), ENDED, &NUMBERED, true);
 }
 
 #[test]
-fn others_are_no_reports(rt: HostRuntime) -> Result<(), Fail> {
-    for numbered in NOT_NUMBERED {
-        let members = format!(in rt.alloc();
-            "{numbered},\"do\":\"ended\",\"op\":\"A/1972-01-01T00:00/001\""
-        )?;
-        let body = object(rt.alloc(), &members)?;
-        assert!(rt; !is_report(rt.alloc(), body.as_bytes())?, "{numbered}");
-    }
-    Ok(())
+fn others_are_no_reports(rt: HostRuntime) {
+    each_reports(&rt, rt.alloc(), ENDED, &NOT_NUMBERED, false);
 }
 
 // Whether it is the first report of T1, that PAYROLL's 5 is started.
