@@ -1,5 +1,7 @@
 -- What the rows tell that the tables hold: the plan and the receipts whose rows they are, or that there are none.
-use Rattle.std.proofs.Common.{◌≡◌, refl, sym, subst, arith, ◌∙◌, Bool, false, List, [], ◌∷◌, Some}
+use Rattle.std.proofs.Common.{◌≡◌, refl, sym, ap, subst, arith, eqb, ◌∙◌, Bool, true, false, List, [], ◌∷◌, length, Some}
+use Rattle.std.proofs.lemmas.Bool.{eqb-false, eqb-true}
+use Rattle.std.proofs.lemmas.List.{nil_from_length}
 use Rattle.std.proofs.lemmas.Option.{none-some}
 use Rattle.std.specs.FinMap as map
 use Rattle.sqlite.specs.Effect.{Database}
@@ -50,6 +52,13 @@ none_stand loaded T rows none no_row = (
   }),
 )
 
+-- what the test of a list's length tells of its rows
+pub no_row_by_test : (rows : List Columns) → true ≡ eqb (length rows) 0 → rows ≡ []
+no_row_by_test rows e = let none = eqb-true (length rows) 0 (sym e) in nil_from_length rows (omega (arith, none))
+
+pub rows_by_test : (rows : List Columns) → false ≡ eqb (length rows) 0 → ¬ (rows ≡ [])
+rows_by_test rows e none = eqb-false (length rows) 0 (sym e) (ap length none)
+
 -- before a plan is loaded no well formed receipts have rows
 pub none_before_load : (loaded : Bool) (rows : List Columns) → loaded ≡ false → ¬ (rows ≡ []) → (T : Receipts) → AreReceipts loaded T → ¬ AreRowsOf T rows
 none_before_load loaded rows not_loaded some T legal are = some (rows_of_none T rows (legal.before_load not_loaded) are)
@@ -64,10 +73,10 @@ pub no_plan_of : (rows : List PlanRow) (receipts : List Columns) → AreOfNoPlan
 no_plan_of rows receipts none s is = none s.plan (record { sound = is.legal.0; are_rows = is.are_rows })
 
 -- nor where no well formed receipts beside their plan have the others
-pub no_receipts_of : (P : Plan) (rows : List PlanRow) (receipts : List Columns) → IsPlanOf rows P → ((T : Receipts) → AreReceipts P.loaded T → ¬ AreRowsOf T receipts) → AreOfNoState rows receipts
-no_receipts_of P rows receipts plan none s is =
+pub no_receipts_of : (P : Plan) (loaded : Bool) (rows : List PlanRow) (receipts : List Columns) → loaded ≡ P.loaded → IsPlanOf rows P → ((T : Receipts) → AreReceipts loaded T → ¬ AreRowsOf T receipts) → AreOfNoState rows receipts
+no_receipts_of P loaded rows receipts same plan none s is =
     let meta = (is.are_rows.has_all (row.Meta 1 P.loaded P.clock)).0 ((plan.are_rows.has_all (row.Meta 1 P.loaded P.clock)).1 (refl, refl, refl)) in
-    none s.receipts (subst (λ b. AreReceipts b s.receipts) (sym meta.1) is.legal.1) is.are_receipts
+    none s.receipts (subst (λ b. AreReceipts b s.receipts) (sym (same ∙ meta.1)) is.legal.1) is.are_receipts
 
 -- ---- the tables
 
