@@ -1,5 +1,5 @@
 -- What a call is answered at the desk, by how it ended.
-use Rattle.std.proofs.Common.{◌≡◌, ◌⊎◌, inl, inr, refl, sym, ap, arith, subst, subst₂, ◌+◌, Bool, true, false, List, Option, Some}
+use Rattle.std.proofs.Common.{◌≡◌, ◌⊎◌, inl, inr, refl, sym, arith, subst, subst₂, ◌+◌, Bool, true, false, List, Option, Some}
 use Rattle.std.proofs.lemmas.Bool.{true≢false, false≢true}
 use Rattle.std.specs.FinMap.{get}
 use Rattle.plan_basics.specs.declared.Refusal.{Refusal}

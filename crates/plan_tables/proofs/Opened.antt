@@ -1,6 +1,7 @@
 -- What the rows tell that the tables hold: the plan and the receipts whose rows they are, or that there are none.
-use Rattle.std.proofs.Common.{◌≡◌, refl, sym, subst, ◌∙◌, Bool, true, false, List, [], ◌∷◌, Some}
-use Rattle.std.proofs.lemmas.Bool.{true≢false}
+use Rattle.std.proofs.Common.{◌≡◌, refl, sym, ap, subst, arith, eqb, ◌∙◌, Bool, true, false, List, [], ◌∷◌, length, Some}
+use Rattle.std.proofs.lemmas.Bool.{eqb-false, eqb-true}
+use Rattle.std.proofs.lemmas.List.{nil_from_length}
 use Rattle.std.proofs.lemmas.Option.{none-some}
 use Rattle.std.specs.FinMap as map
 use Rattle.sqlite.specs.Effect.{Database}
@@ -10,7 +11,7 @@ use Rattle.sqlite.specs.declared.error.ErrorCode.TheVariants as code
 use Rattle.plan_basics.proofs.Members.{contains_head, contains_none}
 use Rattle.plan_basics.specs.Keys.{name_cmp}
 use Rattle.plan_basics.specs.declared.Refusal.TheVariants as refusal
-use Rattle.plan_laws.proofs.Tabling.{rows_tell_receipts}
+use Rattle.plan_laws.proofs.Receipts.{empty_is_desk_state}
 use Rattle.plan_model.specs.Plan.{Plan}
 use Rattle.plan_opening.specs.Opening.{AreOfNoPlan, IsPlanOf}
 use Rattle.plan_reads.proofs.ReceiptsStored.{IsRowIn, hold_receipts, receipts_stored, rows_of_receipts}
@@ -23,20 +24,13 @@ use Rattle.plan_records.specs.Run.{State}
 use Rattle.plan_records.specs.Step.{Receipts}
 use Rattle.plan_records.specs.declared.PlanRow.{PlanRow}
 use Rattle.plan_records.specs.declared.PlanRow.TheVariants as row
-use Rattle.tracker_receipts.specs.Stored.{AreRowsOf, Columns, columns_of}
+use Rattle.tracker_receipts.specs.Stored.{AreRowsOf, Columns}
 use Rattle.plan_tables.specs.Desk.{HoldsNoState, HoldsState}
 use Rattle.plan_tables.specs.Faults.{opening_refusal}
 use Rattle.plan_tables.specs.Opening.{AreOfNoState, IsStateOf}
 use Rattle.plan_tables.proofs.InRange.{sound_in_range}
 
 -- ---- the receipts that have these rows
-
--- receipts without rows are of no tracker
-no_rows : (T : Receipts) → AreRowsOf T [] → T ≡ map.empty
-no_rows T are = rows_tell_receipts T map.empty (λ tracker receipt. (
-  λ has. absurd (contains_none (columns_of tracker receipt) ((are.each (columns_of tracker receipt)).1 (tracker, receipt, has, refl))),
-  λ has. absurd (none-some receipt (sym (map.get-empty name_cmp tracker) ∙ has)),
-))
 
 -- receipts of no tracker have no rows
 rows_of_none : (T : Receipts) (rows : List Columns) → T ≡ map.empty → AreRowsOf T rows → rows ≡ []
@@ -45,36 +39,44 @@ rows_of_none T (c ∷ rows) none are =
     let it = (are.each c).0 (contains_head c rows) in
     absurd (none-some it.1 (sym (map.get-empty name_cmp it.0) ∙ subst (λ (U : Receipts). map.get U it.0 ≡ Some it.1) none it.2))
 
--- before a plan is loaded there are none
-legal_beside : (loaded : Bool) (T : Receipts) (rows : List Columns) → AreReceipts true T → AreRowsOf T rows → (loaded ≡ false → rows ≡ []) → AreReceipts loaded T
-legal_beside loaded T rows legal are none = record {
-  each = legal.each;
-  few = legal.few;
-  before_load = λ not_loaded. no_rows T (subst (AreRowsOf T) (none not_loaded) are);
-}
+-- receipts of no tracker are well formed, and have no rows
+pub none_stand : (loaded : Bool) (T : Receipts) (rows : List Columns) → T ≡ map.empty → rows ≡ [] → AreReceipts loaded T × AreRowsOf T rows
+none_stand loaded T rows none no_row = (
+  subst (AreReceipts loaded) (sym none) (record { each = empty_is_desk_state.1.each; few = empty_is_desk_state.1.few; before_load = λ _. refl }),
+  subst (AreRowsOf T) (sym no_row) (record {
+    each = λ row. (
+      λ has. absurd (contains_none row has),
+      λ it. absurd (none-some it.1 (sym (map.get-empty name_cmp it.0) ∙ subst (λ (U : Receipts). map.get U it.0 ≡ Some it.1) none it.2)),
+    );
+    once = λ i j d less below. absurd (omega (arith, below));
+  }),
+)
+
+-- what the test of a list's length tells of its rows
+pub no_row_by_test : (rows : List Columns) → true ≡ eqb (length rows) 0 → rows ≡ []
+no_row_by_test rows e = let none = eqb-true (length rows) 0 (sym e) in nil_from_length rows (omega (arith, none))
+
+pub rows_by_test : (rows : List Columns) → false ≡ eqb (length rows) 0 → ¬ (rows ≡ [])
+rows_by_test rows e none = eqb-false (length rows) 0 (sym e) (ap length none)
+
+-- before a plan is loaded no well formed receipts have rows
+pub none_before_load : (loaded : Bool) (rows : List Columns) → loaded ≡ false → ¬ (rows ≡ []) → (T : Receipts) → AreReceipts loaded T → ¬ AreRowsOf T rows
+none_before_load loaded rows not_loaded some T legal are = some (rows_of_none T rows (legal.before_load not_loaded) are)
 
 -- ---- the state that has these rows
 
-pub is_state : (P : Plan) (T : Receipts) (rows : List PlanRow) (receipts : List Columns) → IsPlanOf rows P → AreReceipts true T → AreRowsOf T receipts → (P.loaded ≡ false → receipts ≡ []) → IsStateOf rows receipts (record { plan = P; receipts = T })
-is_state P T rows receipts plan legal are none = record {
-  legal = (plan.sound, legal_beside P.loaded T receipts legal are none);
-  are_rows = plan.are_rows;
-  are_receipts = are;
-}
+pub is_state : (P : Plan) (T : Receipts) (rows : List PlanRow) (receipts : List Columns) → IsPlanOf rows P → AreReceipts P.loaded T × AreRowsOf T receipts → IsStateOf rows receipts (record { plan = P; receipts = T })
+is_state P T rows receipts plan kept = record { legal = (plan.sound, kept.0); are_rows = plan.are_rows; are_receipts = kept.1 }
 
--- where the rows are those of no sound plan, or of no well formed receipts, they are of no state
+-- where the rows are those of no sound plan, they are of no state
 pub no_plan_of : (rows : List PlanRow) (receipts : List Columns) → AreOfNoPlan rows → AreOfNoState rows receipts
 no_plan_of rows receipts none s is = none s.plan (record { sound = is.legal.0; are_rows = is.are_rows })
 
-pub no_receipts_of : (rows : List PlanRow) (receipts : List Columns) → ((T : Receipts) → AreReceipts true T → ¬ AreRowsOf T receipts) → AreOfNoState rows receipts
-no_receipts_of rows receipts none s is =
-    none s.receipts (record { each = is.legal.1.each; few = is.legal.1.few; before_load = λ e. absurd (true≢false e) }) is.are_receipts
-
--- nor where they are receipts' before a plan is loaded
-pub receipts_before_load : (P : Plan) (rows : List PlanRow) (receipts : List Columns) → IsPlanOf rows P → P.loaded ≡ false → ¬ (receipts ≡ []) → AreOfNoState rows receipts
-receipts_before_load P rows receipts plan not_loaded some s is =
+-- nor where no well formed receipts beside their plan have the others
+pub no_receipts_of : (P : Plan) (loaded : Bool) (rows : List PlanRow) (receipts : List Columns) → loaded ≡ P.loaded → IsPlanOf rows P → ((T : Receipts) → AreReceipts loaded T → ¬ AreRowsOf T receipts) → AreOfNoState rows receipts
+no_receipts_of P loaded rows receipts same plan none s is =
     let meta = (is.are_rows.has_all (row.Meta 1 P.loaded P.clock)).0 ((plan.are_rows.has_all (row.Meta 1 P.loaded P.clock)).1 (refl, refl, refl)) in
-    some (rows_of_none s.receipts receipts (is.legal.1.before_load (sym meta.1 ∙ not_loaded)) is.are_receipts)
+    none s.receipts (subst (λ b. AreReceipts b s.receipts) (sym (same ∙ meta.1)) is.legal.1) is.are_receipts
 
 -- ---- the tables
 

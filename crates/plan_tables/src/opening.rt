@@ -4,18 +4,21 @@ ghost use Rattle.sqlite.specs.Held.{state};
 ghost use Rattle.plan_basics.specs.declared.Refusal.{Refusal};
 ghost use Rattle.plan_reads.specs.Reads.{OnlyReads};
 ghost use Rattle.plan_reads.specs.Tables.{StoresEach};
+ghost use Rattle.plan_records.specs.Receipts.{AreReceipts};
 ghost use Rattle.plan_records.specs.Schedules.{IsDeskState};
+ghost use Rattle.plan_records.specs.Step.{Receipts as LastReceipts};
 ghost use Rattle.plan_tables.specs.Desk.{HasTables, HoldsNoState, HoldsState, IsClean};
 ghost use Rattle.plan_tables.specs.Faults.{IsOpeningRefusal};
 ghost use Rattle.plan_tables.specs.Opening.{AreOfNoState, IsStateOf};
+ghost use Rattle.tracker_receipts.specs.Stored.{AreRowsOf};
 
 use super::faults::opening_refusal;
 use plan_basics::Refusal;
 use plan_core::Plan;
 use plan_reads::{StoredTables, read_rows};
 use sqlite::{Alter, Connection};
-use std::alloc::Global;
-use tracker_receipts::{Receipts, receipts_of};
+use std::alloc::{AllocError, Global};
+use tracker_receipts::{ReceiptRow, Receipts, receipts_of};
 
 // The rows that the tables hold. Refused as `Damaged` where one of theirs is no row of a plan or of receipts.
 fn kept_tables<S: Alter>(alloc: Global, conn: &mut Connection<S>) -> Result<StoredTables, Refusal>
@@ -32,8 +35,28 @@ fn kept_tables<S: Alter>(alloc: Global, conn: &mut Connection<S>) -> Result<Stor
     }
 }
 
-// The sound plan and the well formed receipts that have just these rows; `None` where there are none such, or receipts are
-// kept and no plan is loaded. The error is always `Memory`.
+// The well formed receipts that have just these rows, beside a plan that is loaded or isn't; `None` where there are none
+// such. Before a plan is loaded none are kept.
+fn receipts_beside(
+    alloc: Global,
+    is_loaded: bool,
+    rows: &[ReceiptRow],
+) -> Result<Option<Receipts>, AllocError>
+    ensures { IfOk result (λ found. MatchOption found
+        ((T : LastReceipts) → AreReceipts is_loaded T → ¬ AreRowsOf T rows.now)
+        (λ T. AreReceipts is_loaded T × AreRowsOf T rows.now)) }
+{
+    if is_loaded {
+        return receipts_of(alloc, rows);
+    }
+    if rows.is_empty() {
+        return Ok(Some(Receipts::new(alloc)?));
+    }
+    Ok(None)
+}
+
+// The sound plan and the well formed receipts that have just these rows; `None` where there are none such. The error is
+// always `Memory`.
 fn state_in(alloc: Global, tables: &StoredTables) -> Result<Option<(Plan, Receipts)>, Refusal>
     ensures state { IfOk result (λ found. MatchOption found
         (AreOfNoState tables.now.rows.items tables.now.receipts.items)
@@ -43,12 +66,9 @@ fn state_in(alloc: Global, tables: &StoredTables) -> Result<Option<(Plan, Receip
     let Some(plan) = Plan::from_rows(alloc, &tables.rows)? else {
         return Ok(None);
     };
-    let Some(receipts) = receipts_of(alloc, &tables.receipts)? else {
+    let Some(receipts) = receipts_beside(alloc, plan.is_loaded(), &tables.receipts)? else {
         return Ok(None);
     };
-    if !plan.is_loaded() && !tables.receipts.is_empty() {
-        return Ok(None);
-    }
     Ok(Some((plan, receipts)))
 }
 

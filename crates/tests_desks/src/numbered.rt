@@ -24,7 +24,10 @@ fn is_told(reply: &Reply, told: Told) -> bool {
     match (reply, told) {
         (Reply::Accepted { named }, Told::Names(numbers)) => {
             named.len() == numbers.len()
-                && named.iter().zip(numbers).all(|(key, number)| key.number == *number)
+                && named
+                    .iter()
+                    .zip(numbers)
+                    .all(|(key, number)| key.number == *number)
         }
         (Reply::Refused(refusal), Told::Refused(expected)) => *refusal == expected,
         _ => false,
@@ -67,7 +70,12 @@ const T1_REPORTS: [Turn; 9] = [
     ("T1", 3, "22:11 started 10 | -", Told::Names(&[])),
     ("T1", 4, "22:40 ended 10 | -", Told::Names(&[20])),
     ("T1", 4, "22:40 ended 10 | -", Told::Names(&[20])),
-    ("T1", 4, "22:40 ended 20 | -", Told::Refused(Refusal::Reused)),
+    (
+        "T1",
+        4,
+        "22:40 ended 20 | -",
+        Told::Refused(Refusal::Reused),
+    ),
     ("T1", 6, "22:41 started 20 | -", Told::Refused(Refusal::Gap)),
     ("T1", 3, "22:11 started 10 | -", Told::Refused(Refusal::Old)),
     ("T1", 0, "22:41 started 20 | -", Told::Refused(Refusal::Old)),
@@ -82,7 +90,12 @@ fn a_tracker_reports_the_night(rt: HostRuntime) -> Result<(), Fail> {
 
 const REFUSED_ONES: [Turn; 6] = [
     ("T1", 2, "22:00 started 5 | -", Told::Refused(Refusal::Gap)),
-    ("T1", 1, "22:00 ended 40 | -", Told::Refused(Refusal::WrongStatus)),
+    (
+        "T1",
+        1,
+        "22:00 ended 40 | -",
+        Told::Refused(Refusal::WrongStatus),
+    ),
     ("T1", 1, "20:00 started 5 | -", Told::Refused(Refusal::Past)),
     ("T1", 1, "22:00 started 5 | -", Told::Names(&[])),
     ("T2", 1, "22:10 ended 5 | -", Told::Names(&[10])),
@@ -110,11 +123,7 @@ fn numbers_come_before_the_plan(rt: HostRuntime) -> Result<(), Fail> {
 }
 
 // The desk that is opened after a text has changed the tables of this one.
-fn changed(
-    alloc: Global,
-    desk: Desk<MemStore>,
-    sql: &str,
-) -> Result<Desk<MemStore>, Refusal> {
+fn changed(alloc: Global, desk: Desk<MemStore>, sql: &str) -> Result<Desk<MemStore>, Refusal> {
     let mut conn = desk.close();
     if conn.execute_batch(sql).is_err() {
         return Err(Refusal::Store);
@@ -173,7 +182,10 @@ fn a_receipt_of_any_keys_is_opened(rt: HostRuntime) -> Result<(), Fail> {
 fn receipts_of(alloc: Global, trackers: u32) -> Result<String, AllocError> {
     let mut sql = String::new(alloc);
     for tracker in 1..=trackers {
-        writeln!(sql, "INSERT INTO receipt VALUES ('T{tracker}', 1, x'', '');")?;
+        writeln!(
+            sql,
+            "INSERT INTO receipt VALUES ('T{tracker}', 1, x'', '');"
+        )?;
     }
     Ok(sql)
 }

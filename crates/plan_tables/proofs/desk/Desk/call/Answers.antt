@@ -3,10 +3,12 @@ use Rattle.sqlite.specs.Held.{state}
 use Rattle.sqlite.specs.State.{Survives}
 use Rattle.plan_basics.specs.declared.Refusal.TheVariants as refusal
 use Rattle.plan_core.specs.Provided.{StartsAreProvided}
-use Rattle.plan_core.specs.State.{IsPreparedFor, PlanState}
+use Rattle.plan_core.specs.State.{PlanState}
+use Rattle.plan_laws.proofs.Receipts.{answer_keeps_receipts}
 use Rattle.plan_records.specs.Answer.{accepted, answer_of, refused}
 use Rattle.plan_records.specs.Rows.{AreChanges}
 use Rattle.plan_records.specs.Run.{Answers, plain}
+use Rattle.plan_records.specs.Schedules.{IsDeskState}
 use Rattle.plan_records.specs.Step.{Step}
 use Rattle.plan_tables.specs.Calls.{change_of, state_after}
 use Rattle.plan_tables.specs.Desk.{DeskState, IsCarriedOut, IsKept, state_of, usability}
@@ -29,6 +31,13 @@ returns-in-Ok-clause-answers g c =
     let step = subst (λ P. Step P q (accepted p.named) p.plan) (ap (λ (d : DeskState _). d.plan) c.self.view_is) c.in-Ok.ensures.step in
     carried_answers old new (plain q) p.named (state_after (state_of old) (Plain p)) was (step, refl) x
     (subst (λ (d : DeskState _). IsCarriedOut d p.named (state_after (state_of d) (Plain p)) x new) same c.carry_out.ensures.reply)
+
+pub returns-in-Ok-clause-sound : goal.returns-in-Ok-clause-sound
+returns-in-Ok-clause-sound g c =
+    let old = c.args.self.now in
+    let new = c.carry_out.new.self in
+    let legal = subst (λ (d : DeskState _). IsDeskState (state_of d)) c.self.view_is c.self.invariant.legal in
+    answer_keeps_receipts (state_of old) (state_of new) (usability old.is_usable) (usability new.is_usable) (plain c.args.request.now) (answer_of c.carry_out.result) legal (returns-in-Ok-clause-answers g c)
 
 pub returns-in-Ok-clause-starts : goal.returns-in-Ok-clause-starts
 returns-in-Ok-clause-starts g c =

@@ -2,12 +2,14 @@ use Rattle.std.proofs.Common.{◌≡◌, ◌⊎◌, rules, ap, sym, subst, ◌�
 use Rattle.std.specs.FinMap.{get}
 use Rattle.sqlite.specs.Held.{state}
 use Rattle.sqlite.specs.State.{Survives}
-use Rattle.numbered_steps.specs.Steps.{IsNumberedStepFor}
+use Rattle.numbered_steps.specs.Steps.{IfAgain, IfNew, IsNumberedStepFor}
 use Rattle.plan_basics.specs.declared.Refusal.TheVariants as refusal
 use Rattle.plan_core.specs.Provided.{StartsAreProvided}
 use Rattle.plan_core.specs.State.{PlanState}
+use Rattle.plan_laws.proofs.Receipts.{answer_keeps_receipts}
 use Rattle.plan_records.specs.Answer.{accepted, answer_of, refused}
 use Rattle.plan_records.specs.Run.{Answers, CallStep, numbered}
+use Rattle.plan_records.specs.Schedules.{IsDeskState}
 use Rattle.plan_records.specs.Step.{AnswersAgain}
 use Rattle.plan_tables.specs.Calls.{change_of, state_after}
 use Rattle.plan_tables.specs.Desk.{DeskState, IsCarriedOut, IsKept, state_of, usability}
@@ -26,7 +28,8 @@ returns-in-Ok-Again-clause-answers g c =
     let same = ap (λ (s : PlanState). (let d : DeskState _ = record { plan = s.plan; receipts = c.self.inside.receipts; is_usable = c.self.inside.is_usable; conn = c.self.inside.conn } in d)) c.prepare_numbered.ensures.unchanged ∙ c.self.view_is in
     let usable : c.self.inside.is_usable ≡ true = search rules in
     let was : old.is_usable ≡ true = sym (ap (λ (d : DeskState _). d.is_usable) c.self.view_is) ∙ usable in
-    let again = subst (λ (d : DeskState _). AnswersAgain (get d.receipts n.tracker) n (accepted named)) c.self.view_is c.in-Ok-Again.ensures.again in
+    let told : AnswersAgain (get c.self.inside.receipts n.tracker) n (accepted named) = subst (IfAgain (λ keys. AnswersAgain (get c.self.inside.receipts n.tracker) n (accepted keys))) c.in-Ok-Again.field-0-is c.in-Ok-Again.ensures.again in
+    let again = subst (λ (d : DeskState _). AnswersAgain (get d.receipts n.tracker) n (accepted named)) c.self.view_is told in
     subst (λ (d : DeskState _). Answers (state_of old) (usability old.is_usable) (numbered n) (accepted named) (state_of d) (usability d.is_usable)) (sym same) (again_answers (state_of old) n old.is_usable named was again)
 
 pub returns-in-Ok-Again-clause-starts : goal.returns-in-Ok-Again-clause-starts
@@ -37,7 +40,9 @@ returns-in-Ok-Again-clause-starts g c =
 pub carry_out-requires-clause-prepared : goal.carry_out-requires-clause-prepared
 carry_out-requires-clause-prepared g c =
     let n = numbered_by c.args.tracker.now c.args.number c.args.text.now c.args.request.now in
-    (n, subst (λ (s : PlanState). IsNumberedStepFor s c.self.inside.receipts n c.in-Ok-New.step) (sym c.prepare_numbered.ensures.unchanged) c.in-Ok-New.ensures.new)
+    let p = c.in-Ok-New.step in
+    let told : IsNumberedStepFor c.self.inside.plan c.self.inside.receipts n p = subst (IfNew (IsNumberedStepFor c.self.inside.plan c.self.inside.receipts n)) c.in-Ok-New.field-0-is c.in-Ok-New.ensures.new in
+    (n, subst (λ (s : PlanState). IsNumberedStepFor s c.self.inside.receipts n p) (sym c.prepare_numbered.ensures.unchanged) told)
 
 pub returns-in-Ok-New-clause-answers : goal.returns-in-Ok-New-clause-answers
 returns-in-Ok-New-clause-answers g c =
@@ -49,9 +54,18 @@ returns-in-Ok-New-clause-answers g c =
     let same = ap (λ (s : PlanState). (let d : DeskState _ = record { plan = s.plan; receipts = c.self.inside.receipts; is_usable = c.self.inside.is_usable; conn = c.self.inside.conn } in d)) c.prepare_numbered.ensures.unchanged ∙ c.self.view_is in
     let usable : c.self.inside.is_usable ≡ true = search rules in
     let was : old.is_usable ≡ true = sym (ap (λ (d : DeskState _). d.is_usable) c.self.view_is) ∙ usable in
-    let is = subst (λ (d : DeskState _). IsNumberedStepFor (record { plan = d.plan }) d.receipts n p) c.self.view_is c.in-Ok-New.ensures.new in
+    let told : IsNumberedStepFor c.self.inside.plan c.self.inside.receipts n p = subst (IfNew (IsNumberedStepFor c.self.inside.plan c.self.inside.receipts n)) c.in-Ok-New.field-0-is c.in-Ok-New.ensures.new in
+    let is = subst (λ (d : DeskState _). IsNumberedStepFor (record { plan = d.plan }) d.receipts n p) c.self.view_is told in
     let reply = subst (λ (d : DeskState _). IsCarriedOut d p.prepared.named (state_after (state_of d) (Numbered p)) x new) same c.carry_out.ensures.reply in
     carried_answers old new (numbered n) p.prepared.named (state_after (state_of old) (Numbered p)) was (numbered_step (state_of old) n p is) x reply
+
+pub returns-in-Ok-New-clause-sound : goal.returns-in-Ok-New-clause-sound
+returns-in-Ok-New-clause-sound g c =
+    let old = c.args.self.now in
+    let new = c.carry_out.new.self in
+    let n = numbered_by c.args.tracker.now c.args.number c.args.text.now c.args.request.now in
+    let legal = subst (λ (d : DeskState _). IsDeskState (state_of d)) c.self.view_is c.self.invariant.legal in
+    answer_keeps_receipts (state_of old) (state_of new) (usability old.is_usable) (usability new.is_usable) (numbered n) (answer_of c.carry_out.result) legal (returns-in-Ok-New-clause-answers g c)
 
 pub returns-in-Ok-New-clause-starts : goal.returns-in-Ok-New-clause-starts
 returns-in-Ok-New-clause-starts g c =
@@ -63,10 +77,12 @@ returns-in-Ok-New-clause-starts g c =
     let same = ap (λ (s : PlanState). (let d : DeskState _ = record { plan = s.plan; receipts = c.self.inside.receipts; is_usable = c.self.inside.is_usable; conn = c.self.inside.conn } in d)) c.prepare_numbered.ensures.unchanged ∙ c.self.view_is in
     let usable : c.self.inside.is_usable ≡ true = search rules in
     let was : old.is_usable ≡ true = sym (ap (λ (d : DeskState _). d.is_usable) c.self.view_is) ∙ usable in
-    let is = subst (λ (d : DeskState _). IsNumberedStepFor (record { plan = d.plan }) d.receipts n p) c.self.view_is c.in-Ok-New.ensures.new in
+    let told : IsNumberedStepFor c.self.inside.plan c.self.inside.receipts n p = subst (IfNew (IsNumberedStepFor c.self.inside.plan c.self.inside.receipts n)) c.in-Ok-New.field-0-is c.in-Ok-New.ensures.new in
+    let is = subst (λ (d : DeskState _). IsNumberedStepFor (record { plan = d.plan }) d.receipts n p) c.self.view_is told in
     let reply = subst (λ (d : DeskState _). IsCarriedOut d p.prepared.named (state_after (state_of d) (Numbered p)) x new) same c.carry_out.ensures.reply in
     let q = c.args.request.now in
-    let starts = subst (λ (d : DeskState _). StartsAreProvided d.plan q (accepted p.prepared.named) p.prepared.plan) c.self.view_is c.in-Ok-New.ensures.starts in
+    let provided : StartsAreProvided c.self.inside.plan.plan q (accepted p.prepared.named) p.prepared.plan = subst (IfNew (λ r. StartsAreProvided c.self.inside.plan.plan q (accepted r.prepared.named) r.prepared.plan)) c.in-Ok-New.field-0-is c.in-Ok-New.ensures.starts in
+    let starts = subst (λ (d : DeskState _). StartsAreProvided d.plan q (accepted p.prepared.named) p.prepared.plan) c.self.view_is provided in
     carried_starts old new (numbered n) p.prepared.named (state_after (state_of old) (Numbered p)) was (numbered_step (state_of old) n p is) q x reply starts
 
 pub returns-in-Ok-New-clause-again : goal.returns-in-Ok-New-clause-again
@@ -74,7 +90,8 @@ returns-in-Ok-New-clause-again g c again =
     let old = c.args.self.now in
     let n = numbered_by c.args.tracker.now c.args.number c.args.text.now c.args.request.now in
     let p = c.in-Ok-New.step in
-    let is = subst (λ (d : DeskState _). IsNumberedStepFor (record { plan = d.plan }) d.receipts n p) c.self.view_is c.in-Ok-New.ensures.new in
+    let told : IsNumberedStepFor c.self.inside.plan c.self.inside.receipts n p = subst (IfNew (IsNumberedStepFor c.self.inside.plan c.self.inside.receipts n)) c.in-Ok-New.field-0-is c.in-Ok-New.ensures.new in
+    let is = subst (λ (d : DeskState _). IsNumberedStepFor (record { plan = d.plan }) d.receipts n p) c.self.view_is told in
     absurd (never_again (get old.receipts n.tracker) n (answer_of c.carry_out.result) is.step.0 again)
 
 pub returns-in-Ok-New-clause-stops : goal.returns-in-Ok-New-clause-stops
@@ -85,7 +102,8 @@ returns-in-Ok-New-clause-stops g c is_open has =
     let p = c.in-Ok-New.step in
     let Makes = Rewrites (change_of (Numbered p)) in
     let kept = subst (IsKept g.S.Store) c.self.view_is c.self.invariant in
-    let is = subst (λ (d : DeskState _). IsNumberedStepFor (record { plan = d.plan }) d.receipts n p) c.self.view_is c.in-Ok-New.ensures.new in
+    let told : IsNumberedStepFor c.self.inside.plan c.self.inside.receipts n p = subst (IfNew (IsNumberedStepFor c.self.inside.plan c.self.inside.receipts n)) c.in-Ok-New.field-0-is c.in-Ok-New.ensures.new in
+    let is = subst (λ (d : DeskState _). IsNumberedStepFor (record { plan = d.plan }) d.receipts n p) c.self.view_is told in
     let carries = prepared_carries (state_of old) (Numbered p) kept.legal.0 (n, is) in
     let stops = subst (λ (d : DeskState _). Survives (state g.S.Store d.conn) (state g.S.Store new.conn) (LeavesMade Makes (state g.S.Store d.conn))) c.self.view_is c.carry_out.ensures.stops in
     step_survives (state_of old) (state_after (state_of old) (Numbered p)) (change_of (Numbered p)) carries (state g.S.Store old.conn) (numbered n) p.prepared.named (numbered_step (state_of old) n p is) (state g.S.Store new.conn)

@@ -18,15 +18,15 @@ invariant_of-result g c =
       legal = subst IsDeskState (sym is) empty_is_desk_state;
       idle = c.create_tables.ensures.idle;
       tables = λ clean has.
-          let begins = (c.in-Ok-2.ensures.ok clean.0).3 in
+          let begins = (c.in-Ok-create_tables.ensures.ok clean.0).3 in
           subst (λ t. HoldsState t new.committed) (sym is) (begun_so old.committed new.committed begins (begins.back has));
     }
 
-pub returns-in-Ok-clause-tables : goal.returns-in-Ok-clause-tables
-returns-in-Ok-clause-tables g c clean none =
-    begun_so (state g.S.Store c.args.conn).committed (state g.S.Store c.create_tables.new.conn).committed (c.in-Ok-2.ensures.ok clean.0).3 none
+pub returns-in-Ok-create_tables-clause-tables : goal.returns-in-Ok-create_tables-clause-tables
+returns-in-Ok-create_tables-clause-tables g c clean none =
+    begun_so (state g.S.Store c.args.conn).committed (state g.S.Store c.create_tables.new.conn).committed (c.in-Ok-create_tables.ensures.ok clean.0).3 none
 
-pub returns-in-Ok-clause-empty : goal.returns-in-Ok-clause-empty
-returns-in-Ok-clause-empty g c =
+pub returns-in-Ok-create_tables-clause-empty : goal.returns-in-Ok-create_tables-clause-empty
+returns-in-Ok-create_tables-clause-empty g c =
     let s : State = record { plan = c.empty.result.plan; receipts = c.in-Ok.receipts } in
     states_alike s empty_state c.empty.ensures c.in-Ok.ensures
