@@ -267,26 +267,36 @@ fn taken_port(rt: &HostRuntime, given: &ArgMatches) -> Result<TcpListener, Fault
     TcpListener::bind(rt, (Ipv4Addr::LOCALHOST, port)).map_err(|_| Fault::Network)
 }
 
-/// `serve`: the desk of a database's file serves so many connections. The database is opened before the port is taken,
-/// and that the port is taken is told before the first connection is.
+/// Takes the port that the words give, tells so before the first connection, and serves so many connections.
+fn listen<W: Write>(
+    rt: &HostRuntime,
+    given: &ArgMatches,
+    desk: &mut Desk<FileStore<File>>,
+    out: &mut Watched<W>,
+) -> Result<(), Fault> {
+    let connections = given.get_one::<u32>("requests").ok_or(Fault::Words)?;
+    let listener = taken_port(rt, given)?;
+    writeln!(out, "listening")?;
+    out.flush()?;
+    serve_listener(rt.alloc(), &listener, desk, u64::from(connections)).map_err(|_| Fault::Network)
+}
+
+/// `serve`: the desk of a database's file serves so many connections. The database is opened before the port is taken.
+/// At its end it is closed, but where its store has failed: then the files are let go as they are.
 fn serve<W: Write>(
     rt: &HostRuntime,
     given: &ArgMatches,
     out: &mut Watched<W>,
 ) -> Result<Ending, Fault> {
-    let connections = given.get_one::<u32>("requests").ok_or(Fault::Words)?;
     let mut desk = match stored_desk(rt, value_of(given, "db"))? {
         Ok(desk) => desk,
         Err(refusal) => return tell(out, &Reply::Refused(refusal)),
     };
-    let listener = taken_port(rt, given)?;
-    writeln!(out, "listening")?;
-    out.flush()?;
-    let served = serve_listener(rt.alloc(), &listener, &mut desk, u64::from(connections));
+    let served = listen(rt, given, &mut desk, out);
     if desk.is_usable() {
         desk.close().close()?;
     }
-    served.map_err(|_| Fault::Network)?;
+    served?;
     Ok(Ending::Done)
 }
 
