@@ -1,5 +1,5 @@
-//! The reports of desks over a store in memory: what is asked of a desk, and what its reports show then. Tests alone; the
-//! program does nothing.
+//! The reports of desks over a store in memory: what is asked of a desk, and what its reports show then. Tests alone;
+//! the program does nothing.
 #![tactic(auto)]
 
 #[cfg(test)]
