@@ -45,10 +45,10 @@ module _ {X : Type 0} (p : X → Bool) where
       cond_both (p x) (x ∷ filter p xs) (filter p xs) (Differ S) (λ _. (All-filter p (S x) xs h.0, differ_filtered S xs h.1)) (λ _. differ_filtered S xs h.1)
 
 -- ---- the order of what is late
-due_total : IsTotalOrder due_cmp
+pub due_total : IsTotalOrder due_cmp
 due_total = then_total (on_total (λ (x : ℤ × OpKey). x.0) int_cmp_total) (on_total (λ (x : ℤ × OpKey). x.1) operation_cmp_total)
 
-due_exact : IsAntisymmetric due_cmp
+pub due_exact : IsAntisymmetric due_cmp
 due_exact = then_IsAntisymmetric {R = int_cmp} {S = operation_cmp} (λ (x : ℤ × OpKey). x.0) (λ x. x.1) (λ x y p q i. (p i, q i)) int_cmp-IsAntisymmetric operation_cmp-IsAntisymmetric
 
 -- ---- what the test tells

@@ -1,2 +1,3 @@
 pub mod Latest
 pub mod LateLists
+pub mod OneText

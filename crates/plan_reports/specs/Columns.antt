@@ -1,4 +1,4 @@
--- What the rows of each report show, column by column: texts stand at the left of a column, numbers at the right, of these widths.
+-- The columns of each report: texts stand at the left of a column, numbers at the right, of these widths.
 use Rattle.std.specs.Prelude.{ℕ, ℤ, pos, negsuc, Bool, true, false, List, [], ◌∷◌, replicate, codes, cond, nat_lt}
 use Rattle.plan_basics.specs.MomentTexts.{moment_text}
 use Rattle.status_rules.specs.Texts.{occurrence_letter, status_letter}

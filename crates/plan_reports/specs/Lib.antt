@@ -3,3 +3,4 @@ pub mod Columns
 pub mod Texts
 pub mod Late
 pub mod Reports
+pub mod Laws

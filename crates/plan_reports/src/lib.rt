@@ -3,10 +3,12 @@
 #![tactic(auto)]
 
 mod late;
+mod laws;
 mod lines;
 mod made;
 mod reports;
 mod rows;
 mod texts;
 
+pub use laws::one_text;
 pub use reports::{ReportFault, error_report, late_report, occurrence_report, ready_report};

@@ -105,8 +105,8 @@ pub fn error_report<S: Alter + Drop, W: Write>(
     deliver(&text, writer)
 }
 
-/// Writes the operations that are late: those that wait, are arriving or ready, held ones too, whose latest start is before
-/// the clock. The earliest latest start comes first, then they go by key.
+/// Writes the operations that are late: those that wait, are arriving or ready, held ones too, whose latest start is
+/// before the clock. The earliest latest start comes first, then they go by key.
 ///
 /// Refused as `Reopen` after a fault of the store, else as `NotLoaded` before a plan is loaded, else as `Memory`. The
 /// writer is cleared first and flushed at the end.
