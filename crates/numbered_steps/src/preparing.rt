@@ -20,8 +20,8 @@ use std::alloc::{AllocError, Global};
 use tracker_receipts::{Judged, Receipt, ReceiptRow, Receipts};
 
 /// What a tracker's request of this number, read from this text, leads to, if it isn't refused: at first it is told by
-/// its number and its text, whatever it asks; a new one is prepared over the plan, with its receipt. All memory is taken
-/// here, and the plan stays as it is.
+/// its number and its text, whatever it asks; a new one is prepared over the plan, with its receipt. All memory is
+/// taken here, and the plan stays as it is.
 ///
 /// It is refused as `Old`, `Gap` or `Reused` by its number and its text; a new one for the least number that applies,
 /// where `Limit` applies too if there is no room for its receipt; and as `Memory` for want of memory.
