@@ -178,6 +178,44 @@ fn a_receipt_of_any_keys_is_opened(rt: HostRuntime) -> Result<(), Fail> {
     Ok(())
 }
 
+const THE_LAST: &str = "INSERT INTO receipt VALUES ('T1', 999999999, x'78', '')";
+
+const AFTER_THE_LAST: [Turn; 2] = [
+    (
+        "T1",
+        1_000_000_000,
+        "22:00 tick | -",
+        Told::Refused(Refusal::Limit),
+    ),
+    (
+        "T1",
+        999_999_999,
+        "22:00 tick | -",
+        Told::Refused(Refusal::Reused),
+    ),
+];
+
+#[test]
+fn a_trackers_last_number(rt: HostRuntime) -> Result<(), Fail> {
+    let desk = changed(rt.alloc(), night(rt.alloc(), "LOADED")?, THE_LAST)?;
+    after_turns(rt.alloc(), desk, &AFTER_THE_LAST)?;
+    Ok(())
+}
+
+#[test]
+fn a_texts_length(rt: HostRuntime) -> Result<(), Fail> {
+    let mut desk = night(rt.alloc(), "LOADED")?;
+    let tracker = TrackerName::from_text(b"T1").ok_or("a tracker's name")?;
+    let tick = request(rt.alloc(), "22:00 tick | -").ok_or("a request")?;
+    let mut text = Vec::new(rt.alloc());
+    text.resize(65_537, b' ')?;
+    let reply = desk.call_numbered(&tracker, 1, &text, &tick);
+    assert!(rt; is_told(&reply, Told::Refused(Refusal::Limit)));
+    let reply = desk.call_numbered(&tracker, 1, &text[1..], &tick);
+    assert!(rt; is_told(&reply, Told::Names(&[])));
+    Ok(())
+}
+
 // A text that puts in the receipts of this many trackers, T1 and on.
 fn receipts_of(alloc: Global, trackers: u32) -> Result<String, AllocError> {
     let mut sql = String::new(alloc);
