@@ -183,7 +183,8 @@ def written_to(desk, pieces, is_ended):
                 stream.shutdown(socket.SHUT_WR)
             return received(stream)
         except OSError as fault:
-            if isinstance(fault, ConnectionError) or fault.errno == errno.ENOTCONN:    # the latter at the shutdown after a reset
+            # a client that ends its side after a reset is told that it isn't connected
+            if isinstance(fault, ConnectionError) or fault.errno == errno.ENOTCONN:
                 return None
             raise
 
@@ -322,11 +323,31 @@ def is_told(status, out, err):
     return status == 1 and out in {f"refused {number} {name}\n".encode() for number, name in REFUSALS.items()}
 
 
+def rewritten(chance, text):
+    """A plan's text with one change that may leave it a plan."""
+    lines = text.splitlines(keepends=True)
+    one, other = chance.randrange(len(lines)), chance.randrange(len(lines))
+    kind = chance.randrange(6)
+    if kind == 0:
+        lines[one], lines[other] = lines[other], lines[one]
+    elif kind == 1:
+        del lines[one]
+    elif kind == 2:
+        lines[one] = lines[one].replace(b"\n", chance.choice((b"\r", b"\r\n", b"\n\n")))
+    elif kind == 3:
+        lines[one] = b'"' + lines[one].replace(b",", b'",', 1)
+    else:
+        place = chance.choice([at for at, code in enumerate(text) if chr(code) in "0123456789"])
+        return text[:place] + b"%d" % chance.randrange(10) + text[place + 1:]
+    return b"".join(lines)
+
+
 def check_plans(given, folder, told):
     chance = random.Random(f"{given.seed}/plans")
     plans = [(NIGHT / "night.csv").read_bytes(), (NIGHT.parent / "day.csv").read_bytes()]
     for turn in range(given.texts):
-        text = mutated(chance, plans[turn % 2], plans)
+        plan = plans[turn // 2 % 2]
+        text = rewritten(chance, plan) if turn % 2 else mutated(chance, plan, plans)
         (folder / "plan.csv").write_bytes(text)
         got = run([given.program, "check", "--plan", "plan.csv", "--at", EVENING], folder)
         is_plan = denotes_plan(text)
@@ -366,6 +387,8 @@ def try_all(given, folder, told):
         raise Unmeasured(f"load of an empty plan ended with {status}: {out!r}")
     for turn in range(given.rounds):
         play(given, folder, "empty.db" if turn % 4 == 3 else "loaded.db", turn, told)
+    shutil.copy(folder / "loaded.db", folder / "night.db")
+    (folder / "night.db-wal").unlink(missing_ok=True)
     keep_still(given, folder, told)
     serve_so_many(given, folder, told)
     check_plans(given, folder, told)
@@ -374,7 +397,7 @@ def try_all(given, folder, told):
 
 def main():
     words = argparse.ArgumentParser(description=__doc__.splitlines()[0])
-    words.add_argument("--rounds", type=int, default=180, help="rounds, of some 500 inputs each")
+    words.add_argument("--rounds", type=int, default=180, help="rounds, of some 600 inputs each")
     words.add_argument("--texts", type=int, default=1000, help="texts of plans, and of requests for `do`")
     words.add_argument("--seed", type=int, default=1, help="what chance draws the inputs from")
     words.add_argument("--program", type=Path, default=PROGRAM)
