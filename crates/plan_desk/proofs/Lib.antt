@@ -1,1 +1,3 @@
+pub mod Appended
+pub mod Played
 pub mod Statuses

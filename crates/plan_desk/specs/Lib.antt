@@ -3,4 +3,5 @@ pub mod Asked
 pub mod Loads
 pub mod Shown
 pub mod Statuses
+pub mod Turns
 pub mod Words
