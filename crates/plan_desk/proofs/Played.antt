@@ -1,5 +1,5 @@
 -- Playing a text line by line: what was shown so far, and how what comes after it goes on.
-use Rattle.std.proofs.Common.{◌≡◌, ℕ, ◌+◌, ◌<◌, ◌≤◌, ◌||◌, Bool, true, false, List, [], ◌∷◌, ◌++◌, length, length-append, append_assoc, append-nil, refl, inl, inr, sym, ap, arith, Option, Result, Ok, Err}
+use Rattle.std.proofs.Common.{◌≡◌, ℕ, ◌+◌, ◌<◌, ◌≤◌, ◌||◌, Bool, true, false, List, [], ◌∷◌, ◌++◌, length, length-drop, append_assoc, append-nil, refl, arith, Option, Result, Ok, Err}
 use Rattle.std.specs.Io.KnownBytes.{Appends}
 use Rattle.std.proofs.KnownBytes.{Appends-nil, Appends-trans}
 use Rattle.plan_records.specs.Run.{State, Usable}
@@ -25,9 +25,8 @@ joined-Err true f = refl
 
 -- what comes after a first line is shorter
 pub shorter : (text first rest : List ℕ) → IsFirstLine text first rest → length rest < length text
-shorter text first rest (none, inl is) = rw (is, length-append) (omega arith)
-shorter text [] rest (none, inr (is, ends, some)) = absurd (some refl)
-shorter text (b ∷ first) rest (none, inr (is, ends, some)) = rw (is, ends) (omega arith)
+shorter [] first rest (some, cut, is) = absurd (some refl)
+shorter (b ∷ text) first rest (some, cut, is) = rw (is, length-drop) (omega arith)
 
 -- of a text that is played from a state: the lines before `rest` have shown this, and what comes after them goes on
 pub record SoFar (text : List ℕ) (s : State) (u : Usable) (old now : Option (List ℕ)) (number : ℕ) (rest : List ℕ) (t : State) (v : Usable) (refused : Bool) : Type 0 where

@@ -1,6 +1,7 @@
 -- What `play` makes of a text of requests, line by line, and what it shows.
-use Rattle.std.specs.Prelude.{◌≡◌, ◌≢◌, ◌⊎◌, ℕ, ◌+◌, ◌==◌, ◌||◌, Bool, true, false, IsTrue, List, [], ◌∷◌, ◌++◌, All, Contains, Option, Result, Ok, Err, codes, decimal, ℤ}
+use Rattle.std.specs.Prelude.{◌≡◌, ◌≢◌, ◌⊎◌, ℕ, ◌+◌, ◌==◌, ◌||◌, Bool, true, false, List, [], ◌++◌, Option, Result, Ok, Err, codes, decimal, ℤ}
 use Rattle.std.specs.Io.KnownBytes.{Appends}
+use Rattle.std.specs.List.{after_first, before_first, list_all}
 use Rattle.plan_basics.specs.Minutes.{IsShownAs}
 use Rattle.plan_basics.specs.declared.Refusal.{Refusal}
 use Rattle.plan_basics.specs.declared.keys.OpKey.{OpKey}
@@ -25,11 +26,15 @@ is_blank_byte b = (b == 32) || (b == 9) || (b == 13)
 
 -- a line has nothing else
 abbrev pub IsBlank : List ℕ → Type 0
-IsBlank text = All (λ b. IsTrue (is_blank_byte b)) text
+IsBlank text = list_all is_blank_byte text ≡ true
 
--- a text that isn't empty begins with this line, up to its LF or up to the text's end, and this comes after it
+-- the byte that ends a line, LF
+abbrev pub is_line_end : ℕ → Bool
+is_line_end b = b == 10
+
+-- a text that isn't empty begins with this line, which goes up to the first LF or else to the text's end, and this comes after it
 abbrev pub IsFirstLine : List ℕ → List ℕ → List ℕ → Type 0
-IsFirstLine text first rest = ¬ Contains first 10 × ((text ≡ first ++ 10 ∷ rest) ⊎ ((text ≡ first) × (rest ≡ []) × (first ≢ [])))
+IsFirstLine text first rest = (text ≢ []) × (first ≡ before_first is_line_end text) × (rest ≡ after_first is_line_end text)
 
 -- what is shown before an answer: the number of the request's line, and the request's moment
 abbrev pub turn_head : ℕ → List ℕ → List ℕ

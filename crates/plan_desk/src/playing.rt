@@ -1,10 +1,11 @@
 // `play`: the requests of a text are made one after another at a desk in memory.
-ghost use Rattle.std.specs.Prelude.{◌≡◌, ◌↔◌, IsTrue, IfOk, IfErr, IfSome, IfNone, OnOk, [], true, List, ℕ, ℤ};
+ghost use Rattle.std.specs.Prelude.{◌≡◌, IfOk, IfErr, IfSome, IfNone, OnOk, [], true, List, ℕ};
+ghost use Rattle.std.specs.List.{list_all};
 ghost use Rattle.std.specs.Io.KnownBytes.{Appends};
 ghost use Rattle.plan_basics.specs.Minutes.{IsShownAs};
 ghost use Rattle.plan_basics.specs.Watched.{inner_of};
 ghost use Rattle.plan_desk.specs.Statuses.{IsOfSurroundings};
-ghost use Rattle.plan_desk.specs.Turns.{IsBlank, IsFirstLine, IsLinePlayed, IsLoadRefusal, IsLoaded, IsPlayed, number_line, turn_head};
+ghost use Rattle.plan_desk.specs.Turns.{is_blank_byte, IsFirstLine, IsLinePlayed, IsLoadRefusal, IsLoaded, IsPlayed, number_line, turn_head};
 ghost use Rattle.plan_records.specs.Answer.{accepted};
 ghost use Rattle.plan_tables.specs.Desk.{state_of, usability};
 ghost use Rattle.plan_basics.specs.declared.keys.OpKey.{OpKey};
@@ -25,7 +26,7 @@ use std::io::Write;
 
 // Whether a line has nothing but what JSON passes over.
 fn is_blank(line: &[u8]) -> bool
-    ensures { IsTrue result ↔ IsBlank line.now }
+    ensures { result ≡ list_all is_blank_byte line.now }
 {
     line.iter().all(|byte| *byte == b' ' || *byte == b'\t' || *byte == b'\r')
 }
