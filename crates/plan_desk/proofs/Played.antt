@@ -1,10 +1,15 @@
 -- Playing a text line by line: what was shown so far, and how what comes after it goes on.
-use Rattle.std.proofs.Common.{◌≡◌, ℕ, ◌+◌, ◌<◌, ◌≤◌, ◌||◌, Bool, true, false, List, [], ◌∷◌, ◌++◌, length, length-drop, append_assoc, append-nil, refl, arith, Option, Result, Ok, Err}
+use Rattle.std.proofs.Common.{◌≡◌, ℕ, ◌+◌, ◌<◌, ◌≤◌, ◌||◌, Bool, true, false, List, [], ◌∷◌, ◌++◌, length, length-drop, append_assoc, append-nil, refl, sym, subst, subst₂, arith, ℤ, Option, Result, Ok, Err}
 use Rattle.std.specs.Io.KnownBytes.{Appends}
 use Rattle.std.proofs.KnownBytes.{Appends-nil, Appends-trans}
-use Rattle.plan_records.specs.Run.{State, Usable}
+use Rattle.plan_loads.specs.Databases.{load_request}
+use Rattle.plan_model.specs.Contents.{Contents}
+use Rattle.plan_records.specs.Answer.{Answer}
+use Rattle.plan_records.specs.Run.{Answers, State, Usable, empty_state, plain}
+use Rattle.plan_tables.specs.Desk.{usability}
+use Rattle.plan_desk.specs.Statuses.{IsOfSurroundings}
 use Rattle.plan_desk.specs.Asked.{IsNoRequest}
-use Rattle.plan_desk.specs.Turns.{IsFirstLine, IsLinePlayed, IsPlayed, Plays, PlaysLine, breaks_off, goes_on, joined, no_more, number_line}
+use Rattle.plan_desk.specs.Turns.{IsFirstLine, IsLinePlayed, IsLoaded, IsPlayed, Plays, PlaysLine, breaks_off, goes_on, joined, no_more, number_line}
 use Rattle.plan_desk.specs.declared.endings.Ending.{Ending}
 use Rattle.plan_desk.specs.declared.endings.Ending.TheVariants as ending
 use Rattle.plan_desk.specs.declared.endings.Fault.{Fault}
@@ -78,3 +83,22 @@ module _ (text : List ℕ) (s : State) (u : Usable) (old now : Option (List ℕ)
   so_far_breaks_off first after fault.File x y new cut of = of
   so_far_breaks_off first after fault.Network x y new cut of = of
   so_far_breaks_off first after fault.Memory x y new cut of = of
+
+-- a line's fault of the surroundings
+pub line_fails : (n : ℕ) (text : List ℕ) (s : State) (u : Usable) (old new : Option (List ℕ)) (r : Result Bool Fault) (f : Fault) (t : State) (v : Usable)
+    → r ≡ Err f → IsOfSurroundings f → IsLinePlayed n text s u old new r t v
+line_fails n text s u old new r f t v is of = subst (λ x. IsLinePlayed n text s u old new x t v) (sym is) (by f of)
+  where
+    by : (g : Fault) → IsOfSurroundings g → IsLinePlayed n text s u old new (Err g) t v
+    by fault.Request h = absurd (omega (arith, h))
+    by fault.Encoding h = h
+    by fault.Words h = h
+    by fault.Moment h = h
+    by fault.File h = h
+    by fault.Network h = h
+    by fault.Memory h = h
+
+-- a new desk takes a load
+pub loaded : (s : State) (b : Bool) (at : ℤ) (found : Option Contents) (a : Answer) (t : State) (v : Usable)
+    → s ≡ empty_state → b ≡ true → Answers s (usability b) (plain (load_request at found)) a t v → IsLoaded at found a t
+loaded s b at found a t v is usable answers = (v, subst₂ (λ x y. Answers x (usability y) (plain (load_request at found)) a t v) is usable answers)

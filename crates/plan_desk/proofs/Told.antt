@@ -1,5 +1,5 @@
 -- What is shown of a request and of a report that were asked for.
-use Rattle.std.proofs.Common.{◌≡◌, ◌⊎◌, refl, inl, inr, ℕ, Bool, List, Option, Result, IfOk, IfErr}
+use Rattle.std.proofs.Common.{◌≡◌, ◌⊎◌, refl, inl, inr, ℕ, Bool, List, Option, Result, Ok, Err, IfOk, IfErr}
 use Rattle.std.proofs.lemmas.Result.{IfErr-weaker, IfOk-weaker}
 use Rattle.plan_basics.specs.declared.Refusal.{Refusal}
 use Rattle.plan_model.specs.Plan.{Plan}
@@ -14,11 +14,27 @@ use Rattle.plan_desk.specs.Shown.{IsReportAsked, IsReportShown}
 use Rattle.plan_desk.specs.Statuses.{IsOfSurroundings}
 use Rattle.plan_desk.specs.declared.endings.Ending.{Ending}
 use Rattle.plan_desk.specs.declared.endings.Fault.{Fault}
+use Rattle.plan_desk.specs.declared.endings.Fault.TheVariants as fault
 use Rattle.plan_desk.specs.declared.given.Kind.{Kind}
 
 -- a fault of the surroundings is one of theirs, or another
 pub of_them : (Other : Fault → Type 0) (r : Result Ending Fault) → IfErr r IsOfSurroundings → IfErr r (λ f. IsOfSurroundings f ⊎ Other f)
 of_them Other r of = IfErr-weaker r IsOfSurroundings (λ f. IsOfSurroundings f ⊎ Other f) (λ (f : Fault) (is : IsOfSurroundings f). inl is) of
+
+-- so it is, written the other way round
+pub of_them_too : (Other : Fault → Type 0) (r : Result Ending Fault) → IfErr r IsOfSurroundings → IfErr r (λ f. Other f ⊎ IsOfSurroundings f)
+of_them_too Other r of = IfErr-weaker r IsOfSurroundings (λ f. Other f ⊎ IsOfSurroundings f) (λ (f : Fault) (is : IsOfSurroundings f). inr is) of
+
+-- a text that can't be read as a request: memory lacks, or it is none
+pub unread : (X : Type 0) (r : Result Ending Fault) (f : Fault) → r ≡ Err f → (f ≡ fault.Memory) ⊎ ((f ≡ fault.Request) × X)
+    → IfErr r (λ g. IsOfSurroundings g ⊎ ((g ≡ fault.Request) × X))
+unread X r f is (inl memory) = rw (is, memory) (inl refl)
+unread X r f is (inr none) = rw is (inr none)
+
+-- no request, where that is the fault
+pub no_request : (X : Type 0) (f : Fault) → f ≡ fault.Request → (f ≡ fault.Memory) ⊎ ((f ≡ fault.Request) × X) → X
+no_request X f is (inl memory) = absurd (cc)
+no_request X f is (inr none) = none.1
 
 module _ (r : Result Ending Fault) (old new : Option (List ℕ)) where
   -- a desk's answer to the request that a text says

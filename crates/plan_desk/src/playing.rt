@@ -1,12 +1,13 @@
 // `play`: the requests of a text are made one after another at a desk in memory.
-ghost use Rattle.std.specs.Prelude.{◌≡◌, IfOk, IfErr, IfSome, IfNone, OnOk, [], true, List, ℕ};
+ghost use Rattle.std.specs.Prelude.{◌≡◌, Ok, IfOk, IfErr, IfSome, IfNone, OnOk, [], true, List, ℕ};
 ghost use Rattle.std.specs.List.{list_all};
 ghost use Rattle.std.specs.Io.KnownBytes.{Appends};
 ghost use Rattle.plan_basics.specs.Minutes.{IsShownAs};
 ghost use Rattle.plan_basics.specs.Watched.{inner_of};
 ghost use Rattle.plan_desk.specs.Statuses.{IsOfSurroundings};
-ghost use Rattle.plan_desk.specs.Turns.{is_blank_byte, IsFirstLine, IsLinePlayed, IsLoadRefusal, IsLoaded, IsPlayed, number_line, turn_head};
-ghost use Rattle.plan_records.specs.Answer.{accepted};
+ghost use Rattle.plan_desk.specs.Turns.{is_blank_byte, is_refusal, IsFirstLine, IsLinePlayed, IsLoadRefusal, IsLoaded, IsPlayed, joined, number_line, turn_head};
+ghost use Rattle.plan_desk.specs.declared.endings.Ending.{Ending as Ended};
+ghost use Rattle.plan_records.specs.Answer.{accepted, answer_of};
 ghost use Rattle.plan_tables.specs.Desk.{state_of, usability};
 ghost use Rattle.plan_basics.specs.declared.keys.OpKey.{OpKey};
 
@@ -68,6 +69,27 @@ fn tell_number<W: Write>(out: &mut Watched<W>, number: usize) -> Result<(), Faul
     Ok(())
 }
 
+// Whether a reply refuses.
+fn is_refusal(reply: &Reply) -> bool
+    ensures { result ≡ is_refusal (answer_of reply.now) }
+{
+    match reply {
+        Reply::Accepted { .. } => false,
+        Reply::Refused(_) => true,
+    }
+}
+
+// How lines end that are all requests, by whether one was refused.
+fn ending_of_lines(refused: bool) -> Ending
+    ensures { Ok result ≡ joined refused (Ok Ended.Done) }
+{
+    if refused {
+        Ending::Refused
+    } else {
+        Ending::Done
+    }
+}
+
 // Makes the request of a line that isn't blank, shows number, moment and answer, and tells whether it is refused.
 fn play_line<S: Alter + Drop, W: Write>(
     alloc: Global,
@@ -91,7 +113,8 @@ fn play_line<S: Alter + Drop, W: Write>(
     };
     tell_head(out, number, request.at)?;
     let reply = desk.call(&request);
-    Ok(tell(out, &reply)? == Ending::Refused)
+    tell(out, &reply)?;
+    Ok(is_refusal(&reply))
 }
 
 // Makes the requests of a text, a line each, until one is none. Blank lines are passed over, and counted.
@@ -109,14 +132,10 @@ fn play_lines<S: Alter + Drop, W: Write>(
     while let Some((line, after)) = first_line(rest) {
         number += 1;
         let refuses = play_line(alloc, desk, number, line, out)?;
-        refused = refused || refuses;
+        refused |= refuses;
         rest = after;
     }
-    Ok(if refused {
-        Ending::Refused
-    } else {
-        Ending::Done
-    })
+    Ok(ending_of_lines(refused))
 }
 
 // A desk in memory at which a plan was loaded; or the refusal of the load.
