@@ -1,4 +1,4 @@
-use Rattle.std.proofs.Common.{◌≡◌, ◌++◌, rules, inr, refl, Err}
+use Rattle.std.proofs.Common.{◌≡◌, ◌++◌, FitsSigned, rules, inr, refl, to_z-of_z, w64, Err}
 use Rattle.std.proofs.KnownBytes.{Appends-trans}
 use Rattle.plan_basics.specs.Watched.{inner_of}
 use Rattle.plan_records.specs.Answer.{answer_of}
@@ -24,10 +24,11 @@ returns-in_err-tell g c =
 
 pub returns : goal.returns
 returns g c =
+    let fits : FitsSigned w64 c.in-Ok.request.at = search rules in
     let head = c.in_ok-tell_head.ensures.shown in
     let answer = answer_of c.call-reply.result in
     let shown = turn_head c.args.number head.0 ++ answer_text answer in
     (shown,
-    inr (c.in-Ok.request, c.in-Ok.ensures.request, head.0, head.1, answer, c.call-reply.ensures.answers, refl, c.is_refusal.ensures),
+    inr (c.in-Ok.request, c.in-Ok.ensures.request, head.0, simp to_z-of_z at head.1, answer, c.call-reply.ensures.answers, refl, c.is_refusal.ensures),
     Appends-trans (g.W.Write.contents (inner_of c.args.out.now)) (g.W.Write.contents (inner_of c.tell_head.new.out)) (g.W.Write.contents (inner_of c.tell.new.out))
     (turn_head c.args.number head.0) (answer_text answer) head.2 c.in_ok-tell.ensures.shown.0)
