@@ -54,7 +54,7 @@ abbrev pub PlaysLine : ℕ → List ℕ → State → Usable → List ℕ → Bo
 PlaysLine n text s u shown refuses t v =
     (IsBlank text × (shown ≡ []) × (refuses ≡ false) × (t ≡ s) × (v ≡ u))
     ⊎ ((q : Request) × ReadsAsRequest text q × (moment : List ℕ) × IsShownAs q.at moment × (a : Answer) × Answers s u (plain q) a t v
-        × (shown ≡ turn_head n moment ++ answer_text a) × (refuses ≡ is_refusal a))
+    × (shown ≡ turn_head n moment ++ answer_text a) × (refuses ≡ is_refusal a))
 
 -- how lines end that come after these: refused, where one of these was refused and each is a request
 abbrev pub joined : Bool → Result Ending Fault → Result Ending Fault
@@ -91,8 +91,11 @@ IsLoaded at found a s = (v : Usable) × Answers empty_state usable (plain (load_
 abbrev pub IsLoadRefusal : ℤ → Option Contents → Refusal → Type 0
 IsLoadRefusal at found r = ((s : State) × IsLoaded at found (refused r) s) ⊎ IsOpeningRefusal r
 
--- a draft was loaded into a new desk and a text was played there; or the refusal of the load was shown
-abbrev pub IsPlayAsked : ℤ → Option (List ℕ) → Option (List ℕ) → Result Ending Fault → Type 0
-IsPlayAsked at old new outcome =
-    ((found : Option Contents) × (named : List OpKey) × (s : State) × IsLoaded at found (accepted named) s × (text : List ℕ) × IsPlayed text s usable old new outcome)
-    ⊎ ((found : Option Contents) × (r : Refusal) × IsLoadRefusal at found r × (outcome ≡ Ok ending.Refused) × IsShown (refused r) old new ending.Refused)
+-- a draft was loaded into a new desk and a text was played there; or the refusal of the load was shown; or the surroundings are at fault
+abbrev pub IsPlanPlayed : ℤ → Option Contents → List ℕ → Option (List ℕ) → Option (List ℕ) → Result Ending Fault → Type 0
+IsPlanPlayed at found text old new (Ok e) =
+    ((named : List OpKey) × (s : State) × IsLoaded at found (accepted named) s × IsPlayed text s usable old new (Ok e))
+    ⊎ ((r : Refusal) × IsLoadRefusal at found r × IsShown (refused r) old new e)
+IsPlanPlayed at found text old new (Err fault.Request) =
+    (named : List OpKey) × (s : State) × IsLoaded at found (accepted named) s × IsPlayed text s usable old new (Err fault.Request)
+IsPlanPlayed at found text old new (Err f) = IsOfSurroundings f
