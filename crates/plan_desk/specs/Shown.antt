@@ -38,4 +38,4 @@ abbrev pub IsReportAsked : List ℕ → Option (List ℕ) → Option (List ℕ) 
 IsReportAsked word ws old new ending =
     (k : Kind) × AsksReport word ws k
     × (((usable : Bool) × (P : Plan) × IsReportShown k usable P old new ending)
-        ⊎ ((r : Refusal) × IsOpeningRefusal r × IsShown (refused r) old new ending))
+    ⊎ ((r : Refusal) × IsOpeningRefusal r × IsShown (refused r) old new ending))

@@ -54,7 +54,7 @@ abbrev pub PlaysLine : ℕ → List ℕ → State → Usable → List ℕ → Bo
 PlaysLine n text s u shown refuses t v =
     (IsBlank text × (shown ≡ []) × (refuses ≡ false) × (t ≡ s) × (v ≡ u))
     ⊎ ((q : Request) × ReadsAsRequest text q × (moment : List ℕ) × IsShownAs q.at moment × (a : Answer) × Answers s u (plain q) a t v
-        × (shown ≡ turn_head n moment ++ answer_text a) × (refuses ≡ is_refusal a))
+    × (shown ≡ turn_head n moment ++ answer_text a) × (refuses ≡ is_refusal a))
 
 -- how lines end that come after these: refused, where one of these was refused and each is a request
 abbrev pub joined : Bool → Result Ending Fault → Result Ending Fault

@@ -29,7 +29,8 @@ use std::io::Write;
 fn is_blank(line: &[u8]) -> bool
     ensures { result ≡ list_all is_blank_byte line.now }
 {
-    line.iter().all(|byte| *byte == b' ' || *byte == b'\t' || *byte == b'\r')
+    line.iter()
+        .all(|byte| *byte == b' ' || *byte == b'\t' || *byte == b'\r')
 }
 
 // The first line of a text that isn't empty, without its end, and what comes after it.

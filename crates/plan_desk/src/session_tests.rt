@@ -29,23 +29,29 @@ D,PAYROLL,2024-03-01T22:00,30,PAYROLL,2024-03-01T22:00,40,,,
 ";
 
 // Requests of that night. Of a text that is played, the line with only blanks is passed over.
-const STARTED: &str = r#"{"at":"2024-03-01T22:00","do":"started","op":"PAYROLL/2024-03-01T22:00/005"}"#;
+const STARTED: &str =
+    r#"{"at":"2024-03-01T22:00","do":"started","op":"PAYROLL/2024-03-01T22:00/005"}"#;
 
 const ENDED: &str = r#"{"at":"2024-03-01T22:10","do":"ended","op":"PAYROLL/2024-03-01T22:00/005"}"#;
 
-const TOO_EARLY: &str = r#"{"at":"2024-03-01T21:59","do":"started","op":"PAYROLL/2024-03-01T22:00/005"}"#;
+const TOO_EARLY: &str =
+    r#"{"at":"2024-03-01T21:59","do":"started","op":"PAYROLL/2024-03-01T22:00/005"}"#;
 
-const RUN_ENDED: &str = r#"{"at":"2024-03-01T22:40","do":"ended","op":"PAYROLL/2024-03-01T22:00/010"}"#;
+const RUN_ENDED: &str =
+    r#"{"at":"2024-03-01T22:40","do":"ended","op":"PAYROLL/2024-03-01T22:00/010"}"#;
 
-const BILLS: &str = r#"{"at":"2024-03-01T22:45","do":"add","records":"O,BILLING,2024-03-01T22:00,5,2024-03-02T03:00,,,,,\nP,BILLING,2024-03-01T22:00,10,CPU1,30,0,0,,\nN,BILLING,2024-03-01T22:00,10,CUSTFILE,S,F,,,"}"#;
+const BILLS: &str =
+    r#"{"at":"2024-03-01T22:45","do":"add","records":"O,BILLING,2024-03-01T22:00,5,2024-03-02T03:00,,,,,\nP,BILLING,2024-03-01T22:00,10,CPU1,30,0,0,,\nN,BILLING,2024-03-01T22:00,10,CUSTFILE,S,F,,,"}"#;
 
-const FAILED: &str = r#"{"at":"2024-03-01T23:00","do":"error","op":"PAYROLL/2024-03-01T22:00/020","code":"S0C7"}"#;
+const FAILED: &str =
+    r#"{"at":"2024-03-01T23:00","do":"error","op":"PAYROLL/2024-03-01T22:00/020","code":"S0C7"}"#;
 
 const TICK_OF_ONE: &str = r#"{"at":"2024-03-01T22:00","do":"tick","op":"X"}"#;
 
 const TICK: &str = r#"{"at":"2024-03-01T22:00","do":"tick"}"#;
 
-const PLAYED: &str = "{\"at\":\"2024-03-01T21:59\",\"do\":\"started\",\"op\":\"PAYROLL/2024-03-01T22:00/005\"}
+const PLAYED: &str =
+    "{\"at\":\"2024-03-01T21:59\",\"do\":\"started\",\"op\":\"PAYROLL/2024-03-01T22:00/005\"}
 {\"at\":\"2024-03-01T22:00\",\"do\":\"started\",\"op\":\"PAYROLL/2024-03-01T22:00/005\"}\r
  \t\r
 {\"at\":\"2024-03-01T22:10\",\"do\":\"ended\",\"op\":\"PAYROLL/2024-03-01T22:00/005\"}";
@@ -57,23 +63,62 @@ const BROKEN_OFF: &str = "{\"at\":\"2024-03-01T22:00\",\"do\":\"tick\"}
 
 /// A run: its words but the program's name, where `@` stands before a file of the folder; and what it answers, on
 /// standard output, on standard error, and by its status.
-type Turn = (
-    &'static [&'static str],
-    &'static str,
-    &'static str,
-    u8,
-);
+type Turn = (&'static [&'static str], &'static str, &'static str, u8);
 
 const NO_FAULT: &str = "";
 
 // Loads, requests and reports over one database.
 const SESSION: [Turn; 19] = [
-    (&["load", "--db", "@night.db", "--plan", "@empty", "--at", "2024-03-01T21:00"], "refused 21 BadPlan\n", NO_FAULT, 1),
-    (&["report", "--db", "@night.db", "--kind", "late"], "refused 3 NotLoaded\n", NO_FAULT, 1),
-    (&["do", "--db", "@night.db", "--request", TICK], "refused 3 NotLoaded\n", NO_FAULT, 1),
-    (&["load", "--db", "@night.db", "--plan", "@night.csv", "--at", "2024-03-01T21:00"], "accepted\n", NO_FAULT, 0),
     (
-        &["report", "--db", "@night.db", "--kind", "ready", "--ws", "SETP"],
+        &[
+            "load",
+            "--db",
+            "@night.db",
+            "--plan",
+            "@empty",
+            "--at",
+            "2024-03-01T21:00",
+        ],
+        "refused 21 BadPlan\n",
+        NO_FAULT,
+        1,
+    ),
+    (
+        &["report", "--db", "@night.db", "--kind", "late"],
+        "refused 3 NotLoaded\n",
+        NO_FAULT,
+        1,
+    ),
+    (
+        &["do", "--db", "@night.db", "--request", TICK],
+        "refused 3 NotLoaded\n",
+        NO_FAULT,
+        1,
+    ),
+    (
+        &[
+            "load",
+            "--db",
+            "@night.db",
+            "--plan",
+            "@night.csv",
+            "--at",
+            "2024-03-01T21:00",
+        ],
+        "accepted\n",
+        NO_FAULT,
+        0,
+    ),
+    (
+        &[
+            "report",
+            "--db",
+            "@night.db",
+            "--kind",
+            "ready",
+            "--ws",
+            "SETP",
+        ],
         "READY SETP AT 2024-03-01T21:00
 PAYROLL          2024-03-01T22:00   5 A - 5   10 2024-03-02T02:59
 END 1
@@ -81,16 +126,82 @@ END 1
         NO_FAULT,
         0,
     ),
-    (&["report", "--db", "@night.db", "--kind", "ready", "--ws", "XXXX"], "refused 7 UnknownWorkstation\n", NO_FAULT, 1),
-    (&["report", "--db", "@night.db", "--kind", "ready"], "", "fault words\n", 2),
-    (&["report", "--db", "@night.db", "--kind", "ready", "--ws", "SETUP"], "", "fault words\n", 2),
-    (&["do", "--db", "@night.db", "--request", TOO_EARLY], "refused 13 Closed\n", NO_FAULT, 1),
-    (&["do", "--db", "@night.db", "--request", TICK_OF_ONE], "", "fault request\n", 2),
-    (&["do", "--db", "@night.db", "--request", STARTED], "accepted\n", NO_FAULT, 0),
-    (&["do", "--db", "@night.db", "--request", ENDED], "accepted\nstarts PAYROLL/2024-03-01T22:00/010\n", NO_FAULT, 0),
-    (&["do", "--db", "@night.db", "--request", RUN_ENDED], "accepted\nstarts PAYROLL/2024-03-01T22:00/020\n", NO_FAULT, 0),
-    (&["do", "--db", "@night.db", "--request", BILLS], "accepted\n", NO_FAULT, 0),
-    (&["do", "--db", "@night.db", "--request", FAILED], "accepted\n", NO_FAULT, 0),
+    (
+        &[
+            "report",
+            "--db",
+            "@night.db",
+            "--kind",
+            "ready",
+            "--ws",
+            "XXXX",
+        ],
+        "refused 7 UnknownWorkstation\n",
+        NO_FAULT,
+        1,
+    ),
+    (
+        &["report", "--db", "@night.db", "--kind", "ready"],
+        "",
+        "fault words\n",
+        2,
+    ),
+    (
+        &[
+            "report",
+            "--db",
+            "@night.db",
+            "--kind",
+            "ready",
+            "--ws",
+            "SETUP",
+        ],
+        "",
+        "fault words\n",
+        2,
+    ),
+    (
+        &["do", "--db", "@night.db", "--request", TOO_EARLY],
+        "refused 13 Closed\n",
+        NO_FAULT,
+        1,
+    ),
+    (
+        &["do", "--db", "@night.db", "--request", TICK_OF_ONE],
+        "",
+        "fault request\n",
+        2,
+    ),
+    (
+        &["do", "--db", "@night.db", "--request", STARTED],
+        "accepted\n",
+        NO_FAULT,
+        0,
+    ),
+    (
+        &["do", "--db", "@night.db", "--request", ENDED],
+        "accepted\nstarts PAYROLL/2024-03-01T22:00/010\n",
+        NO_FAULT,
+        0,
+    ),
+    (
+        &["do", "--db", "@night.db", "--request", RUN_ENDED],
+        "accepted\nstarts PAYROLL/2024-03-01T22:00/020\n",
+        NO_FAULT,
+        0,
+    ),
+    (
+        &["do", "--db", "@night.db", "--request", BILLS],
+        "accepted\n",
+        NO_FAULT,
+        0,
+    ),
+    (
+        &["do", "--db", "@night.db", "--request", FAILED],
+        "accepted\n",
+        NO_FAULT,
+        0,
+    ),
     (
         &["report", "--db", "@night.db", "--kind", "occurrences"],
         "OCCURRENCES AT 2024-03-01T23:00
@@ -102,7 +213,15 @@ END 2
         0,
     ),
     (
-        &["report", "--db", "@night.db", "--kind", "errors", "--ws", "no name"],
+        &[
+            "report",
+            "--db",
+            "@night.db",
+            "--kind",
+            "errors",
+            "--ws",
+            "no name",
+        ],
         "ERRORS AT 2024-03-01T23:00
 PAYROLL          2024-03-01T22:00  20 CPU1 S0C7
 END 1
@@ -110,14 +229,32 @@ END 1
         NO_FAULT,
         0,
     ),
-    (&["do", "--db", "@night.db", "--request", TICK], "refused 1 Past\n", NO_FAULT, 1),
-    (&["report", "--db", "@night.db", "--kind", "late"], "LATE AT 2024-03-01T23:00\nEND 0\n", NO_FAULT, 0),
+    (
+        &["do", "--db", "@night.db", "--request", TICK],
+        "refused 1 Past\n",
+        NO_FAULT,
+        1,
+    ),
+    (
+        &["report", "--db", "@night.db", "--kind", "late"],
+        "LATE AT 2024-03-01T23:00\nEND 0\n",
+        NO_FAULT,
+        0,
+    ),
 ];
 
 // What is tried out in memory.
 const PLAYS: [Turn; 5] = [
     (
-        &["play", "--plan", "@night.csv", "--at", "2024-03-01T21:00", "--requests", "@played"],
+        &[
+            "play",
+            "--plan",
+            "@night.csv",
+            "--at",
+            "2024-03-01T21:00",
+            "--requests",
+            "@played",
+        ],
         "1 2024-03-01T21:59
 refused 13 Closed
 2 2024-03-01T22:00
@@ -130,22 +267,111 @@ starts PAYROLL/2024-03-01T22:00/010
         1,
     ),
     (
-        &["play", "--plan", "@night.csv", "--at", "2024-03-01T21:00", "--requests", "@broken_off"],
+        &[
+            "play",
+            "--plan",
+            "@night.csv",
+            "--at",
+            "2024-03-01T21:00",
+            "--requests",
+            "@broken_off",
+        ],
         "1 2024-03-01T22:00\naccepted\n2\n",
         "fault request\n",
         2,
     ),
-    (&["play", "--plan", "@night.csv", "--at", "2024-03-01T21:00", "--requests", "@empty"], "", NO_FAULT, 0),
-    (&["play", "--plan", "@empty", "--at", "2024-03-01T21:00", "--requests", "@played"], "refused 21 BadPlan\n", NO_FAULT, 1),
-    (&["play", "--plan", "@night.csv", "--at", "2024-03-01T21:00", "--requests", "@absent"], "", "fault file\n", 3),
+    (
+        &[
+            "play",
+            "--plan",
+            "@night.csv",
+            "--at",
+            "2024-03-01T21:00",
+            "--requests",
+            "@empty",
+        ],
+        "",
+        NO_FAULT,
+        0,
+    ),
+    (
+        &[
+            "play",
+            "--plan",
+            "@empty",
+            "--at",
+            "2024-03-01T21:00",
+            "--requests",
+            "@played",
+        ],
+        "refused 21 BadPlan\n",
+        NO_FAULT,
+        1,
+    ),
+    (
+        &[
+            "play",
+            "--plan",
+            "@night.csv",
+            "--at",
+            "2024-03-01T21:00",
+            "--requests",
+            "@absent",
+        ],
+        "",
+        "fault file\n",
+        3,
+    ),
 ];
 
 // What is judged first: the words, the request, the files.
 const ORDER: [Turn; 4] = [
-    (&["report", "--db", "@absent.db", "--kind", "ready", "--ws", ""], "", "fault words\n", 2),
-    (&["do", "--db", "@absent.db", "--request", "x"], "", "fault request\n", 2),
-    (&["do", "--db", "@absent.db", "--request", r#"{"tracker":"T1","number":1,"at":"2024-03-01T22:00","do":"tick"}"#], "", "fault request\n", 2),
-    (&["play", "--plan", "@absent", "--at", "22:00", "--requests", "@absent"], "", "fault moment\n", 2),
+    (
+        &[
+            "report",
+            "--db",
+            "@absent.db",
+            "--kind",
+            "ready",
+            "--ws",
+            "",
+        ],
+        "",
+        "fault words\n",
+        2,
+    ),
+    (
+        &["do", "--db", "@absent.db", "--request", "x"],
+        "",
+        "fault request\n",
+        2,
+    ),
+    (
+        &[
+            "do",
+            "--db",
+            "@absent.db",
+            "--request",
+            r#"{"tracker":"T1","number":1,"at":"2024-03-01T22:00","do":"tick"}"#,
+        ],
+        "",
+        "fault request\n",
+        2,
+    ),
+    (
+        &[
+            "play",
+            "--plan",
+            "@absent",
+            "--at",
+            "22:00",
+            "--requests",
+            "@absent",
+        ],
+        "",
+        "fault moment\n",
+        2,
+    ),
 ];
 
 /// The words of a run in a folder.
@@ -256,7 +482,10 @@ fn each_command_tells_its_help(rt: HostRuntime) -> Result<(), Fail> {
         ("check", "Example: plandesk check --plan day.csv"),
         ("load", "Example: plandesk load --db night.db"),
         ("do", "Example: plandesk do --db night.db"),
-        ("report", "[possible values: ready, occurrences, errors, late]"),
+        (
+            "report",
+            "[possible values: ready, occurrences, errors, late]",
+        ),
         ("serve", "Example: plandesk serve --db night.db"),
         ("play", "Example: plandesk play --plan day.csv"),
     ] {

@@ -72,8 +72,7 @@ fn do_command<'a>(alloc: Global) -> Result<Command<'a>, AllocError> {
 
 /// `report`: one of the four reports of the desk of a database.
 fn report_command<'a>(alloc: Global) -> Result<Command<'a>, AllocError> {
-    let kind = option(alloc, "kind", "KIND", "Which report")
-        .value_parser(KINDS.as_slice());
+    let kind = option(alloc, "kind", "KIND", "Which report").value_parser(KINDS.as_slice());
     let workstation = option(
         alloc,
         "ws",
@@ -118,7 +117,9 @@ fn play_command<'a>(alloc: Global) -> Result<Command<'a>, AllocError> {
         "The requests, one to a line, as `do` takes them; - is standard input",
     );
     Command::new(alloc, "play")
-        .about("Loads a plan, makes requests one after another and prints each answer; nothing is stored")
+        .about(
+            "Loads a plan, makes requests one after another and prints each answer; nothing is stored",
+        )
         .after_help(
             "Example: plandesk play --plan day.csv --at 2024-03-01T21:00 --requests night.json",
         )

@@ -46,6 +46,8 @@ returns-in-None-clause-first c =
     let text = c.args.text.now in
     let found : c.position.result ≡ cond (ltb (position_or_len is_line_end text) (length text)) (Some (position_or_len is_line_end text)) None =
     position_from_yields_List is_line_end _ _ c.position.result c.position.ensures.ran (YieldsList-from_slice _ c.iter.ensures.rest) (λ x b q k. search (rules, tests)) in
-    let past : length text ≤ position_or_len is_line_end text = at_most (position_or_len is_line_end text) (length text) (no_place (position_or_len is_line_end text) (length text) (sym found ∙ c.in-None.is)) in
-    (not_empty text c.if-is_empty.ensures, sym (take_all (position_or_len is_line_end text) text past),
-    all_left (length text) (length text) text refl ∙ drop_all (length text) text (omega arith) ∙ sym (drop_all (position_or_len is_line_end text + 1) text (omega arith)))
+    let past : length text ≤ position_or_len is_line_end text = at_most (position_or_len is_line_end text) (length text) (no_place (position_or_len is_line_end text) (length text) (sym found ∙ c.in-None.is)) in (
+      not_empty text c.if-is_empty.ensures,
+      sym (take_all (position_or_len is_line_end text) text past),
+      all_left (length text) (length text) text refl ∙ drop_all (length text) text (omega arith) ∙ sym (drop_all (position_or_len is_line_end text + 1) text (omega arith)),
+    )

@@ -11,9 +11,10 @@ use Rattle.plan_desk.proofs.Told.{no_request}
 use Rattle.plan_desk.proofs.playing.play_line.Goals as goal
 
 pub returns-in-Err-Request : goal.returns-in-Err-Request
-returns-in-Err-Request g c =
-    (no_request (IsNoRequest c.args.line.now) c.in-Err-Request.field-0 c.in-Err-Request.field-0-is c.in-Err-Request.ensures.fault,
-    c.in_ok-tell_number-in-Err-Request.ensures.shown)
+returns-in-Err-Request g c = (
+  no_request (IsNoRequest c.args.line.now) c.in-Err-Request.field-0 c.in-Err-Request.field-0-is c.in-Err-Request.ensures.fault,
+  c.in_ok-tell_number-in-Err-Request.ensures.shown,
+)
 
 pub returns-in_err-tell : goal.returns-in_err-tell
 returns-in_err-tell g c =
@@ -27,8 +28,9 @@ returns g c =
     let fits : FitsSigned w64 c.in-Ok.request.at = search rules in
     let head = c.in_ok-tell_head.ensures.shown in
     let answer = answer_of c.call-reply.result in
-    let shown = turn_head c.args.number head.0 ++ answer_text answer in
-    (shown,
-    inr (c.in-Ok.request, c.in-Ok.ensures.request, head.0, simp to_z-of_z at head.1, answer, c.call-reply.ensures.answers, refl, c.is_refusal.ensures),
-    Appends-trans (g.W.Write.contents (inner_of c.args.out.now)) (g.W.Write.contents (inner_of c.tell_head.new.out)) (g.W.Write.contents (inner_of c.tell.new.out))
-    (turn_head c.args.number head.0) (answer_text answer) head.2 c.in_ok-tell.ensures.shown.0)
+    let shown = turn_head c.args.number head.0 ++ answer_text answer in (
+      shown,
+      inr (c.in-Ok.request, c.in-Ok.ensures.request, head.0, simp to_z-of_z at head.1, answer, c.call-reply.ensures.answers, refl, c.is_refusal.ensures),
+      Appends-trans (g.W.Write.contents (inner_of c.args.out.now)) (g.W.Write.contents (inner_of c.tell_head.new.out)) (g.W.Write.contents (inner_of c.tell.new.out))
+          (turn_head c.args.number head.0) (answer_text answer) head.2 c.in_ok-tell.ensures.shown.0,
+    )
