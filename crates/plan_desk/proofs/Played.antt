@@ -1,15 +1,18 @@
 -- Playing a text line by line: what was shown so far, and how what comes after it goes on.
-use Rattle.std.proofs.Common.{◌≡◌, ℕ, ◌+◌, ◌<◌, ◌≤◌, ◌||◌, Bool, true, false, List, [], ◌∷◌, ◌++◌, length, length-drop, append_assoc, append-nil, refl, sym, subst, subst₂, arith, ℤ, Option, Result, Ok, Err}
+use Rattle.std.proofs.Common.{◌≡◌, ℕ, ◌+◌, ◌<◌, ◌≤◌, ◌||◌, Bool, true, false, List, [], ◌∷◌, ◌++◌, length, length-drop, append_assoc, append-nil, refl, inl, inr, sym, subst, subst₂, arith, ℤ, Option, Result, Ok, Err, IfOk, IfErr}
 use Rattle.std.specs.Io.KnownBytes.{Appends}
 use Rattle.std.proofs.KnownBytes.{Appends-nil, Appends-trans}
+use Rattle.plan_basics.specs.declared.Refusal.{Refusal}
+use Rattle.plan_basics.specs.declared.keys.OpKey.{OpKey}
 use Rattle.plan_loads.specs.Databases.{load_request}
 use Rattle.plan_model.specs.Contents.{Contents}
-use Rattle.plan_records.specs.Answer.{Answer}
+use Rattle.plan_records.specs.Answer.{Answer, accepted, refused}
 use Rattle.plan_records.specs.Run.{Answers, State, Usable, empty_state, plain}
 use Rattle.plan_tables.specs.Desk.{usability}
 use Rattle.plan_desk.specs.Statuses.{IsOfSurroundings}
+use Rattle.plan_desk.specs.Answers.{IsShown}
 use Rattle.plan_desk.specs.Asked.{IsNoRequest}
-use Rattle.plan_desk.specs.Turns.{IsFirstLine, IsLinePlayed, IsLoaded, IsPlayed, Plays, PlaysLine, breaks_off, goes_on, joined, no_more, number_line}
+use Rattle.plan_desk.specs.Turns.{IsFirstLine, IsLinePlayed, IsLoadRefusal, IsLoaded, IsPlanPlayed, IsPlayed, Plays, PlaysLine, breaks_off, goes_on, joined, no_more, number_line}
 use Rattle.plan_desk.specs.declared.endings.Ending.{Ending}
 use Rattle.plan_desk.specs.declared.endings.Ending.TheVariants as ending
 use Rattle.plan_desk.specs.declared.endings.Fault.{Fault}
@@ -102,3 +105,37 @@ line_fails n text s u old new r f t v is of = subst (λ x. IsLinePlayed n text s
 pub loaded : (s : State) (b : Bool) (at : ℤ) (found : Option Contents) (a : Answer) (t : State) (v : Usable)
     → s ≡ empty_state → b ≡ true → Answers s (usability b) (plain (load_request at found)) a t v → IsLoaded at found a t
 loaded s b at found a t v is usable answers = (v, subst₂ (λ x y. Answers x (usability y) (plain (load_request at found)) a t v) is usable answers)
+
+module _ (at : ℤ) (found : Option Contents) (text : List ℕ) (old new : Option (List ℕ)) where
+  -- a fault of the surroundings
+  plan_at_fault : (f : Fault) → IsOfSurroundings f → IsPlanPlayed at found text old new (Err f)
+  plan_at_fault fault.Request h = absurd (omega (arith, h))
+  plan_at_fault fault.Encoding h = h
+  plan_at_fault fault.Words h = h
+  plan_at_fault fault.Moment h = h
+  plan_at_fault fault.File h = h
+  plan_at_fault fault.Network h = h
+  plan_at_fault fault.Memory h = h
+
+  -- the new desk isn't there
+  pub plan_fails : (r : Result Ending Fault) (f : Fault) → r ≡ Err f → IsOfSurroundings f → IsPlanPlayed at found text old new r
+  plan_fails r f is of = subst (IsPlanPlayed at found text old new) (sym is) (plan_at_fault f of)
+
+  -- the plan was loaded, and the text played
+  pub plan_played : (named : List OpKey) (s : State) (b : Bool) (r : Result Ending Fault)
+      → IsLoaded at found (accepted named) s → b ≡ true → IsPlayed text s (usability b) old new r → IsPlanPlayed at found text old new r
+  plan_played named s true (Ok e) loads is played = inl (named, s, loads, played)
+  plan_played named s true (Err fault.Request) loads is played = (named, s, loads, played)
+  plan_played named s true (Err fault.Encoding) loads is played = played
+  plan_played named s true (Err fault.Words) loads is played = played
+  plan_played named s true (Err fault.Moment) loads is played = played
+  plan_played named s true (Err fault.File) loads is played = played
+  plan_played named s true (Err fault.Network) loads is played = played
+  plan_played named s true (Err fault.Memory) loads is played = played
+  plan_played named s false r loads is played = absurd (cc)
+
+  -- its load was refused, and that was shown
+  pub plan_refused : (refusal : Refusal) (r : Result Ending Fault)
+      → IsLoadRefusal at found refusal → IfOk r (IsShown (refused refusal) old new) → IfErr r IsOfSurroundings → IsPlanPlayed at found text old new r
+  plan_refused refusal (Ok e) why shown of = inr (refusal, why, shown)
+  plan_refused refusal (Err f) why shown of = plan_at_fault f of

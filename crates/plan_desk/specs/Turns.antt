@@ -91,8 +91,11 @@ IsLoaded at found a s = (v : Usable) × Answers empty_state usable (plain (load_
 abbrev pub IsLoadRefusal : ℤ → Option Contents → Refusal → Type 0
 IsLoadRefusal at found r = ((s : State) × IsLoaded at found (refused r) s) ⊎ IsOpeningRefusal r
 
--- a draft was loaded into a new desk and a text was played there; or the refusal of the load was shown
-abbrev pub IsPlayAsked : ℤ → Option (List ℕ) → Option (List ℕ) → Result Ending Fault → Type 0
-IsPlayAsked at old new outcome =
-    ((found : Option Contents) × (named : List OpKey) × (s : State) × IsLoaded at found (accepted named) s × (text : List ℕ) × IsPlayed text s usable old new outcome)
-    ⊎ ((found : Option Contents) × (r : Refusal) × IsLoadRefusal at found r × (outcome ≡ Ok ending.Refused) × IsShown (refused r) old new ending.Refused)
+-- a draft was loaded into a new desk and a text was played there; or the refusal of the load was shown; or the surroundings are at fault
+abbrev pub IsPlanPlayed : ℤ → Option Contents → List ℕ → Option (List ℕ) → Option (List ℕ) → Result Ending Fault → Type 0
+IsPlanPlayed at found text old new (Ok e) =
+    ((named : List OpKey) × (s : State) × IsLoaded at found (accepted named) s × IsPlayed text s usable old new (Ok e))
+    ⊎ ((r : Refusal) × IsLoadRefusal at found r × IsShown (refused r) old new e)
+IsPlanPlayed at found text old new (Err fault.Request) =
+    (named : List OpKey) × (s : State) × IsLoaded at found (accepted named) s × IsPlayed text s usable old new (Err fault.Request)
+IsPlanPlayed at found text old new (Err f) = IsOfSurroundings f

@@ -5,7 +5,7 @@ ghost use Rattle.std.specs.Io.KnownBytes.{Appends};
 ghost use Rattle.plan_basics.specs.Minutes.{IsShownAs};
 ghost use Rattle.plan_basics.specs.Watched.{inner_of};
 ghost use Rattle.plan_desk.specs.Statuses.{IsOfSurroundings};
-ghost use Rattle.plan_desk.specs.Turns.{is_blank_byte, is_refusal, IsFirstLine, IsLinePlayed, IsLoadRefusal, IsLoaded, IsPlayed, joined, number_line, turn_head};
+ghost use Rattle.plan_desk.specs.Turns.{is_blank_byte, is_refusal, IsFirstLine, IsLinePlayed, IsLoadRefusal, IsLoaded, IsPlanPlayed, IsPlayed, joined, number_line, turn_head};
 ghost use Rattle.plan_desk.specs.declared.endings.Ending.{Ending as Ended};
 ghost use Rattle.plan_records.specs.Answer.{accepted, answer_of};
 ghost use Rattle.plan_tables.specs.Desk.{state_of, usability};
@@ -174,6 +174,22 @@ fn requests_of(rt: &HostRuntime, path: &str) -> Result<Vec<u8>, Fault>
     }
 }
 
+// Loads a plan into a desk in memory, and makes the requests of a text there; or shows the refusal of the load.
+fn play_plan<W: Write>(
+    alloc: Global,
+    at: i64,
+    draft: Option<PlanDraft>,
+    requests: &[u8],
+    out: &mut Watched<W>,
+) -> Result<Ending, Fault>
+    ensures { IsPlanPlayed at draft requests.now (W.contents (inner_of out.old)) (W.contents (inner_of out.new)) result }
+{
+    match loaded_desk(alloc, at, draft)? {
+        Ok(mut desk) => play_lines(alloc, &mut desk, requests, out),
+        Err(refusal) => tell(out, &Reply::Refused(refusal)),
+    }
+}
+
 /// `play`: the plan of a file is loaded into a desk in memory, and the requests of a text are made there, one after
 /// another. The moment is judged before the files, and both are read before anything is made.
 pub fn play<W: Write>(
@@ -184,8 +200,5 @@ pub fn play<W: Write>(
     let at = moment_of(given)?;
     let draft = plan_of(rt.alloc(), fs::open(rt, value_of(given, "plan"))?)?;
     let requests = requests_of(rt, value_of(given, "requests"))?;
-    match loaded_desk(rt.alloc(), at, draft)? {
-        Ok(mut desk) => play_lines(rt.alloc(), &mut desk, requests.as_slice(), out),
-        Err(refusal) => tell(out, &Reply::Refused(refusal)),
-    }
+    play_plan(rt.alloc(), at, draft, requests.as_slice(), out)
 }
