@@ -6,6 +6,7 @@ use Rattle.std.proofs.lemmas.List.FromFn.{get_or-map-range_with_len, get_or-rang
 use Rattle.std.proofs.lemmas.List.Elements.{All-contains, filter_passes}
 use Rattle.operation_graph.specs.Adjacency.{Rows, row}
 use Rattle.operation_graph.specs.Graphs.{AreExactly, Digraph, HasEdge, IsGraph, IsSet}
+use Rattle.operation_graph.specs.Paths.{IsPathBy, end_of}
 use Rattle.operation_graph.specs.Walks.{AreNodes, IsSuccessor, IsWalk}
 use Rattle.operation_graph.proofs.Counts.{contains_counted, row_there}
 use Rattle.operation_graph.proofs.Reaching.{IsVisit, found_exactly, reaches_along}
@@ -29,11 +30,11 @@ module _ {X : Type 0} (p : X → Bool) where
 
   of_filter : (xs : List X) (x : X) → Contains (filter p xs) x → Contains xs x
   of_filter [] x has = has
-  of_filter (y ∷ xs) x has = past (p y) has
+  of_filter (y ∷ xs) x has = past (p y) (λ h. of_filter xs x h) has
     where
-      past : (b : Bool) → Contains (cond b (y ∷ filter p xs) (filter p xs)) x → Contains (y ∷ xs) x
-      past true h = elim (contains_cases y (filter p xs) x h) [ inl same ↦ subst (Contains (y ∷ xs)) same (contains_head y xs) | inr later ↦ contains_later y xs x (of_filter xs x later) ]
-      past false h = contains_later y xs x (of_filter xs x h)
+      past : (b : Bool) → (Contains (filter p xs) x → Contains xs x) → Contains (cond b (y ∷ filter p xs) (filter p xs)) x → Contains (y ∷ xs) x
+      past true rest h = elim (contains_cases y (filter p xs) x h) [ inl same ↦ subst (Contains (y ∷ xs)) same (contains_head y xs) | inr later ↦ contains_later y xs x (rest later) ]
+      past false rest h = contains_later y xs x (rest h)
 
 -- ---- numbers up to a bound
 
@@ -85,6 +86,14 @@ module _ (g : Digraph) where
       some = λ b has. subst (λ a. IsSuccessor rows a b) (sym at) (row_of_back node b ((exactly.1 b).0 has));
       others = λ b is l. inr ((exactly.1 b).1 (back_of_row node b (subst (λ a. IsSuccessor rows a b) at is)));
     }
+
+    ends_within : (flags : List Bool) (a : ℕ) (rest : List ℕ) → a < g.nodes → IsPathBy (LeadsBack g) (IsSet flags) a rest → end_of a rest < g.nodes
+    ends_within flags a [] lt path = lt
+    ends_within flags a (b ∷ rest) lt path = ends_within flags b rest (graph.ends b a path.0).0 path.2
+
+    -- what is upstream of a node is a node
+    pub upstream_within : (flags : List Bool) (from n : ℕ) → from < g.nodes → IsUpstream g flags from n → n < g.nodes
+    upstream_within flags from n lt r = subst (λ z. z < g.nodes) r.2 (ends_within flags from r.0 lt r.1)
 
     -- where a walk is through, it has found all that is upstream
     pub upstream_found : (flags : List Bool) (from : ℕ) (seen : List Bool) (found : List ℕ) (place : ℕ) → IsWalk rows flags from seen found place → length found ≤ place

@@ -57,12 +57,12 @@ module _ (keep : ℕ → Type 0) (all : List ℕ) where
   }
 
   pub sift_passed : (kept : List ℕ) (x : ℕ) (rest : List ℕ) → IsSift keep all kept (x ∷ rest) → ¬ keep x → IsSift keep all kept rest
-  sift_passed kept x rest s no = record {
+  sift_passed kept x rest s fails = record {
     in_order = subst AreAscending (remove_between kept x rest) (all_pairs_remove (λ a b. a < b) (kept ++ x ∷ rest) (length kept) (between kept x rest) s.in_order);
     sound = s.sound;
     complete = λ n has is. elim (s.complete n has is) [
       | inl old ↦ inl old
-      | inr left ↦ elim (contains_cases x rest n left) [ inl same ↦ absurd (no (subst keep (sym same) is)) | inr later ↦ inr later ]
+      | inr left ↦ elim (contains_cases x rest n left) [ inl same ↦ absurd (fails (subst keep (sym same) is)) | inr later ↦ inr later ]
     ];
     within = λ n has. s.within n (contains_later x rest n has);
   }

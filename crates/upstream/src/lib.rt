@@ -3,7 +3,7 @@
 
 ghost use Rattle.std.specs.Prelude.{◌≡◌, ◌↔◌, ◌<◌, ℕ, Contains, length, IfOk, IfErr};
 ghost use Rattle.plan_basics.specs.declared.Refusal.{Refusal};
-ghost use Rattle.operation_graph.specs.Graphs.{AreExactly, HasEdge, IsSet};
+ghost use Rattle.operation_graph.specs.Graphs.{AreExactly, HasEdge, IsGraph, IsSet};
 ghost use Rattle.upstream.specs.Upstream.{AreAscending, IsSource, IsUpstream};
 
 mod sifting;
@@ -29,6 +29,7 @@ pub fn upstream(
     requires from { from < graph.now.nodes }
     requires flags { length flags.now ≡ graph.now.nodes }
     ensures reached { IfOk result (λ found. AreExactly (IsUpstream graph.now flags.now from) found.items) }
+    ensures graph { IsGraph graph.now }
     ensures refused { IfErr result (λ r. r ≡ Refusal.Memory) }
 {
     let mut walk = Walk::begun(alloc, graph, flags, from)?;

@@ -1,0 +1,20 @@
+//! Why an operation doesn't start at a moment: every reason, and what holds the chain that it waits for.
+#![tactic(auto)]
+
+ghost use Rattle.plan_reasons.specs.Laws.{EmptyWhereItMayStart};
+
+mod busy;
+mod lacking;
+mod predecessors;
+mod reasons;
+mod single;
+mod why;
+
+pub use reasons::{Closing, Obstacle, Reason, Shortage, Supply, Unsatisfied};
+pub use why::{Why, why};
+
+/// The law that of an operation on a workstation of attribute A or S no reason is listed exactly where it is allowed to
+/// start. It does nothing.
+pub fn empty_where_it_may_start()
+    ensures { EmptyWhereItMayStart }
+{}
