@@ -10,7 +10,7 @@ use Rattle.plan_reasons.specs.Reasons.{IsReason}
 use Rattle.plan_reasons.specs.Roots.{IsRoot}
 use Rattle.plan_reasons.specs.declared.reasons.Reason.{Reason}
 use Rattle.plan_reasons.specs.declared.reasons.Unsatisfied.{Unsatisfied}
-use Rattle.plan_reasons.specs.declared.why.Why.{Why}
+use Rattle.plan_reasons.specs.declared.answer.Why.{Why}
 
 -- exactly the reasons why o doesn't go on at m, each once, in their order
 pub record AreReasons (P : Contents) (o : OpKey) (m : ℕ) (reasons : List Reason) : Type 0 where

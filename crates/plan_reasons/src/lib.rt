@@ -3,15 +3,15 @@
 
 ghost use Rattle.plan_reasons.specs.Laws.{EmptyWhereItMayStart};
 
+mod answer;
 mod busy;
 mod lacking;
 mod predecessors;
 mod reasons;
 mod single;
-mod why;
 
+pub use answer::{Why, explain};
 pub use reasons::{Closing, Obstacle, Reason, Shortage, Supply, Unsatisfied};
-pub use why::{Why, why};
 
 /// The law that of an operation on a workstation of attribute A or S no reason is listed exactly where it is allowed to
 /// start. It does nothing.

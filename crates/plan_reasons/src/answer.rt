@@ -58,9 +58,18 @@ fn note_station(
     let workstation = contents.workstation(&operation.workstation).unwrap();
     note(reasons, too_early(operation, at))?;
     note(reasons, closed(workstation, at))?;
-    note(reasons, lacks(workstation, operation, &taken, Supply::Servers, at))?;
-    note(reasons, lacks(workstation, operation, &taken, Supply::R1, at))?;
-    note(reasons, lacks(workstation, operation, &taken, Supply::R2, at))
+    note(
+        reasons,
+        lacks(workstation, operation, &taken, Supply::Servers, at),
+    )?;
+    note(
+        reasons,
+        lacks(workstation, operation, &taken, Supply::R1, at),
+    )?;
+    note(
+        reasons,
+        lacks(workstation, operation, &taken, Supply::R2, at),
+    )
 }
 
 // Notes what keeps an operation that goes on by a start from it of special resources. The error is always `Memory`.
@@ -76,7 +85,6 @@ fn note_resources(
     ensures noted { OnOk result (GoesOn contents.now key.now operation.now at 8 10 reasons.old.items reasons.new.items) }
     ensures refused { IfErr result (λ r. r ≡ Refusal.Memory) }
 {
-    let _ = at;
     note_all(reasons, all_unavailable(alloc, contents, operation)?)?;
     let holdings = holdings_of(alloc, contents.valid())?;
     Ok(note_all(reasons, all_held(alloc, key, operation, &holdings)?)?)
@@ -114,7 +122,7 @@ fn reasons_at(
 /// On a workstation of attribute A or S it goes on by a start, on one of attribute C by its completion, on one of
 /// attribute N, and as a NOP, by passing. It takes time linear in the plan's operations for what is given out and held, and
 /// beside that in what is upstream.
-pub fn why(
+pub fn explain(
     alloc: Global,
     loaded: &LoadedPlan,
     key: &OpKey,
