@@ -1,5 +1,5 @@
 -- Operations at indices, with their statuses.
-use Rattle.std.proofs.Common.{◌≡◌, ◌≢◌, refl, sym, ap, subst, ◌∙◌, arith, ℕ, ◌<◌, List, [], ◌∷◌, map, Contains, Option, Some, slice_get}
+use Rattle.std.proofs.Common.{◌≡◌, ◌≢◌, refl, sym, ap, ap₂, subst, ◌∙◌, arith, ℕ, ◌<◌, List, [], ◌∷◌, map, Contains, Option, Some, slice_get}
 use Rattle.std.specs.FinMap.{entries}
 use Rattle.std.specs.List.{AllPairs}
 use Rattle.std.specs.List.Sorted.{IsStrictlySortedBy}
@@ -48,10 +48,10 @@ module _ (P : Contents) (places : List ℕ) (found : List Unsatisfied) (are : Ar
   found_in_order up =
       let sorted = entries_in_order operation_cmp P.operations in
       let below : (i j : ℕ) → i < j → Below (slice_get nodes i) (slice_get nodes j) = λ i j lt x y at_i at_j.
-          let less = Less-from_sorted operation_cmp nodes i j x sorted lt (slice_get_within nodes j y at_j) in
-          (λ k. operation_cmp (sym (get_or_from_slice_get nodes i x x at_i) k) (sym (get_or_from_slice_get nodes j y x at_j) k)) ∙ less in
+      let less = Less-from_sorted operation_cmp nodes i j x sorted lt (slice_get_within nodes j y at_j) in
+      ap₂ operation_cmp (sym (get_or_from_slice_get nodes i x x at_i)) (sym (get_or_from_slice_get nodes j y x at_j)) ∙ less in
       let at_places : Differ (λ i j. Below (slice_get nodes i) (slice_get nodes j)) places = differ_weaken (λ i j. i < j) (λ i j. Below (slice_get nodes i) (slice_get nodes j)) places (λ i j in_i in_j. below i j)
-          (differ_from_pairs (λ i j. i < j) places up) in
+      (differ_from_pairs (λ i j. i < j) places up) in
       let at_keys : Differ Below (map its_key found) = subst (Differ Below) are.keys (differ_map (slice_get nodes) Below places at_places) in
       pairs_from_differ (λ x y. operation_cmp x.op y.op ≡ Less) found
       (differ_weaken (λ x y. Below (its_key x) (its_key y)) (λ x y. operation_cmp x.op y.op ≡ Less) found (λ x y in_x in_y h. h x.op y.op refl refl) (differ_unmap its_key Below found at_keys))

@@ -8,3 +8,4 @@ pub mod Obstructing
 pub mod Found
 pub mod Rooting
 pub mod Waits
+pub mod Emptying

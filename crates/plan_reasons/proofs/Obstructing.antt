@@ -1,5 +1,5 @@
 -- The reasons that other operations hold special resources.
-use Rattle.std.proofs.Common.{◌≡◌, ◌≢◌, ◌⊎◌, inl, inr, refl, sym, ap, subst, ◌∙◌, arith, ℕ, ◌<◌, Bool, true, false, true≢false, cond, not, ◌&&◌, List, [], ◌∷◌, ◌++◌, map, Contains, Option, Some, None}
+use Rattle.std.proofs.Common.{◌≡◌, ◌≢◌, ◌⊎◌, inl, inr, refl, sym, ap, ap₂, subst, ◌∙◌, arith, ℕ, ◌<◌, Bool, true, false, true≢false, cond, not, ◌&&◌, List, [], ◌∷◌, ◌++◌, map, Contains, Option, Some, None}
 use Rattle.std.specs.Cmp.{Equal-is, eq_by_cmp_equiv}
 use Rattle.std.specs.FinMap.{get}
 use Rattle.std.specs.List.{AllPairs, filter_map}
@@ -44,7 +44,7 @@ shared_told : (m : Mode) → is_shared m ≡ true → m ≡ mode.Shared
 shared_told mode.Shared e = refl
 shared_told m e = absurd (true≢false (sym e))
 
-both_shared : (a b : Mode) → (is_shared a && is_shared b ≡ false) ⊎ ((a ≡ mode.Shared) × (b ≡ mode.Shared))
+pub both_shared : (a b : Mode) → (is_shared a && is_shared b ≡ false) ⊎ ((a ≡ mode.Shared) × (b ≡ mode.Shared))
 both_shared mode.Shared mode.Shared = inr (refl, refl)
 both_shared mode.Shared b = inl refl
 both_shared a b = inl refl
@@ -55,7 +55,7 @@ module _ (o : OpKey) (m : Mode) (h : Holder) where
   in_way e =
       let parts = both_off (eq_by_cmp operation_cmp h.operation o) (is_shared m && is_shared h.mode) e in (
         λ same. true≢false (sym ((eq_by_cmp_equiv operation_cmp_total).refl o) ∙ ap (λ k. eq_by_cmp operation_cmp k o) (sym same) ∙ parts.0),
-        λ both. true≢false (sym (λ i. is_shared (both.0 i) && is_shared (both.1 i)) ∙ parts.1),
+        λ both. let on : is_shared m && is_shared h.mode ≡ true = λ i. is_shared (both.0 i) && is_shared (both.1 i) in true≢false (sym on ∙ parts.1),
       )
 
   by_way : h.operation ≢ o → ¬ ((m ≡ mode.Shared) × (h.mode ≡ mode.Shared)) → is_in_way o m h ≡ true
@@ -121,7 +121,7 @@ module _ (o : OpKey) (held : Held) where
         let (n, h, there, way, is) = a.sound r in_found in
         let (k, among, e) = from_filter tell holders s in_new in
         let new = its_way k s among e in
-        let less : name_cmp h.resource k.resource ≡ Less = (λ i. name_cmp (way.resource i) (new.0.resource i)) ∙ later n there in
+        let less : name_cmp h.resource k.resource ≡ Less = ap₂ name_cmp way.resource new.0.resource ∙ later n there in
         subst (λ z. ComesBefore z s) is (subst (ComesBefore (held_by h)) new.1 (ap (λ z. ordering_then z (operation_cmp h.operation k.operation)) less))
 
     pub one_need_more : IsObstructed o held (needs ++ need ∷ []) (found ++ filter_map tell holders)

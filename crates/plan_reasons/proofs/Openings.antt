@@ -16,7 +16,7 @@ use Rattle.workstations.specs.Workstations.{Workstation}
 use Rattle.plan_reasons.specs.Reasons.{BeginsAt, IsNextOpening}
 
 -- an interval under its first minute
-abbrev row_by : OpenInterval → ℕ × OpenInterval
+abbrev pub row_by : OpenInterval → ℕ × OpenInterval
 row_by x = (x.from, x)
 
 keys_by : (items : List OpenInterval) → keys_of (map row_by items) ≡ map (λ x. x.from) items

@@ -40,8 +40,8 @@ rests status.Arriving a e = absurd (true≢false e)
 rests status.ReadyAfterNonreporting a e = absurd (true≢false e)
 rests status.Ready a e = absurd (true≢false e)
 rests status.Interrupted attribute.StartAndCompletion e = absurd (true≢false e)
-rests status.Interrupted a e = (λ is. cc, refl, λ both. let h = both.1 in cc)
-rests s a e = (λ is. cc, refl, λ both. let h = both.0 in cc)
+rests status.Interrupted a e = ((λ is. (cc)), refl, (λ both. let h = both.1 in (cc)))
+rests s a e = ((λ is. (cc)), refl, (λ both. let h = both.0 in (cc)))
 
 module _ (P : Contents) (o : OpKey) (m : ℕ) (x : Reported) (is : IsReported P o x) where
   module _ (goes_on : goes_on_from x.status x.attribute ≡ true) where
@@ -57,9 +57,10 @@ module _ (P : Contents) (o : OpKey) (m : ℕ) (x : Reported) (is : IsReported P 
 
   module _ (stays : goes_on_from x.status x.attribute ≡ false) where
     may_not : ¬ MayStart P o x.operation m WrongStatus
-    may_not (inl ready) = true≢false (sym (ready_told P o x.status is.alone ready) ∙ (rests x.status x.attribute stays).1)
-    may_not (inr both) =
-        (rests x.status x.attribute stays).2 (sym (is.alone status.Interrupted both.0), same_Some x.attribute attribute.StartAndCompletion (sym is.attribute ∙ both.1))
+    may_not = λ may. elim may [
+      | inl ready ↦ true≢false (sym (ready_told P o x.status is.alone ready) ∙ (rests x.status x.attribute stays).1)
+      | inr both ↦ (rests x.status x.attribute stays).2 (sym (is.alone status.Interrupted both.0), same_Some x.attribute attribute.StartAndCompletion (sym is.attribute ∙ both.1))
+    ]
 
     pub some_at_rest : IsOfKind P o x.operation m 0 (Some (reason.AtRest x.status))
     some_at_rest =

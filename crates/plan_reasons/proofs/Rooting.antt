@@ -38,9 +38,6 @@ module _ (P : Contents) (valid : IsValid P) (g : Digraph) (graph : IsGraphFor P 
 
   -- ---- flags
 
-  unsatisfied_test : Status → Bool
-  unsatisfied_test s = not (is_satisfied s)
-
   -- the flag of an operation is by its status
   flag_of : (i : ℕ) (o : OpKey) → slice_get nodes i ≡ Some o → (s : Status) × HasStatus P o s × (get_or flags i false ≡ not (is_satisfied s))
   flag_of i o at =
@@ -61,11 +58,11 @@ module _ (P : Contents) (valid : IsValid P) (g : Digraph) (graph : IsGraphFor P 
   pub set_if_unsatisfied : (i : ℕ) (o : OpKey) → slice_get nodes i ≡ Some o → IsUnsatisfied P o → IsSet flags i
   set_if_unsatisfied i o at is =
       let (s, has, flag) = flag_of i o at in
-      flag ∙ by (is_satisfied s) refl (satisfied_decides P o s has).0
+      flag ∙ off (is_satisfied s) (satisfied_decides P o s has).0
     where
-      by : (b : Bool) → b ≡ b → (b ≡ true → IsSatisfied P o) → not b ≡ true
-      by true e h = absurd (is.1 (h refl))
-      by false e h = refl
+      off : (b : Bool) → (b ≡ true → IsSatisfied P o) → not b ≡ true
+      off true h = absurd (is.1 (h refl))
+      off false h = refl
 
   -- ---- pairs
 
@@ -108,15 +105,23 @@ module _ (P : Contents) (valid : IsValid P) (g : Digraph) (graph : IsGraphFor P 
   root_of_source i n o q at_o at_q source =
       let up = source.0 in
       let r = to_keys i o up.0 at_o up.1 in
-      let same : r.0 ≡ q = same_key nodes n r.0 q (ap (slice_get nodes) (sym up.2) ∙ r.1) at_q in
-      (subst (IsUpstream P o) same r.2, λ p follows.
-        let j = place_of_first p q follows.0 in
-        source.1 (j.0, edge_of_pair j.0 n p q j.1 at_q follows.0, set_if_unsatisfied j.0 p j.1 follows.1))
+      let same : r.0 ≡ q = same_key nodes n r.0 q (ap (slice_get nodes) (sym up.2) ∙ r.1) at_q in (
+        subst (IsUpstream P o) same r.2,
+        λ p follows.
+            let j = place_of_first p q follows.0 in
+            source.1 (j.0, edge_of_pair j.0 n p q j.1 at_q follows.0, set_if_unsatisfied j.0 p j.1 follows.1),
+      )
 
   pub source_of_root : (i : ℕ) (o q : OpKey) → slice_get nodes i ≡ Some o → IsUpstream P o q → ((p : OpKey) → ¬ Follows P q p) → (n : ℕ) × (slice_get nodes n ≡ Some q) × IsSource g flags i n
   source_of_root i o q at_o up ends =
       let r = to_places i o up.0 at_o up.1 in
-      let at : slice_get nodes r.0 ≡ Some q = r.1 ∙ ap Some up.2 in
-      (r.0, at, (r.2, λ fed.
-        let b = key_of_first fed.0 r.0 fed.1 in
-        ends b.0 (pair_of_edge fed.0 r.0 b.0 q b.1 at fed.1, unsatisfied_if_set fed.0 b.0 b.1 fed.2)))
+      let at : slice_get nodes r.0 ≡ Some q = r.1 ∙ ap Some up.2 in (
+        r.0,
+        at,
+        (
+          r.2,
+          λ fed.
+              let b = key_of_first fed.0 r.0 fed.1 in
+              ends b.0 (pair_of_edge fed.0 r.0 b.0 q b.1 at fed.1, unsatisfied_if_set fed.0 b.0 b.1 fed.2),
+        ),
+      )

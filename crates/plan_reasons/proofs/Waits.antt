@@ -3,6 +3,8 @@ use Rattle.std.proofs.Common.{◌≡◌, ◌≢◌, ◌↔◌, refl, sym, ap, su
 use Rattle.std.specs.FinMap.{entries, get, keys}
 use Rattle.std.specs.List.{AllPairs}
 use Rattle.operation_graph.specs.Graphs.{Digraph, HasEdge, IsSet}
+use Rattle.std.specs.declared.cmp.Ordering.TheVariants.{Less}
+use Rattle.plan_basics.specs.Keys.{operation_cmp}
 use Rattle.plan_basics.specs.declared.keys.OpKey.{OpKey}
 use Rattle.plan_drafts.proofs.Lists.{contains_none, differ_from_pairs, differ_map, from_map, in_map, pairs_from_differ}
 use Rattle.plan_drafts.specs.Places.{AreStatuses}
@@ -30,7 +32,7 @@ use Rattle.plan_reasons.proofs.Rooting.{edge_of_pair, pair_of_edge, place_of_fir
 
 -- what doesn't wait has no such reason, and no roots
 module _ (P : Contents) (valid : IsValid P) (o : OpKey) (s : Status) (has : HasStatus P o s) (goes : s ≢ Waiting) where
-  not_waiting : ¬ HasStatus P o Waiting
+  not_waiting : HasStatus P o Waiting → ⊥
   not_waiting h = goes (one_status P valid.acyclic o s Waiting has h)
 
   pub none_waited_for : (op : Operation) (m : ℕ) (found : List Reason) → found ≡ [] → AreOfKind P o op m 1 found
@@ -54,7 +56,6 @@ module _ (P : Contents) (valid : IsValid P) (g : Digraph) (graph : IsGraphFor P 
       λ i. record { op = same i; status = one i }
 
   module _ (op : Operation) (m : ℕ) (exactly : (p : ℕ) → Contains places p ↔ (HasEdge g p place × IsSet (unsatisfied_flags statuses) p)) where
-
     sound : (x : Unsatisfied) → Contains found x → IsReasonOf P o op m (reason.WaitsFor x)
     sound x has =
         let (i, there, key) = place_of_found P places found are_at x has in
@@ -72,7 +73,7 @@ module _ (P : Contents) (valid : IsValid P) (g : Digraph) (graph : IsGraphFor P 
     -- those that it waits for, one by one
     pub all_waited_for : AreOfKind P o op m 1 (map (λ (x : Unsatisfied). reason.WaitsFor x) found)
     all_waited_for = record {
-      in_order = pairs_from_differ ComesBefore (map (λ (x : Unsatisfied). reason.WaitsFor x) found) (differ_map (λ (x : Unsatisfied). reason.WaitsFor x) ComesBefore found (differ_from_pairs _ found (found_in_order P places found are_at up)));
+      in_order = pairs_from_differ ComesBefore (map (λ (x : Unsatisfied). reason.WaitsFor x) found) (differ_map (λ (x : Unsatisfied). reason.WaitsFor x) ComesBefore found (differ_from_pairs (λ x y. operation_cmp x.op y.op ≡ Less) found (found_in_order P places found are_at up)));
       exactly = λ r. (
         λ has. let (x, there, is) = from_map (λ (z : Unsatisfied). reason.WaitsFor z) found r has in subst (λ z. IsReasonOf P o op m z × (reason_place z ≡ 1)) is (sound x there, refl),
         λ h. only_waits (λ z. IsReasonOf P o op m z → Contains (map (λ (x : Unsatisfied). reason.WaitsFor x) found) z) (λ x k. in_map (λ (z : Unsatisfied). reason.WaitsFor z) found x (complete x k)) r h.1 h.0,
@@ -86,13 +87,13 @@ module _ (P : Contents) (valid : IsValid P) (g : Digraph) (graph : IsGraphFor P 
       in_order = found_in_order P places found are_at up;
       exactly = λ x. (
         λ has.
-          let (n, there, key) = place_of_found P places found are_at x has in
-          let r = root_of_source P valid g graph statuses are place n o x.op at key ((exactly n).0 there) in
-          ((waits, r.0, r.1), status_of_found P places found are_at x has),
+            let (n, there, key) = place_of_found P places found are_at x has in
+            let r = root_of_source P valid g graph statuses are place n o x.op at key ((exactly n).0 there) in
+            ((waits, r.0, r.1), status_of_found P places found are_at x has),
         λ h.
-          let root = h.0 in
-          let (n, key, source) = source_of_root P valid g graph statuses are place o x.op at root.1 root.2 in
-          let (y, has, same) = found_at_place P places found are_at n x.op ((exactly n).1 source) key in
-          subst (Contains found) (same_found x y has same h.1) has,
+            let root = h.0 in
+            let (n, key, source) = source_of_root P valid g graph statuses are place o x.op at root.1 root.2 in
+            let (y, has, same) = found_at_place P places found are_at n x.op ((exactly n).1 source) key in
+            subst (Contains found) (same_found x y has same h.1) has,
       );
     }

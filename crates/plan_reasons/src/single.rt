@@ -1,5 +1,5 @@
 // Reasons that follow from the operation's own status, flags and not-before.
-ghost use Rattle.std.specs.Prelude.{◌≡◌, ◌&&◌, ℕ, true, not, OnOk, ◌++◌};
+ghost use Rattle.std.specs.Prelude.{◌≡◌, ℕ, true, OnOk, ◌++◌};
 ghost use Rattle.std.specs.Option.{is_none, option_to_list};
 ghost use Rattle.plan_basics.specs.declared.keys.OpKey.{OpKey};
 ghost use Rattle.plan_model.specs.Contents.{Contents};
@@ -8,6 +8,7 @@ ghost use Rattle.plan_reasons.specs.Parts.{IsOfKind};
 ghost use Rattle.plan_reasons.specs.Places.{goes_on_from};
 ghost use Rattle.plan_reasons.specs.Reasons.{needs_start};
 ghost use Rattle.plan_state.specs.Reports.{IsReported};
+ghost use Rattle.status_rules.specs.Table.{marked_status};
 
 use super::reasons::Reason;
 use plan_basics::{Attr, Moment};
