@@ -1,11 +1,12 @@
 -- Operations at indices, with their statuses.
-use Rattle.std.proofs.Common.{◌≡◌, ◌≢◌, refl, sym, ap, ap₂, subst, ◌∙◌, arith, ℕ, ◌<◌, List, [], ◌∷◌, map, Contains, Option, Some, slice_get}
+use Rattle.std.proofs.Common.{◌≡◌, ◌≢◌, refl, sym, ap, ap₂, subst, ◌∙◌, arith, ℕ, ◌<◌, List, [], ◌∷◌, ◌++◌, map, Contains, Option, Some, slice_get}
 use Rattle.std.specs.FinMap.{entries}
 use Rattle.std.specs.List.{AllPairs}
 use Rattle.std.specs.List.Sorted.{IsStrictlySortedBy}
 use Rattle.std.specs.Map.{keys_of}
 use Rattle.std.specs.declared.cmp.Ordering.TheVariants.{Less}
-use Rattle.std.proofs.lemmas.List.Elements.{All-contains}
+use Rattle.std.proofs.lemmas.List.Elements.{All-contains, All-push}
+use Rattle.std.proofs.lemmas.List.{map-append}
 use Rattle.std.proofs.lemmas.Map.Keys.{Less-from_sorted}
 use Rattle.std.proofs.lemmas.Option.{get_or_from_slice_get, same_Some, slice_get_within}
 use Rattle.plan_basics.specs.Keys.{operation_cmp}
@@ -14,7 +15,8 @@ use Rattle.plan_drafts.proofs.Lists.{Differ, differ_from_pairs, differ_map, diff
 use Rattle.plan_model.proofs.Entries.{entries_in_order}
 use Rattle.plan_model.specs.Contents.{Contents}
 use Rattle.plan_model.specs.Status.{HasStatus}
-use Rattle.plan_reasons.specs.Places.{AreAt}
+use Rattle.plan_status.proofs.RowKeys.{key_of_row}
+use Rattle.plan_reasons.specs.Places.{AreAt, IsAt}
 use Rattle.plan_reasons.specs.declared.reasons.Unsatisfied.{Unsatisfied}
 
 -- the first is below the second, where both are keys
@@ -55,3 +57,15 @@ module _ (P : Contents) (places : List ℕ) (found : List Unsatisfied) (are : Ar
       let at_keys : Differ Below (map its_key found) = subst (Differ Below) are.keys (differ_map (slice_get nodes) Below places at_places) in
       pairs_from_differ (λ x y. operation_cmp x.op y.op ≡ Less) found
       (differ_weaken (λ x y. Below (its_key x) (its_key y)) (λ x y. operation_cmp x.op y.op ≡ Less) found (λ x y in_x in_y h. h x.op y.op refl refl) (differ_unmap its_key Below found at_keys))
+
+-- one index more, and the operation that is there
+pub one_more_found : (P : Contents) (places : List ℕ) (found : List Unsatisfied) (i : ℕ) (x : Unsatisfied) → AreAt P places found → IsAt P i x.op → HasStatus P x.op x.status → AreAt P (places ++ i ∷ []) (found ++ x ∷ [])
+one_more_found P places found i x are at has =
+    let nodes = keys_of (entries P.operations) in
+    let here : slice_get nodes i ≡ Some x.op = key_of_row (entries P.operations) i x.op at.0 at.1 in
+    record {
+      keys =
+          map-append (slice_get nodes) places (i ∷ []) ∙ ap (λ ks. ks ++ slice_get nodes i ∷ []) are.keys ∙ ap (λ k. map (λ (y : Unsatisfied). Some y.op) found ++ k ∷ []) here
+          ∙ sym (map-append (λ (y : Unsatisfied). Some y.op) found (x ∷ []));
+      statuses = All-push (λ y. HasStatus P y.op y.status) found x are.statuses has;
+    }

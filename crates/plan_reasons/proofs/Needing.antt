@@ -1,11 +1,12 @@
 -- The reasons that special resources aren't available.
-use Rattle.std.proofs.Common.{◌≡◌, ◌≢◌, refl, sym, ap, subst, ◌∙◌, ℕ, Bool, true, false, true≢false, cond, List, [], ◌∷◌, map, Contains, Option, Some, None, unwrap_or}
+use Rattle.std.proofs.Common.{◌≡◌, ◌≢◌, inl, inr, refl, sym, ap, subst, ◌∙◌, ℕ, ◌+◌, ◌<◌, Bool, true, false, true≢false, cond, List, [], ◌∷◌, ◌++◌, drop, get_or, length, map, take, Contains, Option, Some, None, unwrap_or}
 use Rattle.std.specs.FinMap.{get}
 use Rattle.std.specs.List.{filter_map}
 use Rattle.std.specs.List.Sorted.{IsStrictlySortedBy}
 use Rattle.std.specs.declared.cmp.Ordering.{Ordering}
 use Rattle.std.specs.declared.cmp.Ordering.TheVariants.{Less}
-use Rattle.std.proofs.lemmas.List.Elements.{All-from_recursion}
+use Rattle.std.proofs.lemmas.List.Elements.{All-contains, All-from_recursion, Contains-append_right}
+use Rattle.std.proofs.lemmas.List.{drop_more, take-append-drop}
 use Rattle.std.proofs.lemmas.Map.Keys.{sorted_head, sorted_tail}
 use Rattle.std.proofs.lemmas.Option.{none-some, same_Some}
 use Rattle.plan_basics.specs.Keys.{Name, name_cmp}
@@ -14,7 +15,7 @@ use Rattle.special_resources.specs.Holdings.{usage_of}
 use Rattle.special_resources.specs.Needs.{AreInNameOrder, Usages, usages_of}
 use Rattle.special_resources.specs.declared.Need.{Need}
 use Rattle.special_resources.proofs.MoreNeeds.{need_by_usage, usage_by_need}
-use Rattle.plan_drafts.proofs.Lists.{Differ, differ_filter, differ_unmap, from_filter, in_filter, pairs_from_differ}
+use Rattle.plan_drafts.proofs.Lists.{Differ, contains_cases, contains_head, contains_none, differ_filter, differ_unmap, from_filter, in_filter, pairs_from_differ}
 use Rattle.plan_model.specs.Contents.{Contents, Operation}
 use Rattle.plan_reasons.specs.Order.{ComesBefore, reason_place}
 use Rattle.plan_reasons.specs.Parts.{AreOfKind}
@@ -28,6 +29,21 @@ use Rattle.plan_reasons.proofs.KindPlaces.{only_unavailable}
 pub differ_sorted : {K : Type 0} (R : K → K → Ordering) (ks : List K) → IsStrictlySortedBy R ks → Differ (λ a b. R a b ≡ Less) ks
 differ_sorted R [] h = tt
 differ_sorted R (k ∷ ks) h = (All-from_recursion (λ y. R k y ≡ Less) ks (sorted_head R k ks h), differ_sorted R ks (sorted_tail R k ks h))
+
+-- what stands before an element is so beside it
+pub differ_before : {X : Type 0} (R : X → X → Type 0) (xs ys : List X) (x : X) → Differ R (xs ++ x ∷ ys) → (n : X) → Contains xs n → R n x
+differ_before R [] ys x h n has = absurd (contains_none n has)
+differ_before R (y ∷ xs) ys x h n has = elim (contains_cases y xs n has) [
+  | inl same ↦ subst (λ z. R z x) same (All-contains (R y) (xs ++ x ∷ ys) x h.0 (Contains-append_right xs (x ∷ ys) x (contains_head x ys)))
+  | inr later ↦ differ_before R xs ys x h.1 n later
+]
+
+-- a need comes by name after those before it
+pub named_before : (needs : List Need) → AreInNameOrder needs → (i : ℕ) (d : Need) → i < length needs → (n : Need) → Contains (take i needs) n → name_cmp n.name (get_or needs i d).name ≡ Less
+named_before needs in_order i d lt n has =
+    let parts : needs ≡ take i needs ++ get_or needs i d ∷ drop (i + 1) needs = sym (take-append-drop i needs) ∙ ap (λ ys. take i needs ++ ys) (drop_more needs i d lt) in
+    differ_before (λ a b. name_cmp a.name b.name ≡ Less) (take i needs) (drop (i + 1) needs) (get_or needs i d)
+    (subst (Differ (λ a b. name_cmp a.name b.name ≡ Less)) parts (differ_unmap (λ (x : Need). x.name) (λ a b. name_cmp a b ≡ Less) needs (differ_sorted name_cmp (map (λ (x : Need). x.name) needs) in_order))) n has
 
 -- what is told of one need
 told_off : (t : Bool) (name : Name) (r : Reason) → cond t None (Some (reason.Unavailable name)) ≡ Some r → (t ≡ false) × (reason.Unavailable name ≡ r)

@@ -1,9 +1,10 @@
 // The whole answer why an operation doesn't go on.
-ghost use Rattle.std.specs.Prelude.{◌≡◌, ◌<◌, ◌++◌, IfOk, IfErr, OnOk, MatchOption, Some, length, slice_get, true};
+ghost use Rattle.std.specs.Prelude.{◌≡◌, IfOk, IfErr, OnOk, MatchOption, Some, length, slice_get, true};
 ghost use Rattle.std.specs.FinMap.{entries, get};
 ghost use Rattle.plan_basics.specs.declared.Refusal.{Refusal};
 ghost use Rattle.plan_basics.specs.declared.keys.OpKey.{OpKey as OpKeyValue};
 ghost use Rattle.plan_model.specs.Contents.{IsInPlan, Operation};
+ghost use Rattle.plan_model.specs.Holdings.{given_out};
 ghost use Rattle.plan_reasons.specs.Parts.{GoesOn};
 ghost use Rattle.plan_reasons.specs.Places.{IsAt};
 ghost use Rattle.plan_reasons.specs.Reasons.{needs_start};
@@ -11,15 +12,17 @@ ghost use Rattle.plan_reasons.specs.Whys.{AreReasons, IsWhy};
 
 use super::busy::{all_held, all_unavailable};
 use super::lacking::{closed, lacks};
-use super::predecessors::{roots, waits};
+use super::lists::{note, note_all};
+use super::predecessors::{look_at, roots, waits};
 use super::reasons::{Reason, Supply, Unsatisfied};
-use super::single::{at_rest, held, needs_start, note, too_early};
+use super::single::{at_rest, held, needs_start, too_early};
 use plan_basics::{Moment, OpKey, Refusal};
 use plan_choice::{given_out_of, holdings_of};
 use plan_model::OperationRecord;
 use plan_state::LoadedPlan;
 use plan_status::SoundContents;
 use std::alloc::{AllocError, Global};
+use workstations::{Capacity, Workstation};
 
 /// Why an operation doesn't go on at a moment.
 #[derive(Debug, Drop)]
@@ -32,11 +35,27 @@ pub struct Why {
     pub roots: Vec<Unsatisfied>,
 }
 
-// Puts these reasons at the end.
-fn note_all(reasons: &mut Vec<Reason>, mut more: Vec<Reason>) -> Result<(), AllocError>
-    ensures { OnOk result (reasons.new.items ≡ reasons.old.items ++ more.items) }
+// What the workstation of an operation of the plan has given out.
+fn taken_at(
+    alloc: Global,
+    contents: &SoundContents,
+    operation: &OperationRecord,
+) -> Result<Capacity, AllocError>
+    requires { (o : OpKeyValue) × (get contents.now.operations o ≡ Some operation.now) }
+    ensures { IfOk result (λ taken. taken ≡ given_out contents.now operation.now.workstation) }
 {
-    reasons.append(&mut more)
+    let place = contents.workstation_place_of(operation);
+    let given = given_out_of(alloc, contents)?;
+    Ok(given[place])
+}
+
+// The workstation of an operation of the plan.
+fn workstation_of<'a>(contents: &'a SoundContents, operation: &OperationRecord) -> &'a Workstation
+    requires { (o : OpKeyValue) × (get contents.now.operations o ≡ Some operation.now) }
+    ensures name { operation.now.workstation ≡ result.now.0 }
+    ensures known { get contents.now.workstations operation.now.workstation ≡ Some result.now.1 }
+{
+    contents.workstation(&operation.workstation).unwrap()
 }
 
 // Notes what keeps an operation that goes on by a start from it on its workstation.
@@ -52,24 +71,14 @@ fn note_station(
     requires starts { needs_start contents.now operation.now ≡ true }
     ensures { OnOk result (GoesOn contents.now key.now operation.now at 3 8 reasons.old.items reasons.new.items) }
 {
-    let place = contents.workstation_place_of(operation);
-    let given = given_out_of(alloc, contents)?;
-    let taken = given[place];
-    let workstation = contents.workstation(&operation.workstation).unwrap();
+    let taken = taken_at(alloc, contents, operation)?;
+    let workstation = workstation_of(contents, operation);
     note(reasons, too_early(operation, at))?;
     note(reasons, closed(workstation, at))?;
-    note(
-        reasons,
-        lacks(workstation, operation, &taken, Supply::Servers, at),
-    )?;
-    note(
-        reasons,
-        lacks(workstation, operation, &taken, Supply::R1, at),
-    )?;
-    note(
-        reasons,
-        lacks(workstation, operation, &taken, Supply::R2, at),
-    )
+    note(reasons, lacks(workstation, operation, &taken, Supply::Servers, at))?;
+    note(reasons, lacks(workstation, operation, &taken, Supply::R1, at))?;
+    note(reasons, lacks(workstation, operation, &taken, Supply::R2, at))?;
+    Ok(())
 }
 
 // Notes what keeps an operation that goes on by a start from it of special resources. The error is always `Memory`.
@@ -87,7 +96,27 @@ fn note_resources(
 {
     note_all(reasons, all_unavailable(alloc, contents, operation)?)?;
     let holdings = holdings_of(alloc, contents.valid())?;
-    Ok(note_all(reasons, all_held(alloc, key, operation, &holdings)?)?)
+    note_all(reasons, all_held(alloc, key, operation, &holdings)?)?;
+    Ok(())
+}
+
+// Notes what keeps an operation that goes on by a start from it. The error is always `Memory`.
+fn note_start(
+    alloc: Global,
+    reasons: &mut Vec<Reason>,
+    contents: &SoundContents,
+    key: &OpKey,
+    operation: &OperationRecord,
+    at: Moment,
+) -> Result<(), Refusal>
+    requires in_plan { get contents.now.operations key.now ≡ Some operation.now }
+    requires starts { needs_start contents.now operation.now ≡ true }
+    ensures noted { OnOk result (GoesOn contents.now key.now operation.now at 3 10 reasons.old.items reasons.new.items) }
+    ensures refused { IfErr result (λ r. r ≡ Refusal.Memory) }
+{
+    note_station(alloc, reasons, contents, key, operation, at)?;
+    note_resources(alloc, reasons, contents, key, operation, at)?;
+    Ok(())
 }
 
 // All reasons why the operation at an index doesn't go on. The error is always `Memory`.
@@ -102,6 +131,7 @@ fn reasons_at(
     ensures reasons { IfOk result (λ found. AreReasons loaded.now key.now at found.items) }
     ensures refused { IfErr result (λ r. r ≡ Refusal.Memory) }
 {
+    look_at(loaded);
     let reported = loaded.reported_at(place);
     let operation = &reported.operation;
     let contents = loaded.contents();
@@ -110,8 +140,7 @@ fn reasons_at(
     note_all(&mut reasons, waits(alloc, loaded, place)?)?;
     note(&mut reasons, held(operation))?;
     if needs_start(&reported) {
-        note_station(alloc, &mut reasons, contents, key, operation, at)?;
-        note_resources(alloc, &mut reasons, contents, key, operation, at)?;
+        note_start(alloc, &mut reasons, contents, key, operation, at)?;
     }
     Ok(reasons)
 }
@@ -134,8 +163,10 @@ pub fn explain(
     let Some(place) = loaded.place_of(key) else {
         return Ok(None);
     };
+    let reasons = reasons_at(alloc, loaded, key, place, at)?;
+    let chain = roots(alloc, loaded, place)?;
     Ok(Some(Why {
-        reasons: reasons_at(alloc, loaded, key, place, at)?,
-        roots: roots(alloc, loaded, place)?,
+        reasons,
+        roots: chain,
     }))
 }

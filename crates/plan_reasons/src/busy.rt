@@ -8,8 +8,8 @@ ghost use Rattle.plan_reasons.specs.Parts.{AreOfKind};
 ghost use Rattle.plan_reasons.specs.Places.{is_in_way, is_shared, obstacle_of, unavailable_of};
 ghost use Rattle.plan_reasons.specs.Reasons.{needs_start};
 
+use super::lists::note;
 use super::reasons::{Obstacle, Reason};
-use super::single::note;
 use plan_basics::OpKey;
 use plan_model::OperationRecord;
 use plan_status::SoundContents;

@@ -70,7 +70,9 @@ pub fn lacks(
 ) -> Option<Reason>
     ensures { (P : Contents) (o : OpKey) → needs_start P operation.now ≡ true → operation.now.workstation ≡ workstation.now.0 → get P.workstations operation.now.workstation ≡ Some workstation.now.1 → taken.now ≡ given_out P operation.now.workstation → IsOfKind P o operation.now at (5 + supply_place supply) result }
 {
-    let capacity = workstation.capacity_at(at)?;
+    let Some(capacity) = workstation.capacity_at(at) else {
+        return None;
+    };
     let given = amount_in(supply, taken);
     let offered = amount_in(supply, &capacity);
     let needed = amount_needed(supply, operation);

@@ -6,6 +6,7 @@ ghost use Rattle.plan_reasons.specs.Laws.{EmptyWhereItMayStart};
 mod answer;
 mod busy;
 mod lacking;
+mod lists;
 mod predecessors;
 mod reasons;
 mod single;

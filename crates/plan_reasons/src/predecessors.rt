@@ -5,10 +5,12 @@ ghost use Rattle.plan_basics.specs.declared.Refusal.{Refusal};
 ghost use Rattle.plan_basics.specs.declared.keys.OpKey.{OpKey};
 ghost use Rattle.plan_model.specs.Contents.{Operation};
 ghost use Rattle.plan_model.specs.Status.{HasStatus};
+ghost use Rattle.plan_model.specs.Valid.{IsSound};
 ghost use Rattle.plan_reasons.specs.Parts.{AreOfKind};
 ghost use Rattle.plan_reasons.specs.Places.{AreAt, IsAt, unsatisfied_flags};
 ghost use Rattle.plan_reasons.specs.Whys.{AreRoots};
 
+use super::lists::note;
 use super::reasons::{Reason, Unsatisfied};
 use plan_basics::Refusal;
 use plan_state::LoadedPlan;
@@ -61,9 +63,30 @@ fn reasons_to_wait(alloc: Global, found: &[Unsatisfied]) -> Result<Vec<Reason>, 
 {
     let mut reasons = Vec::with_capacity(alloc, found.len())?;
     for unsatisfied in found {
-        reasons.push(Reason::WaitsFor(*unsatisfied))?;
+        note(&mut reasons, Some(Reason::WaitsFor(*unsatisfied)))?;
     }
     Ok(reasons)
+}
+
+/// The plan is looked at for the proof alone, which learns that what it holds is sound.
+pub fn look_at(loaded: &LoadedPlan)
+    ensures { IsSound loaded.now }
+{
+    let _ = loaded.contents().valid();
+}
+
+// The operations that the waiting operation at an index waits for, in key order. The error is always `Memory`.
+fn waited_for(alloc: Global, loaded: &LoadedPlan, place: usize) -> Result<Vec<Reason>, Refusal>
+    requires place { place < length (entries loaded.now.operations) }
+    requires waits { (o : OpKey) → IsAt loaded.now place o → HasStatus loaded.now o Status.Waiting }
+    ensures reasons { IfOk result (λ found. (o : OpKey) (op : Operation) (m : ℕ) → slice_get (entries loaded.now.operations) place ≡ Some (o, op) → AreOfKind loaded.now o op m 1 found.items) }
+    ensures refused { IfErr result (λ r. r ≡ Refusal.Memory) }
+{
+    look_at(loaded);
+    let flags = unsatisfied_flags(alloc, loaded.statuses())?;
+    let places = flagged_preds(alloc, loaded.graph(), &flags, place)?;
+    let found = unsatisfied_at_each(alloc, loaded, &places)?;
+    Ok(reasons_to_wait(alloc, &found)?)
 }
 
 /// The reasons that the operation at an index waits for its predecessors, in key order. The error is always `Memory`.
@@ -72,13 +95,28 @@ pub fn waits(alloc: Global, loaded: &LoadedPlan, place: usize) -> Result<Vec<Rea
     ensures reasons { IfOk result (λ found. (o : OpKey) (op : Operation) (m : ℕ) → slice_get (entries loaded.now.operations) place ≡ Some (o, op) → AreOfKind loaded.now o op m 1 found.items) }
     ensures refused { IfErr result (λ r. r ≡ Refusal.Memory) }
 {
-    if loaded.status_at(place) != Status::Waiting {
-        return Ok(Vec::new(alloc));
+    look_at(loaded);
+    match loaded.status_at(place) {
+        Status::Waiting => waited_for(alloc, loaded, place),
+        _ => Ok(Vec::new(alloc)),
     }
+}
+
+// Where the chain begins that the waiting operation at an index waits for, in key order. The error is always `Memory`.
+fn beginnings(
+    alloc: Global,
+    loaded: &LoadedPlan,
+    place: usize,
+) -> Result<Vec<Unsatisfied>, Refusal>
+    requires place { place < length (entries loaded.now.operations) }
+    requires waits { (o : OpKey) → IsAt loaded.now place o → HasStatus loaded.now o Status.Waiting }
+    ensures roots { IfOk result (λ found. (o : OpKey) → IsAt loaded.now place o → AreRoots loaded.now o found.items) }
+    ensures refused { IfErr result (λ r. r ≡ Refusal.Memory) }
+{
+    look_at(loaded);
     let flags = unsatisfied_flags(alloc, loaded.statuses())?;
-    let places = flagged_preds(alloc, loaded.graph(), &flags, place)?;
-    let found = unsatisfied_at_each(alloc, loaded, &places)?;
-    Ok(reasons_to_wait(alloc, &found)?)
+    let places = sources(alloc, loaded.graph(), &flags, place)?;
+    Ok(unsatisfied_at_each(alloc, loaded, &places)?)
 }
 
 /// The roots of the operation at an index, in key order: where it waits, what is upstream of it and itself waits for
@@ -89,10 +127,9 @@ pub fn roots(alloc: Global, loaded: &LoadedPlan, place: usize) -> Result<Vec<Uns
     ensures roots { IfOk result (λ found. (o : OpKey) → IsAt loaded.now place o → AreRoots loaded.now o found.items) }
     ensures refused { IfErr result (λ r. r ≡ Refusal.Memory) }
 {
-    if loaded.status_at(place) != Status::Waiting {
-        return Ok(Vec::new(alloc));
+    look_at(loaded);
+    match loaded.status_at(place) {
+        Status::Waiting => beginnings(alloc, loaded, place),
+        _ => Ok(Vec::new(alloc)),
     }
-    let flags = unsatisfied_flags(alloc, loaded.statuses())?;
-    let places = sources(alloc, loaded.graph(), &flags, place)?;
-    Ok(unsatisfied_at_each(alloc, loaded, &places)?)
 }

@@ -1,6 +1,6 @@
 // Reasons that follow from the operation's own status, flags and not-before.
-ghost use Rattle.std.specs.Prelude.{◌≡◌, ℕ, true, OnOk, ◌++◌};
-ghost use Rattle.std.specs.Option.{is_none, option_to_list};
+ghost use Rattle.std.specs.Prelude.{◌≡◌, ℕ, true};
+ghost use Rattle.std.specs.Option.{is_none};
 ghost use Rattle.plan_basics.specs.declared.keys.OpKey.{OpKey};
 ghost use Rattle.plan_model.specs.Contents.{Contents};
 ghost use Rattle.plan_model.specs.Valid.{IsValid};
@@ -15,18 +15,6 @@ use plan_basics::{Attr, Moment};
 use plan_model::OperationRecord;
 use plan_state::Reported;
 use status_rules::{Mark, Status};
-use std::alloc::AllocError;
-
-/// Puts a reason at the end, if there is one.
-pub fn note(reasons: &mut Vec<Reason>, reason: Option<Reason>) -> Result<(), AllocError>
-    ensures { OnOk result (reasons.new.items ≡ reasons.old.items ++ option_to_list reason) }
-{
-    match reason {
-        Some(reason) => reasons.push(reason)?,
-        None => {}
-    }
-    Ok(())
-}
 
 // Whether an operation of this status goes on: it waits, is arriving or ready, or may be started again where starts are
 // reported.
