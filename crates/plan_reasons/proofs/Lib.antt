@@ -9,3 +9,5 @@ pub mod Found
 pub mod Rooting
 pub mod Waits
 pub mod Emptying
+pub mod PassedOver
+pub mod ReadyWaits

@@ -22,7 +22,8 @@ pub record AreRoots (P : Contents) (o : OpKey) (roots : List Unsatisfied) : Type
   pub in_order : AllPairs (λ x y. operation_cmp x.op y.op ≡ Less) roots
   pub exactly : (x : Unsatisfied) → Contains roots x ↔ (IsRoot P o x.op × HasStatus P x.op x.status)
 
--- the reasons and the roots of o at m
+-- the status of o, its reasons at m and its roots
 pub record IsWhy (P : Contents) (o : OpKey) (m : ℕ) (w : Why) : Type 0 where
+  pub status : HasStatus P o w.status
   pub reasons : AreReasons P o m w.reasons.items
   pub roots : AreRoots P o w.roots.items

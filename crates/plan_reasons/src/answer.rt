@@ -9,6 +9,7 @@ ghost use Rattle.plan_reasons.specs.Parts.{GoesOn};
 ghost use Rattle.plan_reasons.specs.Places.{IsAt};
 ghost use Rattle.plan_reasons.specs.Reasons.{needs_start};
 ghost use Rattle.plan_reasons.specs.Whys.{AreReasons, IsWhy};
+ghost use Rattle.plan_state.specs.Reports.{IsReported};
 
 use super::busy::{all_held, all_unavailable};
 use super::lacking::{closed, lacks};
@@ -19,14 +20,16 @@ use super::single::{at_rest, held, needs_start, too_early};
 use plan_basics::{Moment, OpKey, Refusal};
 use plan_choice::{given_out_of, holdings_of};
 use plan_model::OperationRecord;
-use plan_state::LoadedPlan;
+use plan_state::{LoadedPlan, Reported};
 use plan_status::SoundContents;
+use status_rules::Status;
 use std::alloc::{AllocError, Global};
 use workstations::{Capacity, Workstation};
 
 /// Why an operation doesn't go on at a moment.
 #[derive(Debug, Drop)]
 pub struct Why {
+    pub status: Status,
     /// The reasons, in the order of the lines that it has to meet: its status, its predecessors in key order, that it is
     /// held, its not-before, its workstation, servers, R1 and R2, special resources that aren't available, and holders of
     /// special resources by name and then key.
@@ -100,20 +103,23 @@ fn note_resources(
     Ok(())
 }
 
-// Notes what keeps an operation that goes on by a start from it. The error is always `Memory`.
+// Notes what keeps an operation from a start, where it goes on by one. The error is always `Memory`.
 fn note_start(
     alloc: Global,
     reasons: &mut Vec<Reason>,
     contents: &SoundContents,
     key: &OpKey,
-    operation: &OperationRecord,
+    reported: &Reported,
     at: Moment,
 ) -> Result<(), Refusal>
-    requires in_plan { get contents.now.operations key.now ≡ Some operation.now }
-    requires starts { needs_start contents.now operation.now ≡ true }
-    ensures noted { OnOk result (GoesOn contents.now key.now operation.now at 3 10 reasons.old.items reasons.new.items) }
+    requires { IsReported contents.now key.now reported.now }
+    ensures noted { OnOk result (GoesOn contents.now key.now reported.now.operation at 3 10 reasons.old.items reasons.new.items) }
     ensures refused { IfErr result (λ r. r ≡ Refusal.Memory) }
 {
+    if !needs_start(reported) {
+        return Ok(());
+    }
+    let operation = &reported.operation;
     note_station(alloc, reasons, contents, key, operation, at)?;
     note_resources(alloc, reasons, contents, key, operation, at)?;
     Ok(())
@@ -133,15 +139,11 @@ fn reasons_at(
 {
     look_at(loaded);
     let reported = loaded.reported_at(place);
-    let operation = &reported.operation;
-    let contents = loaded.contents();
     let mut reasons = Vec::new(alloc);
     note(&mut reasons, at_rest(&reported))?;
     note_all(&mut reasons, waits(alloc, loaded, place)?)?;
-    note(&mut reasons, held(operation))?;
-    if needs_start(&reported) {
-        note_start(alloc, &mut reasons, contents, key, operation, at)?;
-    }
+    note(&mut reasons, held(&reported.operation))?;
+    note_start(alloc, &mut reasons, loaded.contents(), key, &reported, at)?;
     Ok(reasons)
 }
 
@@ -166,6 +168,7 @@ pub fn explain(
     let reasons = reasons_at(alloc, loaded, key, place, at)?;
     let chain = roots(alloc, loaded, place)?;
     Ok(Some(Why {
+        status: loaded.status_at(place),
         reasons,
         roots: chain,
     }))
