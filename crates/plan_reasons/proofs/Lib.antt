@@ -1,0 +1,13 @@
+pub mod KindPlaces
+pub mod Collecting
+pub mod Resting
+pub mod Openings
+pub mod Stations
+pub mod Needing
+pub mod Obstructing
+pub mod Found
+pub mod Rooting
+pub mod Waits
+pub mod Emptying
+pub mod PassedOver
+pub mod ReadyWaits

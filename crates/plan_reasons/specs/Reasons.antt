@@ -1,0 +1,105 @@
+-- Why an operation doesn't start, complete or pass at a moment: each reason by itself.
+use Rattle.std.specs.Prelude.{◌≡◌, ◌≢◌, ℕ, ◌+◌, ◌<◌, ◌≤◌, ◌&&◌, Bool, true, false, not, Option, Some, None}
+use Rattle.std.specs.Option.{is_none}
+use Rattle.std.specs.FinMap.{get}
+use Rattle.plan_basics.specs.Intervals.{OpenInterval}
+use Rattle.plan_basics.specs.declared.Refusal.TheVariants.{WrongStatus}
+use Rattle.plan_basics.specs.declared.keys.OpKey.{OpKey}
+use Rattle.workstations.specs.Workstations.{HasCapacity, Workstation}
+use Rattle.workstations.specs.declared.Capacity.{Capacity}
+use Rattle.special_resources.specs.Holders.{Usage}
+use Rattle.special_resources.specs.declared.Mode.TheVariants.{Shared}
+use Rattle.status_rules.specs.Table.{marked_status}
+use Rattle.status_rules.specs.declared.Status.TheVariants.{Waiting}
+use Rattle.plan_model.specs.Contents.{Contents, Has, IsLive, Operation, Precedes, attribute_at}
+use Rattle.plan_model.specs.Holdings.{Holds, given_out, takes}
+use Rattle.plan_model.specs.Starts.{MayStart}
+use Rattle.plan_model.specs.Status.{HasStatus, IsSatisfied}
+use Rattle.plan_reasons.specs.declared.reasons.Obstacle.{Obstacle}
+use Rattle.plan_reasons.specs.declared.reasons.Reason.{Reason}
+use Rattle.plan_reasons.specs.declared.reasons.Reason.TheVariants as reason
+use Rattle.plan_reasons.specs.declared.reasons.Shortage.{Shortage}
+use Rattle.plan_reasons.specs.declared.reasons.Supply.{Supply}
+use Rattle.plan_reasons.specs.declared.reasons.Supply.TheVariants as supply
+
+-- ---- predecessors
+
+-- p is neither deleted nor satisfied
+abbrev pub IsUnsatisfied : Contents → OpKey → Type 0
+IsUnsatisfied P p = IsLive P p × ¬ IsSatisfied P p
+
+-- o comes after p, which isn't satisfied
+abbrev pub Follows : Contents → OpKey → OpKey → Type 0
+Follows P o p = Precedes P p o × IsUnsatisfied P p
+
+-- ---- workstations
+
+-- whether the operation goes on by a start, with a server and its resources: starts are known on its workstation, and it isn't there to pass by itself, as a NOP without a mark is
+abbrev pub needs_start : Contents → Operation → Bool
+needs_start P op = takes (attribute_at P op.workstation) && not (op.nop && is_none (marked_status op.mark))
+
+-- no interval of the workstation contains the minute
+abbrev pub IsClosedAt : Workstation → ℕ → Type 0
+IsClosedAt ws m = (c : Capacity) → ¬ HasCapacity ws m c
+
+-- an interval of the workstation begins then
+abbrev pub BeginsAt : Workstation → ℕ → Type 0
+BeginsAt ws n = (x : OpenInterval) × (get ws.intervals n ≡ Some x)
+
+-- the first minute of the workstation's next interval after m, if there is one
+abbrev pub IsNextOpening : Workstation → ℕ → Option ℕ → Type 0
+IsNextOpening ws m (Some n) = (m < n) × BeginsAt ws n × ((k : ℕ) → BeginsAt ws k → m < k → n ≤ k)
+IsNextOpening ws m None = (k : ℕ) → BeginsAt ws k → k ≤ m
+
+-- how much of a supply is given out, or open
+abbrev pub amount_in : Supply → Capacity → ℕ
+amount_in supply.Servers c = c.servers
+amount_in supply.R1 c = c.r1
+amount_in supply.R2 c = c.r2
+
+-- how much of a supply the operation takes: one server, and of R1 and R2 what it needs
+abbrev pub amount_needed : Supply → Operation → ℕ
+amount_needed supply.Servers op = 1
+amount_needed supply.R1 op = op.r1
+amount_needed supply.R2 op = op.r2
+
+-- the workstation is open at m, and less of the supply is open than is given out and needed
+pub record IsShortage (P : Contents) (op : Operation) (m : ℕ) (x : Shortage) : Type 0 where
+  pub workstation : x.workstation ≡ op.workstation
+  pub ws : Workstation
+  pub is_workstation : get P.workstations op.workstation ≡ Some ws
+  pub capacity : Capacity
+  pub is_open : HasCapacity ws m capacity
+  pub given : x.given ≡ amount_in x.supply (given_out P op.workstation)
+  pub open_then : x.offered ≡ amount_in x.supply capacity
+  pub needed : x.needed ≡ amount_needed x.supply op
+  pub lacks : x.offered < x.given + x.needed
+
+-- ---- special resources
+
+-- o needs the resource, and another operation holds it: not both share it
+pub record IsObstacle (P : Contents) (o : OpKey) (op : Operation) (x : Obstacle) : Type 0 where
+  pub usage : Usage
+  pub needs : get op.needs x.resource ≡ Some usage
+  pub another : x.holder ≢ o
+  pub held : Usage
+  pub holds : Holds P x.holder x.resource held
+  pub mode : x.mode ≡ held.mode
+  pub in_the_way : ¬ ((usage.mode ≡ Shared) × (held.mode ≡ Shared))
+
+-- ---- the reasons
+
+-- what each reason says of o, which is this operation, at m
+abbrev pub IsReasonOf : Contents → OpKey → Operation → ℕ → Reason → Type 0
+IsReasonOf P o op m (reason.AtRest s) = HasStatus P o s × (s ≢ Waiting) × ¬ MayStart P o op m WrongStatus
+IsReasonOf P o op m (reason.WaitsFor x) = HasStatus P o Waiting × Follows P o x.op × HasStatus P x.op x.status
+IsReasonOf P o op m reason.Held = op.held ≡ true
+IsReasonOf P o op m (reason.TooEarly t) = (needs_start P op ≡ true) × (t ≡ op.not_before) × (m < t)
+IsReasonOf P o op m (reason.Closed x) = (needs_start P op ≡ true) × (x.workstation ≡ op.workstation) × ((ws : Workstation) × (get P.workstations op.workstation ≡ Some ws) × IsClosedAt ws m × IsNextOpening ws m x.next)
+IsReasonOf P o op m (reason.Lacks x) = (needs_start P op ≡ true) × IsShortage P op m x
+IsReasonOf P o op m (reason.Unavailable r) = (needs_start P op ≡ true) × ((usage : Usage) × (get op.needs r ≡ Some usage)) × (get P.resources r ≢ Some true)
+IsReasonOf P o op m (reason.HeldBy x) = (needs_start P op ≡ true) × IsObstacle P o op x
+
+-- it is a reason why o, an operation of the plan, doesn't go on at m
+abbrev pub IsReason : Contents → OpKey → ℕ → Reason → Type 0
+IsReason P o m r = Has P o (λ op. IsReasonOf P o op m r)

@@ -1,0 +1,175 @@
+// The whole answer why an operation doesn't go on.
+ghost use Rattle.std.specs.Prelude.{◌≡◌, IfOk, IfErr, OnOk, MatchOption, Some, length, slice_get, true};
+ghost use Rattle.std.specs.FinMap.{entries, get};
+ghost use Rattle.plan_basics.specs.declared.Refusal.{Refusal};
+ghost use Rattle.plan_basics.specs.declared.keys.OpKey.{OpKey as OpKeyValue};
+ghost use Rattle.plan_model.specs.Contents.{IsInPlan, Operation};
+ghost use Rattle.plan_model.specs.Holdings.{given_out};
+ghost use Rattle.plan_reasons.specs.Parts.{GoesOn};
+ghost use Rattle.plan_reasons.specs.Places.{IsAt};
+ghost use Rattle.plan_reasons.specs.Reasons.{needs_start};
+ghost use Rattle.plan_reasons.specs.Whys.{AreReasons, IsWhy};
+ghost use Rattle.plan_state.specs.Reports.{IsReported};
+
+use super::busy::{all_held, all_unavailable};
+use super::lacking::{closed, lacks};
+use super::lists::{note, note_all};
+use super::predecessors::{look_at, roots, waits};
+use super::reasons::{Reason, Supply, Unsatisfied};
+use super::single::{at_rest, held, needs_start, too_early};
+use plan_basics::{Moment, OpKey, Refusal};
+use plan_choice::{given_out_of, holdings_of};
+use plan_model::OperationRecord;
+use plan_state::{LoadedPlan, Reported};
+use plan_status::SoundContents;
+use status_rules::Status;
+use std::alloc::{AllocError, Global};
+use workstations::{Capacity, Workstation};
+
+/// Why an operation doesn't go on at a moment.
+#[derive(Debug, Drop)]
+pub struct Why {
+    pub status: Status,
+    /// The reasons, in the order of the lines that it has to meet: its status, its predecessors in key order, that it is
+    /// held, its not-before, its workstation, servers, R1 and R2, special resources that aren't available, and holders of
+    /// special resources by name and then key.
+    pub reasons: Vec<Reason>,
+    /// The operations that hold the chain that it waits for, in key order.
+    pub roots: Vec<Unsatisfied>,
+}
+
+// What the workstation of an operation of the plan has given out.
+fn taken_at(
+    alloc: Global,
+    contents: &SoundContents,
+    operation: &OperationRecord,
+) -> Result<Capacity, AllocError>
+    requires { (o : OpKeyValue) × (get contents.now.operations o ≡ Some operation.now) }
+    ensures { IfOk result (λ taken. taken ≡ given_out contents.now operation.now.workstation) }
+{
+    let place = contents.workstation_place_of(operation);
+    let given = given_out_of(alloc, contents)?;
+    Ok(given[place])
+}
+
+// The workstation of an operation of the plan.
+fn workstation_of<'a>(contents: &'a SoundContents, operation: &OperationRecord) -> &'a Workstation
+    requires { (o : OpKeyValue) × (get contents.now.operations o ≡ Some operation.now) }
+    ensures name { operation.now.workstation ≡ result.now.0 }
+    ensures known { get contents.now.workstations operation.now.workstation ≡ Some result.now.1 }
+{
+    contents.workstation(&operation.workstation).unwrap()
+}
+
+// Notes what keeps an operation that goes on by a start from it on its workstation.
+fn note_station(
+    alloc: Global,
+    reasons: &mut Vec<Reason>,
+    contents: &SoundContents,
+    key: &OpKey,
+    operation: &OperationRecord,
+    at: Moment,
+) -> Result<(), AllocError>
+    requires in_plan { get contents.now.operations key.now ≡ Some operation.now }
+    requires starts { needs_start contents.now operation.now ≡ true }
+    ensures { OnOk result (GoesOn contents.now key.now operation.now at 3 8 reasons.old.items reasons.new.items) }
+{
+    let taken = taken_at(alloc, contents, operation)?;
+    let workstation = workstation_of(contents, operation);
+    note(reasons, too_early(operation, at))?;
+    note(reasons, closed(workstation, at))?;
+    note(reasons, lacks(workstation, operation, &taken, Supply::Servers, at))?;
+    note(reasons, lacks(workstation, operation, &taken, Supply::R1, at))?;
+    note(reasons, lacks(workstation, operation, &taken, Supply::R2, at))?;
+    Ok(())
+}
+
+// Notes what keeps an operation that goes on by a start from it of special resources. The error is always `Memory`.
+fn note_resources(
+    alloc: Global,
+    reasons: &mut Vec<Reason>,
+    contents: &SoundContents,
+    key: &OpKey,
+    operation: &OperationRecord,
+    at: Moment,
+) -> Result<(), Refusal>
+    requires { needs_start contents.now operation.now ≡ true }
+    ensures noted { OnOk result (GoesOn contents.now key.now operation.now at 8 10 reasons.old.items reasons.new.items) }
+    ensures refused { IfErr result (λ r. r ≡ Refusal.Memory) }
+{
+    note_all(reasons, all_unavailable(alloc, contents, operation)?)?;
+    let holdings = holdings_of(alloc, contents.valid())?;
+    note_all(reasons, all_held(alloc, key, operation, &holdings)?)?;
+    Ok(())
+}
+
+// Notes what keeps an operation from a start, where it goes on by one. The error is always `Memory`.
+fn note_start(
+    alloc: Global,
+    reasons: &mut Vec<Reason>,
+    contents: &SoundContents,
+    key: &OpKey,
+    reported: &Reported,
+    at: Moment,
+) -> Result<(), Refusal>
+    requires { IsReported contents.now key.now reported.now }
+    ensures noted { OnOk result (GoesOn contents.now key.now reported.now.operation at 3 10 reasons.old.items reasons.new.items) }
+    ensures refused { IfErr result (λ r. r ≡ Refusal.Memory) }
+{
+    if !needs_start(reported) {
+        return Ok(());
+    }
+    let operation = &reported.operation;
+    note_station(alloc, reasons, contents, key, operation, at)?;
+    note_resources(alloc, reasons, contents, key, operation, at)?;
+    Ok(())
+}
+
+// All reasons why the operation at an index doesn't go on. The error is always `Memory`.
+fn reasons_at(
+    alloc: Global,
+    loaded: &LoadedPlan,
+    key: &OpKey,
+    place: usize,
+    at: Moment,
+) -> Result<Vec<Reason>, Refusal>
+    requires { IsAt loaded.now place key.now }
+    ensures reasons { IfOk result (λ found. AreReasons loaded.now key.now at found.items) }
+    ensures refused { IfErr result (λ r. r ≡ Refusal.Memory) }
+{
+    look_at(loaded);
+    let reported = loaded.reported_at(place);
+    let mut reasons = Vec::new(alloc);
+    note(&mut reasons, at_rest(&reported))?;
+    note_all(&mut reasons, waits(alloc, loaded, place)?)?;
+    note(&mut reasons, held(&reported.operation))?;
+    note_start(alloc, &mut reasons, loaded.contents(), key, &reported, at)?;
+    Ok(reasons)
+}
+
+/// Why an operation doesn't go on at a moment: every reason, and the roots of the chain that it waits for; `None` exactly
+/// where the operation isn't in the plan. The error is always `Memory`.
+///
+/// On a workstation of attribute A or S it goes on by a start, on one of attribute C by its completion, on one of
+/// attribute N, and as a NOP, by passing. It takes time linear in the plan's operations for what is given out and held, and
+/// beside that in what is upstream.
+pub fn explain(
+    alloc: Global,
+    loaded: &LoadedPlan,
+    key: &OpKey,
+    at: Moment,
+) -> Result<Option<Why>, Refusal>
+    ensures why { IfOk result (λ found. MatchOption found (¬ IsInPlan loaded.now key.now) (IsWhy loaded.now key.now at)) }
+    ensures refused { IfErr result (λ r. r ≡ Refusal.Memory) }
+{
+    let Some(place) = loaded.place_of(key) else {
+        return Ok(None);
+    };
+    let reasons = reasons_at(alloc, loaded, key, place, at)?;
+    let chain = roots(alloc, loaded, place)?;
+    Ok(Some(Why {
+        status: loaded.status_at(place),
+        reasons,
+        roots: chain,
+    }))
+}

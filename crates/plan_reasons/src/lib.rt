@@ -1,0 +1,32 @@
+//! Why an operation doesn't start at a moment: every reason, and what holds the chain that it waits for.
+#![tactic(auto)]
+
+ghost use Rattle.plan_reasons.specs.Laws.{EmptyWhereItMayStart, NoneIsLeftToStart, ReadyHasReason};
+
+mod answer;
+mod busy;
+mod lacking;
+mod lists;
+mod predecessors;
+mod reasons;
+mod single;
+
+pub use answer::{Why, explain};
+pub use reasons::{Closing, Obstacle, Reason, Shortage, Supply, Unsatisfied};
+
+/// The law that of an operation on a workstation of attribute A or S no reason is listed exactly where it is allowed to
+/// start. It does nothing.
+pub fn empty_where_it_may_start()
+    ensures { EmptyWhereItMayStart }
+{}
+
+/// The law that what an accepted request leaves ready on an automatic workstation isn't allowed to start at its moment.
+/// It does nothing.
+pub fn none_is_left_to_start()
+    ensures { NoneIsLeftToStart }
+{}
+
+/// The law that it always has a reason then. It does nothing.
+pub fn ready_has_reason()
+    ensures { ReadyHasReason }
+{}

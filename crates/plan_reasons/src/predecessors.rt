@@ -1,0 +1,135 @@
+// What an operation waits for, and the roots of that chain.
+ghost use Rattle.std.specs.Prelude.{◌≡◌, ◌<◌, ◌++◌, ℕ, All, IfOk, IfErr, OnOk, length, map, slice_get};
+ghost use Rattle.std.specs.FinMap.{entries};
+ghost use Rattle.plan_basics.specs.declared.Refusal.{Refusal};
+ghost use Rattle.plan_basics.specs.declared.keys.OpKey.{OpKey};
+ghost use Rattle.plan_model.specs.Contents.{Operation};
+ghost use Rattle.plan_model.specs.Status.{HasStatus};
+ghost use Rattle.plan_model.specs.Valid.{IsSound};
+ghost use Rattle.plan_reasons.specs.Parts.{AreOfKind};
+ghost use Rattle.plan_reasons.specs.Places.{AreAt, IsAt, unsatisfied_flags};
+ghost use Rattle.plan_reasons.specs.Whys.{AreRoots};
+
+use super::lists::note;
+use super::reasons::{Reason, Unsatisfied};
+use plan_basics::Refusal;
+use plan_state::LoadedPlan;
+use status_rules::Status;
+use std::alloc::{AllocError, Global};
+use upstream::{flagged_preds, sources};
+
+/// Which operations aren't satisfied, by their statuses.
+pub fn unsatisfied_flags(alloc: Global, statuses: &[Status]) -> Result<Vec<bool>, AllocError>
+    ensures { IfOk result (λ flags. flags.items ≡ unsatisfied_flags statuses.now) }
+{
+    let mut flags = Vec::with_capacity(alloc, statuses.len())?;
+    for status in statuses {
+        flags.push(!status.is_satisfied())?;
+    }
+    Ok(flags)
+}
+
+// The operation at an index, with its status.
+fn unsatisfied_at(loaded: &LoadedPlan, place: usize) -> Unsatisfied
+    requires { place < length (entries loaded.now.operations) }
+    ensures at { IsAt loaded.now place result.op }
+    ensures status { HasStatus loaded.now result.op result.status }
+{
+    Unsatisfied {
+        op: loaded.contents().operations()[place].0,
+        status: loaded.status_at(place),
+    }
+}
+
+// The operations at these indices, with their statuses.
+fn unsatisfied_at_each(
+    alloc: Global,
+    loaded: &LoadedPlan,
+    places: &[usize],
+) -> Result<Vec<Unsatisfied>, AllocError>
+    requires { All (λ place. place < length (entries loaded.now.operations)) places.now }
+    ensures { IfOk result (λ found. AreAt loaded.now places.now found.items) }
+{
+    let mut found = Vec::with_capacity(alloc, places.len())?;
+    for place in places {
+        found.push(unsatisfied_at(loaded, *place))?;
+    }
+    Ok(found)
+}
+
+// The reasons to wait for these.
+fn reasons_to_wait(alloc: Global, found: &[Unsatisfied]) -> Result<Vec<Reason>, AllocError>
+    ensures { IfOk result (λ reasons. reasons.items ≡ map (λ x. Reason.WaitsFor x) found.now) }
+{
+    let mut reasons = Vec::with_capacity(alloc, found.len())?;
+    for unsatisfied in found {
+        note(&mut reasons, Some(Reason::WaitsFor(*unsatisfied)))?;
+    }
+    Ok(reasons)
+}
+
+/// The plan is looked at for the proof alone, which learns that what it holds is sound.
+pub fn look_at(loaded: &LoadedPlan)
+    ensures { IsSound loaded.now }
+{
+    let _ = loaded.contents().valid();
+}
+
+// The operations that the waiting operation at an index waits for, in key order. The error is always `Memory`.
+fn waited_for(alloc: Global, loaded: &LoadedPlan, place: usize) -> Result<Vec<Reason>, Refusal>
+    requires place { place < length (entries loaded.now.operations) }
+    requires waits { (o : OpKey) → IsAt loaded.now place o → HasStatus loaded.now o Status.Waiting }
+    ensures reasons { IfOk result (λ found. (o : OpKey) (op : Operation) (m : ℕ) → slice_get (entries loaded.now.operations) place ≡ Some (o, op) → AreOfKind loaded.now o op m 1 found.items) }
+    ensures refused { IfErr result (λ r. r ≡ Refusal.Memory) }
+{
+    look_at(loaded);
+    let flags = unsatisfied_flags(alloc, loaded.statuses())?;
+    let places = flagged_preds(alloc, loaded.graph(), &flags, place)?;
+    let found = unsatisfied_at_each(alloc, loaded, &places)?;
+    Ok(reasons_to_wait(alloc, &found)?)
+}
+
+/// The reasons that the operation at an index waits for its predecessors, in key order. The error is always `Memory`.
+pub fn waits(alloc: Global, loaded: &LoadedPlan, place: usize) -> Result<Vec<Reason>, Refusal>
+    requires { place < length (entries loaded.now.operations) }
+    ensures reasons { IfOk result (λ found. (o : OpKey) (op : Operation) (m : ℕ) → slice_get (entries loaded.now.operations) place ≡ Some (o, op) → AreOfKind loaded.now o op m 1 found.items) }
+    ensures refused { IfErr result (λ r. r ≡ Refusal.Memory) }
+{
+    look_at(loaded);
+    match loaded.status_at(place) {
+        Status::Waiting => waited_for(alloc, loaded, place),
+        _ => Ok(Vec::new(alloc)),
+    }
+}
+
+// Where the chain begins that the waiting operation at an index waits for, in key order. The error is always `Memory`.
+fn beginnings(
+    alloc: Global,
+    loaded: &LoadedPlan,
+    place: usize,
+) -> Result<Vec<Unsatisfied>, Refusal>
+    requires place { place < length (entries loaded.now.operations) }
+    requires waits { (o : OpKey) → IsAt loaded.now place o → HasStatus loaded.now o Status.Waiting }
+    ensures roots { IfOk result (λ found. (o : OpKey) → IsAt loaded.now place o → AreRoots loaded.now o found.items) }
+    ensures refused { IfErr result (λ r. r ≡ Refusal.Memory) }
+{
+    look_at(loaded);
+    let flags = unsatisfied_flags(alloc, loaded.statuses())?;
+    let places = sources(alloc, loaded.graph(), &flags, place)?;
+    Ok(unsatisfied_at_each(alloc, loaded, &places)?)
+}
+
+/// The roots of the operation at an index, in key order: where it waits, what is upstream of it and itself waits for
+/// nothing. The error is always `Memory`. Beside looking at each operation's status it takes the time to sort what is
+/// upstream, and time linear in the pairs that lead there.
+pub fn roots(alloc: Global, loaded: &LoadedPlan, place: usize) -> Result<Vec<Unsatisfied>, Refusal>
+    requires { place < length (entries loaded.now.operations) }
+    ensures roots { IfOk result (λ found. (o : OpKey) → IsAt loaded.now place o → AreRoots loaded.now o found.items) }
+    ensures refused { IfErr result (λ r. r ≡ Refusal.Memory) }
+{
+    look_at(loaded);
+    match loaded.status_at(place) {
+        Status::Waiting => beginnings(alloc, loaded, place),
+        _ => Ok(Vec::new(alloc)),
+    }
+}
