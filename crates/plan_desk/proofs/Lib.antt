@@ -3,3 +3,4 @@ pub mod Loaded
 pub mod Played
 pub mod Statuses
 pub mod Told
+pub mod Ended

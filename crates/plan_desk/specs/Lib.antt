@@ -5,3 +5,4 @@ pub mod Shown
 pub mod Statuses
 pub mod Turns
 pub mod Words
+pub mod Whys

@@ -1,9 +1,11 @@
 -- What the program shows of a report.
-use Rattle.std.specs.Prelude.{◌≡◌, ◌⊎◌, Bool, ℕ, List, Option}
+use Rattle.std.specs.Prelude.{◌≡◌, ◌⊎◌, Bool, ℕ, List, Option, Result, Ok, Err}
 use Rattle.std.specs.Io.KnownBytes.{Appends}
 use Rattle.plan_basics.specs.declared.Refusal.{Refusal}
 use Rattle.plan_model.specs.Plan.{Plan}
 use Rattle.plan_reports.specs.Reports.{IsErrorReport, IsLateReport, IsOccurrenceReport, IsOwed, IsReadyReport, IsWritten, ready_refusal_of, refusal_of}
+use Rattle.plan_reports.specs.declared.reports.ReportFault.{ReportFault}
+use Rattle.plan_reports.specs.declared.reports.ReportFault.TheVariants as report_fault
 use Rattle.plan_records.specs.Answer.{refused}
 use Rattle.plan_tables.specs.Faults.{IsOpeningRefusal}
 use Rattle.plan_desk.specs.Answers.{IsShown, refusal_line}
@@ -26,6 +28,12 @@ report_refusal_of (kind.Ready w) usable P = ready_refusal_of usable P w
 report_refusal_of kind.Occurrences usable P = refusal_of usable P
 report_refusal_of kind.Errors usable P = refusal_of usable P
 report_refusal_of kind.Late usable P = refusal_of usable P
+
+-- how a run ends behind a report: it was written, and nothing is added; or its refusal was shown
+abbrev pub IsEndOf : Result (Unit {0}) ReportFault → Option (List ℕ) → Option (List ℕ) → Ending → Type 0
+IsEndOf (Ok x) old new ending.Done = new ≡ old
+IsEndOf (Err (report_fault.Refused r)) old new ending.Refused = Appends old new (refusal_line r)
+IsEndOf written old new e = ⊥
 
 -- a report was shown: its bytes were added to the known ones; or the line of the refusal that is owed, or of want of memory
 abbrev pub IsReportShown : Kind → Bool → Plan → Option (List ℕ) → Option (List ℕ) → Ending → Type 0

@@ -6,6 +6,7 @@ ghost use Rattle.plan_desk.specs.Statuses.{EndsExplaining, fault_status, IsOfSur
 use crate::endings::{Ending, Fault};
 use crate::loading::{check, load};
 use crate::playing::play;
+use crate::reasons::why;
 use crate::reports::report;
 use crate::requests::make;
 use crate::serving::serve;
@@ -52,6 +53,7 @@ fn obey<W: Write, E: Write>(
         Some(("load", given)) => load(rt, given, out)?,
         Some(("do", given)) => make(rt, given, out)?,
         Some(("report", given)) => report(rt, given, out)?,
+        Some(("why", given)) => why(rt, given, out)?,
         Some(("serve", given)) => serve(rt, given, out)?,
         Some(("play", given)) => play(rt, given, out)?,
         _ => return Err(Fault::Words),

@@ -1,8 +1,12 @@
 // What the words give: a moment, a request, the kind of a report. Each is judged before any file is touched.
 ghost use Rattle.std.specs.Prelude.{◌≡◌, ◌↔◌, ◌⊎◌, ℤ, IsOk, IfOk, IfErr, codes};
 ghost use Rattle.clap.specs.Matches.{first_value, found_of};
+ghost use Rattle.plan_basics.specs.KeyTexts.{IsOperationText};
+ghost use Rattle.plan_basics.specs.Keys.{IsOperationKey};
 ghost use Rattle.plan_basics.specs.Minutes.{IsMinuteText};
+ghost use Rattle.plan_basics.specs.declared.keys.OpKey.{OpKey as Key};
 ghost use Rattle.plan_desk.specs.Asked.{AsksReport, IsNoRequest};
+ghost use Rattle.plan_desk.specs.Whys.{IsMinuteGiven};
 ghost use Rattle.plan_desk.specs.Words.{text_given};
 ghost use Rattle.plan_desk.specs.declared.endings.Fault.{Fault};
 ghost use Rattle.plan_desk.specs.declared.given.Kind.{Kind as Asked};
@@ -11,7 +15,7 @@ ghost use Rattle.request_texts.specs.Requests.{ReadsAsRequest};
 use crate::endings::Fault;
 use crate::words::value_of;
 use clap::ArgMatches;
-use plan_basics::{WsName, minute_of_text};
+use plan_basics::{OpKey, WsName, minute_of_text};
 use plan_records::Request;
 use request_texts::read_operator;
 use std::alloc::Global;
@@ -38,6 +42,31 @@ pub fn moment_of(given: &ArgMatches) -> Result<i64, Fault>
     match minute_of_text(value_of(given, "at").as_bytes()) {
         Some(at) => Ok(at),
         None => Err(Fault::Moment),
+    }
+}
+
+/// The moment that the words give, if they give one.
+pub fn moment_if_given(given: &ArgMatches) -> Result<Option<i64>, Fault>
+    ensures minute { IfOk result (IsMinuteGiven (first_value (found_of given.now) (codes "at"))) }
+    ensures fault { IfErr result (λ fault. fault ≡ Fault.Moment) }
+{
+    let Some(text) = given.get_str("at") else {
+        return Ok(None);
+    };
+    match minute_of_text(text.as_bytes()) {
+        Some(at) => Ok(Some(at)),
+        None => Err(Fault::Moment),
+    }
+}
+
+/// The operation that the words name. `Words` where the text is no key of an operation.
+pub fn operation_of(given: &ArgMatches) -> Result<OpKey, Fault>
+    ensures key { IfOk result (λ key. IsOperationText (text_given (found_of given.now) (codes "op")) key.now) }
+    ensures fault { IfErr result (λ fault. (fault ≡ Fault.Words) × ((key : Key) → IsOperationKey key → ¬ IsOperationText (text_given (found_of given.now) (codes "op")) key)) }
+{
+    match OpKey::from_text(value_of(given, "op").as_bytes()) {
+        Some(key) => Ok(key),
+        None => Err(Fault::Words),
     }
 }
 

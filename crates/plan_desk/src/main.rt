@@ -10,6 +10,7 @@ mod given;
 mod load_tests;
 mod loading;
 mod playing;
+mod reasons;
 mod reports;
 mod requests;
 mod serving;

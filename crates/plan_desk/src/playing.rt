@@ -139,8 +139,8 @@ fn play_lines<S: Alter + Drop, W: Write>(
     Ok(ending_of_lines(refused))
 }
 
-// A desk in memory at which a plan was loaded; or the refusal of the load.
-fn loaded_desk(
+/// A desk in memory at which a plan was loaded; or the refusal of the load.
+pub fn loaded_desk(
     alloc: Global,
     at: i64,
     draft: Option<PlanDraft>,

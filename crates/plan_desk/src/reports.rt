@@ -3,7 +3,7 @@ ghost use Rattle.std.specs.Prelude.{◌≡◌, ◌⊎◌, Err, IfOk, IfErr, OnOk
 ghost use Rattle.clap.specs.Matches.{first_value, found_of};
 ghost use Rattle.plan_basics.specs.Watched.{inner_of};
 ghost use Rattle.plan_basics.specs.declared.Refusal.{Refusal};
-ghost use Rattle.plan_desk.specs.Shown.{IsReport, IsReportAsked, IsReportShown, report_refusal_of};
+ghost use Rattle.plan_desk.specs.Shown.{IsEndOf, IsReport, IsReportAsked, IsReportShown, report_refusal_of};
 ghost use Rattle.plan_desk.specs.Statuses.{IsOfSurroundings};
 ghost use Rattle.plan_desk.specs.Words.{text_given};
 ghost use Rattle.plan_desk.specs.declared.endings.Fault.{Fault};
@@ -42,6 +42,24 @@ fn write_report<S: Alter + Drop, W: Write>(
     }
 }
 
+/// How a run ends whose report was written, or wasn't; its refusal is shown.
+pub fn end_of<W: Write>(
+    written: Result<(), ReportFault>,
+    out: &mut Watched<W>,
+) -> Result<Ending, Fault>
+    ensures shown { IfOk result (IsEndOf written (W.contents (inner_of out.old)) (W.contents (inner_of out.new))) }
+    ensures fault { IfErr result IsOfSurroundings }
+{
+    match written {
+        Ok(()) => Ok(Ending::Done),
+        Err(ReportFault::Refused(refusal)) => {
+            tell_refusal(out, refusal)?;
+            Ok(Ending::Refused)
+        }
+        Err(ReportFault::Writer) => Err(Fault::File),
+    }
+}
+
 /// Shows a report of a desk, or why it is refused.
 pub fn show<S: Alter + Drop, W: Write>(
     alloc: Global,
@@ -52,14 +70,8 @@ pub fn show<S: Alter + Drop, W: Write>(
     ensures shown { IfOk result (IsReportShown kind.now desk.now.is_usable desk.now.plan (W.contents (inner_of out.old)) (W.contents (inner_of out.new))) }
     ensures fault { IfErr result IsOfSurroundings }
 {
-    match write_report(alloc, desk, kind, out) {
-        Ok(()) => Ok(Ending::Done),
-        Err(ReportFault::Refused(refusal)) => {
-            tell_refusal(out, refusal)?;
-            Ok(Ending::Refused)
-        }
-        Err(ReportFault::Writer) => Err(Fault::File),
-    }
+    let written = write_report(alloc, desk, kind, out);
+    end_of(written, out)
 }
 
 /// `report`: which report is asked for is judged before the file. At its end the database is closed.

@@ -128,6 +128,42 @@ fn play_command<'a>(alloc: Global) -> Result<Command<'a>, AllocError> {
         .arg(requests)
 }
 
+/// `why`: why an operation doesn't go on, at the desk of a database or of a plan's text.
+fn why_command<'a>(alloc: Global) -> Result<Command<'a>, AllocError> {
+    let database = option(alloc, "db", "FILE", "The database of the desk")
+        .required(false)
+        .required_unless_present("plan")?
+        .conflicts_with("plan")?;
+    let plan = option(
+        alloc,
+        "plan",
+        "FILE",
+        "In place of --db: a plan, loaded into a desk in memory at the moment of --at",
+    )
+    .required(false)
+    .requires_arg("at")?;
+    let moment = option(
+        alloc,
+        "at",
+        "MOMENT",
+        "The moment, as 2024-03-01T22:00; the clock of the desk where it isn't given",
+    )
+    .required(false);
+    let operation = option(
+        alloc,
+        "op",
+        "KEY",
+        "The operation, as PAYROLL/2024-03-01T22:00/010",
+    );
+    Command::new(alloc, "why")
+        .about("Tells why an operation doesn't go on at a moment, and what it waits for in the end")
+        .after_help("Example: plandesk why --db night.db --op PAYROLL/2024-03-01T22:00/010")
+        .arg(database)?
+        .arg(plan)?
+        .arg(operation)?
+        .arg(moment)
+}
+
 /// All that the program understands.
 pub fn desk_command<'a>(alloc: Global) -> Result<Command<'a>, AllocError> {
     Command::new(alloc, "plandesk")
@@ -137,6 +173,7 @@ pub fn desk_command<'a>(alloc: Global) -> Result<Command<'a>, AllocError> {
         .subcommand(load_command(alloc)?)?
         .subcommand(do_command(alloc)?)?
         .subcommand(report_command(alloc)?)?
+        .subcommand(why_command(alloc)?)?
         .subcommand(serve_command(alloc)?)?
         .subcommand(play_command(alloc)?)
 }

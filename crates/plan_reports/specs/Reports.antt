@@ -6,12 +6,16 @@ use Rattle.plan_basics.specs.Keys.{Name}
 use Rattle.plan_basics.specs.Watched.{AppendsBeginning}
 use Rattle.plan_basics.specs.declared.Refusal.{Refusal}
 use Rattle.plan_basics.specs.declared.Refusal.TheVariants as refusal
+use Rattle.plan_basics.specs.declared.keys.OpKey.{OpKey}
 use Rattle.plan_core.specs.Views.{AreOccViews, AreReadyViews}
 use Rattle.plan_core.specs.declared.views.OccView.{OccView}
 use Rattle.plan_core.specs.declared.views.OpView.{OpView}
 use Rattle.plan_model.specs.Plan.{Plan}
 use Rattle.plan_tables.specs.Errors.{AreErrorRows}
 use Rattle.plan_tables.specs.declared.errors.ErrorRow.{ErrorRow}
+use Rattle.plan_reasons.specs.Whys.{IsWhy}
+use Rattle.plan_reasons.specs.declared.answer.Why.{Why}
+use Rattle.reason_texts.specs.Texts.{why_text}
 use Rattle.plan_reports.specs.Late.{AreLateViews}
 use Rattle.plan_reports.specs.Texts.{errors_text, late_text, occurrences_text, ready_text}
 
@@ -31,6 +35,10 @@ IsErrorReport P text = (rows : List ErrorRow) × AreErrorRows P.contents rows ×
 abbrev pub IsLateReport : Plan → List ℕ → Type 0
 IsLateReport P text = (views : List OpView) × AreLateViews P views × (text ≡ late_text P.clock views)
 
+-- it tells why this operation doesn't go on at this moment: every reason, and the roots of what it waits for
+abbrev pub IsWhyReport : Plan → OpKey → ℕ → List ℕ → Type 0
+IsWhyReport P o m text = (w : Why) × IsWhy P.contents o m w × (text ≡ why_text o m w)
+
 -- the refusal that a desk owes to any report, if one: it has to be opened again, or else no plan is loaded
 abbrev pub refusal_of : Bool → Plan → Option Refusal
 refusal_of usable P = if usable then (if P.loaded then None else Some refusal.NotLoaded) else Some refusal.Reopen
@@ -39,6 +47,11 @@ refusal_of usable P = if usable then (if P.loaded then None else Some refusal.No
 abbrev pub ready_refusal_of : Bool → Plan → Name → Option Refusal
 ready_refusal_of usable P w =
     if usable then (if P.loaded then (if contains_key P.contents.workstations w then None else Some refusal.UnknownWorkstation) else Some refusal.NotLoaded) else Some refusal.Reopen
+
+-- so to the report of an operation: these come first, and then that it isn't in the plan
+abbrev pub why_refusal_of : Bool → Plan → OpKey → Option Refusal
+why_refusal_of usable P o =
+    if usable then (if P.loaded then (if contains_key P.contents.operations o then None else Some refusal.UnknownOperation) else Some refusal.NotLoaded) else Some refusal.Reopen
 
 -- where a refusal is owed, it is the one that is given; else only that memory lacks
 abbrev pub IsOwed : Option Refusal → Refusal → Type 0

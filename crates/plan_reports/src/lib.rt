@@ -1,5 +1,5 @@
-//! The reports of a desk: what is ready on a workstation, all occurrences, the operations in error, and those that are
-//! late, each as lines of text.
+//! The reports of a desk: what is ready on a workstation, all occurrences, the operations in error, those that are late,
+//! and why one doesn't go on, each as lines of text.
 #![tactic(auto)]
 
 mod late;
@@ -11,4 +11,6 @@ mod rows;
 mod texts;
 
 pub use laws::one_text;
-pub use reports::{ReportFault, error_report, late_report, occurrence_report, ready_report};
+pub use reports::{
+    ReportFault, error_report, late_report, occurrence_report, ready_report, why_report,
+};

@@ -2,13 +2,15 @@
 ghost use Rattle.std.specs.Prelude.{◌≡◌, IfErr, IfOk, None, Some};
 ghost use Rattle.plan_basics.specs.declared.Refusal.{Refusal};
 ghost use Rattle.plan_tables.specs.Errors.{AreErrorRows};
-ghost use Rattle.plan_reports.specs.Reports.{IsErrorReport, IsLateReport, IsOccurrenceReport, IsOwed, IsReadyReport, ready_refusal_of, refusal_of};
+ghost use Rattle.plan_reports.specs.Reports.{IsErrorReport, IsLateReport, IsOccurrenceReport, IsOwed, IsReadyReport, IsWhyReport, ready_refusal_of, refusal_of, why_refusal_of};
 
 use super::late::late_views;
 use super::texts::{errors_text, late_text, occurrences_text, ready_text};
-use plan_basics::{Refusal, WsName};
+use plan_basics::{Moment, OpKey, Refusal, WsName};
 use plan_core::{OccView, OpView, Plan};
+use plan_reasons::why;
 use plan_tables::{Desk, ErrorRow};
+use reason_texts::why_text;
 use sqlite::Alter;
 use std::alloc::Global;
 
@@ -99,4 +101,22 @@ pub(crate) fn late_made<S: Alter + Drop>(alloc: Global, desk: &Desk<S>) -> Resul
     let plan = loaded_plan(desk)?;
     let views = late_views(alloc, plan)?;
     Ok(late_text(alloc, plan.clock(), &views)?)
+}
+
+/// Why an operation doesn't go on at a moment. Refused as the desk owes it, or else as `Memory`.
+pub(crate) fn why_made<S: Alter + Drop>(
+    alloc: Global,
+    desk: &Desk<S>,
+    key: &OpKey,
+    at: Moment,
+) -> Result<Vec<u8>, Refusal>
+    ensures text { IfOk result (λ text. IsWhyReport desk.now.plan key.now at text.items) }
+    ensures none_owed { IfOk result (λ text. why_refusal_of desk.now.is_usable desk.now.plan key.now ≡ None) }
+    ensures refused { IfErr result (IsOwed (why_refusal_of desk.now.is_usable desk.now.plan key.now)) }
+{
+    let plan = loaded_plan(desk)?;
+    let Some(found) = why(alloc, plan, key, at)? else {
+        return Err(Refusal::UnknownOperation);
+    };
+    Ok(why_text(alloc, key, at, &found)?)
 }

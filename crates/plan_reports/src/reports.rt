@@ -3,11 +3,11 @@ ghost use Rattle.std.specs.Prelude.{◌≡◌, ◌↔◌, Err, IfErr, OnErr, OnO
 ghost use Rattle.std.specs.Io.KnownBytes.{Appends};
 ghost use Rattle.plan_basics.specs.Watched.{AppendsBeginning, failed_of, inner_of};
 ghost use Rattle.plan_basics.specs.declared.Refusal.{Refusal};
-ghost use Rattle.plan_reports.specs.Reports.{IsBegun, IsErrorReport, IsLateReport, IsOccurrenceReport, IsOwed, IsReadyReport, IsWritten, ready_refusal_of, refusal_of};
+ghost use Rattle.plan_reports.specs.Reports.{IsBegun, IsErrorReport, IsLateReport, IsOccurrenceReport, IsOwed, IsReadyReport, IsWhyReport, IsWritten, ready_refusal_of, refusal_of, why_refusal_of};
 ghost use Rattle.plan_reports.specs.declared.reports.ReportFault.{ReportFault};
 
-use super::made::{errors_made, late_made, occurrences_made, ready_made};
-use plan_basics::{Refusal, Watched, WsName};
+use super::made::{errors_made, late_made, occurrences_made, ready_made, why_made};
+use plan_basics::{Moment, OpKey, Refusal, Watched, WsName};
 use plan_tables::Desk;
 use sqlite::Alter;
 use std::alloc::Global;
@@ -122,5 +122,27 @@ pub fn late_report<S: Alter + Drop, W: Write>(
 {
     writer.clear();
     let text = late_made(alloc, desk)?;
+    deliver(&text, writer)
+}
+
+/// Writes why an operation doesn't go on at a moment: every reason, and the operations that hold the chain that it waits
+/// for.
+///
+/// Refused as `Reopen` after a fault of the store, else as `NotLoaded` before a plan is loaded, else as
+/// `UnknownOperation`, else as `Memory`. The writer is cleared first and flushed at the end.
+pub fn why_report<S: Alter + Drop, W: Write>(
+    alloc: Global,
+    desk: &Desk<S>,
+    key: &OpKey,
+    at: Moment,
+    writer: &mut Watched<W>,
+) -> Result<(), ReportFault>
+    ensures written { OnOk result (IsWritten (why_refusal_of desk.now.is_usable desk.now.plan key.now) (IsWhyReport desk.now.plan key.now at) (W.contents (inner_of writer.old)) (W.contents (inner_of writer.new))) }
+    ensures refused { (r : Refusal) → result ≡ Err (ReportFault.Refused r) → IsOwed (why_refusal_of desk.now.is_usable desk.now.plan key.now) r × (inner_of writer.new ≡ inner_of writer.old) }
+    ensures writer { (result ≡ Err ReportFault.Writer) ↔ (failed_of writer.new ≡ true) }
+    ensures begun { result ≡ Err ReportFault.Writer → IsBegun (why_refusal_of desk.now.is_usable desk.now.plan key.now) (IsWhyReport desk.now.plan key.now at) (W.contents (inner_of writer.old)) (W.contents (inner_of writer.new)) }
+{
+    writer.clear();
+    let text = why_made(alloc, desk, key, at)?;
     deliver(&text, writer)
 }
