@@ -324,6 +324,120 @@ starts PAYROLL/2024-03-01T22:00/010
     ),
 ];
 
+// Why operations of that night don't go on, at the desk and at one in memory.
+const WHYS: [Turn; 8] = [
+    (
+        &[
+            "why",
+            "--db",
+            "@night.db",
+            "--op",
+            "BILLING/2024-03-01T22:00/010",
+        ],
+        "BILLING/2024-03-01T22:00/010 A 2024-03-01T23:00
+CUSTFILE held by PAYROLL/2024-03-01T22:00/020 exclusive
+END 1
+",
+        NO_FAULT,
+        0,
+    ),
+    (
+        &[
+            "why",
+            "--db",
+            "@night.db",
+            "--op",
+            "PAYROLL/2024-03-01T22:00/040",
+            "--at",
+            "2024-03-02T00:00",
+        ],
+        "PAYROLL/2024-03-01T22:00/040 W 2024-03-02T00:00
+waits for PAYROLL/2024-03-01T22:00/030 W
+root PAYROLL/2024-03-01T22:00/020 E
+END 2
+",
+        NO_FAULT,
+        0,
+    ),
+    (
+        &[
+            "why",
+            "--plan",
+            "@night.csv",
+            "--at",
+            "2024-03-01T21:00",
+            "--op",
+            "PAYROLL/2024-03-01T22:00/005",
+        ],
+        "PAYROLL/2024-03-01T22:00/005 A 2024-03-01T21:00
+SETP closed until 2024-03-01T22:00
+END 1
+",
+        NO_FAULT,
+        0,
+    ),
+    (
+        &[
+            "why",
+            "--db",
+            "@night.db",
+            "--op",
+            "PAYROLL/2024-03-01T22:00/050",
+        ],
+        "refused 5 UnknownOperation\n",
+        NO_FAULT,
+        1,
+    ),
+    (
+        &[
+            "why",
+            "--db",
+            "@night.db",
+            "--op",
+            "PAYROLL/2024-03-01T22:00/040",
+            "--at",
+            "1971-12-31T23:59",
+        ],
+        "refused 2 MomentRange\n",
+        NO_FAULT,
+        1,
+    ),
+    (
+        &[
+            "why",
+            "--plan",
+            "@empty",
+            "--at",
+            "2024-03-01T21:00",
+            "--op",
+            "PAYROLL/2024-03-01T22:00/005",
+        ],
+        "refused 21 BadPlan\n",
+        NO_FAULT,
+        1,
+    ),
+    (
+        &["why", "--db", "@absent.db", "--op", "PAYROLL"],
+        "",
+        "fault words\n",
+        2,
+    ),
+    (
+        &[
+            "why",
+            "--db",
+            "@absent.db",
+            "--op",
+            "PAYROLL/2024-03-01T22:00/040",
+            "--at",
+            "22:00",
+        ],
+        "",
+        "fault moment\n",
+        2,
+    ),
+];
+
 // What is judged first: the words, the request, the files.
 const ORDER: [Turn; 4] = [
     (
@@ -432,6 +546,7 @@ fn sessions(rt: HostRuntime) -> Result<(), Fail> {
         fs::write(&rt, folder.join(rt.alloc(), name)?.as_path(), text)?;
     }
     run_turns(&rt, &folder, SESSION.as_slice())?;
+    run_turns(&rt, &folder, WHYS.as_slice())?;
     run_turns(&rt, &folder, PLAYS.as_slice())?;
     run_turns(&rt, &folder, ORDER.as_slice())?;
     fs::remove_dir_all(&rt, folder.as_path())?;
@@ -486,6 +601,7 @@ fn each_command_tells_its_help(rt: HostRuntime) -> Result<(), Fail> {
             "report",
             "[possible values: ready, occurrences, errors, late]",
         ),
+        ("why", "Example: plandesk why --db night.db"),
         ("serve", "Example: plandesk serve --db night.db"),
         ("play", "Example: plandesk play --plan day.csv"),
     ] {
