@@ -84,7 +84,8 @@ module _ (P : Contents) (o : OpKey) (op : Operation) (m : ℕ) where
   starts (reason.WaitsFor x) high h = absurd (omega (arith, high))
   starts reason.Held high h = absurd (omega (arith, high))
   starts (reason.TooEarly t) high h = h.0
-  starts (reason.Closed x) high h = h.0
+  starts (reason.Closed w) high h = h.0
+  starts (reason.ClosedUntil x) high h = h.0
   starts (reason.Lacks x) high h = h.0
   starts (reason.Unavailable r) high h = h.0
   starts (reason.HeldBy x) high h = h.0

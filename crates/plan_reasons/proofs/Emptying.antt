@@ -40,7 +40,7 @@ use Rattle.workstations.specs.Workstations.{HasCapacity, IsWorkstation, Workstat
 use Rattle.workstations.specs.declared.Capacity.{Capacity}
 use Rattle.plan_reasons.specs.Laws.{EmptyWhereItMayStart, StartsAreKnown}
 use Rattle.plan_reasons.specs.Places.{is_shared}
-use Rattle.plan_reasons.specs.Reasons.{IsNextOpening, IsReasonOf, IsShortage, amount_in, amount_needed, needs_start}
+use Rattle.plan_reasons.specs.Reasons.{IsClosedUntil, IsNextOpening, IsReasonOf, IsShortage, amount_in, amount_needed, needs_start}
 use Rattle.plan_reasons.specs.Whys.{AreReasons}
 use Rattle.plan_reasons.specs.declared.reasons.Reason.{Reason}
 use Rattle.plan_reasons.specs.declared.reasons.Reason.TheVariants as reason
@@ -144,15 +144,16 @@ module _ (P : Contents) (valid : IsValid P) (o : OpKey) (op : Operation) (is : g
   never_waits waits (inl ready) = true≢false (sym (ready_told P o status.Waiting (λ t k. one_status P valid.acyclic o t status.Waiting k waits) ready))
   never_waits waits (inr both) = let e = one_status P valid.acyclic o status.Waiting status.Interrupted waits both.0 in cc
 
+  never_closed : (next : Option ℕ) → IsClosedUntil P op.workstation m next → FitsAt P op m refusal.Closed → ⊥
+  never_closed next k fit = k.2 fit.2.0 (subst (λ (w : Workstation). HasCapacity w m fit.2.0) (same_Some fit.0 k.0 (sym fit.1 ∙ k.1)) fit.2.1)
+
   no_reason : ((line : Refusal) → MayStart P o op m line) → (r : Reason) → IsReasonOf P o op m r → ⊥
   no_reason may (reason.AtRest s) h = h.2 (may refusal.WrongStatus)
   no_reason may (reason.WaitsFor x) h = never_waits h.0 (may refusal.WrongStatus)
   no_reason may reason.Held h = true≢false (sym h ∙ may refusal.Held)
   no_reason may (reason.TooEarly t) h = let after = may refusal.TooEarly in omega (arith, after, h.1, h.2)
-  no_reason may (reason.Closed x) h =
-      let fit = may refusal.Closed in
-      let k = h.2 in
-      k.2 fit.2.0 (subst (λ (w : Workstation). HasCapacity w m fit.2.0) (same_Some fit.0 k.0 (sym fit.1 ∙ k.1)) fit.2.1)
+  no_reason may (reason.Closed w) h = never_closed None h.2 (may refusal.Closed)
+  no_reason may (reason.ClosedUntil x) h = never_closed (Some x.until) h.2 (may refusal.Closed)
   no_reason may (reason.Lacks x) h = lacking_may x.supply x refl h.1 may
   no_reason may (reason.Unavailable r) h = h.2 (may refusal.ResourceBusy r h.1.0 h.1.1).0
   no_reason may (reason.HeldBy x) h = let k = h.1 in k.in_the_way ((may refusal.ResourceBusy x.resource k.usage k.needs).1 x.holder k.held k.another k.holds)
@@ -204,13 +205,17 @@ module _ (P : Contents) (valid : IsValid P) (o : OpKey) (op : Operation) (is : g
     its_ws : (ws : Workstation) × (get P.workstations op.workstation ≡ Some ws)
     its_ws = is_found (get P.workstations op.workstation) (valid.have_workstations o op is)
 
+    not_closed : {A : Type 0} (next : Option ℕ) → IsClosedUntil P op.workstation m next → A
+    not_closed None k = absurd (none (reason.Closed op.workstation) (start, refl, k))
+    not_closed (Some n) k = absurd (none (reason.ClosedUntil (record { workstation = op.workstation; until = n })) (start, refl, k))
+
     open_then : MayStart P o op m refusal.Closed
     open_then = elim (may_start_told P valid.acyclic o op m refusal.Closed) [
       | inl may ↦ may
       | inr not ↦
           let (ws, at) = its_ws in
           let next = some_opening ws (valid.workstations op.workstation ws at).1 m in
-          absurd (none (reason.Closed (record { workstation = op.workstation; next = next.0 })) (start, refl, (ws, at, (λ c has. not (ws, at, (c, has))), next.1)))
+          not_closed next.0 (ws, at, (λ c has. not (ws, at, (c, has))), next.1)
     ]
 
     enough : (s : Supply) (c : Capacity) → HasCapacity its_ws.0 m c → amount_in s (given_out P op.workstation) + amount_needed s op ≤ amount_in s c

@@ -53,9 +53,10 @@ module _ (Q : Reason → Type 0) where
   only_early f (reason.TooEarly t) e = f t
   only_early f r e = absurd (omega (arith, e))
 
-  pub only_closed : ((x : Closing) → Q (reason.Closed x)) → (r : Reason) → reason_place r ≡ 4 → Q r
-  only_closed f (reason.Closed x) e = f x
-  only_closed f r e = absurd (omega (arith, e))
+  pub only_closed : ((w : Name) → Q (reason.Closed w)) → ((x : Closing) → Q (reason.ClosedUntil x)) → (r : Reason) → reason_place r ≡ 4 → Q r
+  only_closed f g (reason.Closed w) e = f w
+  only_closed f g (reason.ClosedUntil x) e = g x
+  only_closed f g r e = absurd (omega (arith, e))
 
   pub only_lacks : (s : Supply) → ((x : Shortage) → x.supply ≡ s → Q (reason.Lacks x)) → (r : Reason) → reason_place r ≡ 5 + supply_place s → Q r
   only_lacks s f (reason.Lacks x) e = f x (same_supply x.supply s (omega (arith, e)))

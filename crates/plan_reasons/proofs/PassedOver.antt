@@ -1,5 +1,5 @@
 -- What is ready on an automatic workstation once those that are chosen are named may not start at that moment.
-use Rattle.std.proofs.Common.{◌≡◌, inl, inr, refl, sym, ap, subst, ◌∙◌, true≢false, arith, ℕ, ◌+◌, ◌≤◌, Bool, true, false, ◌&&◌, cond, List, [], ◌∷◌, ◌++◌, map, sum_by, Contains, Some, MatchOption}
+use Rattle.std.proofs.Common.{◌≡◌, inl, inr, refl, sym, ap, subst, ◌∙◌, true≢false, arith, ℕ, ◌≤◌, Bool, true, false, ◌&&◌, cond, List, map, sum_by, Contains, Some, MatchOption}
 use Rattle.std.proofs.lemmas.Bool.{false_from_ne_true}
 use Rattle.std.proofs.lemmas.List.Sums.{sum_by-le-sum_by}
 use Rattle.std.proofs.lemmas.Map.Views.{list_any-from_Contains}
@@ -8,7 +8,6 @@ use Rattle.std.specs.Cmp.{eq_by_cmp_equiv}
 use Rattle.std.specs.FinMap.{entries, get}
 use Rattle.std.specs.Ordering.{eq_by_cmp}
 use Rattle.plan_basics.specs.Keys.{Name, name_cmp, operation_cmp, operation_cmp-IsAntisymmetric, operation_cmp_total}
-use Rattle.plan_basics.specs.declared.Attr.TheVariants.{Automatic}
 use Rattle.plan_basics.specs.declared.Refusal.{Refusal}
 use Rattle.plan_basics.specs.declared.Refusal.TheVariants as refusal
 use Rattle.plan_basics.specs.declared.keys.OpKey.{OpKey}
@@ -22,8 +21,8 @@ use Rattle.status_rules.specs.declared.Status.{Status}
 use Rattle.status_rules.specs.declared.Status.TheVariants as status
 use Rattle.plan_model.proofs.Looks.{IsSplit, as_named, split_at}
 use Rattle.plan_model.proofs.Members.{member_if}
-use Rattle.plan_model.specs.Contents.{Contents, HasAttribute, IsInPlan, Operation, attribute_at}
-use Rattle.plan_model.specs.Holdings.{Holds, given_out, holds_resource, holds_server, is_serving, sum_given_out, takes}
+use Rattle.plan_model.specs.Contents.{Contents, Operation, attribute_at}
+use Rattle.plan_model.specs.Holdings.{Holds, holds_resource, holds_server, is_serving, sum_given_out, takes}
 use Rattle.plan_model.specs.Ready.{IsChosen, IsOnAutomatic, named, with_mark}
 use Rattle.plan_model.specs.Starts.{IsAllowedToStart, MayStart}
 use Rattle.plan_model.specs.Status.{AllPredecessorsSatisfied, FollowsNonreporting, HasStatus, IsReady, UnmarkedStatus}

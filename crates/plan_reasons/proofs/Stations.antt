@@ -2,16 +2,17 @@
 use Rattle.std.proofs.Common.{◌≡◌, refl, sym, ap, subst, ◌∙◌, arith, ℕ, ◌+◌, ◌<◌, ◌≤◌, true, Option, Some, None}
 use Rattle.std.specs.FinMap.{get}
 use Rattle.std.proofs.lemmas.Option.{same_Some}
+use Rattle.plan_basics.specs.Keys.{Name}
 use Rattle.plan_basics.specs.declared.keys.OpKey.{OpKey}
 use Rattle.plan_model.specs.Contents.{Contents, Operation}
 use Rattle.plan_model.specs.Holdings.{given_out}
 use Rattle.workstations.specs.Timetables.{NamedWorkstation}
 use Rattle.workstations.specs.Workstations.{HasCapacity, Workstation}
 use Rattle.workstations.specs.declared.Capacity.{Capacity}
-use Rattle.plan_reasons.specs.Order.{supply_place}
+use Rattle.plan_reasons.specs.Order.{reason_place, supply_place}
 use Rattle.plan_reasons.specs.Parts.{IsOfKind}
-use Rattle.plan_reasons.specs.Reasons.{IsClosedAt, IsNextOpening, IsReasonOf, IsShortage, amount_in, amount_needed, needs_start}
-use Rattle.plan_reasons.specs.declared.reasons.Closing.{Closing}
+use Rattle.plan_reasons.specs.Places.{closed_by}
+use Rattle.plan_reasons.specs.Reasons.{IsClosedAt, IsClosedUntil, IsNextOpening, IsReasonOf, IsShortage, amount_in, amount_needed, needs_start}
 use Rattle.plan_reasons.specs.declared.reasons.Reason.{Reason}
 use Rattle.plan_reasons.specs.declared.reasons.Reason.TheVariants as reason
 use Rattle.plan_reasons.specs.declared.reasons.Shortage.{Shortage}
@@ -26,20 +27,30 @@ module _ (P : Contents) (o : OpKey) (op : Operation) (m : ℕ) (start : needs_st
 
   -- ---- no interval contains the moment
 
-  pub none_closed : (c : Capacity) → HasCapacity w.1 m c → IsOfKind P o op m 4 None
-  none_closed c has = none_of_kind P o op m 4 (only_closed (λ r. IsReasonOf P o op m r → ⊥) (λ x h. let k = h.2 in k.2 c (subst (λ (ws : Workstation). HasCapacity ws m c) (sym (its k.0 k.1)) has)))
+  never_closed : (c : Capacity) → HasCapacity w.1 m c → (next : Option ℕ) → IsClosedUntil P op.workstation m next → ⊥
+  never_closed c has next k = k.2 c (subst (λ (ws : Workstation). HasCapacity ws m c) (sym (its k.0 k.1)) has)
 
-  pub some_closed : (next : Option ℕ) → IsClosedAt w.1 m → IsNextOpening w.1 m next → IsOfKind P o op m 4 (Some (reason.Closed (record { workstation = w.0; next = next })))
+  pub none_closed : (c : Capacity) → HasCapacity w.1 m c → IsOfKind P o op m 4 None
+  none_closed c has = none_of_kind P o op m 4 (only_closed (λ r. IsReasonOf P o op m r → ⊥) (λ n h. never_closed c has None h.2) (λ x h. never_closed c has (Some x.until) h.2))
+
+  is_closed : (next : Option ℕ) → IsClosedAt w.1 m → IsNextOpening w.1 m next → IsReasonOf P o op m (closed_by w.0 next)
+  is_closed None closed opens = (start, sym name, (w.1, is, closed, opens))
+  is_closed (Some n) closed opens = (start, sym name, (w.1, is, closed, opens))
+
+  closed_place : (next : Option ℕ) → reason_place (closed_by w.0 next) ≡ 4
+  closed_place None = refl
+  closed_place (Some n) = refl
+
+  pub some_closed : (next : Option ℕ) → IsClosedAt w.1 m → IsNextOpening w.1 m next → IsOfKind P o op m 4 (Some (closed_by w.0 next))
   some_closed next closed opens =
-      some_of_kind P o op m 4 (reason.Closed (record { workstation = w.0; next = next })) (start, sym name, (w.1, is, closed, opens)) refl
-      (only_closed (λ r. IsReasonOf P o op m r → reason.Closed (record { workstation = w.0; next = next }) ≡ r) same)
+      some_of_kind P o op m 4 (closed_by w.0 next) (is_closed next closed opens) (closed_place next)
+      (only_closed (λ r. IsReasonOf P o op m r → closed_by w.0 next ≡ r) (λ n h. same n None h.1 h.2) (λ x h. same x.workstation (Some x.until) h.1 h.2))
     where
-      same : (x : Closing) → IsReasonOf P o op m (reason.Closed x) → reason.Closed (record { workstation = w.0; next = next }) ≡ reason.Closed x
-      same x h =
-          let k = h.2 in
-          let at : w.0 ≡ x.workstation = sym (h.1 ∙ name) in
-          let one : next ≡ x.next = one_opening w.1 m next x.next opens (subst (λ (ws : Workstation). IsNextOpening ws m x.next) (its k.0 k.1) k.3) in
-          λ i. reason.Closed (record { workstation = at i; next = one i })
+      same : (n : Name) (other : Option ℕ) → n ≡ op.workstation → IsClosedUntil P op.workstation m other → closed_by w.0 next ≡ closed_by n other
+      same n other at k =
+          let it : w.0 ≡ n = sym (at ∙ name) in
+          let one : next ≡ other = one_opening w.1 m next other opens (subst (λ (ws : Workstation). IsNextOpening ws m other) (its k.0 k.1) k.3) in
+          λ i. closed_by (it i) (one i)
 
   -- ---- servers, R1 and R2
 

@@ -3,7 +3,7 @@ use Rattle.std.specs.Prelude.{◌≡◌, ◌&&◌, ℕ, Bool, true, false, cond,
 use Rattle.std.specs.FinMap.{entries, get}
 use Rattle.std.specs.Map.{keys_of}
 use Rattle.std.specs.Ordering.{eq_by_cmp}
-use Rattle.plan_basics.specs.Keys.{operation_cmp}
+use Rattle.plan_basics.specs.Keys.{Name, operation_cmp}
 use Rattle.plan_basics.specs.declared.Attr.{Attr}
 use Rattle.plan_basics.specs.declared.Attr.TheVariants.{StartAndCompletion}
 use Rattle.plan_basics.specs.declared.keys.OpKey.{OpKey}
@@ -38,6 +38,11 @@ pub record AreAt (P : Contents) (places : List ℕ) (found : List Unsatisfied) :
 -- which operations aren't satisfied, by their statuses
 abbrev pub unsatisfied_flags : List Status → List Bool
 unsatisfied_flags statuses = map (λ s. not (is_satisfied s)) statuses
+
+-- the reason that this workstation is closed, until its next interval begins, if there is one
+abbrev pub closed_by : Name → Option ℕ → Reason
+closed_by w (Some n) = reason.ClosedUntil (record { workstation = w; until = n })
+closed_by w None = reason.Closed w
 
 -- the reason that the resource of a need isn't available
 abbrev pub unavailable_of : Resources → Need → Option Reason

@@ -3,6 +3,7 @@ use Rattle.std.specs.Prelude.{◌≡◌, ◌≢◌, ℕ, ◌+◌, ◌<◌, ◌�
 use Rattle.std.specs.Option.{is_none}
 use Rattle.std.specs.FinMap.{get}
 use Rattle.plan_basics.specs.Intervals.{OpenInterval}
+use Rattle.plan_basics.specs.Keys.{Name}
 use Rattle.plan_basics.specs.declared.Refusal.TheVariants.{WrongStatus}
 use Rattle.plan_basics.specs.declared.keys.OpKey.{OpKey}
 use Rattle.workstations.specs.Workstations.{HasCapacity, Workstation}
@@ -51,6 +52,10 @@ abbrev pub IsNextOpening : Workstation → ℕ → Option ℕ → Type 0
 IsNextOpening ws m (Some n) = (m < n) × BeginsAt ws n × ((k : ℕ) → BeginsAt ws k → m < k → n ≤ k)
 IsNextOpening ws m None = (k : ℕ) → BeginsAt ws k → k ≤ m
 
+-- the workstation of this name is closed at m until its next interval begins, if there is one
+abbrev pub IsClosedUntil : Contents → Name → ℕ → Option ℕ → Type 0
+IsClosedUntil P w m next = (ws : Workstation) × (get P.workstations w ≡ Some ws) × IsClosedAt ws m × IsNextOpening ws m next
+
 -- how much of a supply is given out, or open
 abbrev pub amount_in : Supply → Capacity → ℕ
 amount_in supply.Servers c = c.servers
@@ -95,7 +100,8 @@ IsReasonOf P o op m (reason.AtRest s) = HasStatus P o s × (s ≢ Waiting) × ¬
 IsReasonOf P o op m (reason.WaitsFor x) = HasStatus P o Waiting × Follows P o x.op × HasStatus P x.op x.status
 IsReasonOf P o op m reason.Held = op.held ≡ true
 IsReasonOf P o op m (reason.TooEarly t) = (needs_start P op ≡ true) × (t ≡ op.not_before) × (m < t)
-IsReasonOf P o op m (reason.Closed x) = (needs_start P op ≡ true) × (x.workstation ≡ op.workstation) × ((ws : Workstation) × (get P.workstations op.workstation ≡ Some ws) × IsClosedAt ws m × IsNextOpening ws m x.next)
+IsReasonOf P o op m (reason.Closed w) = (needs_start P op ≡ true) × (w ≡ op.workstation) × IsClosedUntil P op.workstation m None
+IsReasonOf P o op m (reason.ClosedUntil x) = (needs_start P op ≡ true) × (x.workstation ≡ op.workstation) × IsClosedUntil P op.workstation m (Some x.until)
 IsReasonOf P o op m (reason.Lacks x) = (needs_start P op ≡ true) × IsShortage P op m x
 IsReasonOf P o op m (reason.Unavailable r) = (needs_start P op ≡ true) × ((usage : Usage) × (get op.needs r ≡ Some usage)) × (get P.resources r ≢ Some true)
 IsReasonOf P o op m (reason.HeldBy x) = (needs_start P op ≡ true) × IsObstacle P o op x

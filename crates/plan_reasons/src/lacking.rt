@@ -6,10 +6,11 @@ ghost use Rattle.plan_model.specs.Contents.{Contents, Operation};
 ghost use Rattle.plan_model.specs.Holdings.{given_out};
 ghost use Rattle.plan_reasons.specs.Order.{supply_place};
 ghost use Rattle.plan_reasons.specs.Parts.{IsOfKind};
+ghost use Rattle.plan_reasons.specs.Places.{closed_by};
 ghost use Rattle.plan_reasons.specs.Reasons.{IsNextOpening, amount_in, amount_needed, needs_start};
 
 use super::reasons::{Closing, Reason, Shortage, Supply};
-use plan_basics::Moment;
+use plan_basics::{Moment, WsName};
 use plan_model::OperationRecord;
 use workstations::{Capacity, Workstation};
 
@@ -25,16 +26,23 @@ fn next_opening(workstation: &Workstation, at: Moment) -> Option<Moment>
     None
 }
 
+// The reason that this workstation is closed, until its next interval begins, if there is one.
+fn closed_by(workstation: WsName, next: Option<Moment>) -> Reason
+    ensures { result ≡ closed_by workstation next }
+{
+    match next {
+        Some(until) => Reason::ClosedUntil(Closing { workstation, until }),
+        None => Reason::Closed(workstation),
+    }
+}
+
 /// The reason that no interval of its workstation contains the moment.
 pub fn closed(workstation: &Workstation, at: Moment) -> Option<Reason>
     ensures { (P : Contents) (o : OpKey) (op : Operation) → needs_start P op ≡ true → op.workstation ≡ workstation.now.0 → get P.workstations op.workstation ≡ Some workstation.now.1 → IsOfKind P o op at 4 result }
 {
     match workstation.capacity_at(at) {
         Some(_) => None,
-        None => Some(Reason::Closed(Closing {
-            workstation: workstation.name(),
-            next: next_opening(workstation, at),
-        })),
+        None => Some(closed_by(workstation.name(), next_opening(workstation, at))),
     }
 }
 

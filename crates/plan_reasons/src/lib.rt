@@ -7,11 +7,13 @@ mod answer;
 mod busy;
 mod lacking;
 mod lists;
+mod plan;
 mod predecessors;
 mod reasons;
 mod single;
 
 pub use answer::{Why, explain};
+pub use plan::why;
 pub use reasons::{Closing, Obstacle, Reason, Shortage, Supply, Unsatisfied};
 
 /// The law that of an operation on a workstation of attribute A or S no reason is listed exactly where it is allowed to

@@ -10,7 +10,6 @@ ghost use Rattle.plan_reasons.specs.Parts.{AreOfKind};
 ghost use Rattle.plan_reasons.specs.Places.{AreAt, IsAt, unsatisfied_flags};
 ghost use Rattle.plan_reasons.specs.Whys.{AreRoots};
 
-use super::lists::note;
 use super::reasons::{Reason, Unsatisfied};
 use plan_basics::Refusal;
 use plan_state::LoadedPlan;
@@ -63,7 +62,7 @@ fn reasons_to_wait(alloc: Global, found: &[Unsatisfied]) -> Result<Vec<Reason>, 
 {
     let mut reasons = Vec::with_capacity(alloc, found.len())?;
     for unsatisfied in found {
-        note(&mut reasons, Some(Reason::WaitsFor(*unsatisfied)))?;
+        reasons.push(Reason::WaitsFor(*unsatisfied))?;
     }
     Ok(reasons)
 }

@@ -25,12 +25,12 @@ pub struct Shortage {
     pub needed: u32,
 }
 
-/// A workstation that is closed.
+/// A workstation that is closed for a time.
 #[derive(Clone, Copy, Debug, PartialEq, Eq)]
 pub struct Closing {
     pub workstation: WsName,
-    /// The first minute of its next interval, if there is one.
-    pub next: Option<Moment>,
+    /// The first minute of its next interval.
+    pub until: Moment,
 }
 
 /// An operation that isn't satisfied, and its status.
@@ -61,8 +61,10 @@ pub enum Reason {
     Held,
     /// It doesn't start before this moment, which is still to come.
     TooEarly(Moment),
-    /// No interval of its workstation contains the moment.
-    Closed(Closing),
+    /// No interval of this workstation, its own, contains the moment, and none comes after it.
+    Closed(WsName),
+    /// No interval of its workstation contains the moment; a next one comes.
+    ClosedUntil(Closing),
     /// All servers are given out, or not enough of R1 or of R2 is left.
     Lacks(Shortage),
     /// A special resource that it needs isn't available.

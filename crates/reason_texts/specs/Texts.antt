@@ -1,5 +1,5 @@
 -- The lines in which it is told why an operation doesn't go on, piece by piece.
-use Rattle.std.specs.Prelude.{ℕ, ◌+◌, List, [], ◌∷◌, ◌++◌, codes, decimal, flat_map, length, Option, Some, None}
+use Rattle.std.specs.Prelude.{ℕ, ◌+◌, List, [], ◌∷◌, ◌++◌, codes, decimal, flat_map, length}
 use Rattle.plan_basics.specs.KeyTexts.{operation_text}
 use Rattle.plan_basics.specs.MomentTexts.{moment_text}
 use Rattle.plan_basics.specs.declared.keys.OpKey.{OpKey}
@@ -30,11 +30,6 @@ supply_word supply.Servers = codes "servers"
 supply_word supply.R1 = codes "R1"
 supply_word supply.R2 = codes "R2"
 
--- until when it is closed, if that is known
-abbrev pub until : Option ℕ → List (List ℕ)
-until (Some m) = codes " until " ∷ moment_text m ∷ []
-until None = []
-
 -- a key, and the letter of a status
 abbrev pub key_and_status : OpKey → Status → List (List ℕ)
 key_and_status o s = operation_text o ∷ codes " " ∷ (status_letter s ∷ []) ∷ []
@@ -45,7 +40,8 @@ reason_pieces (reason.AtRest s) = codes "status " ∷ (status_letter s ∷ []) �
 reason_pieces (reason.WaitsFor x) = codes "waits for " ∷ key_and_status x.op x.status
 reason_pieces reason.Held = codes "held" ∷ []
 reason_pieces (reason.TooEarly t) = codes "not before " ∷ moment_text t ∷ []
-reason_pieces (reason.Closed x) = x.workstation ∷ codes " closed" ∷ until x.next
+reason_pieces (reason.Closed w) = w ∷ codes " closed" ∷ []
+reason_pieces (reason.ClosedUntil x) = x.workstation ∷ codes " closed until " ∷ moment_text x.until ∷ []
 reason_pieces (reason.Lacks x) =
     x.workstation ∷ codes " lacks " ∷ supply_word x.supply ∷ codes ": given out " ∷ decimal x.given ∷ codes ", open " ∷ decimal x.offered ∷ codes ", needed " ∷ decimal x.needed ∷ []
 reason_pieces (reason.Unavailable r) = r ∷ codes " not available" ∷ []

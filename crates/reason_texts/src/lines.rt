@@ -11,7 +11,7 @@ use special_resources::Mode;
 use status_rules::Status;
 use std::alloc::{AllocError, Global};
 
-/// The text of a moment.
+// The text of a moment.
 fn moment_text(moment: Moment) -> [u8; 16]
     ensures { result ≡ moment_text moment }
 {
@@ -39,7 +39,7 @@ fn supply_word<'a>(supply: Supply) -> &'a [u8]
     }
 }
 
-/// Puts a line of these pieces behind a text. It fails for want of memory only.
+// Puts a line of these pieces behind a text. It fails for want of memory only.
 fn put_line(text: &mut Vec<u8>, pieces: &[&[u8]]) -> Result<(), AllocError>
     ensures { OnOk result (text.new.items ≡ text.old.items ++ line (map (λ p. p.now) pieces.now)) }
 {
@@ -86,18 +86,18 @@ pub(crate) fn put_root(text: &mut Vec<u8>, root: &Unsatisfied) -> Result<(), All
     )
 }
 
-// Puts the line of a workstation that is closed behind a text.
+// Puts the line of a workstation that is closed for a time behind a text.
 fn put_closed(text: &mut Vec<u8>, closing: &Closing) -> Result<(), AllocError>
-    ensures { OnOk result (text.new.items ≡ text.old.items ++ reason_line (Told.Closed closing.now)) }
+    ensures { OnOk result (text.new.items ≡ text.old.items ++ reason_line (Told.ClosedUntil closing.now)) }
 {
-    let workstation = closing.workstation.as_bytes();
-    match closing.next {
-        Some(moment) => put_line(
-            text,
-            &[workstation, b" closed", b" until ", &moment_text(moment)],
-        ),
-        None => put_line(text, &[workstation, b" closed"]),
-    }
+    put_line(
+        text,
+        &[
+            closing.workstation.as_bytes(),
+            b" closed until ",
+            &moment_text(closing.until),
+        ],
+    )
 }
 
 // The digits of a number.
@@ -171,7 +171,8 @@ pub(crate) fn put_reason(text: &mut Vec<u8>, reason: &Reason) -> Result<(), Allo
         Reason::WaitsFor(awaited) => put_awaited(text, awaited),
         Reason::Held => put_line(text, &[b"held"]),
         Reason::TooEarly(moment) => put_line(text, &[b"not before ", &moment_text(*moment)]),
-        Reason::Closed(closing) => put_closed(text, closing),
+        Reason::Closed(workstation) => put_line(text, &[workstation.as_bytes(), b" closed"]),
+        Reason::ClosedUntil(closing) => put_closed(text, closing),
         Reason::Lacks(shortage) => put_shortage(text, shortage),
         Reason::Unavailable(resource) => put_line(text, &[resource.as_bytes(), b" not available"]),
         Reason::HeldBy(obstacle) => put_obstacle(text, obstacle),

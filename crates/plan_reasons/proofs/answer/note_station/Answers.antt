@@ -11,8 +11,8 @@ returns c before =
     let name = c.workstation_of-workstation.ensures.name in
     let known = c.workstation_of-workstation.ensures.known in
     let given = c.in_ok-taken.ensures in
-    let r3 = more_of_kind P o op m 3 c.args.reasons.now.items c.note.new.items.items c.too_early.result c.in_ok-note.ensures (c.too_early.ensures P o start) before in
-    let r4 = more_of_kind P o op m 4 c.note.new.items.items c.note-2.new.items.items c.closed.result c.in_ok-note-2.ensures (c.closed.ensures P o op start name known) r3 in
-    let r5 = more_of_kind P o op m 5 c.note-2.new.items.items c.note-3.new.items.items c.lacks.result c.in_ok-note-3.ensures (c.lacks.ensures P o start name known given) r4 in
-    let r6 = more_of_kind P o op m 6 c.note-3.new.items.items c.note-4.new.items.items c.lacks-2.result c.in_ok-note-4.ensures (c.lacks-2.ensures P o start name known given) r5 in
-    more_of_kind P o op m 7 c.note-4.new.items.items c.note-5.new.items.items c.lacks-3.result c.in_ok-note-5.ensures (c.lacks-3.ensures P o start name known given) r6
+    let r3 = more_of_kind P o op m 3 c.args.reasons.now.items c.note.new.reasons.items c.too_early.result c.in_ok-note.ensures (c.too_early.ensures P o start) before in
+    let r4 = more_of_kind P o op m 4 c.note.new.reasons.items c.note-2.new.reasons.items c.closed.result c.in_ok-note-2.ensures (c.closed.ensures P o op start name known) r3 in
+    let r5 = more_of_kind P o op m 5 c.note-2.new.reasons.items c.note-3.new.reasons.items c.lacks.result c.in_ok-note-3.ensures (c.lacks.ensures P o start name known given) r4 in
+    let r6 = more_of_kind P o op m 6 c.note-3.new.reasons.items c.note-4.new.reasons.items c.lacks-2.result c.in_ok-note-4.ensures (c.lacks-2.ensures P o start name known given) r5 in
+    more_of_kind P o op m 7 c.note-4.new.reasons.items c.note-5.new.reasons.items c.lacks-3.result c.in_ok-note-5.ensures (c.lacks-3.ensures P o start name known given) r6

@@ -1,7 +1,8 @@
-use Rattle.std.proofs.Common.{refl, sym, subst, Some}
+use Rattle.std.proofs.Common.{refl, sym, subst, ap, ◌∙◌, Some}
 use Rattle.std.proofs.lemmas.Option.{none-some}
+use Rattle.plan_basics.specs.Keys.{Name}
 use Rattle.plan_reasons.specs.Parts.{IsOfKind}
-use Rattle.plan_reasons.specs.declared.reasons.Reason.TheVariants as reason
+use Rattle.plan_reasons.specs.Places.{closed_by}
 use Rattle.plan_reasons.proofs.Stations.{none_closed, some_closed}
 use Rattle.plan_reasons.proofs.lacking.closed.Goals as goal
 
@@ -10,5 +11,6 @@ returns-in-Some c P o op start name is = none_closed P o op c.args.at start c.ar
 
 pub returns-in-None : goal.returns-in-None
 returns-in-None c P o op start name is =
-    subst (λ n. IsOfKind P o op c.args.at 4 (Some (reason.Closed (record { workstation = n; next = c.next_opening.result })))) (sym c.name.ensures)
+    let made = c.closed_by.ensures ∙ ap (λ (n : Name). closed_by n c.next_opening.result) c.name.ensures in
+    subst (λ r. IsOfKind P o op c.args.at 4 (Some r)) (sym made)
     (some_closed P o op c.args.at start c.args.workstation.now name is c.next_opening.result (λ d has. none-some d ((c.in-None.ensures d).1 has)) c.next_opening.ensures)
