@@ -1,5 +1,5 @@
 -- No reason is left exactly where an operation may start.
-use Rattle.std.proofs.Common.{◌≡◌, ◌≢◌, ◌⊎◌, ◌↔◌, inl, inr, refl, sym, ap, subst, ◌∙◌, arith, ℕ, zero, suc, ◌+◌, ◌<◌, ◌≤◌, Bool, true, false, true≢false, not, ◌&&◌, List, [], ◌∷◌, get_or, length, map, Contains, Option, Some, None, MatchOption}
+use Rattle.std.proofs.Common.{◌≡◌, inl, inr, refl, sym, ap, subst, ◌∙◌, arith, ℕ, zero, suc, ◌+◌, ◌<◌, ◌≤◌, Bool, true, false, true≢false, not, ◌&&◌, List, [], ◌∷◌, get_or, length, map, Contains, Option, Some, None, MatchOption}
 use Rattle.std.specs.FinMap.{entries, from_entries, get, nat_cmp-IsAntisymmetric}
 use Rattle.std.specs.Cmp.{nat_cmp_total}
 use Rattle.std.specs.List.Sorted.{IsStrictlySortedBy}
@@ -8,13 +8,10 @@ use Rattle.std.specs.Option.{is_none}
 use Rattle.std.specs.Ordering.{nat_cmp}
 use Rattle.std.proofs.lemmas.Bool.{cases_lt}
 use Rattle.std.proofs.lemmas.Option.{same_Some, slice_get-get_or}
-use Rattle.operation_graph.proofs.Telling.{Told}
 use Rattle.plan_basics.specs.Intervals.{OpenInterval}
 use Rattle.plan_basics.specs.declared.Refusal.{Refusal}
 use Rattle.plan_basics.specs.declared.Refusal.TheVariants as refusal
 use Rattle.plan_basics.specs.declared.keys.OpKey.{OpKey}
-use Rattle.special_resources.specs.Holders.{Usage}
-use Rattle.special_resources.specs.declared.Mode.TheVariants.{Shared}
 use Rattle.status_rules.specs.Classes.{is_ready, is_satisfied}
 use Rattle.status_rules.specs.LeastSet.{by_all_before}
 use Rattle.status_rules.specs.Table.{marked_status}
@@ -33,15 +30,14 @@ use Rattle.plan_laws.proofs.Standing.{one_status, satisfied_told, some_status}
 use Rattle.plan_model.proofs.Entries.{entries_are, entries_in_order}
 use Rattle.plan_model.specs.Contents.{Contents, Operation, attribute_at}
 use Rattle.plan_model.specs.Holdings.{given_out, takes}
-use Rattle.plan_model.specs.Starts.{FitsAt, IsAllowedToStart, MayStart}
-use Rattle.plan_model.specs.Status.{AllPredecessorsSatisfied, HasStatus, IsReady, IsSatisfied, UnmarkedStatus}
+use Rattle.plan_model.specs.Starts.{FitsAt, MayStart}
+use Rattle.plan_model.specs.Status.{AllPredecessorsSatisfied, HasStatus, IsSatisfied, UnmarkedStatus}
 use Rattle.plan_model.specs.Valid.{IsValid}
 use Rattle.workstations.specs.Workstations.{HasCapacity, IsWorkstation, Workstation}
 use Rattle.workstations.specs.declared.Capacity.{Capacity}
-use Rattle.plan_reasons.specs.Laws.{EmptyWhereItMayStart, StartsAreKnown}
+use Rattle.plan_reasons.specs.Laws.{EmptyWhereItMayStart}
 use Rattle.plan_reasons.specs.Places.{is_shared}
 use Rattle.plan_reasons.specs.Reasons.{IsClosedUntil, IsNextOpening, IsReasonOf, IsShortage, amount_in, amount_needed, needs_start}
-use Rattle.plan_reasons.specs.Whys.{AreReasons}
 use Rattle.plan_reasons.specs.declared.reasons.Reason.{Reason}
 use Rattle.plan_reasons.specs.declared.reasons.Reason.TheVariants as reason
 use Rattle.plan_reasons.specs.declared.reasons.Shortage.{Shortage}

@@ -1,5 +1,5 @@
 -- Reasons of one kind, and what comes before what.
-use Rattle.std.proofs.Common.{◌≡◌, refl, sym, ap, subst, arith, ℕ, ◌+◌, ◌<◌}
+use Rattle.std.proofs.Common.{◌≡◌, refl, arith, ℕ, ◌+◌, ◌<◌}
 use Rattle.plan_basics.specs.Keys.{Name}
 use Rattle.plan_reasons.specs.Order.{ComesBefore, reason_place, supply_place}
 use Rattle.plan_reasons.specs.declared.reasons.Closing.{Closing}

@@ -1,14 +1,13 @@
 -- The reasons that other operations hold special resources.
-use Rattle.std.proofs.Common.{◌≡◌, ◌≢◌, ◌⊎◌, inl, inr, refl, sym, ap, ap₂, subst, ◌∙◌, arith, ℕ, ◌<◌, Bool, true, false, true≢false, cond, not, ◌&&◌, List, [], ◌∷◌, ◌++◌, map, Contains, Option, Some, None}
+use Rattle.std.proofs.Common.{◌≡◌, ◌≢◌, ◌⊎◌, inl, inr, refl, sym, ap, ap₂, subst, ◌∙◌, arith, ℕ, Bool, true, false, true≢false, cond, not, ◌&&◌, List, [], ◌∷◌, ◌++◌, map, Contains, Option, Some, None}
 use Rattle.std.specs.Cmp.{Equal-is, eq_by_cmp_equiv}
 use Rattle.std.specs.FinMap.{get}
 use Rattle.std.specs.List.{AllPairs, filter_map}
 use Rattle.std.specs.Ordering.{eq_by_cmp, ordering_then}
-use Rattle.std.specs.declared.cmp.Ordering.{Ordering}
 use Rattle.std.specs.declared.cmp.Ordering.TheVariants.{Less}
 use Rattle.std.proofs.lemmas.List.Elements.{Contains-append_cases, Contains-append_left, Contains-append_right, Contains-push_cases}
 use Rattle.std.proofs.lemmas.Option.{none-some, same_Some}
-use Rattle.plan_basics.specs.Keys.{Name, name_cmp, operation_cmp, operation_cmp-IsAntisymmetric, operation_cmp_total}
+use Rattle.plan_basics.specs.Keys.{name_cmp, operation_cmp, operation_cmp-IsAntisymmetric, operation_cmp_total}
 use Rattle.plan_basics.specs.declared.keys.OpKey.{OpKey}
 use Rattle.special_resources.specs.Holders.{Usage}
 use Rattle.special_resources.specs.Holdings.{AreInOrder, Held, holding_cmp, holding_of, usage_of}
@@ -19,7 +18,7 @@ use Rattle.special_resources.specs.declared.Need.{Need}
 use Rattle.special_resources.specs.declared.holders.Holder.{Holder}
 use Rattle.special_resources.proofs.MoreNeeds.{need_by_usage, usage_by_need}
 use Rattle.plan_choice.specs.Choices.{AreHeldIn}
-use Rattle.plan_drafts.proofs.Lists.{Differ, contains_none, differ_filter, differ_unmap, from_filter, in_filter, pairs_from_differ}
+use Rattle.plan_drafts.proofs.Lists.{contains_none, differ_filter, differ_unmap, from_filter, in_filter, pairs_from_differ}
 use Rattle.plan_model.specs.Contents.{Contents, Operation}
 use Rattle.plan_model.specs.Holdings.{Holds}
 use Rattle.plan_reasons.specs.Order.{ComesBefore, reason_place}

@@ -97,7 +97,7 @@ module _ (P : Contents) (os all : List OpKey) (within : (o : OpKey) → is_among
     sum_no_less : sum_given_out (named os P) w number ≤ sum_given_out (named all P) w number
     sum_no_less =
         let less = sum_by-le-sum_by (λ (e : OpKey × Operation). taken (as_named os e.0 e.1)) (λ (e : OpKey × Operation). taken (as_named all e.0 e.1)) (entries P.operations)
-            (λ e. takes_no_less (is_among os e.0) (is_among all e.0) (within e.0) e.1) in
+        (λ e. takes_no_less (is_among os e.0) (is_among all e.0) (within e.0) e.1) in
         omega (arith, less, sum_as_named os, sum_as_named all)
 
   -- the operation takes the resource so, and holds it

@@ -17,7 +17,6 @@ use Rattle.plan_state.specs.declared.loaded.Reported.{Reported}
 use Rattle.plan_reasons.specs.Parts.{IsOfKind}
 use Rattle.plan_reasons.specs.Places.{goes_on_from}
 use Rattle.plan_reasons.specs.Reasons.{IsReasonOf, needs_start}
-use Rattle.plan_reasons.specs.declared.reasons.Reason.{Reason}
 use Rattle.plan_reasons.specs.declared.reasons.Reason.TheVariants as reason
 use Rattle.plan_reasons.proofs.Collecting.{none_of_kind, some_of_kind}
 use Rattle.plan_reasons.proofs.KindPlaces.{only_early, only_held, only_rest}

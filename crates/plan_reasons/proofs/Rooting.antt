@@ -1,27 +1,23 @@
 -- What is upstream of an index in the graph is what is upstream of its operation.
-use Rattle.std.proofs.Common.{◌≡◌, ◌≢◌, ◌↔◌, inl, inr, refl, sym, ap, subst, ◌∙◌, arith, ℕ, ◌<◌, Bool, true, false, true≢false, not, List, [], ◌∷◌, map, length, get_or, slice_get, Some, option_map}
-use Rattle.std.specs.FinMap.{entries, get, keys}
-use Rattle.std.proofs.lemmas.Option.{get_or_from_slice_get, same_Some, slice_get-map, slice_get_within}
+use Rattle.std.proofs.Common.{◌≡◌, inr, refl, sym, ap, subst, ◌∙◌, arith, ℕ, Bool, true, false, true≢false, not, List, [], ◌∷◌, get_or, slice_get, Some, option_map}
+use Rattle.std.specs.FinMap.{entries, keys}
+use Rattle.std.proofs.lemmas.Option.{get_or_from_slice_get, slice_get-map, slice_get_within}
 use Rattle.operation_graph.specs.Graphs.{Digraph, HasEdge, IsSet}
-use Rattle.operation_graph.specs.Paths.{IsPathBy, ReachesBy, end_of}
+use Rattle.operation_graph.specs.Paths.{IsPathBy, end_of}
 use Rattle.plan_basics.proofs.Members.{place_of}
-use Rattle.plan_basics.specs.Keys.{operation_cmp, operation_cmp_total}
 use Rattle.plan_basics.specs.declared.keys.OpKey.{OpKey}
-use Rattle.plan_drafts.proofs.KeyPlaces.{one_place}
 use Rattle.plan_drafts.proofs.PairEdges.{same_key}
 use Rattle.plan_drafts.proofs.RowPlaces.{row_at}
 use Rattle.plan_drafts.specs.Places.{AreStatuses}
 use Rattle.plan_drafts.specs.PlanGraphs.{IsGraphFor}
 use Rattle.plan_laws.proofs.Classes.{satisfied_decides}
-use Rattle.plan_model.proofs.Entries.{entries_in_order}
-use Rattle.plan_model.specs.Contents.{Contents, Operation, Precedes}
+use Rattle.plan_model.specs.Contents.{Contents, Precedes}
 use Rattle.plan_model.specs.Status.{HasStatus, IsSatisfied}
 use Rattle.plan_model.specs.Valid.{IsValid}
-use Rattle.plan_status.proofs.LoadedRows.{known_among, row_found, row_of}
-use Rattle.plan_status.proofs.RowKeys.{key_of_row, row_of_key}
+use Rattle.plan_status.proofs.LoadedRows.{known_among, row_found}
+use Rattle.plan_status.proofs.RowKeys.{row_of_key}
 use Rattle.status_rules.specs.Classes.{is_satisfied}
 use Rattle.status_rules.specs.LeastSet.{by_given}
-use Rattle.status_rules.specs.declared.Mark.TheVariants as mark
 use Rattle.status_rules.specs.declared.Status.{Status}
 use Rattle.upstream.specs.Upstream.{IsFed, IsSource, LeadsBack}
 use Rattle.upstream.specs.Upstream as upstream

@@ -13,7 +13,6 @@ use Rattle.plan_reasons.specs.Order.{reason_place, supply_place}
 use Rattle.plan_reasons.specs.Parts.{IsOfKind}
 use Rattle.plan_reasons.specs.Places.{closed_by}
 use Rattle.plan_reasons.specs.Reasons.{IsClosedAt, IsClosedUntil, IsNextOpening, IsReasonOf, IsShortage, amount_in, amount_needed, needs_start}
-use Rattle.plan_reasons.specs.declared.reasons.Reason.{Reason}
 use Rattle.plan_reasons.specs.declared.reasons.Reason.TheVariants as reason
 use Rattle.plan_reasons.specs.declared.reasons.Shortage.{Shortage}
 use Rattle.plan_reasons.specs.declared.reasons.Supply.{Supply}

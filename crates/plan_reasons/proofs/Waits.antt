@@ -1,6 +1,6 @@
 -- What an operation waits for, and its roots, as they are found.
-use Rattle.std.proofs.Common.{◌≡◌, ◌≢◌, ◌↔◌, refl, sym, ap, subst, ◌∙◌, arith, ℕ, ◌<◌, List, [], ◌∷◌, map, Contains, Some, slice_get, None}
-use Rattle.std.specs.FinMap.{entries, get, keys}
+use Rattle.std.proofs.Common.{◌≡◌, ◌≢◌, ◌↔◌, refl, sym, subst, arith, ℕ, ◌<◌, List, [], map, Contains, Some, slice_get}
+use Rattle.std.specs.FinMap.{keys}
 use Rattle.std.specs.List.{AllPairs}
 use Rattle.operation_graph.specs.Graphs.{Digraph, HasEdge, IsSet}
 use Rattle.std.specs.declared.cmp.Ordering.TheVariants.{Less}
@@ -13,7 +13,6 @@ use Rattle.plan_laws.proofs.Standing.{one_status}
 use Rattle.plan_model.specs.Contents.{Contents, Operation}
 use Rattle.plan_model.specs.Status.{HasStatus}
 use Rattle.plan_model.specs.Valid.{IsValid}
-use Rattle.plan_status.proofs.RowKeys.{key_of_row}
 use Rattle.status_rules.specs.declared.Status.{Status}
 use Rattle.status_rules.specs.declared.Status.TheVariants.{Waiting}
 use Rattle.upstream.specs.Upstream.{IsSource}
@@ -21,7 +20,6 @@ use Rattle.plan_reasons.specs.Order.{ComesBefore, reason_place}
 use Rattle.plan_reasons.specs.Parts.{AreOfKind}
 use Rattle.plan_reasons.specs.Places.{AreAt, unsatisfied_flags}
 use Rattle.plan_reasons.specs.Reasons.{IsReasonOf}
-use Rattle.plan_reasons.specs.Roots.{IsRoot}
 use Rattle.plan_reasons.specs.Whys.{AreRoots}
 use Rattle.plan_reasons.specs.declared.reasons.Reason.{Reason}
 use Rattle.plan_reasons.specs.declared.reasons.Reason.TheVariants as reason

@@ -1,5 +1,5 @@
 -- Why an operation doesn't start, complete or pass at a moment: each reason by itself.
-use Rattle.std.specs.Prelude.{◌≡◌, ◌≢◌, ℕ, ◌+◌, ◌<◌, ◌≤◌, ◌&&◌, Bool, true, false, not, Option, Some, None}
+use Rattle.std.specs.Prelude.{◌≡◌, ◌≢◌, ℕ, ◌+◌, ◌<◌, ◌≤◌, ◌&&◌, Bool, true, not, Option, Some, None}
 use Rattle.std.specs.Option.{is_none}
 use Rattle.std.specs.FinMap.{get}
 use Rattle.plan_basics.specs.Intervals.{OpenInterval}

@@ -78,9 +78,18 @@ fn note_station(
     let workstation = workstation_of(contents, operation);
     note(reasons, too_early(operation, at))?;
     note(reasons, closed(workstation, at))?;
-    note(reasons, lacks(workstation, operation, &taken, Supply::Servers, at))?;
-    note(reasons, lacks(workstation, operation, &taken, Supply::R1, at))?;
-    note(reasons, lacks(workstation, operation, &taken, Supply::R2, at))?;
+    note(
+        reasons,
+        lacks(workstation, operation, &taken, Supply::Servers, at),
+    )?;
+    note(
+        reasons,
+        lacks(workstation, operation, &taken, Supply::R1, at),
+    )?;
+    note(
+        reasons,
+        lacks(workstation, operation, &taken, Supply::R2, at),
+    )?;
     Ok(())
 }
 

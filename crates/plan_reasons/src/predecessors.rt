@@ -102,11 +102,7 @@ pub fn waits(alloc: Global, loaded: &LoadedPlan, place: usize) -> Result<Vec<Rea
 }
 
 // Where the chain begins that the waiting operation at an index waits for, in key order. The error is always `Memory`.
-fn beginnings(
-    alloc: Global,
-    loaded: &LoadedPlan,
-    place: usize,
-) -> Result<Vec<Unsatisfied>, Refusal>
+fn beginnings(alloc: Global, loaded: &LoadedPlan, place: usize) -> Result<Vec<Unsatisfied>, Refusal>
     requires place { place < length (entries loaded.now.operations) }
     requires waits { (o : OpKey) → IsAt loaded.now place o → HasStatus loaded.now o Status.Waiting }
     ensures roots { IfOk result (λ found. (o : OpKey) → IsAt loaded.now place o → AreRoots loaded.now o found.items) }

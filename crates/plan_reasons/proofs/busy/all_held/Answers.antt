@@ -1,12 +1,10 @@
 use Rattle.std.proofs.Common.{◌≡◌, ◌+◌, ◌++◌, ◌∷◌, [], sym, ap, subst, ◌∙◌, take}
-use Rattle.std.specs.List.{filter_map}
 use Rattle.std.specs.declared.cmp.Ordering.TheVariants.{Less}
 use Rattle.std.proofs.lemmas.List.{take_all, take_more}
 use Rattle.plan_basics.specs.Keys.{name_cmp}
 use Rattle.special_resources.specs.Needs.{usages_of}
 use Rattle.special_resources.specs.declared.Need.{Need}
 use Rattle.plan_model.specs.Contents.{Operation}
-use Rattle.plan_reasons.specs.Places.{obstacle_of}
 use Rattle.plan_reasons.proofs.Needing.{named_before}
 use Rattle.plan_reasons.proofs.Obstructing.{IsObstructed, obstacles_found, one_need_more}
 use Rattle.plan_reasons.proofs.busy.all_held.Goals as goal

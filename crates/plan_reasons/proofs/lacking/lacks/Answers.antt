@@ -1,4 +1,4 @@
-use Rattle.std.proofs.Common.{◌≡◌, ◌+◌, ◌<◌, ◌≤◌, arith, refl, rules, sym, subst, Some}
+use Rattle.std.proofs.Common.{◌+◌, ◌<◌, ◌≤◌, arith, refl, rules, sym, subst, Some}
 use Rattle.std.proofs.lemmas.Option.{none-some, same_Some}
 use Rattle.plan_reasons.specs.Order.{supply_place}
 use Rattle.plan_reasons.specs.Parts.{IsOfKind}

@@ -1,4 +1,4 @@
-use Rattle.std.proofs.Common.{◌≡◌, sym, subst, ◌∙◌}
+use Rattle.std.proofs.Common.{subst}
 use Rattle.plan_model.specs.Status.{HasStatus}
 use Rattle.plan_reasons.proofs.Waits.{none_waited_for}
 use Rattle.plan_reasons.proofs.predecessors.waits.Goals as goal
