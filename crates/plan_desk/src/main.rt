@@ -1,29 +1,7 @@
 //! The program plandesk: a current plan at the command line.
 #![tactic(auto)]
 
-mod answers;
-mod desk;
-mod endings;
-mod files;
-mod given;
-#[cfg(test)]
-mod load_tests;
-mod loading;
-mod playing;
-mod reasons;
-mod reports;
-mod requests;
-mod serving;
-#[cfg(test)]
-mod serving_tests;
-#[cfg(test)]
-mod session_tests;
-#[cfg(test)]
-mod tests;
-mod words;
-
-use desk::{desk_run, tell_fault};
-use endings::Fault;
+use desk_commands::{Fault, desk_run, tell_fault};
 use plan_basics::Watched;
 use std::env;
 use std::process::ExitCode;

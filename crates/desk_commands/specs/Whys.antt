@@ -1,0 +1,57 @@
+-- What the program shows of why an operation doesn't go on.
+use Rattle.std.specs.Prelude.{◌≡◌, ◌⊎◌, Bool, true, ℕ, ℤ, pos, List, Option, Some, None}
+use Rattle.std.specs.Io.KnownBytes.{Appends}
+use Rattle.plan_basics.specs.KeyTexts.{IsOperationText}
+use Rattle.plan_basics.specs.Minutes.{IsMinuteText, IsMoment}
+use Rattle.plan_basics.specs.declared.Refusal.{Refusal}
+use Rattle.plan_basics.specs.declared.Refusal.TheVariants as refusal
+use Rattle.plan_basics.specs.declared.keys.OpKey.{OpKey}
+use Rattle.plan_model.specs.Contents.{Contents}
+use Rattle.plan_model.specs.Plan.{Plan}
+use Rattle.plan_records.specs.Answer.{accepted, refused}
+use Rattle.plan_records.specs.Run.{State}
+use Rattle.plan_tables.specs.Faults.{IsOpeningRefusal}
+use Rattle.plan_reports.specs.Reports.{IsOwed, IsWhyReport, IsWritten, why_refusal_of}
+use Rattle.desk_commands.specs.Answers.{IsShown, refusal_line}
+use Rattle.desk_commands.specs.Turns.{IsLoadRefusal, IsLoaded}
+use Rattle.desk_commands.specs.declared.endings.Ending.{Ending}
+use Rattle.desk_commands.specs.declared.endings.Ending.TheVariants as ending
+
+-- the minute at which it is asked: the given one; where none is given, that of the plan's clock
+abbrev pub minute_asked : Option ℤ → Plan → ℤ
+minute_asked (Some z) P = z
+minute_asked None P = pos P.clock
+
+-- why it isn't told: the minute is none that a plan can name; or else the desk owes it
+abbrev pub IsWhyRefused : OpKey → ℤ → Bool → Plan → Refusal → Type 0
+IsWhyRefused o z usable P r = ((r ≡ refusal.MomentRange) × ((m : ℕ) → z ≡ pos m → ¬ IsMoment m)) ⊎ IsOwed (why_refusal_of usable P o) r
+
+-- it was shown why the operation doesn't go on at the minute; or the line of the refusal
+abbrev pub IsWhyShown : OpKey → ℤ → Bool → Plan → Option (List ℕ) → Option (List ℕ) → Ending → Type 0
+IsWhyShown o z usable P old new ending.Done = (m : ℕ) × (z ≡ pos m) × IsWritten (why_refusal_of usable P o) (IsWhyReport P o m) old new
+IsWhyShown o z usable P old new ending.Refused = (r : Refusal) × IsWhyRefused o z usable P r × Appends old new (refusal_line r)
+IsWhyShown o z usable P old new ending.Misunderstood = ⊥
+
+-- a draft was loaded into a new desk at the minute, and it was shown there; or the refusal of the load was
+abbrev pub IsWhyPlanned : OpKey → ℤ → Option Contents → Option (List ℕ) → Option (List ℕ) → Ending → Type 0
+IsWhyPlanned o z found old new ending =
+    ((named : List OpKey) × (s : State) × IsLoaded z found (accepted named) s × IsWhyShown o z true s.plan old new ending)
+    ⊎ ((r : Refusal) × IsLoadRefusal z found r × IsShown (refused r) old new ending)
+
+-- it was shown at some desk; or why that can't be opened
+abbrev pub IsWhyOfDesk : OpKey → Option ℤ → Option (List ℕ) → Option (List ℕ) → Ending → Type 0
+IsWhyOfDesk o z old new ending =
+    ((usable : Bool) × (P : Plan) × IsWhyShown o (minute_asked z P) usable P old new ending)
+    ⊎ ((r : Refusal) × IsOpeningRefusal r × IsShown (refused r) old new ending)
+
+-- the minute that the words give, if they give one
+abbrev pub IsMinuteGiven : Option (List ℕ) → Option ℤ → Type 0
+IsMinuteGiven (Some text) (Some z) = IsMinuteText text z
+IsMinuteGiven None None = Unit {0}
+IsMinuteGiven text z = ⊥
+
+-- it was shown of the operation that the text names, at a desk that was there or at one of a plan's text
+abbrev pub IsWhyAsked : List ℕ → Option (List ℕ) → Option (List ℕ) → Option (List ℕ) → Ending → Type 0
+IsWhyAsked op at old new ending =
+    (o : OpKey) × IsOperationText op o × (z : Option ℤ) × IsMinuteGiven at z
+    × (IsWhyOfDesk o z old new ending ⊎ ((m : ℤ) × (z ≡ Some m) × (found : Option Contents) × IsWhyPlanned o m found old new ending))

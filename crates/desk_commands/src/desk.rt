@@ -1,0 +1,100 @@
+// One run of the desk: from its words to its answer and the status that it ends with.
+ghost use Rattle.std.specs.Prelude.{◌≡◌, ◌⊎◌, ◌≤◌, IfOk, IfErr};
+ghost use Rattle.clap.specs.Values.{kind_of};
+ghost use Rattle.desk_commands.specs.Statuses.{EndsExplaining, fault_status, IsOfSurroundings, IsStatusOf};
+
+use crate::endings::{Ending, Fault};
+use crate::loading::{check, load};
+use crate::playing::play;
+use crate::reasons::why;
+use crate::reports::report;
+use crate::requests::make;
+use crate::serving::serve;
+use crate::words::desk_command;
+use clap::error::{Error, ErrorKind};
+use plan_basics::Watched;
+use std::io::Write;
+use std::rt::HostRuntime;
+
+/// Shows what `clap` has to say where it hands out no words: help on standard output, else what is wrong with them.
+#[tactic(auto, using(crate::proofs::Statuses::of_the_surroundings))]
+fn explain<W: Write, E: Write>(
+    error: &Error,
+    out: &mut Watched<W>,
+    err: &mut Watched<E>,
+) -> Result<Ending, Fault>
+    ensures ending { IfOk result (EndsExplaining (kind_of error.now)) }
+    ensures fault { IfErr result IsOfSurroundings }
+{
+    if error.kind() == ErrorKind::OutOfMemory {
+        return Err(Fault::Memory);
+    }
+    if error.use_stderr() {
+        write!(err, "{error}")?;
+        Ok(Ending::Misunderstood)
+    } else {
+        write!(out, "{error}")?;
+        Ok(Ending::Done)
+    }
+}
+
+/// Understands the words and does what they ask for.
+fn obey<W: Write, E: Write>(
+    rt: &HostRuntime,
+    words: &[String],
+    out: &mut Watched<W>,
+    err: &mut Watched<E>,
+) -> Result<Ending, Fault> {
+    let matches = match desk_command(rt.alloc())?.try_get_matches_from(words) {
+        Ok(matches) => matches,
+        Err(error) => return explain(&error, out, err),
+    };
+    let ending = match matches.subcommand() {
+        Some(("check", given)) => check(rt, given, out)?,
+        Some(("load", given)) => load(rt, given, out)?,
+        Some(("do", given)) => make(rt, given, out)?,
+        Some(("report", given)) => report(rt, given, out)?,
+        Some(("why", given)) => why(rt, given, out)?,
+        Some(("serve", given)) => serve(rt, given, out)?,
+        Some(("play", given)) => play(rt, given, out)?,
+        _ => return Err(Fault::Words),
+    };
+    out.flush()?;
+    Ok(ending)
+}
+
+/// Shows a fault on standard error, and gives the exit status: that of a stream's fault where standard error fails too.
+pub fn tell_fault<E: Write>(fault: Fault, err: &mut Watched<E>) -> u8
+    ensures { (result ≡ fault_status fault) ⊎ (result ≡ 3) }
+{
+    if writeln!(err, "{fault}").is_ok() {
+        fault.status()
+    } else {
+        Fault::File.status()
+    }
+}
+
+/// The exit status of a run: that of its ending, or of its fault, which is shown.
+fn status_of<E: Write>(outcome: Result<Ending, Fault>, err: &mut Watched<E>) -> u8
+    ensures { IsStatusOf outcome result }
+{
+    match outcome {
+        Ok(ending) => ending.status(),
+        Err(fault) => tell_fault(fault, err),
+    }
+}
+
+/// Runs the desk with these words, of which the first is the program's name, and gives the exit status: 0 accepted or
+/// done, 1 refused, 2 a fault of the words, the moment or a request, 3 a fault of a file, a standard stream, the network
+/// or memory outside the plan. Answers go to `out`, faults to `err`. (The words and their meaning: this project's own.)
+#[tactic(auto, using(crate::proofs::Statuses::status_at_most))]
+pub fn desk_run<W: Write, E: Write>(
+    rt: &HostRuntime,
+    words: &[String],
+    out: &mut Watched<W>,
+    err: &mut Watched<E>,
+) -> u8
+    ensures { result ≤ 3 }
+{
+    status_of(obey(rt, words, out, err), err)
+}

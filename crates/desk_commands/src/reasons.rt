@@ -1,0 +1,107 @@
+// `why`: why an operation doesn't go on, at the desk of a database's file or at one in memory.
+ghost use Rattle.std.specs.Prelude.{◌≡◌, ◌⊎◌, IfOk, IfErr, codes};
+ghost use Rattle.clap.specs.Matches.{first_value, found_of};
+ghost use Rattle.plan_basics.specs.Watched.{inner_of};
+ghost use Rattle.desk_commands.specs.Statuses.{IsOfSurroundings};
+ghost use Rattle.desk_commands.specs.Whys.{IsWhyAsked, IsWhyOfDesk, IsWhyPlanned, IsWhyShown};
+ghost use Rattle.desk_commands.specs.Words.{text_given};
+ghost use Rattle.desk_commands.specs.declared.endings.Fault.{Fault};
+
+use crate::answers::{tell, tell_refusal};
+use crate::endings::{Ending, Fault};
+use crate::files::{plan_of, stored_desk};
+use crate::given::{moment_if_given, operation_of};
+use crate::playing::loaded_desk;
+use crate::reports::end_of;
+use clap::ArgMatches;
+use plan_basics::{Moment, OpKey, Refusal, Watched};
+use plan_records::{PlanDraft, Reply};
+use plan_reports::why_report;
+use plan_tables::Desk;
+use sqlite::Alter;
+use std::alloc::Global;
+use std::fs;
+use std::io::Write;
+use std::rt::HostRuntime;
+
+// Shows at a desk why an operation doesn't go on at a minute, or why that isn't told.
+fn tell_why<S: Alter + Drop, W: Write>(
+    alloc: Global,
+    desk: &Desk<S>,
+    key: &OpKey,
+    minute: i64,
+    out: &mut Watched<W>,
+) -> Result<Ending, Fault>
+    ensures shown { IfOk result (IsWhyShown key.now minute desk.now.is_usable desk.now.plan (W.contents (inner_of out.old)) (W.contents (inner_of out.new))) }
+    ensures fault { IfErr result IsOfSurroundings }
+{
+    let Some(at) = Moment::new(minute) else {
+        tell_refusal(out, Refusal::MomentRange)?;
+        return Ok(Ending::Refused);
+    };
+    let written = why_report(alloc, desk, key, at, out);
+    end_of(written, out)
+}
+
+// The same at a desk in memory at which a plan is loaded then; or the refusal of the load is shown.
+fn why_planned<W: Write>(
+    alloc: Global,
+    at: i64,
+    draft: Option<PlanDraft>,
+    key: &OpKey,
+    out: &mut Watched<W>,
+) -> Result<Ending, Fault>
+    ensures shown { IfOk result (IsWhyPlanned key.now at draft (W.contents (inner_of out.old)) (W.contents (inner_of out.new))) }
+    ensures fault { IfErr result IsOfSurroundings }
+{
+    match loaded_desk(alloc, at, draft)? {
+        Ok(desk) => tell_why(alloc, &desk, key, at, out),
+        Err(refusal) => tell(out, &Reply::Refused(refusal)),
+    }
+}
+
+// The same at the desk of a database's file, at its clock where no minute is given; or why it can't be opened.
+fn why_stored<W: Write>(
+    rt: &HostRuntime,
+    path: &str,
+    key: &OpKey,
+    minute: Option<i64>,
+    out: &mut Watched<W>,
+) -> Result<Ending, Fault>
+    ensures shown { IfOk result (IsWhyOfDesk key.now minute (W.contents (inner_of out.old)) (W.contents (inner_of out.new))) }
+    ensures fault { IfErr result IsOfSurroundings }
+{
+    let desk = match stored_desk(rt, path)? {
+        Ok(desk) => desk,
+        Err(refusal) => return tell(out, &Reply::Refused(refusal)),
+    };
+    let minute = match minute {
+        Some(minute) => minute,
+        None => desk.plan().clock().minute(),
+    };
+    let shown = tell_why(rt.alloc(), &desk, key, minute, out);
+    desk.close().close()?;
+    shown
+}
+
+/// `why`: the words are judged before the files. A plan's text is loaded at the moment that is given; the database of a
+/// desk is closed at the end.
+pub fn why<W: Write>(
+    rt: &HostRuntime,
+    given: &ArgMatches,
+    out: &mut Watched<W>,
+) -> Result<Ending, Fault>
+    ensures shown { IfOk result (IsWhyAsked (text_given (found_of given.now) (codes "op")) (first_value (found_of given.now) (codes "at")) (W.contents (inner_of out.old)) (W.contents (inner_of out.new))) }
+    ensures fault { IfErr result (λ fault. (fault ≡ Fault.Words) ⊎ ((fault ≡ Fault.Moment) ⊎ IsOfSurroundings fault)) }
+{
+    let key = operation_of(given)?;
+    let at = moment_if_given(given)?;
+    match (given.get_str("db"), given.get_str("plan"), at) {
+        (Some(path), _, at) => why_stored(rt, path, &key, at, out),
+        (None, Some(path), Some(at)) => {
+            let draft = plan_of(rt.alloc(), fs::open(rt, path)?)?;
+            why_planned(rt.alloc(), at, draft, &key, out)
+        }
+        _ => Err(Fault::Words),
+    }
+}
