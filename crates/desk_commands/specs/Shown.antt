@@ -35,11 +35,15 @@ IsEndOf (Ok x) old new ending.Done = new ≡ old
 IsEndOf (Err (report_fault.Refused r)) old new ending.Refused = Appends old new (refusal_line r)
 IsEndOf written old new e = ⊥
 
--- a report was shown: its bytes were added to the known ones; or the line of the refusal that is owed, or of want of memory
+-- a text was shown: its bytes were added to the known ones; or the line of the refusal that is owed, or of want of memory
+abbrev pub IsTold : Option Refusal → (List ℕ → Type 0) → Option (List ℕ) → Option (List ℕ) → Ending → Type 0
+IsTold owed IsText old new ending.Done = IsWritten owed IsText old new
+IsTold owed IsText old new ending.Refused = (r : Refusal) × IsOwed owed r × Appends old new (refusal_line r)
+IsTold owed IsText old new ending.Misunderstood = ⊥
+
+-- a report was shown, or why it is refused
 abbrev pub IsReportShown : Kind → Bool → Plan → Option (List ℕ) → Option (List ℕ) → Ending → Type 0
-IsReportShown k usable P old new ending.Done = IsWritten (report_refusal_of k usable P) (IsReport k P) old new
-IsReportShown k usable P old new ending.Refused = (r : Refusal) × IsOwed (report_refusal_of k usable P) r × Appends old new (refusal_line r)
-IsReportShown k usable P old new ending.Misunderstood = ⊥
+IsReportShown k usable P = IsTold (report_refusal_of k usable P) (IsReport k P)
 
 -- the report that is asked for was shown, of some desk; or why none could be opened
 abbrev pub IsReportAsked : List ℕ → Option (List ℕ) → Option (List ℕ) → Option (List ℕ) → Ending → Type 0

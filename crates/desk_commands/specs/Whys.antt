@@ -1,6 +1,5 @@
 -- What the program shows of why an operation doesn't go on.
 use Rattle.std.specs.Prelude.{◌≡◌, ◌⊎◌, Bool, true, ℕ, ℤ, pos, List, Option, Some, None}
-use Rattle.std.specs.Io.KnownBytes.{Appends}
 use Rattle.plan_basics.specs.KeyTexts.{IsOperationText}
 use Rattle.plan_basics.specs.Minutes.{IsMinuteText, IsMoment}
 use Rattle.plan_basics.specs.declared.Refusal.{Refusal}
@@ -11,26 +10,22 @@ use Rattle.plan_model.specs.Plan.{Plan}
 use Rattle.plan_records.specs.Answer.{accepted, refused}
 use Rattle.plan_records.specs.Run.{State}
 use Rattle.plan_tables.specs.Faults.{IsOpeningRefusal}
-use Rattle.plan_reports.specs.Reports.{IsOwed, IsWhyReport, IsWritten, why_refusal_of}
-use Rattle.desk_commands.specs.Answers.{IsShown, refusal_line}
+use Rattle.plan_reports.specs.Reports.{IsWhyReport, why_refusal_of}
+use Rattle.desk_commands.specs.Answers.{IsShown}
+use Rattle.desk_commands.specs.Shown.{IsTold}
 use Rattle.desk_commands.specs.Turns.{IsLoadRefusal, IsLoaded}
 use Rattle.desk_commands.specs.declared.endings.Ending.{Ending}
-use Rattle.desk_commands.specs.declared.endings.Ending.TheVariants as ending
 
 -- the minute at which it is asked: the given one; where none is given, that of the plan's clock
 abbrev pub minute_asked : Option ℤ → Plan → ℤ
 minute_asked (Some z) P = z
 minute_asked None P = pos P.clock
 
--- why it isn't told: the minute is none that a plan can name; or else the desk owes it
-abbrev pub IsWhyRefused : OpKey → ℤ → Bool → Plan → Refusal → Type 0
-IsWhyRefused o z usable P r = ((r ≡ refusal.MomentRange) × ((m : ℕ) → z ≡ pos m → ¬ IsMoment m)) ⊎ IsOwed (why_refusal_of usable P o) r
-
--- it was shown why the operation doesn't go on at the minute; or the line of the refusal
+-- it was shown why the operation doesn't go on at the minute, or why that is refused: first where a plan can't name the minute, and then as the desk owes it
 abbrev pub IsWhyShown : OpKey → ℤ → Bool → Plan → Option (List ℕ) → Option (List ℕ) → Ending → Type 0
-IsWhyShown o z usable P old new ending.Done = (m : ℕ) × (z ≡ pos m) × IsWritten (why_refusal_of usable P o) (IsWhyReport P o m) old new
-IsWhyShown o z usable P old new ending.Refused = (r : Refusal) × IsWhyRefused o z usable P r × Appends old new (refusal_line r)
-IsWhyShown o z usable P old new ending.Misunderstood = ⊥
+IsWhyShown o z usable P old new e =
+    ((m : ℕ) × (z ≡ pos m) × IsTold (why_refusal_of usable P o) (IsWhyReport P o m) old new e)
+    ⊎ (((m : ℕ) → z ≡ pos m → ¬ IsMoment m) × IsShown (refused refusal.MomentRange) old new e)
 
 -- a draft was loaded into a new desk at the minute, and it was shown there; or the refusal of the load was
 abbrev pub IsWhyPlanned : OpKey → ℤ → Option Contents → Option (List ℕ) → Option (List ℕ) → Ending → Type 0

@@ -1,3 +1,4 @@
 pub mod Latest
 pub mod LateLists
 pub mod OneText
+pub mod Whys

@@ -1,6 +1,6 @@
 -- What each report tells of a plan, and when it is refused.
-use Rattle.std.specs.Prelude.{◌≡◌, Bool, if◌then◌else◌, ℕ, List, Option, Some, None}
-use Rattle.std.specs.FinMap.{contains_key}
+use Rattle.std.specs.Prelude.{◌≡◌, Bool, if◌then◌else◌, ℕ, List, Option, Some, None, is_some}
+use Rattle.std.specs.FinMap.{contains_key, get}
 use Rattle.std.specs.Io.KnownBytes.{Appends}
 use Rattle.plan_basics.specs.Keys.{Name}
 use Rattle.plan_basics.specs.Watched.{AppendsBeginning}
@@ -51,7 +51,7 @@ ready_refusal_of usable P w =
 -- so to the report of an operation: these come first, and then that it isn't in the plan
 abbrev pub why_refusal_of : Bool → Plan → OpKey → Option Refusal
 why_refusal_of usable P o =
-    if usable then (if P.loaded then (if contains_key P.contents.operations o then None else Some refusal.UnknownOperation) else Some refusal.NotLoaded) else Some refusal.Reopen
+    if usable then (if P.loaded then (if is_some (get P.contents.operations o) then None else Some refusal.UnknownOperation) else Some refusal.NotLoaded) else Some refusal.Reopen
 
 -- where a refusal is owed, it is the one that is given; else only that memory lacks
 abbrev pub IsOwed : Option Refusal → Refusal → Type 0

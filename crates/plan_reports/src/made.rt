@@ -115,6 +115,9 @@ pub(crate) fn why_made<S: Alter + Drop>(
     ensures refused { IfErr result (IsOwed (why_refusal_of desk.now.is_usable desk.now.plan key.now)) }
 {
     let plan = loaded_plan(desk)?;
+    if plan.view_op(key).is_none() {
+        return Err(Refusal::UnknownOperation);
+    }
     let Some(found) = why(alloc, plan, key, at)? else {
         return Err(Refusal::UnknownOperation);
     };
