@@ -61,7 +61,7 @@ pub fn moment_if_given(given: &ArgMatches) -> Result<Option<i64>, Fault>
 
 /// The operation that the words name. `Words` where the text is no key of an operation.
 pub fn operation_of(given: &ArgMatches) -> Result<OpKey, Fault>
-    ensures key { IfOk result (λ key. IsOperationText (text_given (found_of given.now) (codes "op")) key.now) }
+    ensures key { IfOk result (IsOperationText (text_given (found_of given.now) (codes "op"))) }
     ensures fault { IfErr result (λ fault. (fault ≡ Fault.Words) × ((key : Key) → IsOperationKey key → ¬ IsOperationText (text_given (found_of given.now) (codes "op")) key)) }
 {
     match OpKey::from_text(value_of(given, "op").as_bytes()) {
