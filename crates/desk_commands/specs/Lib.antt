@@ -6,3 +6,4 @@ pub mod Statuses
 pub mod Turns
 pub mod Words
 pub mod Whys
+pub mod Judged

@@ -10,6 +10,7 @@ use crate::reasons::why;
 use crate::reports::report;
 use crate::requests::make;
 use crate::serving::serve;
+use crate::validating::validate;
 use crate::words::desk_command;
 use clap::error::{Error, ErrorKind};
 use plan_basics::Watched;
@@ -50,6 +51,7 @@ fn obey<W: Write, E: Write>(
         Err(error) => return explain(&error, out, err),
     };
     let ending = match matches.subcommand() {
+        Some(("validate", given)) => validate(rt, given, out)?,
         Some(("check", given)) => check(rt, given, out)?,
         Some(("load", given)) => load(rt, given, out)?,
         Some(("do", given)) => make(rt, given, out)?,

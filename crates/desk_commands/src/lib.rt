@@ -12,6 +12,7 @@ mod reasons;
 mod reports;
 mod requests;
 mod serving;
+mod validating;
 mod words;
 
 pub use desk::{desk_run, tell_fault};

@@ -34,6 +34,14 @@ fn moment<'a>(alloc: Global) -> Arg<'a> {
     option(alloc, "at", "MOMENT", "The moment, as 2024-03-01T22:00")
 }
 
+/// `validate`: what is wrong with a plan's text.
+fn validate_command<'a>(alloc: Global) -> Result<Command<'a>, AllocError> {
+    Command::new(alloc, "validate")
+        .about("Tells what is wrong with a plan, record by record; nothing is stored")
+        .after_help("Example: plandesk validate --plan day.csv")
+        .arg(plan(alloc))
+}
+
 /// `check`: what a plan's text would start at a moment.
 fn check_command<'a>(alloc: Global) -> Result<Command<'a>, AllocError> {
     Command::new(alloc, "check")
@@ -169,6 +177,7 @@ pub fn desk_command<'a>(alloc: Global) -> Result<Command<'a>, AllocError> {
     Command::new(alloc, "plandesk")
         .about("The desk of a current plan")
         .subcommand_required(true)
+        .subcommand(validate_command(alloc)?)?
         .subcommand(check_command(alloc)?)?
         .subcommand(load_command(alloc)?)?
         .subcommand(do_command(alloc)?)?

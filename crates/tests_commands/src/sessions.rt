@@ -28,6 +28,14 @@ D,PAYROLL,2024-03-01T22:00,20,PAYROLL,2024-03-01T22:00,30,,,
 D,PAYROLL,2024-03-01T22:00,30,PAYROLL,2024-03-01T22:00,40,,,
 ";
 
+// A plan but for its last record.
+const WRONG: &str = "W,CPU1,A,,,,,,,
+I,CPU1,2024-03-01T22:00,2024-03-02T06:00,2,3,0,,,
+O,DAILY,2024-03-01T22:00,5,2024-03-02T05:00,,,,,
+P,DAILY,2024-03-01T22:00,10,CPU1,30,0,0,,
+W,CPU1,A,,,,,,,
+";
+
 // Requests of that night. Of a text that is played, the line with only blanks is passed over.
 const STARTED: &str =
     r#"{"at":"2024-03-01T22:00","do":"started","op":"PAYROLL/2024-03-01T22:00/005"}"#;
@@ -438,6 +446,29 @@ END 1
     ),
 ];
 
+// Texts of plans that are judged.
+const JUDGED: [Turn; 4] = [
+    (&["validate", "--plan", "@night.csv"], "no faults\n", NO_FAULT, 0),
+    (
+        &["validate", "--plan", "@empty"],
+        "line 1: workstation: the plan has none: it must have at least one
+line 1: occurrence: the plan has none: it must have at least one
+2 faults
+",
+        NO_FAULT,
+        1,
+    ),
+    (
+        &["validate", "--plan", "@wrong.csv"],
+        "line 5: workstation CPU1: given before, in line 1: each is given once
+1 faults
+",
+        NO_FAULT,
+        1,
+    ),
+    (&["validate", "--plan", "@absent"], "", "fault file\n", 3),
+];
+
 // What is judged first: the words, the request, the files.
 const ORDER: [Turn; 4] = [
     (
@@ -540,6 +571,7 @@ fn sessions(rt: HostRuntime) -> Result<(), Fail> {
     for (name, text) in [
         ("empty", ""),
         ("night.csv", NIGHT),
+        ("wrong.csv", WRONG),
         ("played", PLAYED),
         ("broken_off", BROKEN_OFF),
     ] {
@@ -548,6 +580,7 @@ fn sessions(rt: HostRuntime) -> Result<(), Fail> {
     run_turns(&rt, &folder, SESSION.as_slice())?;
     run_turns(&rt, &folder, WHYS.as_slice())?;
     run_turns(&rt, &folder, PLAYS.as_slice())?;
+    run_turns(&rt, &folder, JUDGED.as_slice())?;
     run_turns(&rt, &folder, ORDER.as_slice())?;
     fs::remove_dir_all(&rt, folder.as_path())?;
     Ok(())
@@ -594,6 +627,7 @@ fn databases_without_a_desk(rt: HostRuntime) -> Result<(), Fail> {
 #[test]
 fn each_command_tells_its_help(rt: HostRuntime) -> Result<(), Fail> {
     for (command, example) in [
+        ("validate", "Example: plandesk validate --plan day.csv"),
         ("check", "Example: plandesk check --plan day.csv"),
         ("load", "Example: plandesk load --db night.db"),
         ("do", "Example: plandesk do --db night.db"),
