@@ -19,8 +19,9 @@ fn next_opening(workstation: &Workstation, at: Moment) -> Option<Moment>
     ensures { IsNextOpening workstation.now.1 at result }
 {
     for interval in workstation.intervals() {
-        if interval.from() > at {
-            return Some(interval.from());
+        let from = interval.from();
+        if from > at {
+            return Some(from);
         }
     }
     None

@@ -11,7 +11,7 @@ returns-then-gt c =
     let i = c.loop-interval.interval-index in
     let item = c.interval-item.result in
     let after : c.args.at < item.from = search rules in
-    subst (λ n. IsNextOpening ws c.args.at (Some n)) (ap (λ (x : OpenInterval). x.from) (sym c.interval-item.is) ∙ sym c.from-then-gt.ensures.value)
+    subst (λ n. IsNextOpening ws c.args.at (Some n)) (ap (λ (x : OpenInterval). x.from) (sym c.interval-item.is) ∙ sym c.from-from.ensures.value)
     (first_after ws items c.intervals-interval-items.ensures.intervals c.intervals-interval-items.ensures.in_order c.args.at i item c.loop-interval-test.true c.loop-interval.invariant
     (subst (λ (x : OpenInterval). c.args.at < x.from) c.interval-item.is after))
 

@@ -1,5 +1,4 @@
-use Rattle.std.proofs.Common.{rules, ◌≡◌}
 use Rattle.reason_texts.proofs.lines.put_closed.Goals as goal
 
 pub returns : goal.returns
-returns c = simp (c.as_bytes.ensures.text, c.moment_text.ensures) at c.put_line.ensures
+returns c = rw (c.as_bytes.ensures.text, c.moment_text.ensures) at c.put_line.ensures
