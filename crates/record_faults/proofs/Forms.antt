@@ -152,7 +152,10 @@ module _ (fields : Fields) where
       let rest = empties fields 7 3 ten (r 6 form.Empty (omega arith) refl, (r 7 form.Empty (omega arith) refl, (r 8 form.Empty (omega arith) refl, tt))) in
       let x = interval_by from.0 end.0 servers.0 first.0 second.0 in
       elim (cases_lt from.0 end.0) [
-      | inl lt ↦ inl (item.Interval (text_at fields 1) x, made_interval fields ten is.1 (text_at fields 1) x name refl
-          (record { not_empty = lt; end = end.1.0; servers = servers.1.0.1; fixed = (first.1.0.1, second.1.0.1) }, from.1, end.1, servers.1.1, first.1.1, second.1.1) rest)
-      | inr le ↦ inr (refl, (from.0, end.0, from.1, end.1, le))
+        | inl lt ↦ inl (
+          item.Interval (text_at fields 1) x,
+          made_interval fields ten is.1 (text_at fields 1) x name refl
+              (record { not_empty = lt; end = end.1.0; servers = servers.1.0.1; fixed = (first.1.0.1, second.1.0.1) }, from.1, end.1, servers.1.1, first.1.1, second.1.1) rest,
+        )
+        | inr le ↦ inr (refl, (from.0, end.0, from.1, end.1, le))
       ]

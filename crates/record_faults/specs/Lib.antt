@@ -1,1 +1,5 @@
 pub mod Shapes
+pub mod Sayings
+pub mod Readings
+pub mod Faults
+pub mod Plans

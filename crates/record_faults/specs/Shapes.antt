@@ -86,4 +86,4 @@ IsShapeFault fields shape.UnknownKind = (length fields ≡ 10) × ((k : Kind) �
 -- of the nine fields after the letter this is the first that isn't of the form that its kind wants there
 IsShapeFault fields (shape.Field k place f) = IsOfKind k fields × IsFirstUnread (forms_of k) fields place f
 -- all fields are of their forms, and the interval ends before it begins
-IsShapeFault fields shape.EndsEarly = IsOfKind kind.Interval fields × EndsEarly fields
+IsShapeFault fields shape.EndsEarly = IsOfKind kind.Interval fields × EndsEarly fields × AreRead (forms_of kind.Interval) 9 fields

@@ -21,5 +21,5 @@ returns-in-None c =
     let read = subst (λ fs. AreRead fs 9 (fields_of c.args.fields.now)) c.forms-forms.ensures c.in-None.ensures in
     elim (says (fields_of c.args.fields.now) c.args.kind c.requires.kind read) [
       | inl said ↦ absurd (c.requires.silent said.0 said.1)
-      | inr early ↦ (subst (λ k. IsOfKind k (fields_of c.args.fields.now)) early.0 c.requires.kind, early.1)
+      | inr early ↦ (subst (λ k. IsOfKind k (fields_of c.args.fields.now)) early.0 c.requires.kind, early.1, subst (λ k. AreRead (forms_of k) 9 (fields_of c.args.fields.now)) early.0 read)
     ]

@@ -1,0 +1,148 @@
+-- Faults that are told one after another.
+use Rattle.std.proofs.Common.{◌≡◌, ◌≢◌, ◌↔◌, ◌⊎◌, inl, inr, refl, sym, ap, subst, ◌∙◌, arith, ℕ, zero, suc, ◌+◌, ◌<◌, ◌≤◌, List, [], ◌∷◌, ◌++◌, length, map, take, get_or, slice_get, All, Contains, Option, Some, None, MatchOption}
+use Rattle.std.specs.List.{AllZip, AllPairs}
+use Rattle.std.proofs.lemmas.Bool.{cases_lt}
+use Rattle.std.proofs.lemmas.Option.{none-some, same_Some, slice_get-get_or}
+use Rattle.std.proofs.lemmas.List.Elements.{All-nil, All-contains, Contains-append_left, Contains-append_right, Contains-append_cases}
+use Rattle.plan_basics.proofs.Members.{all_by_members, contains_head, contains_later, contains_cases, contains_none}
+use Rattle.plan_drafts.proofs.Lists.{Differ, differ_from_pairs, pairs_from_differ}
+use Rattle.record_faults.specs.declared.faults.Fault.{Fault}
+use Rattle.record_faults.specs.declared.faults.RecordFault.{RecordFault}
+use Rattle.plan_items.specs.Items.{Fields}
+use Rattle.record_faults.specs.Sayings.{Sayings}
+use Rattle.record_faults.specs.Faults.{IsAnswer, IsFaultAt, AreInOrderTo, AreFaultsBelow}
+
+-- what is read of a list within it
+pub at_read : {X : Type 0} (xs : List X) (i : ℕ) (d v : X) → i < length xs → get_or xs i d ≡ v → slice_get xs i ≡ Some v
+at_read xs i d v lt e = slice_get-get_or xs i d lt ∙ ap Some e
+
+-- one more of each of two lists that go side by side
+zip_next : {A B C : Type 0} (R : C → B → Type 0) (f : A → C) (xs : List A) (ys : List B) (i : ℕ) (x : A) (y : B) → i < length xs → x ≡ get_or xs i x → AllZip R (map f (take i xs)) ys → R (f x) y → AllZip R (map f (take (suc i) xs)) (ys ++ y ∷ [])
+zip_next R f [] ys i x y lt is all one = absurd (omega arith)
+zip_next R f (a ∷ xs) [] zero x y lt is all one = (subst (λ z. R (f z) y) is one, tt)
+zip_next R f (a ∷ xs) (b ∷ ys) zero x y lt is all one = absurd all
+zip_next R f (a ∷ xs) [] (suc i) x y lt is all one = absurd all
+zip_next R f (a ∷ xs) (b ∷ ys) (suc i) x y lt is all one = (all.0, zip_next R f xs ys i x y (omega arith) is all.1 one)
+
+pub zip_more : {A B C : Type 0} (R : C → B → Type 0) (f : A → C) (xs : List A) (ys : List B) (i : ℕ) (x : A) (y : B) → i < length xs → x ≡ get_or xs i x → AllZip R (map f (take i xs)) ys → R (f x) y → AllZip R (map f (take (i + 1) xs)) (ys ++ y ∷ [])
+zip_more R f xs ys i x y lt is all one = let next : suc i ≡ i + 1 = omega arith in subst (λ n. AllZip R (map f (take n xs)) (ys ++ y ∷ [])) next (zip_next R f xs ys i x y lt is all one)
+
+-- ---- one fault more
+abbrev Told : List RecordFault → List RecordFault → ℕ → Option Fault → Type 0
+Told old new place found = (f : RecordFault) → Contains new f ↔ (Contains old f ⊎ ((f.place ≡ place) × (found ≡ Some f.fault)))
+
+pub told_none : (faults : List RecordFault) (place : ℕ) → Told faults faults place None
+told_none faults place f = (λ has. inl has, elim [ inl has ↦ has | inr h ↦ absurd (none-some f.fault h.1) ])
+
+pub told_one : (faults : List RecordFault) (place : ℕ) (found : Fault) (r : RecordFault) → r.place ≡ place → r.fault ≡ found → Told faults (faults ++ r ∷ []) place (Some found)
+told_one faults place found r at is f = (to, back)
+  where
+    to : Contains (faults ++ r ∷ []) f → Contains faults f ⊎ ((f.place ≡ place) × (Some found ≡ Some f.fault))
+    to has = elim (Contains-append_cases faults (r ∷ []) f has) [
+      | inl before ↦ inl before
+      | inr last ↦ elim (contains_cases r [] f last) [
+        | inl same ↦ inr (sym (ap (λ (z : RecordFault). z.place) same) ∙ at, ap Some (sym is ∙ ap (λ (z : RecordFault). z.fault) same))
+        | inr none ↦ absurd (contains_none f none)
+      ]
+    ]
+
+    back : Contains faults f ⊎ ((f.place ≡ place) × (Some found ≡ Some f.fault)) → Contains (faults ++ r ∷ []) f
+    back (inl before) = Contains-append_left faults (r ∷ []) f before
+    back (inr h) =
+        let places : r.place ≡ f.place = at ∙ sym h.0 in
+        let kinds : r.fault ≡ f.fault = is ∙ same_Some found f.fault h.1 in
+        let same : r ≡ f = λ i. record { place = places i; fault = kinds i } in
+        Contains-append_right faults (r ∷ []) f (subst (Contains (r ∷ [])) same (contains_head r []))
+
+-- in order, with one at the end that is after none
+differ_more : {X : Type 0} (R : X → X → Type 0) (xs : List X) (x : X) → Differ R xs → ((a : X) → Contains xs a → R a x) → Differ R (xs ++ x ∷ [])
+differ_more R [] x h before = (All-nil (R x), tt)
+differ_more R (a ∷ xs) x h before = (
+  all_by_members (R a) (xs ++ x ∷ []) (λ b has. elim (Contains-append_cases xs (x ∷ []) b has) [
+    | inl in_front ↦ All-contains (R a) xs b h.0 in_front
+    | inr last ↦ elim (contains_cases x [] b last) [ inl same ↦ subst (R a) same (before a (contains_head a xs)) | inr none ↦ absurd (contains_none b none) ]
+  ]),
+  differ_more R xs x h.1 (λ b has. before b (contains_later a xs b has)),
+)
+
+abbrev Before : RecordFault → RecordFault → Type 0
+Before a b = a.place ≤ b.place
+
+pub in_order_more : (place : ℕ) (faults : List RecordFault) (r : RecordFault) → r.place ≡ place → AreInOrderTo place faults → AreInOrderTo place (faults ++ r ∷ [])
+in_order_more place faults r at is = record {
+  in_order = pairs_from_differ Before (faults ++ r ∷ []) (differ_more Before faults r (differ_from_pairs Before faults is.in_order) (λ a has. let le = All-contains (λ (a : RecordFault). a.place ≤ place) faults a is.within has in omega (arith, le, at)));
+  within = all_by_members (λ (a : RecordFault). a.place ≤ place) (faults ++ r ∷ []) (λ a has. elim (Contains-append_cases faults (r ∷ []) a has) [
+    | inl before ↦ All-contains (λ (a : RecordFault). a.place ≤ place) faults a is.within before
+    | inr last ↦ elim (contains_cases r [] a last) [
+      | inl same ↦ let places = ap (λ (z : RecordFault). z.place) same in omega (arith, places, at)
+      | inr none ↦ absurd (contains_none a none)
+    ]
+  ]);
+}
+
+-- ---- the faults of one place
+-- what is told is the one that has the property
+pub told_is : (P : Fault → Type 0) (found : Option Fault) → IsAnswer P found → (g : Fault) → (found ≡ Some g) ↔ P g
+told_is P None answer g = (λ e. absurd (none-some g e), λ h. absurd (answer g h))
+told_is P (Some f) answer g = (λ e. subst P (same_Some f g e) answer.0, λ h. ap Some (sym (answer.1 g h)))
+
+-- five are told one after another
+module _ {A B C D E P V0 V1 V2 V3 V4 V5 : Type 0} (a : V1 ↔ (V0 ⊎ (P × A))) (b : V2 ↔ (V1 ⊎ (P × B))) (c : V3 ↔ (V2 ⊎ (P × C))) (d : V4 ↔ (V3 ⊎ (P × D))) (e : V5 ↔ (V4 ⊎ (P × E))) where
+  to_five : V5 → V0 ⊎ (P × (A ⊎ B ⊎ C ⊎ D ⊎ E))
+  to_five v = elim (e.0 v) [
+    | inr h ↦ inr (h.0, inr (inr (inr (inr h.1))))
+    | inl v4 ↦ elim (d.0 v4) [
+      | inr h ↦ inr (h.0, inr (inr (inr (inl h.1))))
+      | inl v3 ↦ elim (c.0 v3) [
+        | inr h ↦ inr (h.0, inr (inr (inl h.1)))
+        | inl v2 ↦ elim (b.0 v2) [
+          | inr h ↦ inr (h.0, inr (inl h.1))
+          | inl v1 ↦ elim (a.0 v1) [ inr h ↦ inr (h.0, inl h.1) | inl v0 ↦ inl v0 ]
+        ]
+      ]
+    ]
+  ]
+
+  from_one : V1 → V5
+  from_one v = e.1 (inl (d.1 (inl (c.1 (inl (b.1 (inl v)))))))
+
+  from_five : V0 ⊎ (P × (A ⊎ B ⊎ C ⊎ D ⊎ E)) → V5
+  from_five (inl v) = from_one (a.1 (inl v))
+  from_five (inr (p, inl h)) = from_one (a.1 (inr (p, h)))
+  from_five (inr (p, inr (inl h))) = e.1 (inl (d.1 (inl (c.1 (inl (b.1 (inr (p, h))))))))
+  from_five (inr (p, inr (inr (inl h)))) = e.1 (inl (d.1 (inl (c.1 (inr (p, h))))))
+  from_five (inr (p, inr (inr (inr (inl h))))) = e.1 (inl (d.1 (inr (p, h))))
+  from_five (inr (p, inr (inr (inr (inr h))))) = e.1 (inr (p, h))
+
+  pub five : V5 ↔ (V0 ⊎ (P × (A ⊎ B ⊎ C ⊎ D ⊎ E)))
+  five = (to_five, from_five)
+
+-- what is told of a fault, by its property
+pub by_property : {N V Q X : Type 0} {R : Type 0} → (N ↔ (V ⊎ (Q × X))) → (X ↔ R) → N ↔ (V ⊎ (Q × R))
+by_property h x = (
+  λ n. elim (h.0 n) [ inl v ↦ inl v | inr p ↦ inr (p.0, x.0 p.1) ],
+  elim [ inl v ↦ h.1 (inl v) | inr p ↦ h.1 (inr (p.0, x.1 p.1)) ],
+)
+
+-- ---- all places
+pub no_place : (records : List Fields) (said : Sayings) → AreFaultsBelow records said 0 []
+no_place records said = record { exact = λ f. (λ has. absurd (contains_none f has), λ h. let lt = h.0 in absurd (omega (arith, lt))); in_order = λ i j d lt within. absurd (omega arith) }
+
+module _ (records : List Fields) (said : Sayings) (n : ℕ) (old new : List RecordFault) (are : AreFaultsBelow records said n old) where
+  pub in_order_to : AreInOrderTo n old
+  in_order_to = record { in_order = are.in_order; within = all_by_members (λ (a : RecordFault). a.place ≤ n) old (λ a has. let lt = ((are.exact a).0 has).0 in omega (arith, lt)) }
+
+  pub place_more : ((f : RecordFault) → Contains new f ↔ (Contains old f ⊎ ((f.place ≡ n) × IsFaultAt records said n f.fault))) → (AreInOrderTo n old → AreInOrderTo n new) → AreFaultsBelow records said (n + 1) new
+  place_more told ordered = record {
+    exact = λ f. (
+      λ has. elim ((told f).0 has) [
+        | inl before ↦ let h = (are.exact f).0 before in let lt = h.0 in (omega (arith, lt), h.1)
+        | inr here ↦ let at = here.0 in (omega (arith, at), subst (λ m. IsFaultAt records said m f.fault) (sym at) here.1)
+      ],
+      λ h. let lt = h.0 in elim (cases_lt f.place n) [
+        | inl less ↦ (told f).1 (inl ((are.exact f).1 (less, h.1)))
+        | inr more ↦ let at : f.place ≡ n = omega (arith, lt, more) in (told f).1 (inr (at, subst (λ m. IsFaultAt records said m f.fault) at h.1))
+      ],
+    );
+    in_order = (ordered in_order_to).in_order;
+  }

@@ -1,0 +1,71 @@
+// The faults of all places, in their order.
+ghost use Rattle.std.specs.Prelude.{◌≡◌, ◌↔◌, ◌⊎◌, ◌<◌, Some, length, Contains, IfOk, OnOk};
+ghost use Rattle.record_faults.specs.Faults.{IsFaultAt, AreFaultsBelow, AreInOrderTo};
+ghost use Rattle.record_faults.specs.Readings.{IsReadingOf};
+ghost use Rattle.record_faults.specs.Sayings.{texts_of};
+ghost use Rattle.record_faults.specs.declared.faults.RecordFault.{RecordFault};
+
+use super::faults::{Fault, RecordFault};
+use super::finders::{repetition, silence, undefined, unused};
+use super::names::Naming;
+use super::readings::Reading;
+use super::sayings::Fields;
+use std::alloc::{AllocError, Global};
+
+// A fault that is found goes to the end.
+fn tell(faults: &mut Vec<RecordFault>, place: usize, found: Option<Fault>) -> Result<(), AllocError>
+    ensures told { OnOk result ((f : RecordFault) → Contains faults.new.items f ↔ (Contains faults.old.items f ⊎ ((f.place ≡ place) × (found ≡ Some f.fault)))) }
+    ensures in_order { OnOk result (AreInOrderTo place faults.old.items → AreInOrderTo place faults.new.items) }
+{
+    let Some(fault) = found else {
+        return Ok(());
+    };
+    faults.extend_from_slice(&[RecordFault { place, fault }])?;
+    Ok(())
+}
+
+// The faults of one place go to the end.
+fn tell_place(
+    faults: &mut Vec<RecordFault>,
+    records: &[Fields],
+    reading: &Reading,
+    place: usize,
+) -> Result<(), AllocError>
+    requires reading { IsReadingOf (texts_of records.now) reading.now }
+    requires place { place < length reading.now.said.items }
+    ensures told { OnOk result ((f : RecordFault) → Contains faults.new.items f ↔ (Contains faults.old.items f ⊎ ((f.place ≡ place) × IsFaultAt (texts_of records.now) reading.now.said.items place f.fault))) }
+    ensures in_order { OnOk result (AreInOrderTo place faults.old.items → AreInOrderTo place faults.new.items) }
+{
+    let said = reading.said.as_slice();
+    let keys = reading.keys.as_slice();
+    tell(faults, place, silence(records, said, place))?;
+    tell(faults, place, repetition(keys, &reading.index, said, place))?;
+    tell(
+        faults,
+        place,
+        undefined(Naming::First, &reading.index, said, place),
+    )?;
+    tell(
+        faults,
+        place,
+        undefined(Naming::Second, &reading.index, said, place),
+    )?;
+    tell(faults, place, unused(keys, &reading.owners, said, place))?;
+    Ok(())
+}
+
+// The faults of all places.
+pub fn faults_of_places(
+    alloc: Global,
+    records: &[Fields],
+    reading: &Reading,
+) -> Result<Vec<RecordFault>, AllocError>
+    requires { IsReadingOf (texts_of records.now) reading.now }
+    ensures { IfOk result (λ faults. AreFaultsBelow (texts_of records.now) reading.now.said.items (length reading.now.said.items) faults.items) }
+{
+    let mut faults = Vec::new(alloc);
+    for place in 0..reading.said.len() {
+        tell_place(&mut faults, records, reading, place)?;
+    }
+    Ok(faults)
+}
