@@ -1,10 +1,11 @@
 // What is known of a list of records before faults are sought.
-ghost use Rattle.std.specs.Prelude.{IfOk};
-ghost use Rattle.record_faults.specs.Sayings.{texts_of};
+ghost use Rattle.std.specs.Prelude.{List, IfOk};
+ghost use Rattle.plan_items.specs.Items.{Fields};
+ghost use Rattle.record_faults.specs.Sayings.{AreSayings};
 ghost use Rattle.record_faults.specs.Readings.{IsReadingOf};
 
 use super::index::{Index, index_of};
-use super::sayings::{Fields, keys_given, owners_given, sayings};
+use super::sayings::{keys_given, owners_given};
 use plan_drafts::RowKey;
 use plan_items::Item;
 use std::alloc::{AllocError, Global};
@@ -22,11 +23,10 @@ pub struct Reading {
     pub owners: Index,
 }
 
-// What these records say.
-pub fn reading_of(alloc: Global, records: &[Fields]) -> Result<Reading, AllocError>
-    ensures { IfOk result (IsReadingOf (texts_of records.now)) }
+// What is known of what records say.
+pub fn reading_of(alloc: Global, said: Vec<Option<Item>>) -> Result<Reading, AllocError>
+    ensures { (records : List Fields) → AreSayings records said.items → IfOk result (IsReadingOf records) }
 {
-    let said = sayings(alloc, records)?;
     let keys = keys_given(alloc, &said)?;
     let index = index_of(alloc, &keys)?;
     let owners = owners_given(alloc, &said)?;
