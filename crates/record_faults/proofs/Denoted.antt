@@ -28,9 +28,8 @@ use Rattle.record_faults.specs.declared.faults.Fault.TheVariants as fault
 use Rattle.record_faults.specs.declared.names.Naming.{Naming}
 use Rattle.record_faults.specs.declared.names.Naming.TheVariants.{First, Second}
 use Rattle.record_faults.specs.Sayings.{Sayings, SaysOrNot, AreSayings, SaysAt, given, owner_of, owned, IsGiven, IsFirst}
-use Rattle.record_faults.specs.Faults.{name_of, IsSilent, IsRepetition, DoOverlap, IsOverlap, IsUndefined, IsUnused, IsFaultAt, DenoteSome}
+use Rattle.record_faults.specs.Faults.{name_of, IsSilent, IsRepetition, IsUndefined, IsUnused, IsFaultAt, DenoteSome}
 use Rattle.record_faults.specs.Plans.{MakeSome, SaySome}
-use Rattle.record_faults.proofs.Overlapping.{apart_in_plan}
 
 -- ---- records that all say something
 -- records that say these items say nothing else
@@ -75,12 +74,6 @@ pub items_more : (said : Sayings) (items : List Item) (i : ℕ) (o : Option Item
 items_more said items i o x lt is e h = let next : suc i ≡ i + 1 = omega arith in subst (λ n. take n said ≡ map Some (items ++ x ∷ [])) next (items_next said items i o x lt is e h)
 
 -- ---- places of items
--- what is read of the items
-read_some : (items : List Item) (i : ℕ) (x d : Item) → get_or {A = Option Item} (map Some items) i None ≡ Some x → (slice_get items i ≡ Some x) × (get_or items i d ≡ x)
-read_some [] i x d e = absurd (none-some x e)
-read_some (y ∷ ys) zero x d e = (e, same_Some y x e)
-read_some (y ∷ ys) (suc i) x d e = read_some ys i x d e
-
 pub no_gap : (items : List Item) (place : ℕ) → slice_get {X = Option Item} (map Some items) place ≢ Some None
 no_gap [] place e = cc
 no_gap (x ∷ xs) zero e = cc
@@ -173,20 +166,6 @@ module _ (items : List Item) (P : Contents) (are : AreItemsOf items P) where
       (ap key_of (get_or_from_slice_get items first y.0 x.0 y.1) ∙ y.2 ∙ sym x.2 ∙ sym (ap key_of (get_or_from_slice_get items place x.0 x.0 x.1)))
   never_repeated place _ h = h
 
-  never_overlapping : (place : ℕ) (f : Fault) → ¬ IsOverlap Said place f
-  never_overlapping place (fault.Overlaps other) h = apart (get_or Said other None) (get_or Said place None) refl refl h.1
-    where
-      apart : (a b : Option Item) → get_or Said other None ≡ a → get_or Said place None ≡ b → ¬ DoOverlap a b
-      apart (Some (item.Interval w x)) (Some (item.Interval v y)) at_x at_y both =
-          let d = item.Interval w x in
-          let in_x = read_some items other (item.Interval w x) d at_x in
-          let in_y = read_some items place (item.Interval v y) d at_y in
-          let same : item.Interval v y ≡ item.Interval w y = ap (λ z. item.Interval z y) (sym both.0) in
-          let has = All-contains (λ z. Contains (keys_of (workstations_in items)) z.0) (intervals_in items) (w, x) can.workstations.no_others (in_filter as_interval items (item.Interval w x) (w, x) (at_place items other (item.Interval w x) in_x.0) refl) in
-          both.1 (apart_in_plan items can other place d w x y h.0 (slice_get_within items place (item.Interval v y) in_y.0) in_x.1 (in_y.1 ∙ same) has)
-      apart a b at_x at_y both = absurd both
-  never_overlapping place _ h = h
-
   never_undefined : (naming : Naming) (place : ℕ) (f : Fault) → ¬ IsUndefined naming Said place f
   never_undefined naming place (fault.Undefined k) h =
       let y = all_defined naming h.0 k (at_place items place h.0 (says_get items place h.0 h.1)) h.2 in
@@ -205,10 +184,9 @@ module _ (items : List Item) (P : Contents) (are : AreItemsOf items P) where
   pub no_fault : (records : List Fields) (place : ℕ) (f : Fault) → ¬ IsFaultAt records Said place f
   no_fault records place f (inl h) = never_silent records place f h
   no_fault records place f (inr (inl h)) = never_repeated place f h
-  no_fault records place f (inr (inr (inl h))) = never_overlapping place f h
-  no_fault records place f (inr (inr (inr (inl h)))) = never_undefined First place f h
-  no_fault records place f (inr (inr (inr (inr (inl h))))) = never_undefined Second place f h
-  no_fault records place f (inr (inr (inr (inr (inr h))))) = never_unused place f h
+  no_fault records place f (inr (inr (inl h))) = never_undefined First place f h
+  no_fault records place f (inr (inr (inr (inl h)))) = never_undefined Second place f h
+  no_fault records place f (inr (inr (inr (inr h)))) = never_unused place f h
 
 -- ---- records that denote a plan
 module _ (records : List Fields) (said : Sayings) (are : AreSayings records said) where

@@ -1,13 +1,11 @@
 -- The faults that are told of a list of records are its faults, and there is none exactly where it denotes a plan.
-use Rattle.std.proofs.Common.{◌≡◌, ◌↔◌, ◌⊎◌, inl, inr, refl, sym, ap, ap₂, subst, ◌∙◌, true≢false, arith, ℕ, zero, suc, ◌+◌, ◌<◌, ◌≤◌, List, [], ◌∷◌, length, map, All, Contains, Option, Some, None, slice_get, get_or}
+use Rattle.std.proofs.Common.{◌≡◌, ◌↔◌, ◌⊎◌, inl, inr, refl, sym, ap, ap₂, subst, ◌∙◌, true≢false, arith, ℕ, zero, suc, ◌+◌, ◌<◌, ◌≤◌, List, [], ◌∷◌, length, map, All, Contains, Option, Some, None, slice_get}
 use Rattle.std.specs.List.{AllZip, AllPairs}
 use Rattle.std.proofs.lemmas.Option.{none-some, same_Some, slice_get_within}
 use Rattle.std.proofs.lemmas.List.Elements.{All-contains, All-nil}
 use Rattle.plan_basics.proofs.Members.{all_by_members, contains_head, contains_cases, contains_none}
 use Rattle.plan_drafts.proofs.Lists.{no_members}
 use Rattle.plan_items.specs.declared.Item.{Item}
-use Rattle.plan_items.specs.declared.Item.TheVariants as item
-use Rattle.std.proofs.lemmas.Bool.{cases_lt}
 use Rattle.plan_items.specs.Items.{Fields, Says}
 use Rattle.plan_items.proofs.ItemLaws.{one_item}
 use Rattle.plan_drafts.specs.declared.RowKey.{RowKey}
@@ -20,7 +18,7 @@ use Rattle.record_faults.specs.declared.readings.Reading.{Reading}
 use Rattle.record_faults.specs.Sayings.{Sayings, SaysOrNot, AreSayings, SaysAt, PlacedKeys, IsGiven, given}
 use Rattle.record_faults.specs.Readings.{IsReadingOf}
 use Rattle.record_faults.specs.Plans.{SaySome}
-use Rattle.record_faults.specs.Faults.{IsSilent, IsRepetition, DoOverlap, IsOverlap, IsUndefined, IsUnused, IsFaultAt, AreFaultsBelow, IsOfAll, IsAlone, IsFaultOfRecord, IsFault, DenoteSome}
+use Rattle.record_faults.specs.Faults.{IsSilent, IsRepetition, IsUndefined, IsUnused, IsFaultAt, AreFaultsBelow, IsOfAll, IsFaultOfRecord, IsFault, DenoteSome}
 use Rattle.record_faults.proofs.Telling.{zip_length}
 use Rattle.record_faults.proofs.Denoted.{say_denoted, denoted_no_fault}
 
@@ -42,21 +40,6 @@ given_within [] k place e = cc
 given_within (s ∷ said) k zero e = omega arith
 given_within (s ∷ said) k (suc place) e = let lt = given_within said k place e in omega (arith, lt)
 
--- nothing overlaps no interval
-no_second : (a : Option Item) → ¬ DoOverlap a None
-no_second None h = h
-no_second (Some x) h = never x h
-  where
-    never : (x : Item) → ¬ DoOverlap (Some x) None
-    never (item.Interval w i) h = h
-    never x h = h
-
--- past the end of a list there is nothing
-get_or_past : {X : Type 0} (xs : List X) (i : ℕ) (d : X) → length xs ≤ i → get_or xs i d ≡ d
-get_or_past [] i d le = refl
-get_or_past (x ∷ xs) zero d le = absurd (omega arith)
-get_or_past (x ∷ xs) (suc i) d le = get_or_past xs i d (omega arith)
-
 silent_within : (records : List Fields) (said : Sayings) (place : ℕ) (f : Fault) → IsSilent records said place f → place < length said
 silent_within records said place (fault.Shape s) h = slice_get_within said place None h.2
 silent_within records said place _ h = absurd h
@@ -64,13 +47,6 @@ silent_within records said place _ h = absurd h
 repetition_within : (said : Sayings) (place : ℕ) (f : Fault) → IsRepetition said place f → place < length said
 repetition_within said place (fault.Repeated k first) h = given_within said k place h.0
 repetition_within said place _ h = absurd h
-
-overlap_within : (said : Sayings) (place : ℕ) (f : Fault) → IsOverlap said place f → place < length said
-overlap_within said place (fault.Overlaps other) h = elim (cases_lt place (length said)) [
-  | inl lt ↦ lt
-  | inr past ↦ absurd (no_second (get_or said other None) (subst (DoOverlap (get_or said other None)) (get_or_past said place None past) h.1))
-]
-overlap_within said place _ h = absurd h
 
 undefined_within : (naming : Naming) (said : Sayings) (place : ℕ) (f : Fault) → IsUndefined naming said place f → place < length said
 undefined_within naming said place (fault.Undefined k) h = slice_get_within said place (Some h.0) h.1
@@ -83,10 +59,9 @@ unused_within said place _ h = absurd h
 pub fault_within : (records : List Fields) (said : Sayings) (place : ℕ) (f : Fault) → IsFaultAt records said place f → place < length said
 fault_within records said place f (inl h) = silent_within records said place f h
 fault_within records said place f (inr (inl h)) = repetition_within said place f h
-fault_within records said place f (inr (inr (inl h))) = overlap_within said place f h
-fault_within records said place f (inr (inr (inr (inl h)))) = undefined_within First said place f h
-fault_within records said place f (inr (inr (inr (inr (inl h))))) = undefined_within Second said place f h
-fault_within records said place f (inr (inr (inr (inr (inr h))))) = unused_within said place f h
+fault_within records said place f (inr (inr (inl h))) = undefined_within First said place f h
+fault_within records said place f (inr (inr (inr (inl h)))) = undefined_within Second said place f h
+fault_within records said place f (inr (inr (inr (inr h)))) = unused_within said place f h
 
 -- ---- what is told
 module _ (records : List Fields) (r : Reading) (is : IsReadingOf records r) (faults : List RecordFault) (are : AreFaultsBelow records r.said.items (length r.said.items) faults) where
@@ -109,17 +84,11 @@ module _ (records : List Fields) (r : Reading) (is : IsReadingOf records r) (fau
       contains_none one (subst (λ z. Contains z one) none ((are.exact one).1 (fault_within records r.said.items place f h, h)))
 
   module _ (none : faults ≡ []) (not_some : ¬ SaySome r.said.items) where
-    pub not_denoted : ¬ DenoteSome records
-    not_denoted denoted = not_some ((say_denoted records r.said.items is.said).1 denoted)
-
-    alone : (place : ℕ) (f : Fault) → IsAlone r.said.items place f → IsOfAll records r.said.items place f
-    alone place fault.Returns h = h
-    alone place fault.NoPlan h = (h, never none, not_denoted)
-    alone place _ h = absurd h
-
-    pub alone_faults : (one : RecordFault) → IsAlone r.said.items one.place one.fault → All (λ (f : RecordFault). IsFault records f.place f.fault) (one ∷ [])
-    alone_faults one h = all_by_members (λ (f : RecordFault). IsFault records f.place f.fault) (one ∷ []) (λ f has. elim (contains_cases one [] f has) [
-      | inl same ↦ subst (λ (z : RecordFault). IsFault records z.place z.fault) same (r.said.items, is.said, inr (alone one.place one.fault h))
+    pub alone_faults : (one : RecordFault) → one ≡ record { place = length r.said.items; fault = fault.NoPlan } → All (λ (f : RecordFault). IsFault records f.place f.fault) (one ∷ [])
+    alone_faults one e = all_by_members (λ (f : RecordFault). IsFault records f.place f.fault) (one ∷ []) (λ f has. elim (contains_cases one [] f has) [
+      | inl same ↦
+          subst (λ (z : RecordFault). IsFault records z.place z.fault) (sym e ∙ same)
+          (r.said.items, is.said, inr (refl, never none, λ denoted. not_some ((say_denoted records r.said.items is.said).1 denoted)))
       | inr nowhere ↦ absurd (contains_none f nowhere)
     ])
 

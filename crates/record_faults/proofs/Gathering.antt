@@ -86,43 +86,36 @@ pub told_is : (P : Fault → Type 0) (found : Option Fault) → IsAnswer P found
 told_is P None answer g = (λ e. absurd (none-some g e), λ h. absurd (answer g h))
 told_is P (Some f) answer g = (λ e. subst P (same_Some f g e) answer.0, λ h. ap Some (sym (answer.1 g h)))
 
--- six are told one after another
-module _ {A B C D E F P V0 V1 V2 V3 V4 V5 V6 : Type 0} (a : V1 ↔ (V0 ⊎ (P × A))) (b : V2 ↔ (V1 ⊎ (P × B))) (c : V3 ↔ (V2 ⊎ (P × C))) (d : V4 ↔ (V3 ⊎ (P × D))) (e : V5 ↔ (V4 ⊎ (P × E))) (f : V6 ↔ (V5 ⊎ (P × F))) where
-  to_six : V6 → V0 ⊎ (P × (A ⊎ B ⊎ C ⊎ D ⊎ E ⊎ F))
-  to_six v = elim (f.0 v) [
-    | inr h ↦ inr (h.0, inr (inr (inr (inr (inr h.1)))))
-    | inl v5 ↦ elim (e.0 v5) [
-      | inr h ↦ inr (h.0, inr (inr (inr (inr (inl h.1)))))
-      | inl v4 ↦ elim (d.0 v4) [
-        | inr h ↦ inr (h.0, inr (inr (inr (inl h.1))))
-        | inl v3 ↦ elim (c.0 v3) [
-          | inr h ↦ inr (h.0, inr (inr (inl h.1)))
-          | inl v2 ↦ elim (b.0 v2) [
-            | inr h ↦ inr (h.0, inr (inl h.1))
-            | inl v1 ↦ elim (a.0 v1) [ inr h ↦ inr (h.0, inl h.1) | inl v0 ↦ inl v0 ]
-          ]
+-- five are told one after another
+module _ {A B C D E P V0 V1 V2 V3 V4 V5 : Type 0} (a : V1 ↔ (V0 ⊎ (P × A))) (b : V2 ↔ (V1 ⊎ (P × B))) (c : V3 ↔ (V2 ⊎ (P × C))) (d : V4 ↔ (V3 ⊎ (P × D))) (e : V5 ↔ (V4 ⊎ (P × E))) where
+  to_five : V5 → V0 ⊎ (P × (A ⊎ B ⊎ C ⊎ D ⊎ E))
+  to_five v = elim (e.0 v) [
+    | inr h ↦ inr (h.0, inr (inr (inr (inr h.1))))
+    | inl v4 ↦ elim (d.0 v4) [
+      | inr h ↦ inr (h.0, inr (inr (inr (inl h.1))))
+      | inl v3 ↦ elim (c.0 v3) [
+        | inr h ↦ inr (h.0, inr (inr (inl h.1)))
+        | inl v2 ↦ elim (b.0 v2) [
+          | inr h ↦ inr (h.0, inr (inl h.1))
+          | inl v1 ↦ elim (a.0 v1) [ inr h ↦ inr (h.0, inl h.1) | inl v0 ↦ inl v0 ]
         ]
       ]
     ]
   ]
 
-  from_three : V3 → V6
-  from_three v = f.1 (inl (e.1 (inl (d.1 (inl v)))))
+  from_one : V1 → V5
+  from_one v = e.1 (inl (d.1 (inl (c.1 (inl (b.1 (inl v)))))))
 
-  from_one : V1 → V6
-  from_one v = from_three (c.1 (inl (b.1 (inl v))))
+  from_five : V0 ⊎ (P × (A ⊎ B ⊎ C ⊎ D ⊎ E)) → V5
+  from_five (inl v) = from_one (a.1 (inl v))
+  from_five (inr (p, inl h)) = from_one (a.1 (inr (p, h)))
+  from_five (inr (p, inr (inl h))) = e.1 (inl (d.1 (inl (c.1 (inl (b.1 (inr (p, h))))))))
+  from_five (inr (p, inr (inr (inl h)))) = e.1 (inl (d.1 (inl (c.1 (inr (p, h))))))
+  from_five (inr (p, inr (inr (inr (inl h))))) = e.1 (inl (d.1 (inr (p, h))))
+  from_five (inr (p, inr (inr (inr (inr h))))) = e.1 (inr (p, h))
 
-  from_six : V0 ⊎ (P × (A ⊎ B ⊎ C ⊎ D ⊎ E ⊎ F)) → V6
-  from_six (inl v) = from_one (a.1 (inl v))
-  from_six (inr (p, inl h)) = from_one (a.1 (inr (p, h)))
-  from_six (inr (p, inr (inl h))) = from_three (c.1 (inl (b.1 (inr (p, h)))))
-  from_six (inr (p, inr (inr (inl h)))) = from_three (c.1 (inr (p, h)))
-  from_six (inr (p, inr (inr (inr (inl h))))) = f.1 (inl (e.1 (inl (d.1 (inr (p, h))))))
-  from_six (inr (p, inr (inr (inr (inr (inl h)))))) = f.1 (inl (e.1 (inr (p, h))))
-  from_six (inr (p, inr (inr (inr (inr (inr h)))))) = f.1 (inr (p, h))
-
-  pub six : V6 ↔ (V0 ⊎ (P × (A ⊎ B ⊎ C ⊎ D ⊎ E ⊎ F)))
-  six = (to_six, from_six)
+  pub five : V5 ↔ (V0 ⊎ (P × (A ⊎ B ⊎ C ⊎ D ⊎ E)))
+  five = (to_five, from_five)
 
 -- what is told of a fault, by its property
 pub by_property : {N V Q X : Type 0} {R : Type 0} → (N ↔ (V ⊎ (Q × X))) → (X ↔ R) → N ↔ (V ⊎ (Q × R))

@@ -2,8 +2,5 @@ pub mod Forms
 pub mod Indexes
 pub mod Telling
 pub mod Gathering
-pub mod Overlapping
 pub mod Denoted
 pub mod Finding
-pub mod Returning
-pub mod Circling

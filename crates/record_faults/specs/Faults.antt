@@ -1,9 +1,8 @@
 -- The faults of a list of records, each with its place.
-use Rattle.std.specs.Prelude.{◌≡◌, ◌↔◌, ◌⊎◌, ℕ, ◌<◌, ◌≤◌, List, length, All, Contains, Option, Some, None, MatchOption, slice_get, slice_index_or}
+use Rattle.std.specs.Prelude.{◌≡◌, ◌↔◌, ◌⊎◌, ℕ, ◌<◌, ◌≤◌, List, length, All, Contains, Option, Some, None, MatchOption, slice_get}
 use Rattle.std.specs.List.{AllPairs}
-use Rattle.plan_basics.specs.Intervals.{AreApart}
+use Rattle.plan_basics.specs.declared.Attr.{Attr}
 use Rattle.plan_basics.specs.declared.keys.OccKey.{OccKey}
-use Rattle.plan_basics.specs.declared.keys.OpKey.{OpKey}
 use Rattle.plan_items.specs.declared.Item.{Item}
 use Rattle.plan_items.specs.declared.Item.TheVariants as item
 use Rattle.plan_items.specs.Items.{Fields, Says}
@@ -13,7 +12,6 @@ use Rattle.plan_drafts.specs.declared.RowKey.TheVariants as key
 use Rattle.plan_drafts.specs.Records.{key_of, Denotes}
 use Rattle.record_faults.specs.Shapes.{IsShapeFault}
 use Rattle.record_faults.specs.Sayings.{Sayings, AreSayings, SaysAt, given, owned, IsGiven, IsFirst, IsNowhere}
-use Rattle.record_faults.specs.Circles.{IsCircle}
 use Rattle.record_faults.specs.declared.faults.Fault.{Fault}
 use Rattle.record_faults.specs.declared.faults.Fault.TheVariants as fault
 use Rattle.record_faults.specs.declared.faults.RecordFault.{RecordFault}
@@ -55,17 +53,6 @@ abbrev pub IsUndefined : Naming → Sayings → ℕ → Fault → Type 0
 IsUndefined naming said place (fault.Undefined k) = (x : Item) × SaysAt said place x × (name_of naming x ≡ Some k) × IsNowhere (given said) k
 IsUndefined naming said place _ = ⊥
 
--- both say intervals of one workstation, and some minute is in both
-abbrev pub DoOverlap : Option Item → Option Item → Type 0
-DoOverlap (Some (item.Interval w x)) (Some (item.Interval v y)) = (w ≡ v) × ¬ AreApart x y
-DoOverlap a b = ⊥
-
--- its interval overlaps one that was said before, first at this place
-abbrev pub IsOverlap : Sayings → ℕ → Fault → Type 0
-IsOverlap said place (fault.Overlaps other) = (other < place) × DoOverlap (slice_index_or said other None) (slice_index_or said place None)
-    × ((i : ℕ) → i < other → ¬ DoOverlap (slice_index_or said i None) (slice_index_or said place None))
-IsOverlap said place _ = ⊥
-
 -- its occurrence has no operation
 abbrev pub IsUnused : Sayings → ℕ → Fault → Type 0
 IsUnused said place fault.NoOperation = (c : OccKey) × IsGiven (given said) (key.Occurrence c) place × IsNowhere (owned said) (key.Occurrence c)
@@ -74,25 +61,16 @@ IsUnused said place _ = ⊥
 -- a fault of the record at the place, where the records say this
 abbrev pub IsFaultAt : List Fields → Sayings → ℕ → Fault → Type 0
 IsFaultAt records said place f =
-    IsSilent records said place f ⊎ IsRepetition said place f ⊎ IsOverlap said place f ⊎ IsUndefined First said place f ⊎ IsUndefined Second said place f ⊎ IsUnused said place f
+    IsSilent records said place f ⊎ IsRepetition said place f ⊎ IsUndefined First said place f ⊎ IsUndefined Second said place f ⊎ IsUnused said place f
 
 -- the records denote some plan
 abbrev pub DenoteSome : List Fields → Type 0
 DenoteSome records = (P : Contents) × Denotes records P
 
--- a fault that records have together, where none has one by itself
-abbrev pub IsOfAll : List Fields → Sayings → ℕ → Fault → Type 0
--- the record closes a path that returns
-IsOfAll records said place fault.Returns = (first : OpKey) × (way : List OpKey) × IsCircle (given said) place first way
 -- after all records: no record has a fault, and they denote no plan all the same
+abbrev pub IsOfAll : List Fields → Sayings → ℕ → Fault → Type 0
 IsOfAll records said place fault.NoPlan = (place ≡ length said) × ((i : ℕ) (f : Fault) → ¬ IsFaultAt records said i f) × ¬ DenoteSome records
 IsOfAll records said place _ = ⊥
-
--- a path that returns is closed at the place, or the place is after all
-abbrev pub IsAlone : Sayings → ℕ → Fault → Type 0
-IsAlone said place fault.Returns = (first : OpKey) × (way : List OpKey) × IsCircle (given said) place first way
-IsAlone said place fault.NoPlan = place ≡ length said
-IsAlone said place _ = ⊥
 
 -- a fault of the record at the place
 abbrev pub IsFaultOfRecord : List Fields → ℕ → Fault → Type 0
@@ -115,7 +93,3 @@ pub record AreInOrderTo (place : ℕ) (faults : List RecordFault) : Type 0 where
 pub record AreFaultsBelow (records : List Fields) (said : Sayings) (n : ℕ) (faults : List RecordFault) : Type 0 where
   pub exact : (f : RecordFault) → Contains faults f ↔ ((f.place < n) × IsFaultAt records said f.place f.fault)
   pub in_order : AllPairs (λ (a : RecordFault) (b : RecordFault). a.place ≤ b.place) faults
-
--- a dependency of these records closes the path over these operations
-abbrev pub IsCircleOf : List Fields → ℕ → OpKey → List OpKey → Type 0
-IsCircleOf records place first way = (said : Sayings) × AreSayings records said × IsCircle (given said) place first way

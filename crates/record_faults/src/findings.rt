@@ -1,40 +1,20 @@
 // What is found in a list of records.
-ghost use Rattle.std.specs.Prelude.{◌≡◌, ◌↔◌, ◌≤◌, [], ◌∷◌, All, Contains, IfOk, IfSome};
+ghost use Rattle.std.specs.Prelude.{◌≡◌, ◌↔◌, ◌≤◌, [], All, Contains, IfOk};
 ghost use Rattle.std.specs.List.{AllPairs};
-ghost use Rattle.record_faults.specs.Faults.{IsFaultOfRecord, IsFault, IsAlone, IsCircleOf, DenoteSome};
-ghost use Rattle.record_faults.specs.Sayings.{texts_of, given, IsIndex};
+ghost use Rattle.record_faults.specs.Faults.{IsFaultOfRecord, IsFault, DenoteSome};
+ghost use Rattle.record_faults.specs.Sayings.{texts_of};
 ghost use Rattle.record_faults.specs.declared.faults.RecordFault.{RecordFault};
 
-use super::circles::{Circle, circle_of};
 use super::denoting::say_some;
 use super::faults::{Fault, RecordFault};
 use super::gather::faults_of_places;
-use super::index::index_of;
-use super::readings::{Reading, reading_of};
-use super::sayings::{Fields, keys_given, sayings};
+use super::readings::reading_of;
+use super::sayings::{Fields, sayings};
 use std::alloc::{AllocError, Global};
-
-// The fault of records of which none has one: that of the dependency that closes a path, or one after all of them.
-fn fault_of_all(alloc: Global, reading: &Reading) -> Result<RecordFault, AllocError>
-    requires keys { reading.now.keys.items ≡ given reading.now.said.items }
-    requires index { IsIndex (given reading.now.said.items) reading.now.index }
-    ensures { IfOk result (λ f. IsAlone reading.now.said.items f.place f.fault) }
-{
-    match circle_of(alloc, &reading.keys, &reading.index)? {
-        Some(circle) => Ok(RecordFault {
-            place: circle.place,
-            fault: Fault::Returns,
-        }),
-        None => Ok(RecordFault {
-            place: reading.said.len(),
-            fault: Fault::NoPlan,
-        }),
-    }
-}
 
 /// The faults of a list of records, in the order of their places; there is none exactly where the records denote a plan.
 /// Each record may have any number of fields. It fails for want of memory only. Where the records denote a plan it takes
-/// as long as to find that out; where they don't, each interval is compared with those before it.
+/// as long as to find that out.
 pub fn faults_of(alloc: Global, records: &[Fields]) -> Result<Vec<RecordFault>, AllocError>
     ensures faults { IfOk result (λ v. All (λ f. IsFault (texts_of records.now) f.place f.fault) v.items) }
     ensures each { IfOk result (λ v. (f : RecordFault) → IsFaultOfRecord (texts_of records.now) f.place f.fault → Contains v.items f) }
@@ -50,17 +30,7 @@ pub fn faults_of(alloc: Global, records: &[Fields]) -> Result<Vec<RecordFault>, 
     if !faults.is_empty() {
         return Ok(faults);
     }
-    let fault = fault_of_all(alloc, &reading)?;
-    Vec::from_slice(alloc, &[fault])
-}
-
-/// A path of dependencies of these records that returns, if one is found: the place of a record that says a dependency
-/// and closes the path, and the operations on it. It fails for want of memory only.
-pub fn circle_of_records(alloc: Global, records: &[Fields]) -> Result<Option<Circle>, AllocError>
-    ensures { IfOk result (λ found. IfSome found (λ c. IsCircleOf (texts_of records.now) c.place c.first c.way.items)) }
-{
-    let said = sayings(alloc, records)?;
-    let keys = keys_given(alloc, &said)?;
-    let index = index_of(alloc, &keys)?;
-    circle_of(alloc, &keys, &index)
+    let fault = Fault::NoPlan;
+    let place = reading.said.len();
+    Vec::from_slice(alloc, &[RecordFault { place, fault }])
 }

@@ -8,7 +8,6 @@ ghost use Rattle.record_faults.specs.declared.faults.RecordFault.{RecordFault};
 use super::faults::{Fault, RecordFault};
 use super::finders::{repetition, silence, undefined, unused};
 use super::names::Naming;
-use super::overlaps::overlapping;
 use super::readings::Reading;
 use super::sayings::Fields;
 use std::alloc::{AllocError, Global};

@@ -1,7 +1,6 @@
 //! What is wrong with the records of a plan's text, and where.
 #![tactic(auto)]
 
-mod circles;
 mod denoting;
 mod faults;
 mod fields;
@@ -11,16 +10,13 @@ mod gather;
 mod index;
 mod kinds;
 mod names;
-mod overlaps;
 mod readings;
-mod returns;
 mod sayings;
 mod shapes;
 mod texts;
 
-pub use circles::Circle;
 pub use faults::{Fault, RecordFault};
-pub use findings::{circle_of_records, faults_of};
+pub use findings::faults_of;
 pub use kinds::{Form, Kind, Shape};
 pub use names::Naming;
 pub use sayings::Fields;

@@ -186,14 +186,9 @@ pub fn fault_text(alloc: Global, fault: &RecordFault, lines: &[u64]) -> Result<S
             let key = key_text(alloc, &key)?;
             format!(in alloc; "line {line}: {key}: no record defines it")
         }
-        Fault::Overlaps(other) => {
-            let other = line_of(lines, other);
-            format!(in alloc; "line {line}: open interval: overlaps that in line {other}")
-        }
         Fault::NoOperation => format!(in alloc; "line {line}: occurrence: has no operation"),
-        Fault::Returns => format!(in alloc; "line {line}: dependency: closes a path that returns"),
         Fault::NoPlan => format!(in alloc;
-            "no plan: a limit is passed, or there is no workstation or no occurrence"
+            "no plan, though each record reads and what it names is there"
         ),
     }
 }
