@@ -4,30 +4,32 @@
     stops.py [--reports N] [--stops N] [--trackers N] [--seed N] [--program PATH]
 
 Some trackers report in turn that an operation of theirs has started, is interrupted, has started, and so on. At so many
-of the reports the program is killed (`kill -9`), at a moment drawn by chance from what a report takes. Then it is
-started again over the same file, and each tracker does what a tracker does that doesn't know: it repeats its last
-report, byte for byte. Where that report was answered before, the answer has to be the same; and whatever a tracker
-reported before its last is answered as old. At the end the tables have to be those of the same reports without a stop.
+of the reports the program is killed (`kill -9`), at a moment drawn by chance from what a report takes, or after one. The
+C library then reads the files: each tracker's receipt has to be that of its last report that was answered, or of the one
+that wasn't, and its operation has to stand as that says. Then the program is started again over the same file and port,
+and one time in three it is killed again while it opens the file. Each tracker does what a tracker does that doesn't
+know: it repeats its last report, byte for byte, which has to be answered as before where it was; and the one before it
+is answered as old. At the end the tables have to be those of the same reports without a stop.
 
 Exit status: 0 all is so, 1 it isn't, 2 nothing could be tried.
 """
 import argparse
-import http.client
 import random
-import shutil
 import sqlite3
+import subprocess
 import sys
 import tempfile
 import threading
 import time
+from collections import Counter
 from pathlib import Path
+from statistics import median
 
 from measure import MOMENT, PROGRAM, Unmeasured
-from served import Served, load, report_text
-from stored import TABLES
+from served import Served, load, report_text, rows
 
 OLD = (409, b'{"name":"Old","refusal":22}')
-CUT = (OSError, http.client.HTTPException)
+MARKS = {1: "running", 0: "interrupted"}    # after an odd and an even number of reports
 
 
 class Lost(Exception):
@@ -46,14 +48,14 @@ class Tracker:
     """Its reports, each with the answer that it got, if it did."""
 
     def __init__(self, turn):
-        self.name = f"T{turn + 1}"
-        self.operation = f"PAYROLL/2024-03-01T22:00/{turn + 1:03}"
+        self.name, self.turn = f"T{turn + 1}", turn + 1
         self.texts, self.answers = [], []
 
     def next_report(self):
         number = len(self.texts) + 1
         what = "started" if number % 2 else "interrupted"
-        self.texts.append(report_text(self.name, number, MOMENT, what, self.operation))
+        operation = f"PAYROLL/2024-03-01T22:00/{self.turn:03}"
+        self.texts.append(report_text(self.name, number, MOMENT, what, operation))
         self.answers.append(None)
         return self.texts[-1]
 
@@ -64,15 +66,16 @@ class Tracker:
             raise Lost(f"{self.name} is answered {answer}, where it was {self.answers[-1]}")
         self.answers[-1] = answer
 
-
-def rows(folder):
-    """All rows of the tables of a database that nobody has open, its log read with it."""
-    for name in ("night.db", "night.db-wal"):
-        (folder / f"look{name[5:]}").unlink(missing_ok=True)
-        if (folder / name).exists():
-            shutil.copy(folder / name, folder / f"look{name[5:]}")
-    with sqlite3.connect(folder / "look.db") as database:
-        return {table: sorted(database.execute(f"SELECT * FROM {table}").fetchall()) for table in TABLES}
+    def has_acted(self, tables):
+        """Whether the tables have its last report, where it wasn't answered; what was answered has to be in."""
+        number, text = next((row[1:3] for row in tables["receipt"] if row[0] == self.name), (0, b""))
+        mark = next(row[9] for row in tables["operation"] if row[2] == self.turn)
+        least = len(self.texts) - (self.texts != [] and self.answers[-1] is None)
+        is_so = least <= number <= len(self.texts) and text == (self.texts[number - 1].encode() if number else b"")
+        if not is_so or mark != (MARKS[number % 2] if number else "none"):
+            raise Lost(f"{self.name} has a receipt of number {number}, {text!r}, and a mark {mark}, where {least} of "
+                       f"{len(self.texts)} reports were answered")
+        return number == len(self.texts)
 
 
 def report_and_kill(desk, text, patience):
@@ -81,11 +84,20 @@ def report_and_kill(desk, text, patience):
     killer.start()
     try:
         return desk.report(text)
-    except CUT:
+    except OSError:
         return None
     finally:
         killer.join()
         desk.kill()
+
+
+def kill_opening(given, folder, patience):
+    """Starts the program over the file, and kills it so many seconds later, at work or listening."""
+    words = [given.program, "serve", "--db", "night.db", "--port", "1", "--requests", "1"]
+    opening = subprocess.Popen(words, cwd=folder, stdout=subprocess.DEVNULL, stderr=subprocess.DEVNULL)
+    time.sleep(patience)
+    opening.kill()
+    return opening.wait() == -9
 
 
 def recover(desk, trackers):
@@ -100,22 +112,30 @@ def recover(desk, trackers):
 
 
 def play(given, folder, stops):
-    """Plays the reports, with a stop at each of these; how many stops left a report unanswered, and the last rows."""
+    """Plays the reports, with a stop at each of these; how many stops fell where, and the last rows."""
     (folder / "plan.csv").write_text(plan_text(given.trackers))
     load(given.program, folder, "plan.csv", MOMENT)
+    begun = time.perf_counter()
     desk = Served(given.program, folder)
+    opening = time.perf_counter() - begun
     trackers = [Tracker(turn) for turn in range(given.trackers)]
-    chance, taken, unanswered = random.Random(given.seed), [0.002], 0
+    chance, taken, fell = random.Random(given.seed), [0.002], Counter()
     try:
         for turn in range(given.reports):
             tracker = trackers[turn % len(trackers)]
             text = tracker.next_report()
             if turn in stops:
-                answer = report_and_kill(desk, text, chance.uniform(0, 1.2 * max(taken[-20:])))
-                unanswered += answer is None
+                answer = report_and_kill(desk, text, chance.uniform(0, 1.2 * median(taken[-20:])))
                 if answer is not None:
                     tracker.take(answer)
-                desk = Served(given.program, folder)
+                tables = rows(folder)
+                acted = [one.has_acted(tables) for one in trackers][turn % len(trackers)]
+                fell["after the answer" if answer else "before the answer" if acted else "before the commit"] += 1
+                if chance.random() < 1 / 3:
+                    fell["in an opening"] += kill_opening(given, folder, chance.uniform(0, opening))
+                    if rows(folder) != tables:
+                        raise Lost("the tables aren't what they were before an opening that was stopped")
+                desk = Served(given.program, folder, desk.port)
                 recover(desk, trackers)
             else:
                 begun = time.perf_counter()
@@ -123,7 +143,7 @@ def play(given, folder, stops):
                 taken.append(time.perf_counter() - begun)
     finally:
         desk.kill()
-    return unanswered, rows(folder)
+    return fell, rows(folder)
 
 
 def main():
@@ -140,17 +160,18 @@ def main():
         if not given.program.exists():
             raise Unmeasured(f"no program {given.program}: bin/build proves and builds it")
         with tempfile.TemporaryDirectory() as stopped, tempfile.TemporaryDirectory() as whole:
-            unanswered, left = play(given, Path(stopped), stops)
+            fell, left = play(given, Path(stopped), stops)
             _, wanted = play(given, Path(whole), set())
             if left != wanted:
                 raise Lost("the tables aren't those of the same reports without a stop")
-        print(f"{given.reports} reports of {given.trackers} trackers, {given.stops} stops, {unanswered} of them before the "
-              f"answer: each acted once, none lost")
+        told = ", ".join(f"{count} {where}" for where, count in sorted(fell.items()))
+        print(f"{given.reports} reports of {given.trackers} trackers, {given.stops} stops ({told}): each acted once, "
+              "none lost")
         return 0
     except Lost as lost:
         print(f"stops: {lost}", file=sys.stderr)
         return 1
-    except (Unmeasured, OSError, http.client.HTTPException, sqlite3.Error) as fault:
+    except (Unmeasured, OSError, sqlite3.Error) as fault:
         print(f"stops: {fault}", file=sys.stderr)
         return 2
 

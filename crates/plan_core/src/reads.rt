@@ -11,6 +11,7 @@ use super::ready_views::Ready;
 use super::views::{OccView, OpView, occ_view, op_view};
 use plan_basics::{OccKey, OpKey, WsName};
 use plan_rows::Shown;
+use plan_state::LoadedPlan;
 
 impl Plan {
     /// Whether a plan is loaded.
@@ -20,7 +21,15 @@ impl Plan {
         self.loaded.is_some()
     }
 
-    // What is kept of the plan, if one is loaded.
+    /// What is kept of the plan, if one is loaded, for a reader that needs more of it than the views tell.
+    pub fn loaded(&self) -> Option<&LoadedPlan>
+        ensures none { IsNone result → self.now.plan.contents ≡ nothing }
+        ensures contents { IfSome result (λ l. l.now ≡ self.now.plan.contents) }
+    {
+        self.loaded.as_ref()
+    }
+
+    // What is shown of the plan, if one is loaded.
     pub(crate) fn shown(&self) -> Option<Shown<'_>>
         ensures none { IsNone result → self.now.plan.contents ≡ nothing }
         ensures contents { IfSome result (λ s. s.contents.now ≡ self.now.plan.contents) }

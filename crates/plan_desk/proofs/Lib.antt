@@ -1,1 +1,5 @@
+pub mod Appended
+pub mod Loaded
+pub mod Played
 pub mod Statuses
+pub mod Told

@@ -6,10 +6,10 @@ use Rattle.sqlite.specs.declared.error.Error.{Error as StoreError}
 use Rattle.sqlite.specs.declared.error.Error.TheVariants.{SqliteFailure}
 use Rattle.sqlite.specs.declared.error.ErrorCode.TheVariants as code
 use Rattle.plan_desk.specs.Statuses.{ending_status, fault_status, fault_of_kind, fault_of_store, IsOfSurroundings, IsStatusOf}
-use Rattle.plan_desk.specs.declared.desk.Ending.{Ending}
-use Rattle.plan_desk.specs.declared.desk.Ending.TheVariants as ending
-use Rattle.plan_desk.specs.declared.desk.Fault.{Fault}
-use Rattle.plan_desk.specs.declared.desk.Fault.TheVariants as fault
+use Rattle.plan_desk.specs.declared.endings.Ending.{Ending}
+use Rattle.plan_desk.specs.declared.endings.Ending.TheVariants as ending
+use Rattle.plan_desk.specs.declared.endings.Fault.{Fault}
+use Rattle.plan_desk.specs.declared.endings.Fault.TheVariants as fault
 
 pub ending_at_most : (e : Ending) → ending_status e ≤ 3
 ending_at_most ending.Done = omega arith
@@ -20,6 +20,7 @@ pub fault_at_most : (f : Fault) → fault_status f ≤ 3
 fault_at_most fault.Encoding = omega arith
 fault_at_most fault.Words = omega arith
 fault_at_most fault.Moment = omega arith
+fault_at_most fault.Request = omega arith
 fault_at_most fault.File = omega arith
 fault_at_most fault.Network = omega arith
 fault_at_most fault.Memory = omega arith

@@ -1,8 +1,27 @@
--- What a text denotes.
-use Rattle.std.specs.Prelude.{ℕ, List, Option, MatchOption}
-use Rattle.plan_model.specs.Contents.{Contents}
+-- What a text denotes, and what a load of it is answered.
+use Rattle.std.specs.Prelude.{◌≡◌, ◌⊎◌, ℕ, ℤ, List, Option, MatchOption}
+use Rattle.plan_basics.specs.Minutes.{IsMinuteText}
+use Rattle.plan_basics.specs.declared.Refusal.{Refusal}
 use Rattle.plan_import.specs.Texts.{TextDenotes}
+use Rattle.plan_loads.specs.Databases.{load_request}
+use Rattle.plan_model.specs.Contents.{Contents}
+use Rattle.plan_records.specs.Answer.{Answer, refused}
+use Rattle.plan_records.specs.Run.{CallStep, State, plain}
+use Rattle.plan_tables.specs.Faults.{IsOpeningRefusal}
+use Rattle.plan_desk.specs.Answers.{IsShown}
+use Rattle.plan_desk.specs.declared.endings.Ending.{Ending}
 
 -- the plan that a text denotes; or none, where it denotes none
 abbrev pub IsPlanOf : List ℕ → Option Contents → Type 0
 IsPlanOf text found = MatchOption found ((P : Contents) → ¬ TextDenotes text P) (λ draft. TextDenotes text draft)
+
+-- a desk answers so to the load of a draft at a minute; or the tables are no plan's, memory lacks, or the store failed
+abbrev pub IsLoadAnswer : ℤ → Option Contents → Answer → Type 0
+IsLoadAnswer at found a =
+    ((s : State) × (t : State) × CallStep s (plain (load_request at found)) a t)
+    ⊎ ((r : Refusal) × IsOpeningRefusal r × (a ≡ refused r))
+
+-- the answer to the load of a draft at the moment of this text was shown
+abbrev pub IsLoadShown : List ℕ → Option (List ℕ) → Option (List ℕ) → Ending → Type 0
+IsLoadShown moment old new ending =
+    (at : ℤ) × IsMinuteText moment at × (found : Option Contents) × (a : Answer) × IsLoadAnswer at found a × IsShown a old new ending

@@ -10,10 +10,10 @@ use Rattle.sqlite.specs.declared.error.ErrorCode.TheVariants as code
 use Rattle.plan_records.specs.Answer.{Answer, accepted, refused}
 use Rattle.plan_import.specs.declared.ImportFault.{ImportFault}
 use Rattle.plan_import.specs.declared.ImportFault.TheVariants as import_fault
-use Rattle.plan_desk.specs.declared.desk.Ending.{Ending}
-use Rattle.plan_desk.specs.declared.desk.Ending.TheVariants as ending
-use Rattle.plan_desk.specs.declared.desk.Fault.{Fault}
-use Rattle.plan_desk.specs.declared.desk.Fault.TheVariants as fault
+use Rattle.plan_desk.specs.declared.endings.Ending.{Ending}
+use Rattle.plan_desk.specs.declared.endings.Ending.TheVariants as ending
+use Rattle.plan_desk.specs.declared.endings.Fault.{Fault}
+use Rattle.plan_desk.specs.declared.endings.Fault.TheVariants as fault
 
 -- 0 for an answer that accepts or for help, 1 for a refusal, 2 where the words aren't understood
 abbrev pub ending_status : Ending → ℕ
@@ -21,11 +21,12 @@ ending_status ending.Done = 0
 ending_status ending.Refused = 1
 ending_status ending.Misunderstood = 2
 
--- 2 where the words or the moment are at fault, 3 where the surroundings are
+-- 2 where the words, the moment or a request are at fault, 3 where the surroundings are
 abbrev pub fault_status : Fault → ℕ
 fault_status fault.Encoding = 2
 fault_status fault.Words = 2
 fault_status fault.Moment = 2
+fault_status fault.Request = 2
 fault_status fault.File = 3
 fault_status fault.Network = 3
 fault_status fault.Memory = 3

@@ -1,17 +1,28 @@
 //! The program plandesk: a current plan at the command line.
 #![tactic(auto)]
 
+mod answers;
 mod desk;
+mod endings;
+mod files;
+mod given;
 #[cfg(test)]
 mod load_tests;
+mod loading;
+mod playing;
+mod reports;
+mod requests;
 mod serving;
 #[cfg(test)]
 mod serving_tests;
 #[cfg(test)]
+mod session_tests;
+#[cfg(test)]
 mod tests;
 mod words;
 
-use desk::{Fault, desk_run, tell_fault};
+use desk::{desk_run, tell_fault};
+use endings::Fault;
 use plan_basics::Watched;
 use std::env;
 use std::process::ExitCode;

@@ -1,10 +1,17 @@
-// The desk over HTTP: so many connections, one after another.
+// `serve`: the desk of a database's file over HTTP, so many connections, one after another.
+use crate::answers::tell;
+use crate::endings::{Ending, Fault};
+use crate::files::stored_desk;
+use crate::words::value_of;
+use clap::ArgMatches;
 use plan_basics::Watched;
+use plan_records::Reply;
 use plan_tables::Desk;
-use sqlite::Alter;
+use sqlite::{Alter, File, FileStore};
 use std::alloc::Global;
 use std::io;
-use std::net::{TcpListener, TcpStream};
+use std::io::Write;
+use std::net::{Ipv4Addr, TcpListener, TcpStream};
 use std::time::Duration;
 use tracker_http::{WireFault, serve_one};
 
@@ -44,4 +51,43 @@ pub fn serve_listener<S: Alter + Drop>(
         let _ = serve_connection(alloc, &stream, desk);
     }
     Ok(())
+}
+
+/// The port of this machine itself that the words give, taken.
+fn taken_port(rt: &HostRuntime, given: &ArgMatches) -> Result<TcpListener, Fault> {
+    let port = given.get_one::<u16>("port").ok_or(Fault::Words)?;
+    TcpListener::bind(rt, (Ipv4Addr::LOCALHOST, port)).map_err(|_| Fault::Network)
+}
+
+/// Takes the port that the words give, tells so before the first connection, and serves so many connections.
+fn listen<W: Write>(
+    rt: &HostRuntime,
+    given: &ArgMatches,
+    desk: &mut Desk<FileStore<File>>,
+    out: &mut Watched<W>,
+) -> Result<(), Fault> {
+    let connections = given.get_one::<u32>("requests").ok_or(Fault::Words)?;
+    let listener = taken_port(rt, given)?;
+    writeln!(out, "listening")?;
+    out.flush()?;
+    serve_listener(rt.alloc(), &listener, desk, u64::from(connections)).map_err(|_| Fault::Network)
+}
+
+/// `serve`: the database is opened before the port is taken. At its end it is closed, but where its store has failed:
+/// then the files are let go as they are.
+pub fn serve<W: Write>(
+    rt: &HostRuntime,
+    given: &ArgMatches,
+    out: &mut Watched<W>,
+) -> Result<Ending, Fault> {
+    let mut desk = match stored_desk(rt, value_of(given, "db"))? {
+        Ok(desk) => desk,
+        Err(refusal) => return tell(out, &Reply::Refused(refusal)),
+    };
+    let served = listen(rt, given, &mut desk, out);
+    if desk.is_usable() {
+        desk.close().close()?;
+    }
+    served?;
+    Ok(Ending::Done)
 }

@@ -3,7 +3,7 @@ use super::texts::{night, post};
 use plan_basics::{OpKey, Watched};
 use plan_tables::Desk;
 use sqlite::{Connection, MemStore};
-use status_rules::Status;
+use status_rules::{Mark, Status};
 use std::alloc::Global;
 use std::io;
 use std::io::Read;
@@ -65,8 +65,13 @@ pub fn served_from<R: Read + Drop>(
         .ok_or(WireFault::Memory)
 }
 
-/// The status of operation 5 of PAYROLL.
-pub fn status_of_five(desk: &Desk<MemStore>) -> Option<Status> {
-    let key = OpKey::from_text(b"PAYROLL/2024-03-01T22:00/005")?;
-    Some(desk.plan().view_op(&key)?.status)
+/// Whether operation 5 of PAYROLL has this mark and this status.
+pub fn is_five(desk: &Desk<MemStore>, mark: Mark, status: Status) -> bool {
+    let Some(key) = OpKey::from_text(b"PAYROLL/2024-03-01T22:00/005") else {
+        return false;
+    };
+    match desk.plan().view_op(&key) {
+        Some(view) => view.mark == mark && view.status == status,
+        None => false,
+    }
 }

@@ -1,10 +1,10 @@
 // Readers and writers that fail.
-use super::connections::{Pieces, loaded, served, served_from, status_of_five};
+use super::connections::{Pieces, is_five, loaded, served, served_from};
 use super::texts::{START, reply};
 use plan_basics::Watched;
 use plan_tables::Desk;
 use sqlite::MemStore;
-use status_rules::Status;
+use status_rules::{Mark, Status};
 use std::alloc::Global;
 use std::io;
 use std::io::Write;
@@ -28,7 +28,7 @@ fn is_reader_told(alloc: Global, desk: &mut Desk<MemStore>) -> Option<bool> {
 fn a_reader_that_fails_at_each_read(rt: HostRuntime) -> Result<(), Fail> {
     let mut desk = loaded(rt.alloc()).ok_or("no desk")?;
     assert!(rt; is_reader_told(rt.alloc(), &mut desk) == Some(true));
-    assert!(rt; status_of_five(&desk) == Some(Status::Arriving));
+    assert!(rt; is_five(&desk, Mark::Unmarked, Status::Arriving));
     Ok(())
 }
 
@@ -100,6 +100,6 @@ fn is_each_writer_told(alloc: Global, desk: &mut Desk<MemStore>) -> Option<bool>
 fn a_writer_that_fails_at_each_write(rt: HostRuntime) -> Result<(), Fail> {
     let mut desk = loaded(rt.alloc()).ok_or("no desk")?;
     assert!(rt; is_each_writer_told(rt.alloc(), &mut desk) == Some(true));
-    assert!(rt; status_of_five(&desk) == Some(Status::Started));
+    assert!(rt; is_five(&desk, Mark::Running, Status::Started));
     Ok(())
 }

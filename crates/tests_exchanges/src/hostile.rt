@@ -1,9 +1,9 @@
 // Requests that fail a test of their form, and bodies that are no requests.
-use super::connections::{Pieces, loaded, served, served_from, status_of_five};
+use super::connections::{Pieces, is_five, loaded, served, served_from};
 use super::texts::{START, fault, post, reply};
 use plan_tables::Desk;
 use sqlite::MemStore;
-use status_rules::Status;
+use status_rules::{Mark, Status};
 use std::alloc::Global;
 use std::test::Fail;
 
@@ -114,7 +114,7 @@ fn bodies_that_are_no_reports(rt: HostRuntime) -> Result<(), Fail> {
         let told = is_rejected(rt.alloc(), &mut desk, &input, "400 Bad Request", "");
         assert!(rt; told == Some(true), "{other}");
     }
-    assert!(rt; status_of_five(&desk) == Some(Status::Arriving));
+    assert!(rt; is_five(&desk, Mark::Unmarked, Status::Arriving));
     Ok(())
 }
 

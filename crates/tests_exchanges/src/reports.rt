@@ -1,9 +1,9 @@
 // A report of a tracker, whole, in pieces and cut short; and requests of operators.
-use super::connections::{Pieces, empty, loaded, served, served_from, status_of_five};
+use super::connections::{Pieces, empty, is_five, loaded, served, served_from};
 use super::texts::{START, fault, post, reply};
 use plan_tables::Desk;
 use sqlite::MemStore;
-use status_rules::Status;
+use status_rules::{Mark, Status};
 use std::alloc::Global;
 use std::test::Fail;
 
@@ -24,10 +24,10 @@ fn is_started_in_pieces(alloc: Global, desk: &mut Desk<MemStore>, sizes: &[usize
 #[test]
 fn a_start_is_reported_in_pieces(rt: HostRuntime) -> Result<(), Fail> {
     let mut desk = loaded(rt.alloc()).ok_or("no desk")?;
-    assert!(rt; status_of_five(&desk) == Some(Status::Arriving));
+    assert!(rt; is_five(&desk, Mark::Unmarked, Status::Arriving));
     let sizes = [8192, 1, 2, 7, 64];
     assert!(rt; is_started_in_pieces(rt.alloc(), &mut desk, &sizes) == Some(true));
-    assert!(rt; status_of_five(&desk) == Some(Status::Started));
+    assert!(rt; is_five(&desk, Mark::Running, Status::Started));
     Ok(())
 }
 
@@ -48,7 +48,7 @@ fn is_refused_cut_short(alloc: Global, desk: &mut Desk<MemStore>) -> Option<bool
 fn a_report_cut_after_each_byte(rt: HostRuntime) -> Result<(), Fail> {
     let mut desk = loaded(rt.alloc()).ok_or("no desk")?;
     assert!(rt; is_refused_cut_short(rt.alloc(), &mut desk) == Some(true));
-    assert!(rt; status_of_five(&desk) == Some(Status::Arriving));
+    assert!(rt; is_five(&desk, Mark::Unmarked, Status::Arriving));
     Ok(())
 }
 

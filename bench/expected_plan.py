@@ -1,0 +1,113 @@
+"""Whether a text denotes a plan: docs/PROFILE.md, "The text of a plan" and "Limits", read a second time and written in
+Python, apart from the desk's own code."""
+import re
+from collections import Counter
+
+from expected import is_moment
+
+NUMBER, MINUTE = "0|[1-9][0-9]*", "[0-9]{4}-[0-9]{2}-[0-9]{2}T[0-9]{2}:[0-9]{2}"
+APPLICATION, WORKSTATION, RESOURCE = "[A-Z0-9@#$]{1,16}", "[A-Z0-9@#$]{1,4}", "[A-Z0-9@#$.-]{1,44}"
+# Each field of a kind, from the second on: a form, and for a number its range.
+OPERATION_KEY = (APPLICATION, MINUTE, (1, 255))
+FORMS = {
+    "W": (WORKSTATION, "[ASCN]"),
+    "I": (WORKSTATION, MINUTE, MINUTE, (0, 99), (0, 99), (0, 99)),
+    "X": (RESOURCE, "[YN]"),
+    "O": (APPLICATION, MINUTE, (1, 9), MINUTE),
+    "P": (*OPERATION_KEY, WORKSTATION, (1, 5999), (0, 99), (0, 99), f"({MINUTE})?", f"({MINUTE})?"),
+    "D": (*OPERATION_KEY, *OPERATION_KEY),
+    "N": (*OPERATION_KEY, RESOURCE, "[SX]", "[KF]"),
+}
+KEY_FIELDS = {"W": 1, "I": 2, "X": 1, "O": 2, "P": 3, "D": 6, "N": 4}
+MOST = {"W": 99, "X": 999, "O": 5000, "P": 20_000, "D": 100_000}
+MOST_INTERVALS, MOST_NEEDS, FIELDS = 400, 16, 10
+
+
+def records_of(text):
+    """The records of a CSV text, each a list of fields of bytes. A line end is LF, CR LF or CR; empty lines are none."""
+    text = text.removeprefix(b"\xef\xbb\xbf")
+    records, fields, field, place = [], [], bytearray(), "record"
+    for code in text:
+        byte = bytes([code])
+        if place == "record" and byte in b"\r\n":
+            continue
+        if place == "quoted":
+            place = "after quote" if byte == b'"' else place
+            field += b"" if byte == b'"' else byte
+        elif place == "after quote" and byte == b'"':
+            field, place = field + byte, "quoted"
+        elif place in ("record", "field") and byte == b'"':
+            place = "quoted"
+        elif byte in b",\r\n":
+            fields.append(bytes(field))
+            field, place = bytearray(), "field"
+            if byte != b",":
+                records.append(fields)
+                fields, place = [], "record"
+        else:
+            field, place = field + byte, "inside"
+    if place != "record":
+        records.append([*fields, bytes(field)])
+    return records
+
+
+def is_of_form(text, form):
+    if isinstance(form, tuple):
+        return re.fullmatch(NUMBER, text) is not None and len(text) < 10 and form[0] <= int(text) <= form[1]
+    return re.fullmatch(form, text) is not None and (MINUTE not in form or text == "" or is_moment(text))
+
+
+def values_of(record):
+    """The fields of a record that it names, or None where it has no form."""
+    if len(record) != FIELDS:
+        return None
+    kind, *fields = (field.decode("latin-1") for field in record)
+    forms = FORMS.get(kind)
+    if not forms or any(fields[len(forms):]) or not all(map(is_of_form, fields, forms)):
+        return None
+    return kind, fields[:len(forms)]
+
+
+def returns(pairs):
+    """Whether a path of these pairs returns to its start."""
+    successors, before = {}, Counter()
+    for one, other in pairs:
+        successors.setdefault(one, []).append(other)
+        before[other] += 1
+    free = [one for one in successors if not before[one]]
+    passed = 0
+    while free:
+        for other in successors.get(free.pop(), ()):
+            passed += 1
+            before[other] -= 1
+            if not before[other]:
+                free.append(other)
+    return passed < len(pairs)
+
+
+def are_disjoint(intervals):
+    """Intervals as workstation, first minute and end: texts of moments stand in the order of the moments."""
+    ordered = sorted(intervals)
+    return all(start < end for _, start, end in ordered) and all(
+        one[0] != other[0] or one[2] <= other[1] for one, other in zip(ordered, ordered[1:]))
+
+
+def denotes_plan(text):
+    kinds = {kind: [] for kind in FORMS}
+    for record in records_of(text):
+        found = values_of(record)
+        if not found:
+            return False
+        kinds[found[0]].append(found[1])
+    keys = {kind: [tuple(fields[:KEY_FIELDS[kind]]) for fields in kinds[kind]] for kind in FORMS}
+    defined = {kind: set(keys[kind]) for kind in FORMS}
+    pairs = [(key[:3], key[3:]) for key in keys["D"]]
+    return (all(len(defined[kind]) == len(keys[kind]) for kind in FORMS)
+            and all(len(keys[kind]) <= most for kind, most in MOST.items())
+            and max(Counter(key[0] for key in keys["I"]).values(), default=0) <= MOST_INTERVALS
+            and max(Counter(key[:3] for key in keys["N"]).values(), default=0) <= MOST_NEEDS
+            and bool(keys["W"]) and bool(keys["O"]) and {key[:2] for key in keys["P"]} == defined["O"]
+            and {key[:1] for key in keys["I"]} | {(fields[3],) for fields in kinds["P"]} <= defined["W"]
+            and {(key[3],) for key in keys["N"]} <= defined["X"]
+            and {key[:3] for key in keys["N"]} | {end for pair in pairs for end in pair} <= defined["P"]
+            and are_disjoint([fields[:3] for fields in kinds["I"]]) and not returns(pairs))

@@ -1,0 +1,25 @@
+-- What is shown of a load.
+use Rattle.std.proofs.Common.{◌≡◌, refl, inl, inr, ℕ, ℤ, List, Option, Result, IfOk}
+use Rattle.std.proofs.lemmas.Result.{IfOk-weaker}
+use Rattle.plan_basics.specs.Minutes.{IsMinuteText}
+use Rattle.plan_loads.specs.Databases.{IsAnswerToLoad}
+use Rattle.plan_model.specs.Contents.{Contents}
+use Rattle.plan_records.specs.Answer.{Answer, accepted, refused}
+use Rattle.sqlite.specs.State.{State as StoreState}
+use Rattle.plan_desk.specs.Answers.{IsShown}
+use Rattle.plan_desk.specs.Loads.{IsLoadAnswer, IsLoadShown}
+use Rattle.plan_desk.specs.declared.endings.Ending.{Ending}
+use Rattle.plan_desk.specs.declared.endings.Fault.{Fault}
+
+-- the answer at a database is that of a desk
+load_answer : (before after : StoreState) (at : ℤ) (found : Option Contents) (a : Answer) → IsAnswerToLoad before after at found a → IsLoadAnswer at found a
+load_answer before after at found (accepted named) (s, t, from, step, holds) = inl (s, t, step)
+load_answer before after at found (refused r) (inl opening, stays) = inr (r, opening, refl)
+load_answer before after at found (refused r) (inr (s, from, step), stays) = inl (s, s, step)
+
+-- it was shown
+pub load_shown : (moment : List ℕ) (at : ℤ) (found : Option Contents) (before after : StoreState) (a : Answer) (r : Result Ending Fault) (old new : Option (List ℕ))
+    → IsMinuteText moment at → IsAnswerToLoad before after at found a → IfOk r (IsShown a old new) → IfOk r (IsLoadShown moment old new)
+load_shown moment at found before after a r old new says answers shown =
+    IfOk-weaker r (IsShown a old new) (IsLoadShown moment old new)
+    (λ (e : Ending) (is : IsShown a old new e). (at, says, found, a, load_answer before after at found a answers, is)) shown

@@ -1,0 +1,66 @@
+-- What is shown of a request and of a report that were asked for.
+use Rattle.std.proofs.Common.{◌≡◌, ◌⊎◌, refl, inl, inr, ℕ, Bool, List, Option, Result, Ok, Err, IfOk, IfErr}
+use Rattle.std.proofs.lemmas.Result.{IfErr-weaker, IfOk-weaker}
+use Rattle.plan_basics.specs.declared.Refusal.{Refusal}
+use Rattle.plan_model.specs.Plan.{Plan}
+use Rattle.plan_records.specs.Answer.{Answer, refused}
+use Rattle.plan_records.specs.Run.{Answers, State, Usable, plain}
+use Rattle.plan_records.specs.declared.Request.{Request}
+use Rattle.plan_tables.specs.Faults.{IsOpeningRefusal}
+use Rattle.request_texts.specs.Requests.{ReadsAsRequest}
+use Rattle.plan_desk.specs.Answers.{IsShown}
+use Rattle.plan_desk.specs.Asked.{AsksReport, IsRequestShown}
+use Rattle.plan_desk.specs.Shown.{IsReportAsked, IsReportShown}
+use Rattle.plan_desk.specs.Statuses.{IsOfSurroundings}
+use Rattle.plan_desk.specs.declared.endings.Ending.{Ending}
+use Rattle.plan_desk.specs.declared.endings.Fault.{Fault}
+use Rattle.plan_desk.specs.declared.endings.Fault.TheVariants as fault
+use Rattle.plan_desk.specs.declared.given.Kind.{Kind}
+
+-- a fault of the surroundings is one of theirs, or another
+pub of_them : (Other : Fault → Type 0) (r : Result Ending Fault) → IfErr r IsOfSurroundings → IfErr r (λ f. IsOfSurroundings f ⊎ Other f)
+of_them Other r of = IfErr-weaker r IsOfSurroundings (λ f. IsOfSurroundings f ⊎ Other f) (λ (f : Fault) (is : IsOfSurroundings f). inl is) of
+
+-- so it is, written the other way round
+pub of_them_too : (Other : Fault → Type 0) (r : Result Ending Fault) → IfErr r IsOfSurroundings → IfErr r (λ f. Other f ⊎ IsOfSurroundings f)
+of_them_too Other r of = IfErr-weaker r IsOfSurroundings (λ f. Other f ⊎ IsOfSurroundings f) (λ (f : Fault) (is : IsOfSurroundings f). inr is) of
+
+-- a text that can't be read as a request: memory lacks, or it is none
+pub unread : (X : Type 0) (r : Result Ending Fault) (f : Fault) → r ≡ Err f → (f ≡ fault.Memory) ⊎ ((f ≡ fault.Request) × X)
+    → IfErr r (λ g. IsOfSurroundings g ⊎ ((g ≡ fault.Request) × X))
+unread X r f is (inl memory) = rw (is, memory) (inl refl)
+unread X r f is (inr none) = rw is (inr none)
+
+-- no request, where that is the fault
+pub no_request : (X : Type 0) (f : Fault) → f ≡ fault.Request → (f ≡ fault.Memory) ⊎ ((f ≡ fault.Request) × X) → X
+no_request X f is (inl memory) = absurd (cc)
+no_request X f is (inr none) = none.1
+
+module _ (r : Result Ending Fault) (old new : Option (List ℕ)) where
+  -- a desk's answer to the request that a text says
+  pub request_shown : (text : List ℕ) (q : Request) (s : State) (u : Usable) (a : Answer) (t : State) (v : Usable)
+      → ReadsAsRequest text q → Answers s u (plain q) a t v → IfOk r (IsShown a old new) → IfOk r (IsRequestShown text old new)
+  request_shown text q s u a t v says answers shown =
+      IfOk-weaker r (IsShown a old new) (IsRequestShown text old new)
+      (λ (e : Ending) (is : IsShown a old new e). (q, says, a, inl (s, u, t, v, answers), is)) shown
+
+  -- why no desk could be opened for it
+  pub request_refused : (text : List ℕ) (q : Request) (refusal : Refusal)
+      → ReadsAsRequest text q → IsOpeningRefusal refusal → IfOk r (IsShown (refused refusal) old new) → IfOk r (IsRequestShown text old new)
+  request_refused text q refusal says opening shown =
+      IfOk-weaker r (IsShown (refused refusal) old new) (IsRequestShown text old new)
+      (λ (e : Ending) (is : IsShown (refused refusal) old new e). (q, says, refused refusal, inr (refusal, opening, refl), is)) shown
+
+  -- the report that words ask for, of a desk
+  pub report_shown : (word : List ℕ) (ws : Option (List ℕ)) (k : Kind) (usable : Bool) (P : Plan)
+      → AsksReport word ws k → IfOk r (IsReportShown k usable P old new) → IfOk r (IsReportAsked word ws old new)
+  report_shown word ws k usable P asks shown =
+      IfOk-weaker r (IsReportShown k usable P old new) (IsReportAsked word ws old new)
+      (λ (e : Ending) (is : IsReportShown k usable P old new e). (k, asks, inl (usable, P, is))) shown
+
+  -- why no desk could be opened for it
+  pub report_refused : (word : List ℕ) (ws : Option (List ℕ)) (k : Kind) (refusal : Refusal)
+      → AsksReport word ws k → IsOpeningRefusal refusal → IfOk r (IsShown (refused refusal) old new) → IfOk r (IsReportAsked word ws old new)
+  report_refused word ws k refusal asks opening shown =
+      IfOk-weaker r (IsShown (refused refusal) old new) (IsReportAsked word ws old new)
+      (λ (e : Ending) (is : IsShown (refused refusal) old new e). (k, asks, inr (refusal, opening, is))) shown

@@ -1,0 +1,41 @@
+-- What the program shows of a report.
+use Rattle.std.specs.Prelude.{◌≡◌, ◌⊎◌, Bool, ℕ, List, Option}
+use Rattle.std.specs.Io.KnownBytes.{Appends}
+use Rattle.plan_basics.specs.declared.Refusal.{Refusal}
+use Rattle.plan_model.specs.Plan.{Plan}
+use Rattle.plan_reports.specs.Reports.{IsErrorReport, IsLateReport, IsOccurrenceReport, IsOwed, IsReadyReport, IsWritten, ready_refusal_of, refusal_of}
+use Rattle.plan_records.specs.Answer.{refused}
+use Rattle.plan_tables.specs.Faults.{IsOpeningRefusal}
+use Rattle.plan_desk.specs.Answers.{IsShown, refusal_line}
+use Rattle.plan_desk.specs.Asked.{AsksReport}
+use Rattle.plan_desk.specs.declared.endings.Ending.{Ending}
+use Rattle.plan_desk.specs.declared.endings.Ending.TheVariants as ending
+use Rattle.plan_desk.specs.declared.given.Kind.{Kind}
+use Rattle.plan_desk.specs.declared.given.Kind.TheVariants as kind
+
+-- the text is this report of a plan
+abbrev pub IsReport : Kind → Plan → List ℕ → Type 0
+IsReport (kind.Ready w) P text = IsReadyReport P w text
+IsReport kind.Occurrences P text = IsOccurrenceReport P text
+IsReport kind.Errors P text = IsErrorReport P text
+IsReport kind.Late P text = IsLateReport P text
+
+-- the refusal that a desk owes to this report, if one
+abbrev pub report_refusal_of : Kind → Bool → Plan → Option Refusal
+report_refusal_of (kind.Ready w) usable P = ready_refusal_of usable P w
+report_refusal_of kind.Occurrences usable P = refusal_of usable P
+report_refusal_of kind.Errors usable P = refusal_of usable P
+report_refusal_of kind.Late usable P = refusal_of usable P
+
+-- a report was shown: its bytes were added to the known ones; or the line of the refusal that is owed, or of want of memory
+abbrev pub IsReportShown : Kind → Bool → Plan → Option (List ℕ) → Option (List ℕ) → Ending → Type 0
+IsReportShown k usable P old new ending.Done = IsWritten (report_refusal_of k usable P) (IsReport k P) old new
+IsReportShown k usable P old new ending.Refused = (r : Refusal) × IsOwed (report_refusal_of k usable P) r × Appends old new (refusal_line r)
+IsReportShown k usable P old new ending.Misunderstood = ⊥
+
+-- the report that is asked for was shown, of some desk; or why none could be opened
+abbrev pub IsReportAsked : List ℕ → Option (List ℕ) → Option (List ℕ) → Option (List ℕ) → Ending → Type 0
+IsReportAsked word ws old new ending =
+    (k : Kind) × AsksReport word ws k
+    × (((usable : Bool) × (P : Plan) × IsReportShown k usable P old new ending)
+    ⊎ ((r : Refusal) × IsOpeningRefusal r × IsShown (refused r) old new ending))

@@ -1,0 +1,55 @@
+// `check` and `load`: a plan's text is loaded into the desk of a database, in memory or in a file.
+ghost use Rattle.std.specs.Prelude.{◌≡◌, ◌⊎◌, IfOk, IfErr, codes};
+ghost use Rattle.clap.specs.Matches.{found_of};
+ghost use Rattle.plan_basics.specs.Watched.{inner_of};
+ghost use Rattle.plan_desk.specs.Loads.{IsLoadShown};
+ghost use Rattle.plan_desk.specs.Statuses.{IsOfSurroundings};
+ghost use Rattle.plan_desk.specs.Words.{text_given};
+ghost use Rattle.plan_desk.specs.declared.endings.Fault.{Fault};
+
+use crate::answers::tell;
+use crate::endings::{Ending, Fault};
+use crate::files::{close, plan_of};
+use crate::given::moment_of;
+use crate::words::value_of;
+use clap::ArgMatches;
+use plan_basics::Watched;
+use plan_loads::load_into;
+use sqlite::Connection;
+use std::fs;
+use std::io::Write;
+
+/// `check`: the plan of a file is loaded into the desk of a database in memory. The moment is judged before the file.
+pub fn check<W: Write>(
+    rt: &HostRuntime,
+    given: &ArgMatches,
+    out: &mut Watched<W>,
+) -> Result<Ending, Fault>
+    ensures shown { IfOk result (IsLoadShown (text_given (found_of given.now) (codes "at")) (W.contents (inner_of out.old)) (W.contents (inner_of out.new))) }
+    ensures fault { IfErr result (λ fault. (fault ≡ Fault.Moment) ⊎ IsOfSurroundings fault) }
+{
+    let at = moment_of(given)?;
+    let draft = plan_of(rt.alloc(), fs::open(rt, value_of(given, "plan"))?)?;
+    let conn = Connection::open_in_memory(rt.alloc())?;
+    let (reply, _) = load_into(rt.alloc(), conn, at, draft);
+    tell(out, &reply)
+}
+
+/// `load`: the plan of a file is loaded into the desk of a database's file. The moment is judged before the files, and
+/// the plan is read before the database is touched.
+pub fn load<W: Write>(
+    rt: &HostRuntime,
+    given: &ArgMatches,
+    out: &mut Watched<W>,
+) -> Result<Ending, Fault>
+    ensures shown { IfOk result (IsLoadShown (text_given (found_of given.now) (codes "at")) (W.contents (inner_of out.old)) (W.contents (inner_of out.new))) }
+    ensures fault { IfErr result (λ fault. (fault ≡ Fault.Moment) ⊎ IsOfSurroundings fault) }
+{
+    let at = moment_of(given)?;
+    let draft = plan_of(rt.alloc(), fs::open(rt, value_of(given, "plan"))?)?;
+    let conn = Connection::open(rt, value_of(given, "db"))?;
+    let (reply, conn) = load_into(rt.alloc(), conn, at, draft);
+    let told = tell(out, &reply);
+    close(conn, &reply)?;
+    told
+}

@@ -1,0 +1,204 @@
+// `play`: the requests of a text are made one after another at a desk in memory.
+ghost use Rattle.std.specs.Prelude.{◌≡◌, Ok, IfOk, IfErr, IfSome, IfNone, OnOk, [], true, List, ℕ};
+ghost use Rattle.std.specs.List.{list_all};
+ghost use Rattle.std.specs.Io.KnownBytes.{Appends};
+ghost use Rattle.plan_basics.specs.Minutes.{IsShownAs};
+ghost use Rattle.plan_basics.specs.Watched.{inner_of};
+ghost use Rattle.plan_desk.specs.Statuses.{IsOfSurroundings};
+ghost use Rattle.plan_desk.specs.Turns.{is_blank_byte, is_refusal, IsFirstLine, IsLinePlayed, IsLoadRefusal, IsLoaded, IsPlanPlayed, IsPlayed, joined, number_line, turn_head};
+ghost use Rattle.plan_desk.specs.declared.endings.Ending.{Ending as Ended};
+ghost use Rattle.plan_records.specs.Answer.{accepted, answer_of};
+ghost use Rattle.plan_tables.specs.Desk.{state_of, usability};
+ghost use Rattle.plan_basics.specs.declared.keys.OpKey.{OpKey};
+
+use crate::answers::tell;
+use crate::endings::{Ending, Fault};
+use crate::files::{plan_of, text_of};
+use crate::given::{moment_of, request_of};
+use crate::words::value_of;
+use clap::ArgMatches;
+use plan_basics::{Refusal, Watched, minute_text};
+use plan_records::{PlanDraft, Reply, Request, What};
+use plan_tables::Desk;
+use sqlite::{Alter, Connection, MemStore};
+use std::alloc::Global;
+use std::fs;
+use std::io::Write;
+
+// Whether a line has nothing but what JSON passes over.
+fn is_blank(line: &[u8]) -> bool
+    ensures { result ≡ list_all is_blank_byte line.now }
+{
+    line.iter()
+        .all(|byte| *byte == b' ' || *byte == b'\t' || *byte == b'\r')
+}
+
+// The first line of a text that isn't empty, without its end, and what comes after it.
+fn first_line(text: &[u8]) -> Option<(&[u8], &[u8])>
+    ensures first { IfSome result (λ cut. IsFirstLine text.now cut.0.now cut.1.now) }
+    ensures empty { IfNone result (text.now ≡ []) }
+{
+    if text.is_empty() {
+        return None;
+    }
+    match text.iter().position(|byte| *byte == b'\n') {
+        Some(end) => Some((&text[..end], &text[end + 1..])),
+        None => Some((text, &text[text.len()..])),
+    }
+}
+
+// Shows the number of a line and the moment of its request.
+#[tactic(auto, using(crate::proofs::Statuses::of_the_surroundings))]
+fn tell_head<W: Write>(out: &mut Watched<W>, number: usize, at: i64) -> Result<(), Fault>
+    ensures shown { OnOk result ((moment : List ℕ) × IsShownAs at moment × Appends (W.contents (inner_of out.old)) (W.contents (inner_of out.new)) (turn_head number moment)) }
+    ensures fault { IfErr result IsOfSurroundings }
+{
+    write!(out, "{number} ")?;
+    out.write_all(&minute_text(at))?;
+    out.write_all(b"\n")?;
+    Ok(())
+}
+
+// Shows the number of a line that is no request.
+#[tactic(auto, using(crate::proofs::Statuses::of_the_surroundings))]
+fn tell_number<W: Write>(out: &mut Watched<W>, number: usize) -> Result<(), Fault>
+    ensures shown { OnOk result (Appends (W.contents (inner_of out.old)) (W.contents (inner_of out.new)) (number_line number)) }
+    ensures fault { IfErr result IsOfSurroundings }
+{
+    writeln!(out, "{number}")?;
+    out.flush()?;
+    Ok(())
+}
+
+// Whether a reply refuses.
+fn is_refusal(reply: &Reply) -> bool
+    ensures { result ≡ is_refusal (answer_of reply.now) }
+{
+    match reply {
+        Reply::Accepted { .. } => false,
+        Reply::Refused(_) => true,
+    }
+}
+
+// How lines end that are all requests, by whether one was refused.
+fn ending_of_lines(refused: bool) -> Ending
+    ensures { Ok result ≡ joined refused (Ok Ended.Done) }
+{
+    if refused {
+        Ending::Refused
+    } else {
+        Ending::Done
+    }
+}
+
+// Makes the request of a line that isn't blank, shows number, moment and answer, and tells whether it is refused.
+fn play_line<S: Alter + Drop, W: Write>(
+    alloc: Global,
+    desk: &mut Desk<S>,
+    number: usize,
+    line: &[u8],
+    out: &mut Watched<W>,
+) -> Result<bool, Fault>
+    ensures { IsLinePlayed number line.now (state_of desk.old) (usability desk.old.is_usable) (W.contents (inner_of out.old)) (W.contents (inner_of out.new)) result (state_of desk.new) (usability desk.new.is_usable) }
+{
+    if is_blank(line) {
+        return Ok(false);
+    }
+    let request = match request_of(alloc, line) {
+        Ok(request) => request,
+        Err(Fault::Request) => {
+            tell_number(out, number)?;
+            return Err(Fault::Request);
+        }
+        Err(fault) => return Err(fault),
+    };
+    tell_head(out, number, request.at)?;
+    let reply = desk.call(&request);
+    tell(out, &reply)?;
+    Ok(is_refusal(&reply))
+}
+
+// Makes the requests of a text, a line each, until one is none. Blank lines are passed over, and counted.
+fn play_lines<S: Alter + Drop, W: Write>(
+    alloc: Global,
+    desk: &mut Desk<S>,
+    text: &[u8],
+    out: &mut Watched<W>,
+) -> Result<Ending, Fault>
+    ensures { IsPlayed text.now (state_of desk.old) (usability desk.old.is_usable) (W.contents (inner_of out.old)) (W.contents (inner_of out.new)) result }
+{
+    let mut refused = false;
+    let mut number = 0;
+    let mut rest = text;
+    while let Some((line, after)) = first_line(rest) {
+        number += 1;
+        let refuses = play_line(alloc, desk, number, line, out)?;
+        refused |= refuses;
+        rest = after;
+    }
+    Ok(ending_of_lines(refused))
+}
+
+// A desk in memory at which a plan was loaded; or the refusal of the load.
+fn loaded_desk(
+    alloc: Global,
+    at: i64,
+    draft: Option<PlanDraft>,
+) -> Result<Result<Desk<MemStore>, Refusal>, Fault>
+    ensures loaded { IfOk result (λ made. IfOk made (λ desk. (named : List OpKey) × IsLoaded at draft (accepted named) (state_of desk))) }
+    ensures usable { IfOk result (λ made. IfOk made (λ desk. desk.is_usable ≡ true)) }
+    ensures refused { IfOk result (λ made. IfErr made (IsLoadRefusal at draft)) }
+    ensures fault { IfErr result IsOfSurroundings }
+{
+    let mut desk = match Desk::create(alloc, Connection::open_in_memory(alloc)?) {
+        Ok(desk) => desk,
+        Err((refusal, _)) => return Ok(Err(refusal)),
+    };
+    match desk.call(&Request {
+        at,
+        what: What::Load(draft),
+    }) {
+        Reply::Accepted { .. } => Ok(Ok(desk)),
+        Reply::Refused(refusal) => Ok(Err(refusal)),
+    }
+}
+
+// The text of the requests: that of a file, or of standard input where the path is a hyphen.
+fn requests_of(rt: &HostRuntime, path: &str) -> Result<Vec<u8>, Fault>
+    ensures { IfErr result IsOfSurroundings }
+{
+    if path == "-" {
+        text_of(rt.alloc(), rt.stdin())
+    } else {
+        text_of(rt.alloc(), fs::open(rt, path)?)
+    }
+}
+
+// Loads a plan into a desk in memory, and makes the requests of a text there; or shows the refusal of the load.
+fn play_plan<W: Write>(
+    alloc: Global,
+    at: i64,
+    draft: Option<PlanDraft>,
+    requests: &[u8],
+    out: &mut Watched<W>,
+) -> Result<Ending, Fault>
+    ensures { IsPlanPlayed at draft requests.now (W.contents (inner_of out.old)) (W.contents (inner_of out.new)) result }
+{
+    match loaded_desk(alloc, at, draft)? {
+        Ok(mut desk) => play_lines(alloc, &mut desk, requests, out),
+        Err(refusal) => tell(out, &Reply::Refused(refusal)),
+    }
+}
+
+/// `play`: the plan of a file is loaded into a desk in memory, and the requests of a text are made there, one after
+/// another. The moment is judged before the files, and both are read before anything is made.
+pub fn play<W: Write>(
+    rt: &HostRuntime,
+    given: &ArgMatches,
+    out: &mut Watched<W>,
+) -> Result<Ending, Fault> {
+    let at = moment_of(given)?;
+    let draft = plan_of(rt.alloc(), fs::open(rt, value_of(given, "plan"))?)?;
+    let requests = requests_of(rt, value_of(given, "requests"))?;
+    play_plan(rt.alloc(), at, draft, requests.as_slice(), out)
+}

@@ -1,0 +1,82 @@
+// `report`: one of the four reports of the desk of a database's file.
+ghost use Rattle.std.specs.Prelude.{◌≡◌, ◌⊎◌, Err, IfOk, IfErr, OnOk, codes};
+ghost use Rattle.clap.specs.Matches.{first_value, found_of};
+ghost use Rattle.plan_basics.specs.Watched.{inner_of};
+ghost use Rattle.plan_basics.specs.declared.Refusal.{Refusal};
+ghost use Rattle.plan_desk.specs.Shown.{IsReport, IsReportAsked, IsReportShown, report_refusal_of};
+ghost use Rattle.plan_desk.specs.Statuses.{IsOfSurroundings};
+ghost use Rattle.plan_desk.specs.Words.{text_given};
+ghost use Rattle.plan_desk.specs.declared.endings.Fault.{Fault};
+ghost use Rattle.plan_reports.specs.Reports.{IsOwed, IsWritten};
+ghost use Rattle.plan_reports.specs.declared.reports.ReportFault.{ReportFault};
+
+use crate::answers::{tell, tell_refusal};
+use crate::endings::{Ending, Fault};
+use crate::files::stored_desk;
+use crate::given::{Kind, kind_of};
+use crate::words::value_of;
+use clap::ArgMatches;
+use plan_basics::Watched;
+use plan_records::Reply;
+use plan_reports::{ReportFault, error_report, late_report, occurrence_report, ready_report};
+use plan_tables::Desk;
+use sqlite::Alter;
+use std::alloc::Global;
+use std::io::Write;
+
+// Writes a report of a desk.
+fn write_report<S: Alter + Drop, W: Write>(
+    alloc: Global,
+    desk: &Desk<S>,
+    kind: &Kind,
+    out: &mut Watched<W>,
+) -> Result<(), ReportFault>
+    ensures written { OnOk result (IsWritten (report_refusal_of kind.now desk.now.is_usable desk.now.plan) (IsReport kind.now desk.now.plan) (W.contents (inner_of out.old)) (W.contents (inner_of out.new))) }
+    ensures refused { (r : Refusal) → result ≡ Err (ReportFault.Refused r) → IsOwed (report_refusal_of kind.now desk.now.is_usable desk.now.plan) r × (inner_of out.new ≡ inner_of out.old) }
+{
+    match kind {
+        Kind::Ready(workstation) => ready_report(alloc, desk, workstation, out),
+        Kind::Occurrences => occurrence_report(alloc, desk, out),
+        Kind::Errors => error_report(alloc, desk, out),
+        Kind::Late => late_report(alloc, desk, out),
+    }
+}
+
+/// Shows a report of a desk, or why it is refused.
+pub fn show<S: Alter + Drop, W: Write>(
+    alloc: Global,
+    desk: &Desk<S>,
+    kind: &Kind,
+    out: &mut Watched<W>,
+) -> Result<Ending, Fault>
+    ensures shown { IfOk result (IsReportShown kind.now desk.now.is_usable desk.now.plan (W.contents (inner_of out.old)) (W.contents (inner_of out.new))) }
+    ensures fault { IfErr result IsOfSurroundings }
+{
+    match write_report(alloc, desk, kind, out) {
+        Ok(()) => Ok(Ending::Done),
+        Err(ReportFault::Refused(refusal)) => {
+            tell_refusal(out, refusal)?;
+            Ok(Ending::Refused)
+        }
+        Err(ReportFault::Writer) => Err(Fault::File),
+    }
+}
+
+/// `report`: which report is asked for is judged before the file. At its end the database is closed.
+pub fn report<W: Write>(
+    rt: &HostRuntime,
+    given: &ArgMatches,
+    out: &mut Watched<W>,
+) -> Result<Ending, Fault>
+    ensures shown { IfOk result (IsReportAsked (text_given (found_of given.now) (codes "kind")) (first_value (found_of given.now) (codes "ws")) (W.contents (inner_of out.old)) (W.contents (inner_of out.new))) }
+    ensures fault { IfErr result (λ fault. (fault ≡ Fault.Words) ⊎ IsOfSurroundings fault) }
+{
+    let kind = kind_of(given)?;
+    let desk = match stored_desk(rt, value_of(given, "db"))? {
+        Ok(desk) => desk,
+        Err(refusal) => return tell(out, &Reply::Refused(refusal)),
+    };
+    let shown = show(rt.alloc(), &desk, &kind, out);
+    desk.close().close()?;
+    shown
+}
