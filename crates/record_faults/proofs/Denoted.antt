@@ -1,11 +1,16 @@
 -- Records that denote a plan have no fault.
-use Rattle.std.proofs.Common.{◌≡◌, ◌≢◌, ◌↔◌, ◌⊎◌, inl, inr, refl, sym, ap, ap₂, subst, ◌∙◌, arith, ℕ, zero, suc, ◌+◌, ◌<◌, List, [], ◌∷◌, ◌++◌, length, map, take, get_or, slice_get, All, Contains, Bool, IsTrue, Option, Some, None, Result, Ok, Err, IfOk}
+use Rattle.std.proofs.Common.{◌≡◌, ◌≢◌, ◌↔◌, ◌⊎◌, inl, inr, refl, sym, ap, ap₂, subst, ◌∙◌, arith, ℕ, zero, suc, ◌+◌, ◌<◌, ◌≤◌, List, [], ◌∷◌, ◌++◌, length, map, take, get_or, slice_get, All, Contains, Bool, IsTrue, Option, Some, None, Result, Ok, Err, IfOk}
 use Rattle.std.specs.List.{AllZip, AllPairs}
 use Rattle.std.specs.Map.{keys_of}
 use Rattle.std.proofs.lemmas.Option.{none-some, same_Some, slice_get_within, get_or_from_slice_get}
 use Rattle.std.proofs.lemmas.List.Elements.{All-contains}
 use Rattle.plan_basics.proofs.Members.{at_place, place_of}
+use Rattle.plan_basics.specs.Intervals.{OpenInterval}
+use Rattle.plan_basics.specs.Keys.{Name, name_cmp_total, name_cmp-IsAntisymmetric}
+use Rattle.plan_basics.specs.declared.limits.TheConstants.{MOST_NEEDS}
 use Rattle.plan_basics.specs.declared.keys.OccKey.{OccKey}
+use Rattle.std.specs.FinMap.{get, len}
+use Rattle.workstations.specs.Workstations.{Workstation}
 use Rattle.plan_basics.specs.declared.keys.OpKey.{OpKey}
 use Rattle.plan_items.specs.declared.Item.{Item}
 use Rattle.plan_items.specs.declared.Item.TheVariants as item
@@ -15,21 +20,28 @@ use Rattle.plan_items.proofs.ItemLaws.{one_item}
 use Rattle.plan_model.specs.Contents.{Contents}
 use Rattle.plan_drafts.specs.declared.RowKey.{RowKey}
 use Rattle.plan_drafts.specs.declared.RowKey.TheVariants as key
-use Rattle.plan_drafts.specs.Records.{key_of, AreItemsOf, Denotes}
-use Rattle.plan_drafts.specs.PlanItems.{CanBeLoaded, Fits, IsNeedIn, IsPairIn, keys_said, occurrence_of}
+use Rattle.plan_drafts.specs.Records.{key_of, StandsIn, AreItemsOf, Denotes}
+use Rattle.plan_drafts.specs.PlanItems.{CanBeLoaded, Fits, IsNeedIn, IsPairIn, keys_said, needs_of, occurrence_of}
 use Rattle.plan_drafts.proofs.Lists.{in_filter, from_map}
-use Rattle.plan_drafts.proofs.Needed.{needed}
+use Rattle.plan_drafts.proofs.Needed.{mapped, needed}
+use Rattle.plan_drafts.proofs.ItemsHeld.{held_by_plan, occurrences_count}
+use Rattle.plan_drafts.proofs.Tables.{some_is}
 use Rattle.plan_drafts.proofs.Denoting.{are_denoted, denoted_items}
 use Rattle.plan_drafts.proofs.ItemKinds as kinds
-use Rattle.plan_drafts.proofs.ItemKinds.{workstations_in, intervals_in, resources_in, occurrences_in, operations_in, needs_in, pairs_in, key_in, key_out, read_in}
+use Rattle.plan_drafts.proofs.ItemKinds.{workstations_in, intervals_in, resources_in, occurrences_in, operations_in, needs_in, pairs_in, key_out, read_in, read_stands, so_many}
 use Rattle.plan_drafts.specs.PlanItems.{as_interval, as_operation, as_pair, as_need}
 use Rattle.record_faults.specs.declared.faults.Fault.{Fault}
 use Rattle.record_faults.specs.declared.faults.Fault.TheVariants as fault
 use Rattle.record_faults.specs.declared.names.Naming.{Naming}
 use Rattle.record_faults.specs.declared.names.Naming.TheVariants.{First, Second}
 use Rattle.record_faults.specs.Sayings.{Sayings, SaysOrNot, AreSayings, SaysAt, given, owner_of, owned, IsGiven, IsFirst}
-use Rattle.record_faults.specs.Faults.{name_of, IsSilent, IsRepetition, IsUndefined, IsUnused, IsFaultAt, DenoteSome}
+use Rattle.record_faults.specs.declared.groups.Group.{Group}
+use Rattle.record_faults.specs.declared.groups.Group.TheVariants as group
+use Rattle.record_faults.specs.Groups.{group_of, most_of, count_of}
+use Rattle.record_faults.specs.Faults.{name_of, IsSilent, IsRepetition, interval_said, IsOverlap, IsUndefined, IsUnused, IsCrowd, IsMissing, IsOwnFault, IsFaultAt, DenoteSome}
 use Rattle.record_faults.specs.Plans.{MakeSome, SaySome}
+use Rattle.record_faults.proofs.PlanIntervals.{opening_in_plan, apart_in_plan}
+use Rattle.record_faults.proofs.Limits.{groups_in, count_workstations, count_intervals, count_resources, count_occurrences, count_operations, count_pairs, count_needs}
 
 -- ---- records that all say something
 -- records that say these items say nothing else
@@ -74,6 +86,21 @@ pub items_more : (said : Sayings) (items : List Item) (i : ℕ) (o : Option Item
 items_more said items i o x lt is e h = let next : suc i ≡ i + 1 = omega arith in subst (λ n. take n said ≡ map Some (items ++ x ∷ [])) next (items_next said items i o x lt is e h)
 
 -- ---- places of items
+-- the item at a place that says an interval
+item_of_interval : (x : Item) (y : Name × OpenInterval) → as_interval x ≡ Some y → x ≡ item.Interval y.0 y.1
+item_of_interval (item.Interval w i) y e = ap (λ (q : Name × OpenInterval). item.Interval q.0 q.1) (same_Some (w, i) y e)
+item_of_interval x y e = absurd (none-some y e)
+
+read_interval : (items : List Item) (i : ℕ) (y : Name × OpenInterval) → interval_said (get_or {A = Option Item} (map Some items) i None) ≡ Some y → (slice_get items i ≡ Some (item.Interval y.0 y.1)) × ((d : Item) → get_or items i d ≡ item.Interval y.0 y.1)
+read_interval [] i y e = absurd (none-some y e)
+read_interval (x ∷ xs) zero y e = let is = item_of_interval x y e in (ap Some is, λ d. is)
+read_interval (x ∷ xs) (suc i) y e = read_interval xs i y e
+
+grouped_get : (items : List Item) (place : ℕ) (g : Group) → IsGiven (groups_in items) g place → (x : Item) × (slice_get items place ≡ Some x) × (group_of x ≡ g)
+grouped_get [] place g e = absurd (none-some (Some g) e)
+grouped_get (y ∷ ys) zero g e = (y, refl, same_Some (group_of y) g (same_Some (Some (group_of y)) (Some g) e))
+grouped_get (y ∷ ys) (suc place) g e = grouped_get ys place g e
+
 pub no_gap : (items : List Item) (place : ℕ) → slice_get {X = Option Item} (map Some items) place ≢ Some None
 no_gap [] place e = cc
 no_gap (x ∷ xs) zero e = cc
@@ -84,12 +111,17 @@ says_get [] place x e = cc
 says_get (y ∷ ys) zero x e = same_Some (Some y) (Some x) e
 says_get (y ∷ ys) (suc place) x e = says_get ys place x e
 
-given_get : (items : List Item) (place : ℕ) (k : RowKey) → IsGiven (given (map Some items)) k place → (x : Item) × (slice_get items place ≡ Some x) × (key_of x ≡ k)
+pub says_put : (items : List Item) (place : ℕ) (x : Item) → slice_get items place ≡ Some x → SaysAt (map Some items) place x
+says_put [] place x e = absurd (none-some x e)
+says_put (y ∷ ys) zero x e = ap Some e
+says_put (y ∷ ys) (suc place) x e = says_put ys place x e
+
+pub given_get : (items : List Item) (place : ℕ) (k : RowKey) → IsGiven (given (map Some items)) k place → (x : Item) × (slice_get items place ≡ Some x) × (key_of x ≡ k)
 given_get [] place k e = absurd (none-some (Some k) e)
 given_get (y ∷ ys) zero k e = (y, refl, same_Some (key_of y) k (same_Some (Some (key_of y)) (Some k) e))
 given_get (y ∷ ys) (suc place) k e = given_get ys place k e
 
-given_put : (items : List Item) (place : ℕ) (x : Item) → slice_get items place ≡ Some x → IsGiven (given (map Some items)) (key_of x) place
+pub given_put : (items : List Item) (place : ℕ) (x : Item) → slice_get items place ≡ Some x → IsGiven (given (map Some items)) (key_of x) place
 given_put [] place x e = absurd (none-some x e)
 given_put (y ∷ ys) zero x e = ap (λ z. Some (Some (key_of z))) (same_Some y x e)
 given_put (y ∷ ys) (suc place) x e = given_put ys place x e
@@ -181,12 +213,78 @@ module _ (items : List Item) (P : Contents) (are : AreItemsOf items P) where
       h.2 at.0 (owned_put items at.0 y.0 (key.Occurrence h.0) at.1 y.2)
   never_unused place _ h = h
 
-  pub no_fault : (records : List Fields) (place : ℕ) (f : Fault) → ¬ IsFaultAt records Said place f
-  no_fault records place f (inl h) = never_silent records place f h
-  no_fault records place f (inr (inl h)) = never_repeated place f h
-  no_fault records place f (inr (inr (inl h))) = never_undefined First place f h
-  no_fault records place f (inr (inr (inr (inl h)))) = never_undefined Second place f h
-  no_fault records place f (inr (inr (inr (inr h)))) = never_unused place f h
+  never_overlapping : (place : ℕ) (f : Fault) → ¬ IsOverlap Said place f
+  never_overlapping place (fault.Overlaps other) h =
+      let y = h.1.0 in
+      let z = h.1.1 in
+      let in_y = read_interval items other y h.1.2 in
+      let in_z = read_interval items place z h.1.3 in
+      let same : item.Interval z.0 z.1 ≡ item.Interval y.0 z.1 = ap (λ n. item.Interval n z.1) (sym h.1.4) in
+      let has = All-contains (λ q. Contains (keys_of (workstations_in items)) q.0) (intervals_in items) y can.workstations.no_others (in_filter as_interval items (item.Interval y.0 y.1) y (at_place items other (item.Interval y.0 y.1) in_y.0) refl) in
+      h.1.5 (apart_in_plan items can y.0 has other place (item.Interval y.0 y.1) y.1 z.1 h.0 (slice_get_within items place (item.Interval z.0 z.1) in_z.0) (in_y.1 (item.Interval y.0 y.1)) (in_z.1 (item.Interval y.0 y.1) ∙ same))
+  never_overlapping place _ h = h
+
+  -- no group has more than it may have: it is that of an item
+  within_limit : (x : Item) → Contains items x → count_of (group_of x) (groups_in items) ≤ most_of (group_of x)
+  within_limit (item.Workstation w a) has = let few = can.workstations.few in omega (arith, count_workstations items, few)
+  within_limit (item.Interval w x) has =
+      let named = All-contains (λ z. Contains (keys_of (workstations_in items)) z.0) (intervals_in items) (w, x) can.workstations.no_others (in_filter as_interval items (item.Interval w x) (w, x) has refl) in
+      let few = (opening_in_plan items can w named).few in
+      omega (arith, count_intervals w items, few)
+  within_limit (item.Resource r a) has = let few = can.resources.few in omega (arith, count_resources items, few)
+  within_limit (item.Occurrence c p d) has = let few = can.occurrences.few in omega (arith, count_occurrences items, few)
+  within_limit (item.Operation o) has = let few = can.operations.few in omega (arith, count_operations items, few)
+  within_limit (item.Dependency p s) has = let few = can.pairs.few in omega (arith, count_pairs items, few)
+  within_limit (item.Need o n) has =
+      let within = All-contains (IsNeedIn (keys_said (operations_in items)) (keys_of (resources_in items))) (needs_in items) (o, n) can.needs.within (in_filter as_need items (item.Need o n) (o, n) has refl) in
+      let row = from_map (λ (z : OperationItem). z.key) (operations_in items) o within.operation in
+      let few = All-contains (Fits (keys_of (workstations_in items)) (occurrences_in items) (needs_in items)) (operations_in items) row.0 can.operations.fit row.1 in
+      let le : length (needs_of o (needs_in items)) ≤ MOST_NEEDS = subst (λ z. length (needs_of z (needs_in items)) ≤ MOST_NEEDS) row.2 few.few_needs in
+      omega (arith, count_needs o items, le)
+
+  never_crowded : (place : ℕ) (f : Fault) → ¬ IsCrowd Said place f
+  never_crowded place (fault.TooMany g count) h =
+      let x = grouped_get items place g h.0.here in
+      let le = subst (λ z. count_of z (groups_in items) ≤ most_of z) x.2 (within_limit x.0 (at_place items place x.0 x.1)) in
+      let is = h.1 in
+      let more = h.2 in
+      omega (arith, le, is, more)
+  never_crowded place _ h = h
+
+  pub no_own_fault : (records : List Fields) (place : ℕ) (f : Fault) → ¬ IsOwnFault records Said place f
+  no_own_fault records place f (inl h) = never_silent records place f h
+  no_own_fault records place f (inr (inl h)) = never_repeated place f h
+  no_own_fault records place f (inr (inr (inl h))) = never_overlapping place f h
+  no_own_fault records place f (inr (inr (inr (inl h)))) = never_undefined First place f h
+  no_own_fault records place f (inr (inr (inr (inr (inl h))))) = never_undefined Second place f h
+  no_own_fault records place f (inr (inr (inr (inr (inr (inl h)))))) = never_unused place f h
+  no_own_fault records place f (inr (inr (inr (inr (inr (inr h)))))) = never_crowded place f h
+
+  -- nor is there none of a group of which there are some
+  never_missing : (g : Group) → 0 < count_of g (groups_in items) → (place : ℕ) (f : Fault) → ¬ IsMissing g Said place f
+  never_missing g some place (fault.Missing k) h = let none = h.2 in omega (arith, some, none)
+  never_missing g some place _ h = h
+
+  -- a plan has as many workstations and occurrences as its items say
+  pub workstations_count : length (workstations_in items) ≡ len P.workstations
+  workstations_count =
+      so_many kinds.workstations name_cmp_total name_cmp-IsAntisymmetric items are.are.distinct P.workstations
+      (λ y has. let ws = mapped (λ (ws : Workstation). ws.attribute) (get P.workstations y.0) y.1 (read_stands kinds.workstations (StandsIn P) items are.are.stand y has) in some_is (get P.workstations y.0) ws.0 ws.1)
+      (λ w. are.are.all (key.Workstation w))
+
+  pub occurrences_there : length (occurrences_in items) ≡ len P.occurrences
+  occurrences_there = occurrences_count (held_by_plan P are.draft items are.are)
+
+  some_workstation : 0 < len P.workstations → 0 < count_of group.Workstations (groups_in items)
+  some_workstation some = omega (arith, count_workstations items, workstations_count, some)
+
+  some_occurrence : 0 < len P.occurrences → 0 < count_of group.Occurrences (groups_in items)
+  some_occurrence some = omega (arith, count_occurrences items, occurrences_there, some)
+
+  pub no_fault : 0 < len P.workstations → 0 < len P.occurrences → (records : List Fields) (place : ℕ) (f : Fault) → ¬ IsFaultAt records Said place f
+  no_fault ws occ records place f (inl h) = no_own_fault records place f h
+  no_fault ws occ records place f (inr (inl h)) = never_missing group.Workstations (some_workstation ws) place f h
+  no_fault ws occ records place f (inr (inr h)) = never_missing group.Occurrences (some_occurrence occ) place f h
 
 -- ---- records that denote a plan
 module _ (records : List Fields) (said : Sayings) (are : AreSayings records said) where
@@ -204,7 +302,7 @@ module _ (records : List Fields) (said : Sayings) (are : AreSayings records said
   pub denoted_no_fault : DenoteSome records → (place : ℕ) (f : Fault) → ¬ IsFaultAt records said place f
   denoted_no_fault some place f =
       let s = say_denoted.1 some in
-      subst (λ z. ¬ IsFaultAt records z place f) (sym s.1) (no_fault s.0 s.2.0 s.2.1 records place f)
+      subst (λ z. ¬ IsFaultAt records z place f) (sym s.1) (no_fault s.0 s.2.0 s.2.1 s.2.2 s.2.3 records place f)
 
 -- whether sayings say a plan, by the items that they say
 pub say_of_items : {E : Type 0} (said : Sayings) (items : List Item) → said ≡ map Some items → (r : Result Bool E) → IfOk r (λ told. IsTrue told ↔ MakeSome items) → IfOk r (λ told. IsTrue told ↔ SaySome said)

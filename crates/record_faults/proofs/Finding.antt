@@ -1,6 +1,7 @@
 -- The faults that are told of a list of records are its faults, and there is none exactly where it denotes a plan.
-use Rattle.std.proofs.Common.{◌≡◌, ◌↔◌, ◌⊎◌, inl, inr, refl, sym, ap, ap₂, subst, ◌∙◌, true≢false, arith, ℕ, zero, suc, ◌+◌, ◌<◌, ◌≤◌, List, [], ◌∷◌, length, map, All, Contains, Option, Some, None, slice_get}
+use Rattle.std.proofs.Common.{◌≡◌, ◌↔◌, ◌⊎◌, inl, inr, refl, sym, ap, ap₂, subst, ◌∙◌, true, false, true≢false, eqb, Bool, IsTrue, arith, ℕ, zero, suc, ◌+◌, ◌<◌, ◌≤◌, List, [], ◌∷◌, length, map, All, Contains, Option, Some, None, slice_get}
 use Rattle.std.specs.List.{AllZip, AllPairs}
+use Rattle.std.proofs.lemmas.Bool.{eqb-true}
 use Rattle.std.proofs.lemmas.Option.{none-some, same_Some, slice_get_within}
 use Rattle.std.proofs.lemmas.List.Elements.{All-contains, All-nil}
 use Rattle.plan_basics.proofs.Members.{all_by_members, contains_head, contains_cases, contains_none}
@@ -18,8 +19,7 @@ use Rattle.record_faults.specs.declared.readings.Reading.{Reading}
 use Rattle.record_faults.specs.Sayings.{Sayings, SaysOrNot, AreSayings, SaysAt, PlacedKeys, IsGiven, given}
 use Rattle.record_faults.specs.Readings.{IsReadingOf}
 use Rattle.record_faults.specs.Plans.{SaySome}
-use Rattle.record_faults.specs.Faults.{IsSilent, IsRepetition, IsUndefined, IsUnused, IsFaultAt, AreFaultsBelow, IsOfAll, IsFaultOfRecord, IsFault, DenoteSome}
-use Rattle.record_faults.proofs.Telling.{zip_length}
+use Rattle.record_faults.specs.Faults.{IsFaultAt, AreFaults, IsReturning, IsFaultOfRecord, IsFault, DenoteSome}
 use Rattle.record_faults.proofs.Denoted.{say_denoted, denoted_no_fault}
 
 -- records say one thing at most
@@ -34,66 +34,51 @@ one_saying (r ∷ rs) (None ∷ xs) (Some y ∷ ys) h k = absurd (h.0 y k.0)
 one_saying (r ∷ rs) (Some x ∷ xs) (None ∷ ys) h k = absurd (k.0 x h.0)
 one_saying (r ∷ rs) (Some x ∷ xs) (Some y ∷ ys) h k = ap₂ (λ z zs. z ∷ zs) (ap Some (one_item r x y h.0 k.0)) (one_saying rs xs ys h.1 k.1)
 
--- ---- a fault of a record is at its place
-given_within : (said : Sayings) (k : RowKey) (place : ℕ) → IsGiven (given said) k place → place < length said
-given_within [] k place e = cc
-given_within (s ∷ said) k zero e = omega arith
-given_within (s ∷ said) k (suc place) e = let lt = given_within said k place e in omega (arith, lt)
-
-silent_within : (records : List Fields) (said : Sayings) (place : ℕ) (f : Fault) → IsSilent records said place f → place < length said
-silent_within records said place (fault.Shape s) h = slice_get_within said place None h.2
-silent_within records said place _ h = absurd h
-
-repetition_within : (said : Sayings) (place : ℕ) (f : Fault) → IsRepetition said place f → place < length said
-repetition_within said place (fault.Repeated k first) h = given_within said k place h.0
-repetition_within said place _ h = absurd h
-
-undefined_within : (naming : Naming) (said : Sayings) (place : ℕ) (f : Fault) → IsUndefined naming said place f → place < length said
-undefined_within naming said place (fault.Undefined k) h = slice_get_within said place (Some h.0) h.1
-undefined_within naming said place _ h = absurd h
-
-unused_within : (said : Sayings) (place : ℕ) (f : Fault) → IsUnused said place f → place < length said
-unused_within said place fault.NoOperation h = given_within said _ place h.1
-unused_within said place _ h = absurd h
-
-pub fault_within : (records : List Fields) (said : Sayings) (place : ℕ) (f : Fault) → IsFaultAt records said place f → place < length said
-fault_within records said place f (inl h) = silent_within records said place f h
-fault_within records said place f (inr (inl h)) = repetition_within said place f h
-fault_within records said place f (inr (inr (inl h))) = undefined_within First said place f h
-fault_within records said place f (inr (inr (inr (inl h)))) = undefined_within Second said place f h
-fault_within records said place f (inr (inr (inr (inr h)))) = unused_within said place f h
-
 -- ---- what is told
-module _ (records : List Fields) (r : Reading) (is : IsReadingOf records r) (faults : List RecordFault) (are : AreFaultsBelow records r.said.items (length r.said.items) faults) where
+module _ (records : List Fields) (r : Reading) (is : IsReadingOf records r) (faults : List RecordFault) (are : AreFaults records r.said.items faults) where
   pub are_faults : All (λ (f : RecordFault). IsFault records f.place f.fault) faults
-  are_faults = all_by_members (λ (f : RecordFault). IsFault records f.place f.fault) faults (λ f has. (r.said.items, is.said, inl ((are.exact f).0 has).1))
+  are_faults = all_by_members (λ (f : RecordFault). IsFault records f.place f.fault) faults (λ f has. (r.said.items, is.said, inl ((are.exact f).0 has)))
 
   pub each_is_told : (f : RecordFault) → IsFaultOfRecord records f.place f.fault → Contains faults f
   each_is_told f (said, says, at) =
-      let here = subst (λ z. IsFaultAt records z f.place f.fault) (one_saying records said r.said.items says is.said) at in
-      (are.exact f).1 (fault_within records r.said.items f.place f.fault here, here)
+      (are.exact f).1 (subst (λ z. IsFaultAt records z f.place f.fault) (one_saying records said r.said.items says is.said) at)
 
   -- where there are some, no plan is denoted
   pub some_fault : ¬ (faults ≡ []) → ¬ DenoteSome records
-  some_fault some denoted = some (no_members faults (λ f has. denoted_no_fault records r.said.items is.said denoted f.place f.fault ((are.exact f).0 has).1))
+  some_fault some denoted = some (no_members faults (λ f has. denoted_no_fault records r.said.items is.said denoted f.place f.fault ((are.exact f).0 has)))
 
   -- where there is none, none is of a record
   pub never : faults ≡ [] → (place : ℕ) (f : Fault) → ¬ IsFaultAt records r.said.items place f
   never none place f h =
       let one : RecordFault = record { place = place; fault = f } in
-      contains_none one (subst (λ z. Contains z one) none ((are.exact one).1 (fault_within records r.said.items place f h, h)))
+      contains_none one (subst (λ z. Contains z one) none ((are.exact one).1 h))
 
-  module _ (none : faults ≡ []) (not_some : ¬ SaySome r.said.items) where
-    pub alone_faults : (one : RecordFault) → one ≡ record { place = length r.said.items; fault = fault.NoPlan } → All (λ (f : RecordFault). IsFault records f.place f.fault) (one ∷ [])
-    alone_faults one e = all_by_members (λ (f : RecordFault). IsFault records f.place f.fault) (one ∷ []) (λ f has. elim (contains_cases one [] f has) [
-      | inl same ↦
-          subst (λ (z : RecordFault). IsFault records z.place z.fault) (sym e ∙ same)
-          (r.said.items, is.said, inr (refl, never none, λ denoted. not_some ((say_denoted records r.said.items is.said).1 denoted)))
+  module _ (none : faults ≡ []) where
+    pub alone_faults : (one : RecordFault) → IsReturning r.said.items one.place one.fault → All (λ (f : RecordFault). IsFault records f.place f.fault) (one ∷ [])
+    alone_faults one returning = all_by_members (λ (f : RecordFault). IsFault records f.place f.fault) (one ∷ []) (λ f has. elim (contains_cases one [] f has) [
+      | inl same ↦ subst (λ (z : RecordFault). IsFault records z.place z.fault) same (r.said.items, is.said, inr (never none, returning))
       | inr nowhere ↦ absurd (contains_none f nowhere)
     ])
 
     pub alone_each : (one f : RecordFault) → IsFaultOfRecord records f.place f.fault → Contains (one ∷ []) f
     alone_each one f h = absurd (contains_none f (subst (λ z. Contains z f) none (each_is_told f h)))
+
+-- one fault is told where no plan is denoted
+pub alone_none : (records : List Fields) (one : RecordFault) → ¬ DenoteSome records → (one ∷ [] ≡ []) ↔ DenoteSome records
+alone_none records one no_plan = (λ e. cc, λ denoted. absurd (no_plan denoted))
+
+-- whether a list is empty, by its length
+pub empty_told : {X : Type 0} (xs : List X) → true ≡ eqb (length xs) 0 → xs ≡ []
+empty_told [] e = refl
+empty_told (x ∷ xs) e = let none = eqb-true (length (x ∷ xs)) 0 (sym e) in absurd (omega (arith, none))
+
+pub some_told : {X : Type 0} (xs : List X) → false ≡ eqb (length xs) 0 → ¬ (xs ≡ [])
+some_told [] e empty = true≢false (sym e)
+some_told (x ∷ xs) e empty = cc
+
+-- what is told of whether records say a plan
+pub no_plan_told : (records : List Fields) (said read : Sayings) (told : Bool) → AreSayings records said → read ≡ said → (IsTrue told ↔ SaySome read) → told ≡ false → ¬ DenoteSome records
+no_plan_told records said read told are same says is_false denoted = true≢false (sym (says.1 (subst SaySome (sym same) ((say_denoted records said are).1 denoted))) ∙ is_false)
 
 -- one is in order
 pub one_in_order : (one : RecordFault) → AllPairs (λ (a : RecordFault) (b : RecordFault). a.place ≤ b.place) (one ∷ [])

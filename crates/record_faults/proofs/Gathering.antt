@@ -1,16 +1,25 @@
 -- Faults that are told one after another.
-use Rattle.std.proofs.Common.{◌≡◌, ◌≢◌, ◌↔◌, ◌⊎◌, inl, inr, refl, sym, ap, subst, ◌∙◌, arith, ℕ, zero, suc, ◌+◌, ◌<◌, ◌≤◌, List, [], ◌∷◌, ◌++◌, length, map, take, get_or, slice_get, All, Contains, Option, Some, None, MatchOption}
+use Rattle.std.proofs.Common.{◌≡◌, ◌≢◌, ◌↔◌, ◌⊎◌, inl, inr, refl, sym, ap, subst, ◌∙◌, arith, ℕ, zero, suc, ◌+◌, ◌<◌, ◌≤◌, List, [], ◌∷◌, ◌++◌, length, map, take, get_or, slice_get, All, Contains, Option, Some, None, MatchOption, Result, Ok, Err}
 use Rattle.std.specs.List.{AllZip, AllPairs}
+use Rattle.std.specs.Prelude.{OnOk}
 use Rattle.std.proofs.lemmas.Bool.{cases_lt}
-use Rattle.std.proofs.lemmas.Option.{none-some, same_Some, slice_get-get_or}
+use Rattle.std.proofs.lemmas.Option.{none-some, same_Some, slice_get-get_or, slice_get_within}
 use Rattle.std.proofs.lemmas.List.Elements.{All-nil, All-contains, Contains-append_left, Contains-append_right, Contains-append_cases}
 use Rattle.plan_basics.proofs.Members.{all_by_members, contains_head, contains_later, contains_cases, contains_none}
 use Rattle.plan_drafts.proofs.Lists.{Differ, differ_from_pairs, pairs_from_differ}
 use Rattle.record_faults.specs.declared.faults.Fault.{Fault}
 use Rattle.record_faults.specs.declared.faults.RecordFault.{RecordFault}
 use Rattle.plan_items.specs.Items.{Fields}
-use Rattle.record_faults.specs.Sayings.{Sayings}
-use Rattle.record_faults.specs.Faults.{IsAnswer, IsFaultAt, AreInOrderTo, AreFaultsBelow}
+use Rattle.plan_drafts.specs.declared.RowKey.{RowKey}
+use Rattle.record_faults.specs.declared.faults.Fault.TheVariants as fault
+use Rattle.record_faults.specs.declared.names.Naming.{Naming}
+use Rattle.record_faults.specs.declared.names.Naming.TheVariants.{First, Second}
+use Rattle.record_faults.specs.declared.groups.Group.{Group}
+use Rattle.record_faults.specs.declared.groups.Group.TheVariants as group
+use Rattle.record_faults.specs.Groups.{grouped}
+use Rattle.record_faults.specs.Sayings.{Sayings, IsGiven, given}
+use Rattle.record_faults.proofs.Overlapping.{no_second}
+use Rattle.record_faults.specs.Faults.{IsAnswer, IsSilent, IsRepetition, interval_said, IsOverlap, IsUndefined, IsUnused, IsCrowd, IsMissing, IsOwnFault, IsFaultAt, AreInOrderTo, AreFaultsBelow, AreFaults}
 
 -- what is read of a list within it
 pub at_read : {X : Type 0} (xs : List X) (i : ℕ) (d v : X) → i < length xs → get_or xs i d ≡ v → slice_get xs i ≡ Some v
@@ -86,36 +95,12 @@ pub told_is : (P : Fault → Type 0) (found : Option Fault) → IsAnswer P found
 told_is P None answer g = (λ e. absurd (none-some g e), λ h. absurd (answer g h))
 told_is P (Some f) answer g = (λ e. subst P (same_Some f g e) answer.0, λ h. ap Some (sym (answer.1 g h)))
 
--- five are told one after another
-module _ {A B C D E P V0 V1 V2 V3 V4 V5 : Type 0} (a : V1 ↔ (V0 ⊎ (P × A))) (b : V2 ↔ (V1 ⊎ (P × B))) (c : V3 ↔ (V2 ⊎ (P × C))) (d : V4 ↔ (V3 ⊎ (P × D))) (e : V5 ↔ (V4 ⊎ (P × E))) where
-  to_five : V5 → V0 ⊎ (P × (A ⊎ B ⊎ C ⊎ D ⊎ E))
-  to_five v = elim (e.0 v) [
-    | inr h ↦ inr (h.0, inr (inr (inr (inr h.1))))
-    | inl v4 ↦ elim (d.0 v4) [
-      | inr h ↦ inr (h.0, inr (inr (inr (inl h.1))))
-      | inl v3 ↦ elim (c.0 v3) [
-        | inr h ↦ inr (h.0, inr (inr (inl h.1)))
-        | inl v2 ↦ elim (b.0 v2) [
-          | inr h ↦ inr (h.0, inr (inl h.1))
-          | inl v1 ↦ elim (a.0 v1) [ inr h ↦ inr (h.0, inl h.1) | inl v0 ↦ inl v0 ]
-        ]
-      ]
-    ]
-  ]
-
-  from_one : V1 → V5
-  from_one v = e.1 (inl (d.1 (inl (c.1 (inl (b.1 (inl v)))))))
-
-  from_five : V0 ⊎ (P × (A ⊎ B ⊎ C ⊎ D ⊎ E)) → V5
-  from_five (inl v) = from_one (a.1 (inl v))
-  from_five (inr (p, inl h)) = from_one (a.1 (inr (p, h)))
-  from_five (inr (p, inr (inl h))) = e.1 (inl (d.1 (inl (c.1 (inl (b.1 (inr (p, h))))))))
-  from_five (inr (p, inr (inr (inl h)))) = e.1 (inl (d.1 (inl (c.1 (inr (p, h))))))
-  from_five (inr (p, inr (inr (inr (inl h))))) = e.1 (inl (d.1 (inr (p, h))))
-  from_five (inr (p, inr (inr (inr (inr h))))) = e.1 (inr (p, h))
-
-  pub five : V5 ↔ (V0 ⊎ (P × (A ⊎ B ⊎ C ⊎ D ⊎ E)))
-  five = (to_five, from_five)
+-- what two tell one after another
+pub more : {V0 V1 V2 P A B : Type 0} → (V1 ↔ (V0 ⊎ (P × A))) → (V2 ↔ (V1 ⊎ (P × B))) → V2 ↔ (V0 ⊎ (P × (A ⊎ B)))
+more a b = (
+  λ v. elim (b.0 v) [ inr h ↦ inr (h.0, inr h.1) | inl before ↦ elim (a.0 before) [ inr h ↦ inr (h.0, inl h.1) | inl first ↦ inl first ] ],
+  elim [ inl first ↦ b.1 (inl (a.1 (inl first))) | inr h ↦ elim h.1 [ inl x ↦ b.1 (inl (a.1 (inr (h.0, x)))) | inr y ↦ b.1 (inr (h.0, y)) ] ],
+)
 
 -- what is told of a fault, by its property
 pub by_property : {N V Q X : Type 0} {R : Type 0} → (N ↔ (V ⊎ (Q × X))) → (X ↔ R) → N ↔ (V ⊎ (Q × R))
@@ -132,17 +117,108 @@ module _ (records : List Fields) (said : Sayings) (n : ℕ) (old new : List Reco
   pub in_order_to : AreInOrderTo n old
   in_order_to = record { in_order = are.in_order; within = all_by_members (λ (a : RecordFault). a.place ≤ n) old (λ a has. let lt = ((are.exact a).0 has).0 in omega (arith, lt)) }
 
-  pub place_more : ((f : RecordFault) → Contains new f ↔ (Contains old f ⊎ ((f.place ≡ n) × IsFaultAt records said n f.fault))) → (AreInOrderTo n old → AreInOrderTo n new) → AreFaultsBelow records said (n + 1) new
+  pub place_more : ((f : RecordFault) → Contains new f ↔ (Contains old f ⊎ ((f.place ≡ n) × IsOwnFault records said n f.fault))) → (AreInOrderTo n old → AreInOrderTo n new) → AreFaultsBelow records said (n + 1) new
   place_more told ordered = record {
     exact = λ f. (
       λ has. elim ((told f).0 has) [
         | inl before ↦ let h = (are.exact f).0 before in let lt = h.0 in (omega (arith, lt), h.1)
-        | inr here ↦ let at = here.0 in (omega (arith, at), subst (λ m. IsFaultAt records said m f.fault) (sym at) here.1)
+        | inr here ↦ let at = here.0 in (omega (arith, at), subst (λ m. IsOwnFault records said m f.fault) (sym at) here.1)
       ],
       λ h. let lt = h.0 in elim (cases_lt f.place n) [
         | inl less ↦ (told f).1 (inl ((are.exact f).1 (less, h.1)))
-        | inr more ↦ let at : f.place ≡ n = omega (arith, lt, more) in (told f).1 (inr (at, subst (λ m. IsFaultAt records said m f.fault) at h.1))
+        | inr more ↦ let at : f.place ≡ n = omega (arith, lt, more) in (told f).1 (inr (at, subst (λ m. IsOwnFault records said m f.fault) at h.1))
       ],
     );
     in_order = (ordered in_order_to).in_order;
   }
+
+-- ---- the faults of records are at their places
+given_within : (said : Sayings) (k : RowKey) (place : ℕ) → IsGiven (given said) k place → place < length said
+given_within [] k place e = cc
+given_within (s ∷ said) k zero e = omega arith
+given_within (s ∷ said) k (suc place) e = let lt = given_within said k place e in omega (arith, lt)
+
+grouped_within : (said : Sayings) (g : Group) (place : ℕ) → IsGiven (grouped said) g place → place < length said
+grouped_within [] g place e = cc
+grouped_within (s ∷ said) g zero e = omega arith
+grouped_within (s ∷ said) g (suc place) e = let lt = grouped_within said g place e in omega (arith, lt)
+
+-- past the end of a list there is nothing
+past : (said : Sayings) (i : ℕ) → length said ≤ i → get_or said i None ≡ None
+past [] i le = refl
+past (x ∷ said) zero le = absurd (omega arith)
+past (x ∷ said) (suc i) le = past said i (omega arith)
+
+silent_within : (records : List Fields) (said : Sayings) (place : ℕ) (f : Fault) → IsSilent records said place f → place < length said
+silent_within records said place (fault.Shape s) h = slice_get_within said place None h.2
+silent_within records said place _ h = absurd h
+
+repetition_within : (said : Sayings) (place : ℕ) (f : Fault) → IsRepetition said place f → place < length said
+repetition_within said place (fault.Repeated k first) h = given_within said k place h.0
+repetition_within said place _ h = absurd h
+
+overlap_within : (said : Sayings) (place : ℕ) (f : Fault) → IsOverlap said place f → place < length said
+overlap_within said place (fault.Overlaps other) h = elim (cases_lt place (length said)) [
+  | inl lt ↦ lt
+  | inr le ↦ absurd (no_second (get_or said other None) (get_or said place None) (ap interval_said (past said place le)) h.1)
+]
+overlap_within said place _ h = absurd h
+
+undefined_within : (naming : Naming) (said : Sayings) (place : ℕ) (f : Fault) → IsUndefined naming said place f → place < length said
+undefined_within naming said place (fault.Undefined k) h = slice_get_within said place (Some h.0) h.1
+undefined_within naming said place _ h = absurd h
+
+unused_within : (said : Sayings) (place : ℕ) (f : Fault) → IsUnused said place f → place < length said
+unused_within said place fault.NoOperation h = given_within said _ place h.1
+unused_within said place _ h = absurd h
+
+crowd_within : (said : Sayings) (place : ℕ) (f : Fault) → IsCrowd said place f → place < length said
+crowd_within said place (fault.TooMany g count) h = grouped_within said g place h.0.here
+crowd_within said place _ h = absurd h
+
+pub own_within : (records : List Fields) (said : Sayings) (place : ℕ) (f : Fault) → IsOwnFault records said place f → place < length said
+own_within records said place f (inl h) = silent_within records said place f h
+own_within records said place f (inr (inl h)) = repetition_within said place f h
+own_within records said place f (inr (inr (inl h))) = overlap_within said place f h
+own_within records said place f (inr (inr (inr (inl h)))) = undefined_within First said place f h
+own_within records said place f (inr (inr (inr (inr (inl h))))) = undefined_within Second said place f h
+own_within records said place f (inr (inr (inr (inr (inr (inl h)))))) = unused_within said place f h
+own_within records said place f (inr (inr (inr (inr (inr (inr h)))))) = crowd_within said place f h
+
+-- ---- after all places
+missing_at : (g : Group) (said : Sayings) (place : ℕ) (f : Fault) → IsMissing g said place f → place ≡ length said
+missing_at g said place (fault.Missing k) h = h.1
+missing_at g said place _ h = absurd h
+
+-- what is told after all places, by its property
+pub missing_told : {N V : Type 0} (g : Group) (said : Sayings) (place : ℕ) (f : Fault) → (N ↔ (V ⊎ ((place ≡ length said) × IsMissing g said (length said) f))) → N ↔ (V ⊎ IsMissing g said place f)
+missing_told g said place f h = (
+  λ n. elim (h.0 n) [ inl v ↦ inl v | inr m ↦ inr (subst (λ k. IsMissing g said k f) (sym m.0) m.1) ],
+  elim [ inl v ↦ h.1 (inl v) | inr m ↦ let at = missing_at g said place f m in h.1 (inr (at, subst (λ k. IsMissing g said k f) at m)) ],
+)
+
+pub all_told :
+    (records : List Fields) (said : Sayings) (below more all : List RecordFault) → AreFaultsBelow records said (length said) below →
+    ((f : RecordFault) → Contains more f ↔ (Contains below f ⊎ IsMissing group.Workstations said f.place f.fault)) → (AreInOrderTo (length said) below → AreInOrderTo (length said) more) →
+    ((f : RecordFault) → Contains all f ↔ (Contains more f ⊎ IsMissing group.Occurrences said f.place f.fault)) → (AreInOrderTo (length said) more → AreInOrderTo (length said) all) → AreFaults records said all
+all_told records said below more all are first first_ordered second second_ordered = record {
+  exact = λ f. (
+    λ has. elim ((second f).0 has) [
+      | inr m ↦ inr (inr m)
+      | inl in_more ↦ elim ((first f).0 in_more) [ inr m ↦ inr (inl m) | inl in_below ↦ inl ((are.exact f).0 in_below).1 ]
+    ],
+    elim [
+      | inl own ↦ (second f).1 (inl ((first f).1 (inl ((are.exact f).1 (own_within records said f.place f.fault own, own)))))
+      | inr m ↦ elim m [ inl w ↦ (second f).1 (inl ((first f).1 (inr w))) | inr o ↦ (second f).1 (inr o) ]
+    ],
+  );
+  in_order = (second_ordered (first_ordered (in_order_to records said (length said) below below are))).in_order;
+}
+
+-- what is told is that there is none of the group
+pub tell_after :
+    {E : Type 0} (g : Group) (items said : Sayings) → said ≡ items → (old new : List RecordFault) (found : Option Fault) → IsAnswer (IsMissing g said (length said)) found → (r : Result (Unit {0}) E) →
+    OnOk r ((f : RecordFault) → Contains new f ↔ (Contains old f ⊎ ((f.place ≡ length said) × (found ≡ Some f.fault)))) →
+    OnOk r ((f : RecordFault) → Contains new f ↔ (Contains old f ⊎ IsMissing g items f.place f.fault))
+tell_after g items said same old new found answer (Ok u) told = λ f. missing_told g items f.place f.fault (subst (λ z. Contains new f ↔ (Contains old f ⊎ ((f.place ≡ length z) × IsMissing g z (length z) f.fault))) same (by_property (told f) (told_is (IsMissing g said (length said)) found answer f.fault)))
+tell_after g items said same old new found answer (Err e) told = told

@@ -13,11 +13,11 @@ use Rattle.plan_drafts.proofs.Tables.{itself}
 use Rattle.record_faults.specs.Sayings.{PlacedKeys, IsGiven, IsFirst, IsNowhere, place_in, IsIndexBelow, IsIndex}
 
 -- two keys that one place gives are the same
-pub one_given : (keys : PlacedKeys) (i : ℕ) (a b : RowKey) → IsGiven keys a i → IsGiven keys b i → a ≡ b
+pub one_given : {K : Type 0} (keys : List (Option K)) (i : ℕ) (a b : K) → IsGiven keys a i → IsGiven keys b i → a ≡ b
 one_given keys i a b at_a at_b = same_Some a b (same_Some (Some a) (Some b) (sym at_a ∙ at_b))
 
 -- a place that gives none gives no key
-pub none_given : (keys : PlacedKeys) (i : ℕ) (k : RowKey) → slice_get keys i ≡ Some None → ¬ IsGiven keys k i
+pub none_given : {K : Type 0} (keys : List (Option K)) (i : ℕ) (k : K) → slice_get keys i ≡ Some None → ¬ IsGiven keys k i
 none_given keys i k none at = none-some k (same_Some None (Some k) (sym none ∙ at))
 
 -- an empty map is that of no places

@@ -19,7 +19,9 @@ use Rattle.record_faults.specs.declared.kinds.Shape.TheVariants as shape
 use Rattle.record_faults.specs.declared.names.Naming.{Naming}
 use Rattle.record_faults.specs.Shapes.{text_at, letter_of, forms_of, IsOfKind, IsFirstUnread, IsShapeFault}
 use Rattle.record_faults.specs.Sayings.{texts_of, Sayings, SaysOrNot, AreSayings, SaysAt, PlacedKeys, given, owned, IsGiven, IsFirst, IsNowhere}
-use Rattle.record_faults.specs.Faults.{name_of, IsSilent, IsRepetition, IsUndefined, IsUnused, IsAnswer}
+use Rattle.record_faults.specs.declared.groups.Group.{Group}
+use Rattle.record_faults.specs.Groups.{grouped, most_of, count_of, IsLast}
+use Rattle.record_faults.specs.Faults.{name_of, IsSilent, IsRepetition, IsUndefined, IsUnused, IsCrowd, IsMissing, IsAnswer}
 use Rattle.record_faults.proofs.Indexes.{one_given, none_given}
 
 -- ---- lists side by side
@@ -203,3 +205,46 @@ module _ (said : Sayings) (place : ℕ) where
 
     pub unused : IsNowhere (owned said) (key.Occurrence c) → IsAnswer (IsUnused said place) (Some fault.NoOperation)
     unused nowhere = ((c, here, nowhere), one_unused)
+
+-- ---- more of a group than there may be
+module _ (said : Sayings) (place : ℕ) where
+  pub not_grouped : slice_get (grouped said) place ≡ Some None → IsAnswer (IsCrowd said place) None
+  not_grouped e (fault.TooMany g count) h = none_given (grouped said) place g e h.0.here
+  not_grouped e _ h = h
+
+  module _ (g : Group) (here : IsGiven (grouped said) g place) where
+    same_group : (k : Group) → IsGiven (grouped said) k place → k ≡ g
+    same_group k at = one_given (grouped said) place k g at here
+
+    pub not_first : (p : ℕ) → IsLast (grouped said) place g p → IsAnswer (IsCrowd said place) None
+    not_first p last (fault.TooMany k count) h = h.0.none_before p last.before (subst (λ z. IsGiven (grouped said) z p) (sym (same_group k h.0.here)) last.here)
+    not_first p last _ h = h
+
+    pub few : count_of g (grouped said) ≤ most_of g → IsAnswer (IsCrowd said place) None
+    few le (fault.TooMany k count) h =
+        let more : most_of g < count_of g (grouped said) = subst (λ z. most_of z < count_of z (grouped said)) (same_group k h.0.here) (let lt = h.2 in subst (λ n. most_of k < n) h.1 lt) in
+        omega (arith, le, more)
+    few le _ h = h
+
+    pub crowded : (count : ℕ) → ((i : ℕ) → i < place → ¬ IsGiven (grouped said) g i) → count ≡ count_of g (grouped said) → most_of g < count → IsAnswer (IsCrowd said place) (Some (fault.TooMany g count))
+    crowded count none is more = ((record { here = here; none_before = none }, is, more), one)
+      where
+        one : (f : Fault) → IsCrowd said place f → f ≡ fault.TooMany g count
+        one (fault.TooMany k n) h =
+            let same = same_group k h.0.here in
+            let counts : n ≡ count = h.1 ∙ ap (λ z. count_of z (grouped said)) same ∙ sym is in
+            λ i. fault.TooMany (same i) (counts i)
+        one _ h = absurd h
+
+-- ---- none of a group
+module _ (g : Group) (said : Sayings) where
+  pub not_missing : 0 < count_of g (grouped said) → IsAnswer (IsMissing g said (length said)) None
+  not_missing some (fault.Missing k) h = let none = h.2 in omega (arith, some, none)
+  not_missing some _ h = h
+
+  pub is_missing : count_of g (grouped said) ≡ 0 → IsAnswer (IsMissing g said (length said)) (Some (fault.Missing g))
+  is_missing none = ((refl, refl, none), one)
+    where
+      one : (f : Fault) → IsMissing g said (length said) f → f ≡ fault.Missing g
+      one (fault.Missing k) h = ap (λ z. fault.Missing z) h.0
+      one _ h = absurd h

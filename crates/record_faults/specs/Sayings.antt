@@ -55,16 +55,16 @@ abbrev pub owned : Sayings → PlacedKeys
 owned said = map (λ o. option_and_then owner_of o) said
 
 -- the place gives the key
-abbrev pub IsGiven : PlacedKeys → RowKey → ℕ → Type 0
+abbrev pub IsGiven : {K : Type 0} → List (Option K) → K → ℕ → Type 0
 IsGiven keys k place = slice_get keys place ≡ Some (Some k)
 
 -- the place is the first that gives the key
-pub record IsFirst (keys : PlacedKeys) (k : RowKey) (place : ℕ) : Type 0 where
+pub record IsFirst {K : Type 0} (keys : List (Option K)) (k : K) (place : ℕ) : Type 0 where
   pub here : IsGiven keys k place
   pub none_before : (i : ℕ) → i < place → ¬ IsGiven keys k i
 
 -- no place gives the key
-abbrev pub IsNowhere : PlacedKeys → RowKey → Type 0
+abbrev pub IsNowhere : {K : Type 0} → List (Option K) → K → Type 0
 IsNowhere keys k = (i : ℕ) → ¬ IsGiven keys k i
 
 -- the place that a map has for a key

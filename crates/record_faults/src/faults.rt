@@ -1,5 +1,6 @@
 // A fault, and its place.
 
+use super::groups::Group;
 use super::kinds::Shape;
 use plan_drafts::RowKey;
 
@@ -14,10 +15,14 @@ pub enum Fault {
     Undefined(RowKey),
     /// It says an occurrence of which no record says an operation.
     NoOperation,
-    /// No record has a fault, and the records denote no plan all the same: intervals of a workstation overlap, a path of
-    /// dependencies returns, there are more of a kind than there may be, or there is no workstation or no occurrence. It
-    /// stands after all records.
-    NoPlan,
+    /// It says an interval that overlaps another of the same workstation, which the record at this place says.
+    Overlaps(usize),
+    /// It is the first of its group, of which there are so many: more than a plan may hold.
+    TooMany(Group, usize),
+    /// There is none of this group, of which a plan has at least one. It stands after all records.
+    Missing(Group),
+    /// It says a dependency that closes a path which returns to its start. Told where there is no other fault.
+    Returns,
 }
 
 /// A fault, and the place of its record: how many records are before it.

@@ -1,9 +1,12 @@
 // The fault of each kind that a place may have.
 ghost use Rattle.std.specs.Prelude.{◌≡◌, ◌<◌, length};
-ghost use Rattle.record_faults.specs.Faults.{IsSilent, IsRepetition, IsUndefined, IsUnused, IsAnswer};
+ghost use Rattle.record_faults.specs.Faults.{IsSilent, IsRepetition, IsUndefined, IsUnused, IsCrowd, IsMissing, IsAnswer};
+ghost use Rattle.record_faults.specs.Groups.{grouped, AreCounts, AreEarlier};
 ghost use Rattle.record_faults.specs.Sayings.{texts_of, AreSayings, given, owned, IsIndex};
 
+use super::counts::{Counts, count_in, excess};
 use super::faults::Fault;
+use super::groups::Group;
 use super::index::{Index, first_place};
 use super::names::{Naming, named};
 use super::sayings::Fields;
@@ -81,4 +84,42 @@ pub fn unused(
         Some(_) => None,
         None => Some(Fault::NoOperation),
     }
+}
+
+// That it is the first of its group, and there are more than a plan may hold.
+pub fn crowd(
+    groups: &[Option<Group>],
+    counts: &Counts,
+    earlier: &[Option<usize>],
+    said: &[Option<Item>],
+    place: usize,
+) -> Option<Fault>
+    requires groups { groups.now ≡ grouped said.now }
+    requires counts { AreCounts (grouped said.now) counts.now }
+    requires size { length earlier.now ≡ length groups.now }
+    requires earlier { AreEarlier (grouped said.now) earlier.now }
+    requires place { place < length groups.now }
+    ensures { IsAnswer (IsCrowd said.now place) result }
+{
+    let Some(group) = groups[place] else {
+        return None;
+    };
+    let None = earlier[place] else {
+        return None;
+    };
+    match excess(counts, &group) {
+        Some(count) => Some(Fault::TooMany(group, count)),
+        None => None,
+    }
+}
+
+// That no record is of this group.
+pub fn missing(group: Group, counts: &Counts, said: &[Option<Item>]) -> Option<Fault>
+    requires counts { AreCounts (grouped said.now) counts.now }
+    ensures { IsAnswer (IsMissing group said.now (length said.now)) result }
+{
+    if count_in(counts, &group) > 0 {
+        return None;
+    }
+    Some(Fault::Missing(group))
 }
