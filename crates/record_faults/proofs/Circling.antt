@@ -24,6 +24,12 @@ pub zip_last : {A B : Type 0} (R : A → B → Type 0) (xs : List A) (ys : List 
 zip_last R xs ys i x y lt is all one =
     subst (λ zs. AllZip R zs (ys ++ y ∷ [])) (map_same (take (i + 1) xs)) (zip_more R (λ z. z) xs ys i x y lt is (subst (λ zs. AllZip R zs ys) (sym (map_same (take i xs))) all) one)
 
+-- what is read of a list within it, whatever is read past its end
+pub whatever_default : {X : Type 0} (xs : List X) (i : ℕ) (d r : X) → i < length xs → get_or xs i d ≡ get_or xs i r
+whatever_default [] i d r lt = absurd (omega (arith, lt))
+whatever_default (x ∷ xs) zero d r lt = refl
+whatever_default (x ∷ xs) (suc i) d r lt = whatever_default xs i d r (omega (arith, lt))
+
 -- ---- places of operations
 -- a key has one first place, and a place gives one operation's key
 pub same_first : {K : Type 0} (keys : List (Option K)) (k : K) (a b : ℕ) → IsFirst keys k a → IsFirst keys k b → a ≡ b

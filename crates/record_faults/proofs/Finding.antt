@@ -68,13 +68,13 @@ pub alone_none : (records : List Fields) (one : RecordFault) → ¬ DenoteSome r
 alone_none records one no_plan = (λ e. cc, λ denoted. absurd (no_plan denoted))
 
 -- whether a list is empty, by its length
-pub empty_told : {X : Type 0} (xs : List X) → true ≡ eqb (length xs) 0 → xs ≡ []
-empty_told [] e = refl
-empty_told (x ∷ xs) e = let none = eqb-true (length (x ∷ xs)) 0 (sym e) in absurd (omega (arith, none))
+pub empty_told : {X : Type 0} (xs : List X) (n : ℕ) → n ≡ length xs → true ≡ eqb n 0 → xs ≡ []
+empty_told [] n size e = refl
+empty_told (x ∷ xs) n size e = let none = eqb-true n 0 (sym e) in absurd (omega (arith, none, size))
 
-pub some_told : {X : Type 0} (xs : List X) → false ≡ eqb (length xs) 0 → ¬ (xs ≡ [])
-some_told [] e empty = true≢false (sym e)
-some_told (x ∷ xs) e empty = cc
+pub some_told : {X : Type 0} (xs : List X) (n : ℕ) → n ≡ length xs → false ≡ eqb n 0 → ¬ (xs ≡ [])
+some_told [] n size e empty = let none : n ≡ 0 = size in true≢false (sym (ap (λ k. eqb k 0) none) ∙ sym e)
+some_told (x ∷ xs) n size e empty = cc
 
 -- what is told of whether records say a plan
 pub no_plan_told : (records : List Fields) (said read : Sayings) (told : Bool) → AreSayings records said → read ≡ said → (IsTrue told ↔ SaySome read) → told ≡ false → ¬ DenoteSome records

@@ -13,3 +13,4 @@ pub mod Sorting
 pub mod Loading
 pub mod Circling
 pub mod Whole
+pub mod Returning

@@ -1,4 +1,4 @@
-use Rattle.std.proofs.Common.{◌≡◌, ◌↔◌, ◌≤◌, sym, subst, [], List, All, Contains}
+use Rattle.std.proofs.Common.{◌≡◌, ◌↔◌, ◌≤◌, sym, subst, arith, [], List, All, Contains}
 use Rattle.std.specs.List.{AllPairs}
 use Rattle.record_faults.specs.declared.faults.RecordFault.{RecordFault}
 use Rattle.record_faults.specs.Sayings.{texts_of}
@@ -17,25 +17,25 @@ returns-then-branch-clause-none c = (
   λ denoted. c.new.ensures.items,
 )
 
-pub returning-requires-then-is_empty-clause-faultless : goal.returning-requires-then-is_empty-clause-faultless
-returning-requires-then-is_empty-clause-faultless c =
+pub returning-requires-clause-faultless : goal.returning-requires-clause-faultless
+returning-requires-clause-faultless c =
     let is = c.in_ok-reading.ensures (texts_of c.args.records.now) c.in_ok-said.ensures in
-    never (texts_of c.args.records.now) c.in_ok-reading.reading is c.in_ok-faults.faults.items c.in_ok-faults.ensures (empty_told c.in_ok-faults.faults.items c.if-is_empty.ensures)
+    never (texts_of c.args.records.now) c.in_ok-reading.reading is c.in_ok-faults.faults.items c.in_ok-faults.ensures (empty_told c.in_ok-faults.faults.items c.in_ok-faults.faults.len (omega (arith, c.in_ok-faults.faults.ok.0)) c.if-is_empty.ensures)
 
-pub returning-requires-then-is_empty-clause-no_plan : goal.returning-requires-then-is_empty-clause-no_plan
-returning-requires-then-is_empty-clause-no_plan c = no_plan_told (texts_of c.args.records.now) c.in_ok-said.said.items c.deref.result.now c.in_ok-say_some.field-0 c.in_ok-said.ensures c.deref.ensures.value c.in_ok-say_some.ensures c.if-branch.false
+pub returning-requires-clause-no_plan : goal.returning-requires-clause-no_plan
+returning-requires-clause-no_plan c = no_plan_told (texts_of c.args.records.now) c.in_ok-said.said.items c.deref.result.now c.in_ok-say_some.field-0 c.in_ok-said.ensures c.deref.ensures.value c.in_ok-say_some.ensures c.if-branch.false
 
 pub returns-then-is_empty-clause-faults : goal.returns-then-is_empty-clause-faults
 returns-then-is_empty-clause-faults c =
     let is = c.in_ok-reading.ensures (texts_of c.args.records.now) c.in_ok-said.ensures in
-    let alone = alone_faults (texts_of c.args.records.now) c.in_ok-reading.reading is c.in_ok-faults.faults.items c.in_ok-faults.ensures (empty_told c.in_ok-faults.faults.items c.if-is_empty.ensures) c.in_ok-fault.fault c.in_ok-fault.ensures in
+    let alone = alone_faults (texts_of c.args.records.now) c.in_ok-reading.reading is c.in_ok-faults.faults.items c.in_ok-faults.ensures (empty_told c.in_ok-faults.faults.items c.in_ok-faults.faults.len (omega (arith, c.in_ok-faults.faults.ok.0)) c.if-is_empty.ensures) c.in_ok-fault.fault c.in_ok-fault.ensures in
     subst (All (λ (f : RecordFault). IsFault (texts_of c.args.records.now) f.place f.fault)) (sym c.in_ok-alone.ensures.items) alone
 
 pub returns-then-is_empty-clause-each : goal.returns-then-is_empty-clause-each
 returns-then-is_empty-clause-each c = λ f h.
     let is = c.in_ok-reading.ensures (texts_of c.args.records.now) c.in_ok-said.ensures in
     subst (λ xs. Contains xs f) (sym c.in_ok-alone.ensures.items)
-    (alone_each (texts_of c.args.records.now) c.in_ok-reading.reading is c.in_ok-faults.faults.items c.in_ok-faults.ensures (empty_told c.in_ok-faults.faults.items c.if-is_empty.ensures) c.in_ok-fault.fault f h)
+    (alone_each (texts_of c.args.records.now) c.in_ok-reading.reading is c.in_ok-faults.faults.items c.in_ok-faults.ensures (empty_told c.in_ok-faults.faults.items c.in_ok-faults.faults.len (omega (arith, c.in_ok-faults.faults.ok.0)) c.if-is_empty.ensures) c.in_ok-fault.fault f h)
 
 pub returns-then-is_empty-clause-none : goal.returns-then-is_empty-clause-none
 returns-then-is_empty-clause-none c =
@@ -54,7 +54,7 @@ returns-clause-each c = each_is_told (texts_of c.args.records.now) c.in_ok-readi
 pub returns-clause-none : goal.returns-clause-none
 returns-clause-none c =
     let is = c.in_ok-reading.ensures (texts_of c.args.records.now) c.in_ok-said.ensures in
-    let some = some_told c.in_ok-faults.faults.items c.if-is_empty.ensures in
+    let some = some_told c.in_ok-faults.faults.items c.in_ok-faults.faults.len (omega (arith, c.in_ok-faults.faults.ok.0)) c.if-is_empty.ensures in
     (λ e. absurd (some e), λ denoted. absurd (some_fault (texts_of c.args.records.now) c.in_ok-reading.reading is c.in_ok-faults.faults.items c.in_ok-faults.ensures some denoted))
 
 pub returns-clause-in_order : goal.returns-clause-in_order
