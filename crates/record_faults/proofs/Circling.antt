@@ -1,5 +1,5 @@
 -- From places that a path leads over to the operations there, and back.
-use Rattle.std.proofs.Common.{◌≡◌, ◌≢◌, ◌⊎◌, inl, inr, refl, sym, ap, ap₂, subst, ◌∙◌, arith, ℕ, zero, suc, ◌+◌, ◌<◌, ◌≤◌, List, [], ◌∷◌, ◌++◌, length, take, get_or, slice_get, All, Contains, Option, Some, None, is_some, true, MatchOption}
+use Rattle.std.proofs.Common.{◌≡◌, inl, inr, refl, sym, ap, subst, ◌∙◌, arith, ℕ, zero, suc, ◌+◌, ◌<◌, List, [], ◌∷◌, ◌++◌, length, take, get_or, slice_get, All, Contains, Option, Some, None, is_some, true, MatchOption}
 use Rattle.std.specs.List.{AllZip}
 use Rattle.std.specs.BTreeMap.{BTreeMap}
 use Rattle.std.proofs.lemmas.Bool.{cases_lt}
@@ -100,8 +100,8 @@ module _ (keys : PlacedKeys) where
     -- both ends of an edge are places
     pub ends_within : All (λ (e : ℕ × ℕ). (e.0 < length keys) × (e.1 < length keys)) edges
     ends_within = all_by_members (λ (e : ℕ × ℕ). (e.0 < length keys) × (e.1 < length keys)) edges (λ e has.
-      let is = All-contains (IsEdgeOfKeys keys) edges e are.sound has in
-      (slice_get_within keys e.0 (Some (key.Operation is.0)) is.2.here, slice_get_within keys e.1 (Some (key.Operation is.1)) is.3.here))
+        let is = All-contains (IsEdgeOfKeys keys) edges e are.sound has in
+        (slice_get_within keys e.0 (Some (key.Operation is.0)) is.2.here, slice_get_within keys e.1 (Some (key.Operation is.1)) is.3.here))
 
     pub edge_at : (place : ℕ) (e : ℕ × ℕ) → slice_get edges place ≡ Some e → IsEdgeOfKeys keys e
     edge_at place e at = All-contains (IsEdgeOfKeys keys) edges e are.sound (at_place edges place e at)

@@ -1,6 +1,6 @@
 -- Records that denote a plan have no fault.
-use Rattle.std.proofs.Common.{◌≡◌, ◌≢◌, ◌↔◌, ◌⊎◌, inl, inr, refl, sym, ap, ap₂, subst, ◌∙◌, arith, ℕ, zero, suc, ◌+◌, ◌<◌, ◌≤◌, List, [], ◌∷◌, ◌++◌, length, map, take, get_or, slice_get, All, Contains, Bool, IsTrue, Option, Some, None, Result, Ok, Err, IfOk}
-use Rattle.std.specs.List.{AllZip, AllPairs}
+use Rattle.std.proofs.Common.{◌≡◌, ◌≢◌, ◌↔◌, inl, inr, refl, sym, ap, ap₂, subst, ◌∙◌, arith, ℕ, zero, suc, ◌+◌, ◌<◌, ◌≤◌, List, [], ◌∷◌, ◌++◌, length, map, take, get_or, slice_get, Contains, Bool, IsTrue, Option, Some, None, Result, Ok, Err, IfOk}
+use Rattle.std.specs.List.{AllZip}
 use Rattle.std.specs.Map.{keys_of}
 use Rattle.std.proofs.lemmas.Option.{none-some, same_Some, slice_get_within, get_or_from_slice_get}
 use Rattle.std.proofs.lemmas.List.Elements.{All-contains}
@@ -20,7 +20,7 @@ use Rattle.plan_items.proofs.ItemLaws.{one_item}
 use Rattle.plan_model.specs.Contents.{Contents}
 use Rattle.plan_drafts.specs.declared.RowKey.{RowKey}
 use Rattle.plan_drafts.specs.declared.RowKey.TheVariants as key
-use Rattle.plan_drafts.specs.Records.{key_of, StandsIn, AreItemsOf, Denotes}
+use Rattle.plan_drafts.specs.Records.{key_of, StandsIn, AreItemsOf}
 use Rattle.plan_drafts.specs.PlanItems.{CanBeLoaded, Fits, IsNeedIn, IsPairIn, keys_said, needs_of, occurrence_of}
 use Rattle.plan_drafts.proofs.Lists.{in_filter, from_map}
 use Rattle.plan_drafts.proofs.Needed.{mapped, needed}
@@ -34,7 +34,7 @@ use Rattle.record_faults.specs.declared.faults.Fault.{Fault}
 use Rattle.record_faults.specs.declared.faults.Fault.TheVariants as fault
 use Rattle.record_faults.specs.declared.names.Naming.{Naming}
 use Rattle.record_faults.specs.declared.names.Naming.TheVariants.{First, Second}
-use Rattle.record_faults.specs.Sayings.{Sayings, SaysOrNot, AreSayings, SaysAt, given, owner_of, owned, IsGiven, IsFirst}
+use Rattle.record_faults.specs.Sayings.{Sayings, AreSayings, SaysAt, given, owner_of, owned, IsGiven}
 use Rattle.record_faults.specs.declared.groups.Group.{Group}
 use Rattle.record_faults.specs.declared.groups.Group.TheVariants as group
 use Rattle.record_faults.specs.Groups.{group_of, most_of, count_of}

@@ -1,22 +1,15 @@
 -- The faults that are told of a list of records are its faults, and there is none exactly where it denotes a plan.
-use Rattle.std.proofs.Common.{◌≡◌, ◌↔◌, ◌⊎◌, inl, inr, refl, sym, ap, ap₂, subst, ◌∙◌, true, false, true≢false, eqb, Bool, IsTrue, arith, ℕ, zero, suc, ◌+◌, ◌<◌, ◌≤◌, List, [], ◌∷◌, length, map, All, Contains, Option, Some, None, slice_get}
-use Rattle.std.specs.List.{AllZip, AllPairs}
+use Rattle.std.proofs.Common.{◌≡◌, ◌↔◌, inl, inr, refl, sym, ap, ap₂, subst, ◌∙◌, true, false, true≢false, eqb, Bool, IsTrue, arith, ℕ, ◌≤◌, List, [], ◌∷◌, length, All, Contains, Some, None}
+use Rattle.std.specs.List.{AllPairs}
 use Rattle.std.proofs.lemmas.Bool.{eqb-true}
-use Rattle.std.proofs.lemmas.Option.{none-some, same_Some, slice_get_within}
-use Rattle.std.proofs.lemmas.List.Elements.{All-contains, All-nil}
-use Rattle.plan_basics.proofs.Members.{all_by_members, contains_head, contains_cases, contains_none}
+use Rattle.plan_basics.proofs.Members.{all_by_members, contains_cases, contains_none}
 use Rattle.plan_drafts.proofs.Lists.{no_members}
-use Rattle.plan_items.specs.declared.Item.{Item}
-use Rattle.plan_items.specs.Items.{Fields, Says}
+use Rattle.plan_items.specs.Items.{Fields}
 use Rattle.plan_items.proofs.ItemLaws.{one_item}
-use Rattle.plan_drafts.specs.declared.RowKey.{RowKey}
 use Rattle.record_faults.specs.declared.faults.Fault.{Fault}
-use Rattle.record_faults.specs.declared.faults.Fault.TheVariants as fault
 use Rattle.record_faults.specs.declared.faults.RecordFault.{RecordFault}
-use Rattle.record_faults.specs.declared.names.Naming.{Naming}
-use Rattle.record_faults.specs.declared.names.Naming.TheVariants.{First, Second}
 use Rattle.record_faults.specs.declared.readings.Reading.{Reading}
-use Rattle.record_faults.specs.Sayings.{Sayings, SaysOrNot, AreSayings, SaysAt, PlacedKeys, IsGiven, given}
+use Rattle.record_faults.specs.Sayings.{Sayings, AreSayings}
 use Rattle.record_faults.specs.Readings.{IsReadingOf}
 use Rattle.record_faults.specs.Plans.{SaySome}
 use Rattle.record_faults.specs.Faults.{IsFaultAt, AreFaults, IsReturning, IsFaultOfRecord, IsFault, DenoteSome}

@@ -1,5 +1,5 @@
 -- A record whose fields are all of the forms of its kind says an item.
-use Rattle.std.proofs.Common.{◌≡◌, ◌⊎◌, inl, inr, refl, sym, ap, subst, ◌∙◌, arith, ℕ, zero, suc, ◌+◌, ◌<◌, ◌≤◌, List, [], ◌∷◌, length, drop, get_or, replicate, Bool, true, false, Option, Some, None}
+use Rattle.std.proofs.Common.{◌≡◌, ◌⊎◌, inl, inr, refl, ap, subst, ◌∙◌, arith, ℕ, zero, suc, ◌+◌, ◌<◌, List, [], ◌∷◌, length, drop, replicate, Bool, true, false, Option, Some, None}
 use Rattle.std.specs.Prelude.{codes, slice_get}
 use Rattle.std.proofs.Math.Seq.{drop-cons}
 use Rattle.std.proofs.lemmas.List.{drop_all}
@@ -14,7 +14,7 @@ use Rattle.plan_basics.specs.Names.{IsName}
 use Rattle.plan_basics.specs.Intervals.{interval_by}
 use Rattle.plan_basics.specs.declared.keys.OccKey.{OccKey}
 use Rattle.plan_basics.specs.declared.keys.OpKey.{OpKey}
-use Rattle.plan_basics.specs.declared.limits.TheConstants.{MOST_FIXED, MOST_SERVERS, SHORTEST_DURATION, LONGEST_DURATION, LOWEST_PRIORITY, HIGHEST_PRIORITY, LEAST_NUMBER, GREATEST_NUMBER}
+use Rattle.plan_basics.specs.declared.limits.TheConstants.{MOST_SERVERS, SHORTEST_DURATION, LONGEST_DURATION, LOWEST_PRIORITY, HIGHEST_PRIORITY, LEAST_NUMBER, GREATEST_NUMBER}
 use Rattle.std.proofs.lemmas.Bool.{cases_lt}
 use Rattle.special_resources.specs.declared.Need.{Need}
 use Rattle.special_resources.specs.declared.Mode.{Mode}

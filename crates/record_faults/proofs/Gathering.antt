@@ -1,6 +1,6 @@
 -- Faults that are told one after another.
-use Rattle.std.proofs.Common.{◌≡◌, ◌≢◌, ◌↔◌, ◌⊎◌, inl, inr, refl, sym, ap, subst, ◌∙◌, arith, ℕ, zero, suc, ◌+◌, ◌<◌, ◌≤◌, List, [], ◌∷◌, ◌++◌, length, map, take, get_or, slice_get, All, Contains, Option, Some, None, MatchOption, Result, Ok, Err}
-use Rattle.std.specs.List.{AllZip, AllPairs}
+use Rattle.std.proofs.Common.{◌≡◌, ◌↔◌, ◌⊎◌, inl, inr, refl, sym, ap, subst, ◌∙◌, arith, ℕ, zero, suc, ◌+◌, ◌<◌, ◌≤◌, List, [], ◌∷◌, ◌++◌, length, map, take, get_or, slice_get, Contains, Option, Some, None, Result, Ok, Err}
+use Rattle.std.specs.List.{AllZip}
 use Rattle.std.specs.Prelude.{OnOk}
 use Rattle.std.proofs.lemmas.Bool.{cases_lt}
 use Rattle.std.proofs.lemmas.Option.{none-some, same_Some, slice_get-get_or, slice_get_within}
@@ -19,7 +19,7 @@ use Rattle.record_faults.specs.declared.groups.Group.TheVariants as group
 use Rattle.record_faults.specs.Groups.{grouped}
 use Rattle.record_faults.specs.Sayings.{Sayings, IsGiven, given}
 use Rattle.record_faults.proofs.Overlapping.{no_second}
-use Rattle.record_faults.specs.Faults.{IsAnswer, IsSilent, IsRepetition, interval_said, IsOverlap, IsUndefined, IsUnused, IsCrowd, IsMissing, IsOwnFault, IsFaultAt, AreInOrderTo, AreFaultsBelow, AreFaults}
+use Rattle.record_faults.specs.Faults.{IsAnswer, IsSilent, IsRepetition, interval_said, IsOverlap, IsUndefined, IsUnused, IsCrowd, IsMissing, IsOwnFault, AreInOrderTo, AreFaultsBelow, AreFaults}
 
 -- what is read of a list within it
 pub at_read : {X : Type 0} (xs : List X) (i : ℕ) (d v : X) → i < length xs → get_or xs i d ≡ v → slice_get xs i ≡ Some v

@@ -2,7 +2,7 @@
 use Rattle.std.proofs.Common.{◌≡◌, refl, sym, ap, subst, ℕ}
 use Rattle.std.specs.declared.cmp.Ordering.{Ordering}
 use Rattle.std.specs.declared.cmp.Ordering.TheVariants.{Equal}
-use Rattle.std.specs.Ordering.{nat_cmp, ordering_then, eq_by_cmp}
+use Rattle.std.specs.Ordering.{nat_cmp, ordering_then}
 use Rattle.std.specs.FinMap.{IsAntisymmetric}
 use Rattle.plan_basics.specs.Keys.{name_cmp, name_cmp-IsAntisymmetric, operation_cmp, operation_cmp-IsAntisymmetric}
 use Rattle.record_faults.specs.declared.groups.Group.{Group}

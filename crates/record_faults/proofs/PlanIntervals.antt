@@ -1,5 +1,5 @@
 -- In a plan no two intervals of a workstation overlap.
-use Rattle.std.proofs.Common.{◌≡◌, refl, sym, ap, subst, ◌∙◌, ℕ, ◌<◌, List, length, get_or, Bool, cond, Contains, Option, Some, None}
+use Rattle.std.proofs.Common.{◌≡◌, refl, ap, subst, ℕ, ◌<◌, List, length, get_or, Contains, Some}
 use Rattle.std.specs.List.{AllPairs}
 use Rattle.std.specs.Map.{keys_of}
 use Rattle.std.proofs.lemmas.List.Elements.{All-contains}

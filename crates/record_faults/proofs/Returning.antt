@@ -6,9 +6,9 @@ use Rattle.record_faults.specs.declared.faults.Fault.{Fault}
 use Rattle.record_faults.specs.declared.faults.Fault.TheVariants as fault
 use Rattle.record_faults.specs.declared.readings.Reading.{Reading}
 use Rattle.record_faults.specs.Readings.{IsReadingOf}
-use Rattle.record_faults.specs.Sayings.{PlacedKeys, AreSayings, Sayings, given, IsIndex}
+use Rattle.record_faults.specs.Sayings.{PlacedKeys, IsIndex}
 use Rattle.record_faults.specs.Circles.{IsCircle, NoCircle}
-use Rattle.record_faults.specs.Faults.{IsFaultAt, IsReturning, IsCircleOf, DenoteSome}
+use Rattle.record_faults.specs.Faults.{IsFaultAt, IsReturning, DenoteSome}
 use Rattle.record_faults.proofs.Denoted.{say_denoted}
 use Rattle.record_faults.proofs.Whole.{whole}
 

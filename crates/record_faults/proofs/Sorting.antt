@@ -1,5 +1,5 @@
 -- Rows of which no two have one key can be put in order of their keys.
-use Rattle.std.proofs.Common.{◌≡◌, ◌≢◌, inl, inr, refl, sym, ap, subst, ◌∙◌, List, [], ◌∷◌, map, Contains}
+use Rattle.std.proofs.Common.{◌≡◌, ◌≢◌, inl, inr, refl, ap, subst, ◌∙◌, List, [], ◌∷◌, map, Contains}
 use Rattle.std.specs.List.{AllByRecursion}
 use Rattle.std.specs.List.Sorted.{IsPermutation, IsStrictlySortedBy}
 use Rattle.std.specs.declared.cmp.Ordering.{Ordering}
@@ -10,7 +10,7 @@ use Rattle.std.specs.FinMap.{IsAntisymmetric}
 use Rattle.std.proofs.lemmas.List.Elements.{All-contains}
 use Rattle.std.proofs.lemmas.List.Sorted.{IsPermutation-refl, IsPermutation-sym, IsPermutation-trans, IsPermutation-cons, Contains-permutation, IsPermutation-insert}
 use Rattle.plan_basics.proofs.Members.{contains_head, contains_later, contains_cases, contains_none}
-use Rattle.plan_drafts.proofs.Lists.{Differ, from_map}
+use Rattle.plan_drafts.proofs.Lists.{Differ}
 
 -- the first two change places
 front_changed : {X : Type 0} (a b : X) (xs : List X) → IsPermutation (a ∷ b ∷ xs) (b ∷ a ∷ xs)
@@ -47,8 +47,7 @@ module _ {X K : Type 0} {R : K → K → Ordering} (total : IsTotalOrder R) (exa
     | Equal ↦ λ e. absurd (other y (contains_head y ys) (exact (key x) (key y) e))
     | Greater ↦ λ e.
         let rest = placed x ys (λ z has. other z (contains_later y ys z has)) up.1 in
-        let less : R (key y) (key x) ≡ Less = total.antisymm (key y) (key x) ∙ ap ordering_reverse e in
-        (
+        let less : R (key y) (key x) ≡ Less = total.antisymm (key y) (key x) ∙ ap ordering_reverse e in (
           y ∷ rest.0,
           IsPermutation-trans (x ∷ y ∷ ys) (y ∷ x ∷ ys) (y ∷ rest.0) (front_changed x y ys) (IsPermutation-cons y (x ∷ ys) rest.0 rest.1),
           (below_members y rest.0 (λ z has. elim (contains_cases x ys z (Contains-permutation rest.0 (x ∷ ys) z (IsPermutation-sym (x ∷ ys) rest.0 rest.1) has)) [ inl same ↦ subst (λ w. R (key y) (key w) ≡ Less) same less | inr later ↦ members_below y ys up.0 z later ]), rest.2),

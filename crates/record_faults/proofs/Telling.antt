@@ -1,11 +1,11 @@
 -- What the finders of faults tell: the one fault of its kind that a place has, or that it has none.
-use Rattle.std.proofs.Common.{◌≡◌, ◌⊎◌, inl, inr, refl, sym, ap, subst, ◌∙◌, arith, ℕ, zero, suc, ◌+◌, ◌<◌, ◌≤◌, List, [], ◌∷◌, length, get_or, slice_get, Option, Some, None, option_map, MatchOption, Vec, Global}
+use Rattle.std.proofs.Common.{◌≡◌, inl, inr, refl, sym, ap, subst, ◌∙◌, arith, ℕ, zero, suc, ◌<◌, ◌≤◌, List, [], ◌∷◌, length, get_or, slice_get, Some, None, option_map, Vec, Global}
 use Rattle.std.specs.List.{AllZip}
 use Rattle.std.proofs.lemmas.Bool.{cases_lt}
 use Rattle.std.proofs.lemmas.Option.{none-some, same_Some, slice_get_within, slice_get-map, slice_get_read}
 use Rattle.std.proofs.lemmas.List.{length-map}
 use Rattle.plan_items.specs.declared.Item.{Item}
-use Rattle.plan_items.specs.Items.{Fields, fields_of, Says}
+use Rattle.plan_items.specs.Items.{Fields, fields_of}
 use Rattle.plan_basics.specs.declared.keys.OccKey.{OccKey}
 use Rattle.plan_drafts.specs.declared.RowKey.{RowKey}
 use Rattle.plan_drafts.specs.declared.RowKey.TheVariants as key
@@ -18,7 +18,7 @@ use Rattle.record_faults.specs.declared.kinds.Shape.{Shape}
 use Rattle.record_faults.specs.declared.kinds.Shape.TheVariants as shape
 use Rattle.record_faults.specs.declared.names.Naming.{Naming}
 use Rattle.record_faults.specs.Shapes.{text_at, letter_of, forms_of, IsOfKind, IsFirstUnread, IsShapeFault}
-use Rattle.record_faults.specs.Sayings.{texts_of, Sayings, SaysOrNot, AreSayings, SaysAt, PlacedKeys, given, owned, IsGiven, IsFirst, IsNowhere}
+use Rattle.record_faults.specs.Sayings.{texts_of, Sayings, SaysAt, PlacedKeys, given, owned, IsGiven, IsFirst, IsNowhere}
 use Rattle.record_faults.specs.declared.groups.Group.{Group}
 use Rattle.record_faults.specs.Groups.{grouped, most_of, count_of, IsLast}
 use Rattle.record_faults.specs.Faults.{name_of, IsSilent, IsRepetition, IsUndefined, IsUnused, IsCrowd, IsMissing, IsAnswer}

@@ -1,8 +1,8 @@
 -- Records without a fault of which no path of dependencies returns denote a plan.
-use Rattle.std.proofs.Common.{◌≡◌, ◌≢◌, ◌⊎◌, inl, inr, refl, sym, ap, subst, ◌∙◌, true≢false, arith, ℕ, zero, suc, ◌+◌, ◌<◌, ◌≤◌, Bool, true, false, cond, List, [], ◌∷◌, length, map, get_or, slice_get, All, Contains, Option, Some, None}
-use Rattle.std.specs.List.{AllPairs, AllZip, filter_map}
+use Rattle.std.proofs.Common.{◌≡◌, ◌≢◌, ◌⊎◌, inl, inr, refl, sym, ap, subst, ◌∙◌, true≢false, arith, ℕ, zero, suc, ◌+◌, ◌<◌, ◌≤◌, true, false, cond, List, [], ◌∷◌, length, map, get_or, slice_get, All, Contains, Option, Some, None}
+use Rattle.std.specs.List.{AllPairs}
 use Rattle.std.specs.Map.{keys_of}
-use Rattle.std.specs.FinMap.{IsAntisymmetric, len}
+use Rattle.std.specs.FinMap.{IsAntisymmetric}
 use Rattle.std.specs.FinSet.{from_list}
 use Rattle.std.specs.Cmp.{IsTotalOrder}
 use Rattle.std.specs.Ordering.{eq_by_cmp}
@@ -12,10 +12,8 @@ use Rattle.std.proofs.lemmas.Option.{none-some, same_Some, slice_get-get_or, sli
 use Rattle.plan_basics.proofs.Members.{tied_is, all_by_members, at_place, place_of, contains_head, contains_later}
 use Rattle.plan_basics.specs.Intervals.{OpenInterval, AreApart}
 use Rattle.plan_basics.specs.Keys.{Name, name_cmp_total, name_cmp-IsAntisymmetric}
-use Rattle.plan_basics.specs.declared.Attr.{Attr}
 use Rattle.plan_basics.specs.declared.keys.OccKey.{OccKey}
 use Rattle.plan_basics.specs.declared.keys.OpKey.{OpKey}
-use Rattle.special_resources.specs.declared.Need.{Need}
 use Rattle.operation_graph.specs.Paths.{LeadsBy, by_edge, by_more}
 use Rattle.plan_model.specs.Contents.{pair_cmp, IsPairOf}
 use Rattle.plan_model.specs.Valid.{IsAcyclic}
@@ -28,9 +26,9 @@ use Rattle.plan_drafts.specs.declared.RowKey.{RowKey}
 use Rattle.plan_drafts.specs.declared.RowKey.TheVariants as key
 use Rattle.plan_drafts.specs.contracts.RowKeyOrd.TheImpl.Laws as laws
 use Rattle.plan_drafts.specs.RowKeys.{derived_exact}
-use Rattle.plan_drafts.specs.Records.{key_of, AreItemsOf}
-use Rattle.plan_drafts.specs.PlanItems.{CanBeLoaded, AreWorkstations, AreResources, AreOccurrenceRows, AreOperations, AreNeeds, ArePairs, Fits, IsNeedIn, IsPairIn, CanOpen, IsOpening, AreOfThese, EachHasOperation, as_interval, as_operation, own_interval, intervals_of, keys_said, needs_of, occurrence_of}
-use Rattle.plan_drafts.proofs.Lists.{Differ, differ_from_pairs, pairs_from_differ, differ_filter, in_filter, in_map}
+use Rattle.plan_drafts.specs.Records.{key_of}
+use Rattle.plan_drafts.specs.PlanItems.{CanBeLoaded, AreWorkstations, AreResources, AreOccurrenceRows, AreOperations, AreNeeds, ArePairs, Fits, IsNeedIn, IsPairIn, CanOpen, IsOpening, as_interval, as_operation, own_interval, intervals_of, keys_said, occurrence_of}
+use Rattle.plan_drafts.proofs.Lists.{differ_from_pairs, pairs_from_differ, differ_filter, in_filter, in_map}
 use Rattle.plan_drafts.proofs.Tables.{itself, from_set}
 use Rattle.plan_drafts.proofs.Pairs.{pair_cmp_total, pair_cmp-IsAntisymmetric}
 use Rattle.plan_drafts.proofs.Keyed.{own_from}
@@ -38,8 +36,6 @@ use Rattle.plan_drafts.proofs.Denoting.{items_legal}
 use Rattle.plan_drafts.proofs.ItemKinds as kinds
 use Rattle.plan_drafts.proofs.ItemKinds.{workstations_in, intervals_in, resources_in, occurrences_in, operations_in, needs_in, pairs_in, key_in, key_out, read_stands, read_distinct}
 use Rattle.record_faults.specs.declared.kinds.Kind.{Kind}
-use Rattle.record_faults.specs.declared.kinds.Kind.TheVariants as kind
-use Rattle.record_faults.specs.declared.kinds.Form.{Form}
 use Rattle.record_faults.specs.declared.kinds.Form.TheVariants as form
 use Rattle.record_faults.specs.declared.kinds.Shape.{Shape}
 use Rattle.record_faults.specs.declared.kinds.Shape.TheVariants as shape
@@ -49,11 +45,10 @@ use Rattle.record_faults.specs.declared.names.Naming.{Naming}
 use Rattle.record_faults.specs.declared.names.Naming.TheVariants.{First, Second}
 use Rattle.record_faults.specs.declared.groups.Group.{Group}
 use Rattle.record_faults.specs.declared.groups.Group.TheVariants as group
-use Rattle.record_faults.specs.contracts.groups.GroupOrd.TheImpl as group_order
 use Rattle.record_faults.specs.contracts.groups.GroupOrd.TheImpl.Laws as group_laws
-use Rattle.record_faults.specs.Shapes.{forms_of, letter_of, text_at, AreRead, IsOfKind, IsShapeFault, Reads}
+use Rattle.record_faults.specs.Shapes.{forms_of, text_at, AreRead, IsOfKind, IsShapeFault, Reads}
 use Rattle.record_faults.specs.Sayings.{Sayings, SaysOrNot, AreSayings, owned, owner_of, given, IsGiven, IsFirst, IsNowhere}
-use Rattle.record_faults.specs.Groups.{grouped, is_of, most_of, count_of}
+use Rattle.record_faults.specs.Groups.{is_of, most_of, count_of}
 use Rattle.record_faults.specs.Circles.{StandsAt, JoinsGiven, NoCircle}
 use Rattle.record_faults.specs.Plans.{SaySome}
 use Rattle.record_faults.specs.Faults.{name_of, DoOverlap, OverlapAt, IsUndefined, IsMissing, IsFaultAt}
@@ -77,15 +72,18 @@ module _ (fields : Fields) (never : (x : Item) → ¬ Says fields x) (none : (s 
     may_read : (n : ℕ) → n ≤ 9 → ¬ ¬ AreRead (forms_of k) n fields
     may_read zero le never_read = never_read (λ i f lt. absurd (omega (arith, lt)))
     may_read (suc n) le never_read = may_read n (omega (arith, le)) (λ read.
-      let here : slice_get (forms_of k) n ≡ Some (get_or (forms_of k) n form.Empty) = slice_get-get_or (forms_of k) n form.Empty (omega (arith, le, nine k)) in
-      let f = get_or (forms_of k) n form.Empty in
-      none (shape.Field k n f) (is, record {
-        form = here;
-        earlier = read;
-        unread = λ reads.
-            let next : suc n ≡ n + 1 = omega arith in
-            never_read (subst (λ m. AreRead (forms_of k) m fields) (sym next) (read_more (forms_of k) n fields read (λ g e. subst (λ z. Reads z (text_at fields (n + 1))) (same_Some f g (sym here ∙ e)) reads)));
-      }))
+        let here : slice_get (forms_of k) n ≡ Some (get_or (forms_of k) n form.Empty) = slice_get-get_or (forms_of k) n form.Empty (omega (arith, le, nine k)) in
+        let f = get_or (forms_of k) n form.Empty in
+        none (shape.Field k n f) (
+          is,
+          record {
+            form = here;
+            earlier = read;
+            unread = λ reads.
+                let next : suc n ≡ n + 1 = omega arith in
+                never_read (subst (λ m. AreRead (forms_of k) m fields) (sym next) (read_more (forms_of k) n fields read (λ g e. subst (λ z. Reads z (text_at fields (n + 1))) (same_Some f g (sym here ∙ e)) reads)));
+          },
+        ))
 
     no_kind : ⊥
     no_kind = may_read 9 (omega arith) (λ read. elim (says fields k is read) [

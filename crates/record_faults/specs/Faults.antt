@@ -9,11 +9,11 @@ use Rattle.plan_basics.specs.declared.keys.OccKey.{OccKey}
 use Rattle.plan_basics.specs.declared.keys.OpKey.{OpKey}
 use Rattle.plan_items.specs.declared.Item.{Item}
 use Rattle.plan_items.specs.declared.Item.TheVariants as item
-use Rattle.plan_items.specs.Items.{Fields, Says}
+use Rattle.plan_items.specs.Items.{Fields}
 use Rattle.plan_model.specs.Contents.{Contents}
 use Rattle.plan_drafts.specs.declared.RowKey.{RowKey}
 use Rattle.plan_drafts.specs.declared.RowKey.TheVariants as key
-use Rattle.plan_drafts.specs.Records.{key_of, Denotes}
+use Rattle.plan_drafts.specs.Records.{Denotes}
 use Rattle.record_faults.specs.Shapes.{IsShapeFault}
 use Rattle.record_faults.specs.Sayings.{Sayings, AreSayings, SaysAt, given, owned, IsGiven, IsFirst, IsNowhere}
 use Rattle.record_faults.specs.Circles.{IsCircle}

@@ -1,5 +1,5 @@
 -- Items, and what records say, of which a plan can be made.
-use Rattle.std.specs.Prelude.{◌≡◌, ℕ, ◌<◌, List, map, Some}
+use Rattle.std.specs.Prelude.{◌≡◌, ◌<◌, List, map, Some}
 use Rattle.std.specs.FinMap.{len}
 use Rattle.plan_items.specs.declared.Item.{Item}
 use Rattle.plan_model.specs.Contents.{Contents}

@@ -26,10 +26,7 @@ fn edge_of(keys: &[Option<RowKey>], index: &Index, place: usize) -> Option<(usiz
 }
 
 // An edge more, if there is one.
-fn add_edge(
-    edges: &mut Vec<(usize, usize)>,
-    edge: Option<(usize, usize)>,
-) -> Result<(), AllocError>
+fn add_edge(edges: &mut Vec<(usize, usize)>, edge: Option<(usize, usize)>) -> Result<(), AllocError>
     ensures { OnOk result ((keys : PlacedKeys) → (n : ℕ) → IsEdgeAt keys n edge → AreEdgesBelow keys n edges.old.items → AreEdgesBelow keys (n + 1) edges.new.items) }
 {
     let Some(edge) = edge else {

@@ -70,10 +70,7 @@ fn relay(
 }
 
 // For each place the last before it of the same group.
-pub fn earlier_of(
-    alloc: Global,
-    groups: &[Option<Group>],
-) -> Result<Vec<Option<usize>>, AllocError>
+pub fn earlier_of(alloc: Global, groups: &[Option<Group>]) -> Result<Vec<Option<usize>>, AllocError>
     ensures size { IfOk result (λ v. length v.items ≡ length groups.now) }
     ensures earlier { IfOk result (λ v. AreEarlier groups.now v.items) }
 {

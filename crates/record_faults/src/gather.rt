@@ -57,7 +57,11 @@ fn tell_place(
     )?;
     tell(faults, place, unused(keys, &reading.owners, said, place))?;
     let groups = reading.groups.as_slice();
-    tell(faults, place, crowd(groups, &reading.counts, earlier, said, place))?;
+    tell(
+        faults,
+        place,
+        crowd(groups, &reading.counts, earlier, said, place),
+    )?;
     Ok(())
 }
 

@@ -14,10 +14,12 @@ fn interval_of(said: &Option<Item>) -> Option<(WsName, Interval)>
     ensures { result ≡ interval_said said.now }
 {
     match *said {
-        Some(Item::Interval {
-            workstation,
-            interval,
-        }) => Some((workstation, interval)),
+        Some(
+            Item::Interval {
+                workstation,
+                interval,
+            },
+        ) => Some((workstation, interval)),
         _ => None,
     }
 }

@@ -1,4 +1,4 @@
-use Rattle.std.proofs.Common.{◌≡◌, sym, ap, subst, ◌∙◌, Some, ◌++◌, ◌∷◌, []}
+use Rattle.std.proofs.Common.{sym, subst, ◌++◌, ◌∷◌, []}
 use Rattle.record_faults.specs.Groups.{AreCounts}
 use Rattle.record_faults.proofs.Counting.{counts_none, counts_more}
 use Rattle.record_faults.proofs.counts.count_one.Goals as goal

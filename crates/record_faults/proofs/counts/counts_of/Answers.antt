@@ -1,7 +1,6 @@
-use Rattle.std.proofs.Common.{◌≡◌, sym, ap, subst, ◌∙◌, arith, ◌+◌, take}
-use Rattle.std.proofs.lemmas.List.{take_all, take_more, length-take}
-use Rattle.record_faults.specs.Groups.{AreCounts}
-use Rattle.record_faults.proofs.Counting.{no_counts, count_within}
+use Rattle.std.proofs.Common.{arith, take}
+use Rattle.std.proofs.lemmas.List.{length-take}
+use Rattle.record_faults.proofs.Counting.{count_within}
 use Rattle.record_faults.proofs.counts.counts_of.Goals as goal
 
 pub count_one-requires : goal.count_one-requires

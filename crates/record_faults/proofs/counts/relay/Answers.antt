@@ -1,4 +1,4 @@
-use Rattle.std.proofs.Common.{◌≡◌, sym, ap, subst, ◌∙◌, Some}
+use Rattle.std.proofs.Common.{ap, ◌∙◌, Some}
 use Rattle.record_faults.proofs.Counting.{last_more}
 use Rattle.record_faults.proofs.counts.relay.Goals as goal
 

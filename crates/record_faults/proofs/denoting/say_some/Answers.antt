@@ -1,9 +1,8 @@
-use Rattle.std.proofs.Common.{◌≡◌, ◌↔◌, ◌∙◌, Bool, true, false, sym, subst, refl, true≢false, map, Option, Some, None, Result, Ok, Err, IfOk, IsTrue, List, All}
+use Rattle.std.proofs.Common.{◌≡◌, ◌↔◌, sym, subst, true≢false, Some, None, IfOk, IsTrue, All}
 use Rattle.std.specs.Prelude.{slice_get}
-use Rattle.plan_items.specs.declared.Item.{Item}
 use Rattle.plan_items.specs.Items.{IsItem}
 use Rattle.plan_drafts.proofs.Denoting.{items_legal}
-use Rattle.record_faults.specs.Plans.{MakeSome, SaySome}
+use Rattle.record_faults.specs.Plans.{MakeSome}
 use Rattle.record_faults.specs.Sayings.{Sayings, AreSayings}
 use Rattle.record_faults.proofs.Denoted.{said_all, no_gap, say_of_items}
 use Rattle.record_faults.proofs.denoting.say_some.Goals as goal

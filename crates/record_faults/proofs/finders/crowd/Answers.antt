@@ -1,4 +1,4 @@
-use Rattle.std.proofs.Common.{◌≡◌, ◌≤◌, sym, ap, subst, ◌∙◌, get_or, slice_get, Some, None}
+use Rattle.std.proofs.Common.{◌≡◌, ◌≤◌, subst, ◌∙◌, slice_get, Some}
 use Rattle.record_faults.specs.Groups.{IsLastIfAny, grouped, most_of}
 use Rattle.record_faults.proofs.Gathering.{at_read}
 use Rattle.record_faults.proofs.Telling.{not_first, few, crowded}

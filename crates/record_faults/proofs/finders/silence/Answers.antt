@@ -1,5 +1,4 @@
-use Rattle.std.proofs.Common.{◌≡◌, ◌<◌, arith, length, Some, None}
-use Rattle.std.specs.Prelude.{slice_get}
+use Rattle.std.proofs.Common.{◌<◌, arith, length, Some, None}
 use Rattle.plan_items.specs.Items.{fields_of}
 use Rattle.record_faults.specs.Sayings.{SaysOrNot, texts_of}
 use Rattle.record_faults.proofs.Gathering.{at_read}

@@ -2,7 +2,7 @@ use Rattle.std.proofs.Common.{◌≡◌, ◌↔◌, ◌≤◌, sym, subst, arith
 use Rattle.std.specs.List.{AllPairs}
 use Rattle.record_faults.specs.declared.faults.RecordFault.{RecordFault}
 use Rattle.record_faults.specs.Sayings.{texts_of}
-use Rattle.record_faults.specs.Faults.{IsFault, IsFaultOfRecord, DenoteSome}
+use Rattle.record_faults.specs.Faults.{IsFault, DenoteSome}
 use Rattle.record_faults.specs.Plans.{SaySome}
 use Rattle.record_faults.proofs.Denoted.{say_denoted}
 use Rattle.record_faults.proofs.Finding.{none_of_plan, are_faults, each_is_told, some_fault, never, alone_faults, alone_each, alone_none, one_in_order, empty_told, some_told, no_plan_told}

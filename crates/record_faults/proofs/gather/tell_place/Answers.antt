@@ -1,7 +1,6 @@
-use Rattle.std.proofs.Common.{◌≡◌, subst, Option}
-use Rattle.record_faults.specs.declared.faults.Fault.{Fault}
+use Rattle.std.proofs.Common.{subst}
 use Rattle.record_faults.specs.declared.names.Naming.TheVariants.{First, Second}
-use Rattle.record_faults.specs.Sayings.{Sayings, texts_of}
+use Rattle.record_faults.specs.Sayings.{texts_of}
 use Rattle.record_faults.specs.Faults.{IsAnswer, IsSilent, IsRepetition, IsOverlap, IsUndefined, IsUnused, IsCrowd}
 use Rattle.record_faults.proofs.Gathering.{more, by_property, told_is}
 use Rattle.record_faults.proofs.gather.tell_place.Goals as goal
@@ -22,13 +21,13 @@ returns-clause-told c = λ f.
     more
     (by_property (c.in_ok-tell.ensures.told f) (told_is (IsSilent texts said place) c.silence.result silence f.fault))
     (more
-      (by_property (c.in_ok-tell-2.ensures.told f) (told_is (IsRepetition said place) c.repetition.result repetition f.fault))
-      (more
-        (by_property (c.in_ok-tell-3.ensures.told f) (told_is (IsOverlap said place) c.overlapping.result overlap f.fault))
-        (more
-          (by_property (c.in_ok-tell-4.ensures.told f) (told_is (IsUndefined First said place) c.undefined.result first f.fault))
-          (more
-            (by_property (c.in_ok-tell-5.ensures.told f) (told_is (IsUndefined Second said place) c.undefined-2.result second f.fault))
-            (more
-              (by_property (c.in_ok-tell-6.ensures.told f) (told_is (IsUnused said place) c.unused.result unused f.fault))
-              (by_property (c.in_ok-tell-7.ensures.told f) (told_is (IsCrowd said place) c.crowd.result crowd f.fault)))))))
+    (by_property (c.in_ok-tell-2.ensures.told f) (told_is (IsRepetition said place) c.repetition.result repetition f.fault))
+    (more
+    (by_property (c.in_ok-tell-3.ensures.told f) (told_is (IsOverlap said place) c.overlapping.result overlap f.fault))
+    (more
+    (by_property (c.in_ok-tell-4.ensures.told f) (told_is (IsUndefined First said place) c.undefined.result first f.fault))
+    (more
+    (by_property (c.in_ok-tell-5.ensures.told f) (told_is (IsUndefined Second said place) c.undefined-2.result second f.fault))
+    (more
+    (by_property (c.in_ok-tell-6.ensures.told f) (told_is (IsUnused said place) c.unused.result unused f.fault))
+    (by_property (c.in_ok-tell-7.ensures.told f) (told_is (IsCrowd said place) c.crowd.result crowd f.fault)))))))

@@ -1,4 +1,4 @@
-use Rattle.std.proofs.Common.{◌≡◌, sym, subst, ap, ◌∙◌, Some, slice_get}
+use Rattle.std.proofs.Common.{sym, ap, ◌∙◌, Some}
 use Rattle.plan_drafts.proofs.Tables.{is_none}
 use Rattle.record_faults.proofs.Indexes.{keep_none, keep_known, keep_new}
 use Rattle.record_faults.proofs.index.keep_first.Goals as goal

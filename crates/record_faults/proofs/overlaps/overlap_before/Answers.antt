@@ -1,5 +1,5 @@
-use Rattle.std.proofs.Common.{◌≡◌, ◌<◌, sym, subst, ◌∙◌, true≢false, arith, get_or, None}
-use Rattle.record_faults.specs.Faults.{DoOverlap, OverlapAt}
+use Rattle.std.proofs.Common.{◌<◌, sym, subst, ◌∙◌, true≢false, arith, get_or, None}
+use Rattle.record_faults.specs.Faults.{DoOverlap}
 use Rattle.record_faults.proofs.Overlapping.{IsLeft, places_to, left_first, left_next, fewer, last_overlap, none_before, read_by}
 use Rattle.record_faults.proofs.overlaps.overlap_before.Goals as goal
 

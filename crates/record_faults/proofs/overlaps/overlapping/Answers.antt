@@ -1,4 +1,4 @@
-use Rattle.std.proofs.Common.{◌≡◌, sym, ap, subst, ◌∙◌, get_or, Some, None}
+use Rattle.std.proofs.Common.{sym, ap, ◌∙◌, None}
 use Rattle.record_faults.specs.Faults.{interval_said}
 use Rattle.record_faults.proofs.Overlapping.{no_interval, read_by}
 use Rattle.record_faults.proofs.overlaps.overlapping.Goals as goal
