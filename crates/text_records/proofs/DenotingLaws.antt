@@ -1,5 +1,5 @@
 -- A text denotes what its records do: it has no others, and records that denote something have ten fields each.
-use Rattle.std.proofs.Common.{◌≡◌, ◌↔◌, ℕ, List, [], ◌∷◌, length, refl}
+use Rattle.std.proofs.Common.{◌≡◌, ◌↔◌, ℕ, List, [], ◌∷◌, refl}
 use Rattle.std.specs.List.{AllZip, AllByRecursion}
 use Rattle.csv.specs.Reading.{default_config, strip_bom}
 use Rattle.csv.specs.declared.parser.State.TheVariants as st
@@ -35,8 +35,8 @@ denotes_of : {X : Type 0} (D : List Fields → X → Type 0) (ten : (rs : List F
     → (x : X) → (((rs : List Fields) × ReadsAs text rs × D rs x) ↔ D records x)
 denotes_of D ten text records all x = (
   (λ (other, reads, denotes).
-    let same : other ≡ records = one_reading default_config st.StartRecord (strip_bom text) other records reads.0 all in
-    rw (← same) denotes),
+      let same : other ≡ records = one_reading default_config st.StartRecord (strip_bom text) other records reads.0 all in
+      rw (← same) denotes),
   (λ denotes. (records, (all, ten records x denotes), denotes)),
 )
 

@@ -1,6 +1,7 @@
 -- A text without the byte order mark at its front.
 use Rattle.std.proofs.Common.{◌≡◌, ◌∙◌, ℕ, List, [], ◌∷◌, take, drop, Bool, true, false, sym, refl, nat_eq}
 use Rattle.std.specs.Prelude.{◌&&◌, ◌==◌}
+use Rattle.std.proofs.lemmas.Bool.{false≢true}
 use Rattle.std.specs.Cmp.Lexicographic.{pointwise}
 use Rattle.csv.specs.Reading.{strip_bom, is_bom}
 
@@ -25,7 +26,7 @@ whole false y z = refl
 -- what is left after the mark
 pub stripped : (text : List ℕ) → pointwise nat_eq (take 3 text) mark ≡ true → drop 3 text ≡ strip_bom text
 unfolding strip_bom
-stripped [] e = cc e
+stripped [] e = absurd (false≢true e)
 stripped (a ∷ []) e = absurd (none_more (a == 0xEF) e)
 stripped (a ∷ b ∷ []) e = absurd (none_more_twice (a == 0xEF) (b == 0xBB) e)
 stripped (a ∷ b ∷ c ∷ rest) e =

@@ -9,15 +9,31 @@ const LINES: [(&str, &[u8], &[u64]); 14] = [
     ("line feeds", b"W,a\nX,b,c\nO\n", &[1, 2, 3]),
     ("CR LF", b"W,a\r\nX,b,c\r\nO\r\n", &[1, 2, 3]),
     ("no last line end", b"W,a\nX", &[1, 2]),
-    ("blank lines before and between", b"\n\nW,a\n\n\nX\n", &[3, 6]),
-    ("the same with CR LF", b"\r\n\r\nW,a\r\n\r\n\r\nX\r\n", &[3, 6]),
+    (
+        "blank lines before and between",
+        b"\n\nW,a\n\n\nX\n",
+        &[3, 6],
+    ),
+    (
+        "the same with CR LF",
+        b"\r\n\r\nW,a\r\n\r\n\r\nX\r\n",
+        &[3, 6],
+    ),
     ("a line of blanks is a record", b"W\n \nX\n", &[1, 2, 3]),
     ("a line end in quotes", b"\"W\nx\",a\nX,b\n", &[1, 3]),
-    ("more of them, CR LF", b"\"W\r\nx\r\n\",\"\r\n\"\r\nX\r\n", &[1, 5]),
+    (
+        "more of them, CR LF",
+        b"\"W\r\nx\r\n\",\"\r\n\"\r\nX\r\n",
+        &[1, 5],
+    ),
     ("quotes in quotes", b"\"a\"\"\n\"\"b\",c\nX\n", &[1, 3]),
     ("quotes that stay open", b"W\nX,\"a\nb\nO\n", &[1, 2]),
     ("a byte order mark", b"\xef\xbb\xbfW,a\nX\n", &[1, 2]),
-    ("one before a blank line", b"\xef\xbb\xbf\r\nW,a\nX\n", &[2, 3]),
+    (
+        "one before a blank line",
+        b"\xef\xbb\xbf\r\nW,a\nX\n",
+        &[2, 3],
+    ),
 ];
 
 #[test]

@@ -1,4 +1,4 @@
-use Rattle.std.proofs.Common.{◌≡◌, ◌∙◌, ◌≤◌, ◌+◌, ◌++◌, ◌∷◌, [], ap, sym, arith, get_or, drop, cond, true, false, rules}
+use Rattle.std.proofs.Common.{◌≡◌, ◌∙◌, ◌≤◌, ◌+◌, ◌++◌, ◌∷◌, [], ap, sym, get_or, drop, true, false, rules}
 use Rattle.std.proofs.lemmas.List.{drop_more, drop_all}
 use Rattle.csv.specs.Machine.{step}
 use Rattle.csv.specs.Reading.{default_config}

@@ -1,4 +1,4 @@
-use Rattle.std.proofs.Common.{◌≡◌, ◌∙◌}
+use Rattle.std.proofs.Common.{◌∙◌}
 use Rattle.text_records.proofs.Marks.{stripped, kept}
 use Rattle.text_records.proofs.lines.without_mark.Goals as goal
 

@@ -1,4 +1,4 @@
-use Rattle.std.proofs.Common.{Bor, List, ℕ, ◌≡◌, ◌∙◌, ap, sym, refl, inl, inr, true, map, Some, ◌++◌, ◌∷◌, []}
+use Rattle.std.proofs.Common.{Bor, List, ℕ, ◌≡◌, ◌∙◌, ap, sym, refl, inr, true, Some, ◌++◌, ◌∷◌, []}
 use Rattle.std.proofs.lemmas.List.{map-append}
 use Rattle.csv.specs.Reading.{Reached, ReadRecord, ReadsOn, default_config, strip_bom}
 use Rattle.csv.specs.Records.{fields_of as row_fields}
@@ -34,5 +34,5 @@ loop-preserved c =
     let more = rows-more rem old new row default_config st.StartRecord (strip_bom c.args.text.now) inv.3 (texts_of c.loop.records.items) inv.2 inv.4 inv.5 read in
     let items : texts_of c.push.new.self.items ≡ texts_of c.loop.records.items ++ row ∷ [] =
     ap texts_of c.in_ok-push-in-Ok-true.ensures.items ∙ map-append _ c.loop.records.items (c.in_ok-own_fields-in-Ok-true.field-0 ∷ [])
-        ∙ ap (λ (f : List (List ℕ)). texts_of c.loop.records.items ++ f ∷ []) c.in_ok-own_fields-in-Ok-true.ensures in
+    ∙ ap (λ (f : List (List ℕ)). texts_of c.loop.records.items ++ f ∷ []) c.in_ok-own_fields-in-Ok-true.ensures in
     (read.3 ∙ inv.0, (on.4 inv.1).0, read.2 ∙ inv.2, more.0, more.1, rw items more.2)
