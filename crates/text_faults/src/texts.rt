@@ -1,5 +1,6 @@
 // What is told of a fault: the line where its record begins, what is wrong, and what it may be.
 ghost use Rattle.std.specs.Prelude.{◌≡◌, ◌++◌, ℕ, List, codes, decimal, IfOk};
+ghost use Rattle.std.specs.String.{string_bytes};
 ghost use Rattle.text_faults.specs.TextFaults.{line_at};
 
 use super::faults::TextFaults;
@@ -243,9 +244,10 @@ fn returns_text(alloc: Global, circle: &Option<Circle>) -> Result<String, AllocE
 
 // A line's number, and what is told of it.
 fn numbered(alloc: Global, line: u64, wrong: &str) -> Result<String, AllocError>
-    ensures { IfOk result (λ s. s ≡ codes "line " ++ decimal line ++ codes ": " ++ wrong.now) }
+    ensures { IfOk result (λ text. string_bytes text ≡ codes "line " ++ decimal line ++ codes ": " ++ wrong.now) }
 {
-    format!(in alloc; "line {line}: {wrong}")
+    let text = format!(in alloc; "line {line}: {wrong}")?;
+    Ok(text)
 }
 
 /// What is told of a fault of a text: `line N: `, the line in which its record begins, what is wrong, and what it may be.
@@ -256,7 +258,7 @@ pub fn fault_text(
     fault: &RecordFault,
     told: &TextFaults,
 ) -> Result<String, AllocError>
-    ensures { IfOk result (λ s. (wrong : List ℕ) × (s ≡ codes "line " ++ decimal (line_at told.now.lines.items fault.now.place) ++ codes ": " ++ wrong)) }
+    ensures { IfOk result (λ text. (wrong : List ℕ) × (string_bytes text ≡ codes "line " ++ decimal (line_at told.now.lines.items fault.now.place) ++ codes ": " ++ wrong)) }
 {
     let line = line_of(&told.lines, fault.place);
     let wrong = wrong_text(alloc, &fault.fault, told)?;
