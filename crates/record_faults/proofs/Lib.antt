@@ -1,0 +1,16 @@
+pub mod Forms
+pub mod Indexes
+pub mod GroupOrder
+pub mod Counting
+pub mod Limits
+pub mod Telling
+pub mod Overlapping
+pub mod Gathering
+pub mod PlanIntervals
+pub mod Denoted
+pub mod Finding
+pub mod Sorting
+pub mod Loading
+pub mod Circling
+pub mod Whole
+pub mod Returning

@@ -1,0 +1,14 @@
+use Rattle.std.proofs.Common.{arith, sym, subst, ◌+◌, ◌<◌, length, get_or, take}
+use Rattle.std.specs.List.{AllZip}
+use Rattle.record_faults.specs.Circles.{StandsAt}
+use Rattle.record_faults.proofs.Circling.{zip_last, whatever_default}
+use Rattle.record_faults.proofs.circles.operations_at.Goals as goal
+
+pub loop-number-preserved : goal.loop-number-preserved
+loop-number-preserved c =
+    let places = c.args.places.now in
+    let number = c.loop-number.number in
+    let within : number < length places = omega arith in
+    let one = get_or places number 0 in
+    subst (AllZip (StandsAt c.args.keys.now) (take (number + 1) places)) (sym c.in_ok-extend_from_slice.ensures.items)
+    (zip_last (StandsAt c.args.keys.now) places c.loop-number.operations.items number one c.operation_at.result within (whatever_default places number 0 one within) c.loop-number.invariant c.operation_at.ensures)

@@ -1,0 +1,13 @@
+use Rattle.std.proofs.Common.{sym, ap, ap₂, ◌∙◌, arith, ◌++◌, ◌∷◌, [], Option, option_map}
+use Rattle.std.proofs.lemmas.List.{map_more, take_all}
+use Rattle.plan_items.specs.declared.Item.{Item}
+use Rattle.record_faults.specs.Groups.{group_of, grouped}
+use Rattle.record_faults.proofs.groups.groups_said.Goals as goal
+
+pub loop-one-preserved : goal.loop-one-preserved
+loop-one-preserved c =
+    c.in_ok-extend_from_slice.ensures.items ∙ ap₂ (λ xs x. xs ++ x ∷ []) c.loop-one.invariant (c.group_said.ensures ∙ ap (λ (o : Option Item). option_map group_of o) c.one-item.is)
+    ∙ sym (map_more (λ (o : Option Item). option_map group_of o) c.args.said.now c.loop-one.one-index c.one-item.result (omega arith))
+
+pub returns : goal.returns
+returns c = c.loop-one.invariant ∙ ap grouped (take_all c.loop-one.one-index c.args.said.now (omega arith))

@@ -1,0 +1,47 @@
+// The faults of a text.
+ghost use Rattle.std.specs.Prelude.{◌≡◌, ◌↔◌, ◌≤◌, [], IfOk, IfSome};
+ghost use Rattle.std.specs.List.{AllPairs};
+ghost use Rattle.text_records.specs.Lines.{BeginOn};
+ghost use Rattle.text_faults.specs.TextFaults.{AreFaultsOfText, ReturnsIn, TextDenotesSome};
+
+use record_faults::{Circle, Fault, RecordFault, circle_of_records, faults_of};
+use std::alloc::{AllocError, Global};
+use text_records::{TextRecords, records_of_text};
+
+/// The faults of a text.
+#[derive(Drop)]
+pub struct TextFaults {
+    /// The faults of its records, in the order of their places.
+    pub faults: Vec<RecordFault>,
+    /// The line in which each record begins. The first line is 1.
+    pub lines: Vec<u64>,
+    /// A path of dependencies that returns, where that is the fault.
+    pub circle: Option<Circle>,
+}
+
+// Whether a path that returns is among the faults.
+fn has_return(faults: &[RecordFault]) -> bool {
+    faults.iter().any(|fault| fault.fault == Fault::Returns)
+}
+
+/// The faults of a plan's text, in the order of its records; there is none exactly where the text denotes a plan. A byte
+/// order mark, line ends of either kind and quotes are no faults. It fails for want of memory only.
+pub fn faults_of_text(alloc: Global, text: &[u8]) -> Result<TextFaults, AllocError>
+    ensures faults { IfOk result (λ t. AreFaultsOfText text.now t.faults.items) }
+    ensures none { IfOk result (λ t. (t.faults.items ≡ []) ↔ TextDenotesSome text.now) }
+    ensures in_order { IfOk result (λ t. AllPairs (λ a b. a.place ≤ b.place) t.faults.items) }
+    ensures lines { IfOk result (λ t. BeginOn text.now t.lines.items) }
+    ensures circle { IfOk result (λ t. IfSome t.circle (λ c. ReturnsIn text.now c.place c.first c.way.items)) }
+{
+    let TextRecords { records, lines } = records_of_text(alloc, text)?;
+    let faults = faults_of(alloc, &records)?;
+    let mut circle = None;
+    if has_return(&faults) {
+        circle = circle_of_records(alloc, &records)?;
+    }
+    Ok(TextFaults {
+        faults,
+        lines,
+        circle,
+    })
+}

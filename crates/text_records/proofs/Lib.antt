@@ -1,0 +1,4 @@
+pub mod Taken
+pub mod DenotingLaws
+pub mod LineLaws
+pub mod Marks

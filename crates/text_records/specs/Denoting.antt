@@ -1,0 +1,14 @@
+-- What a text denotes, its records do, whatever their lengths: a record of another length than ten says nothing.
+use Rattle.std.specs.Prelude.{◌↔◌, ℕ, List}
+use Rattle.plan_model.specs.Contents.{Contents, AddedParts}
+use Rattle.plan_items.specs.Items.{Fields}
+use Rattle.plan_drafts.specs.Records.{Denotes, DenotesAddition}
+use Rattle.plan_import.specs.Texts.{TextDenotes, TextDenotesAddition}
+
+-- the text denotes the plans that the records denote, and no others
+abbrev pub DenotesPlansOf : List ℕ → List Fields → Type 0
+DenotesPlansOf text records = (P : Contents) → (TextDenotes text P ↔ Denotes records P)
+
+-- the text denotes the additions that the records denote, and no others
+abbrev pub DenotesAdditionsOf : List ℕ → List Fields → Type 0
+DenotesAdditionsOf text records = (added : AddedParts) → (TextDenotesAddition text added ↔ DenotesAddition records added)

@@ -1,0 +1,4 @@
+pub mod Records
+pub mod Denoting
+pub mod Lines
+pub mod Places
