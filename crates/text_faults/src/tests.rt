@@ -118,10 +118,10 @@ fn told(alloc: Global, text: &str) -> Result<String, AllocError> {
 fn faults_of_texts(rt: HostRuntime) -> Result<(), Fail> {
     for (more, lines) in AFTER {
         let text = format!(in rt.alloc(); "{PLAN}{more}")?;
-        assert_eq!(rt; told(rt.alloc(), &text)?, lines, "{more}");
+        assert_eq!(rt; told(rt.alloc(), &text)?.as_str(), lines, "{more}");
     }
     for (text, lines) in WHOLE {
-        assert_eq!(rt; told(rt.alloc(), text)?, lines, "{text}");
+        assert_eq!(rt; told(rt.alloc(), text)?.as_str(), lines, "{text}");
     }
     Ok(())
 }
@@ -137,7 +137,7 @@ fn too_many_needs(rt: HostRuntime) -> Result<(), Fail> {
         text.push_str(&more)?;
     }
     assert_eq!(
-        rt; told(rt.alloc(), &text)?,
+        rt; told(rt.alloc(), &text)?.as_str(),
         "line 8: need: operation DAILY/2024-03-01T22:00/010 has 17: it may have at most 16\n",
         "seventeen needs"
     );
