@@ -4,3 +4,4 @@ pub mod Played
 pub mod Statuses
 pub mod Told
 pub mod Ended
+pub mod Reasoned

@@ -3,7 +3,7 @@ ghost use Rattle.std.specs.Prelude.{◌≡◌, ◌⊎◌, IfOk, IfErr, codes};
 ghost use Rattle.clap.specs.Matches.{first_value, found_of};
 ghost use Rattle.plan_basics.specs.Watched.{inner_of};
 ghost use Rattle.desk_commands.specs.Statuses.{IsOfSurroundings};
-ghost use Rattle.desk_commands.specs.Whys.{IsWhyAsked, IsWhyOfDesk, IsWhyPlanned, IsWhyShown};
+ghost use Rattle.desk_commands.specs.Whys.{IsWhyAsked, IsWhyOfDesk, IsWhyPlanned, IsWhyShown, minute_asked};
 ghost use Rattle.desk_commands.specs.Words.{text_given};
 ghost use Rattle.desk_commands.specs.declared.endings.Fault.{Fault};
 
@@ -60,6 +60,16 @@ fn why_planned<W: Write>(
     }
 }
 
+// The minute at which it is asked: the given one, or else that of the desk's clock.
+fn minute_of<S: Alter + Drop>(desk: &Desk<S>, minute: Option<i64>) -> i64
+    ensures { result ≡ minute_asked minute desk.now.plan }
+{
+    match minute {
+        Some(minute) => minute,
+        None => desk.plan().clock().minute(),
+    }
+}
+
 // The same at the desk of a database's file, at its clock where no minute is given; or why it can't be opened.
 fn why_stored<W: Write>(
     rt: &HostRuntime,
@@ -75,10 +85,7 @@ fn why_stored<W: Write>(
         Ok(desk) => desk,
         Err(refusal) => return tell(out, &Reply::Refused(refusal)),
     };
-    let minute = match minute {
-        Some(minute) => minute,
-        None => desk.plan().clock().minute(),
-    };
+    let minute = minute_of(&desk, minute);
     let shown = tell_why(rt.alloc(), &desk, key, minute, out);
     desk.close().close()?;
     shown

@@ -1,0 +1,59 @@
+-- What is shown of why an operation doesn't go on.
+use Rattle.std.proofs.Common.{◌≡◌, inl, inr, subst, ℕ, ℤ, pos, Bool, true, List, Option, Some, Result, Ok, Err, IfOk, OnOk}
+use Rattle.std.proofs.lemmas.Result.{IfOk-weaker}
+use Rattle.plan_basics.specs.KeyTexts.{IsOperationText}
+use Rattle.plan_basics.specs.declared.Refusal.{Refusal}
+use Rattle.plan_basics.specs.declared.keys.OpKey.{OpKey}
+use Rattle.plan_model.specs.Contents.{Contents}
+use Rattle.plan_model.specs.Plan.{Plan}
+use Rattle.plan_records.specs.Answer.{accepted, refused}
+use Rattle.plan_records.specs.Run.{State}
+use Rattle.plan_reports.specs.Reports.{IsOwed, IsWhyReport, IsWritten, why_refusal_of}
+use Rattle.plan_reports.specs.declared.reports.ReportFault.{ReportFault}
+use Rattle.plan_reports.specs.declared.reports.ReportFault.TheVariants as report_fault
+use Rattle.desk_commands.specs.Answers.{IsShown}
+use Rattle.desk_commands.specs.Shown.{IsEndOf}
+use Rattle.desk_commands.specs.Turns.{IsLoadRefusal, IsLoaded}
+use Rattle.desk_commands.specs.Whys.{IsMinuteGiven, IsWhyAsked, IsWhyOfDesk, IsWhyPlanned, IsWhyShown, minute_asked}
+use Rattle.desk_commands.specs.declared.endings.Ending.{Ending}
+use Rattle.desk_commands.specs.declared.endings.Fault.{Fault}
+use Rattle.desk_commands.proofs.Ended.{told}
+
+module _ (o : OpKey) (old new : Option (List ℕ)) (r : Result Ending Fault) where
+  -- at a desk, behind the report
+  pub why_ends : (z : ℤ) (usable : Bool) (P : Plan) (m : ℕ) → z ≡ pos m → (between : Option (List ℕ)) (w : Result (Unit {0}) ReportFault)
+      → OnOk w (IsWritten (why_refusal_of usable P o) (IsWhyReport P o m) old between)
+      → ((q : Refusal) → w ≡ Err (report_fault.Refused q) → IsOwed (why_refusal_of usable P o) q × (between ≡ old))
+      → IfOk r (IsEndOf w between new) → IfOk r (IsWhyShown o z usable P old new)
+  why_ends z usable P m is between w written owes ends =
+      IfOk-weaker r (IsEndOf w between new) (IsWhyShown o z usable P old new)
+      (λ (e : Ending) (ended : IsEndOf w between new e). inl (m, is, told (why_refusal_of usable P o) (IsWhyReport P o m) old between new w written owes e ended)) ends
+
+  -- at a desk at which a plan was loaded
+  pub why_planned : (z : ℤ) (found : Option Contents) (named : List OpKey) (s : State) → IsLoaded z found (accepted named) s
+      → (usable : Bool) → usable ≡ true → IfOk r (IsWhyShown o z usable s.plan old new) → IfOk r (IsWhyPlanned o z found old new)
+  why_planned z found named s loads usable is shown =
+      IfOk-weaker r (IsWhyShown o z usable s.plan old new) (IsWhyPlanned o z found old new)
+      (λ (e : Ending) (was : IsWhyShown o z usable s.plan old new e). inl (named, s, loads, subst (λ (u : Bool). IsWhyShown o z u s.plan old new e) is was)) shown
+
+  -- the load was refused
+  pub why_unplanned : (z : ℤ) (found : Option Contents) (q : Refusal) → IsLoadRefusal z found q → IfOk r (IsShown (refused q) old new) → IfOk r (IsWhyPlanned o z found old new)
+  why_unplanned z found q why shown =
+      IfOk-weaker r (IsShown (refused q) old new) (IsWhyPlanned o z found old new) (λ (e : Ending) (was : IsShown (refused q) old new e). inr (q, why, was)) shown
+
+  -- at a desk that was there
+  pub why_of_desk : (z : Option ℤ) (usable : Bool) (P : Plan) (m : ℤ) → m ≡ minute_asked z P → IfOk r (IsWhyShown o m usable P old new) → IfOk r (IsWhyOfDesk o z old new)
+  why_of_desk z usable P m is shown =
+      IfOk-weaker r (IsWhyShown o m usable P old new) (IsWhyOfDesk o z old new)
+      (λ (e : Ending) (was : IsWhyShown o m usable P old new e). inl (usable, P, subst (λ (n : ℤ). IsWhyShown o n usable P old new e) is was)) shown
+
+  module _ (op : List ℕ) (at : Option (List ℕ)) (z : Option ℤ) (names : IsOperationText op o) (given : IsMinuteGiven at z) where
+    -- as the words ask for, at a desk that was there
+    pub why_asked : IfOk r (IsWhyOfDesk o z old new) → IfOk r (IsWhyAsked op at old new)
+    why_asked shown = IfOk-weaker r (IsWhyOfDesk o z old new) (IsWhyAsked op at old new) (λ (e : Ending) (was : IsWhyOfDesk o z old new e). (o, names, z, given, inl was)) shown
+
+    -- at one of a plan's text
+    pub why_asked_of_plan : (m : ℤ) → z ≡ Some m → (found : Option Contents) → IfOk r (IsWhyPlanned o m found old new) → IfOk r (IsWhyAsked op at old new)
+    why_asked_of_plan m is found shown =
+        IfOk-weaker r (IsWhyPlanned o m found old new) (IsWhyAsked op at old new)
+        (λ (e : Ending) (was : IsWhyPlanned o m found old new e). (o, names, z, given, inr (m, is, found, was))) shown
