@@ -73,7 +73,7 @@ ANSWERED = [
 def blocks():
     """The blocks of shell commands of the section, each as its text."""
     text = (TOP / "docs" / "OPERATING.md").read_text()
-    section = text.split("\n## Trackers and operators, over HTTP\n")[1].split("\n## ")[0]
+    section = text.split("\n## serve: trackers and operators, over HTTP\n")[1].split("\n## ")[0]
     return re.findall(r"^```sh\n(.*?)^```$", section, re.DOTALL | re.MULTILINE)
 
 

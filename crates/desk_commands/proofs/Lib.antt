@@ -5,3 +5,4 @@ pub mod Statuses
 pub mod Told
 pub mod Ended
 pub mod Reasoned
+pub mod Judging

@@ -1,5 +1,5 @@
 -- What the program shows of the faults of a plan's text.
-use Rattle.std.specs.Prelude.{◌≡◌, ◌↔◌, ℕ, zero, suc, List, ◌++◌, Option, codes, decimal}
+use Rattle.std.specs.Prelude.{◌≡◌, ◌↔◌, ◌==◌, if◌then◌else◌, ℕ, List, ◌++◌, Option, codes, decimal}
 use Rattle.std.specs.Io.KnownBytes.{Appends}
 use Rattle.text_faults.specs.TextFaults.{TextDenotesSome}
 use Rattle.desk_commands.specs.Answers.{line}
@@ -8,13 +8,11 @@ use Rattle.desk_commands.specs.declared.endings.Ending.TheVariants as ending
 
 -- the last line: how many faults there are
 abbrev pub count_line : ℕ → List ℕ
-count_line 0 = line (codes "no faults")
-count_line (suc n) = line (decimal (suc n) ++ codes " faults")
+count_line count = if count == 0 then line (codes "no faults") else line (decimal count ++ codes " faults")
 
 -- how the run ends then
 abbrev pub ending_of_count : ℕ → Ending
-ending_of_count 0 = ending.Done
-ending_of_count (suc n) = ending.Refused
+ending_of_count count = if count == 0 then ending.Done else ending.Refused
 
 -- a text was judged: something was shown of its faults, and then how many there are; none exactly where it denotes a plan
 abbrev pub IsJudged : List ℕ → Option (List ℕ) → Option (List ℕ) → Ending → Type 0

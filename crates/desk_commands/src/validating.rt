@@ -1,5 +1,5 @@
 // `validate`: what is wrong with a plan's text, record by record.
-ghost use Rattle.std.specs.Prelude.{◌≡◌, IfOk, IfErr, OnOk, List, ℕ};
+ghost use Rattle.std.specs.Prelude.{◌≡◌, IfOk, IfErr, List, ℕ};
 ghost use Rattle.std.specs.Io.KnownBytes.{Appends};
 ghost use Rattle.plan_basics.specs.Watched.{inner_of};
 ghost use Rattle.desk_commands.specs.Judged.{IsJudged, count_line, ending_of_count};
@@ -10,7 +10,7 @@ use crate::files::text_of;
 use crate::words::value_of;
 use clap::ArgMatches;
 use plan_basics::Watched;
-use std::alloc::Global;
+use std::alloc::{AllocError, Global};
 use std::fs;
 use std::io::Write;
 use std::rt::HostRuntime;
@@ -19,34 +19,18 @@ use text_faults::{TextFaults, fault_text, faults_of_text};
 /// How many faults are told one by one.
 const MOST_TOLD: usize = 100;
 
-// Shows a line for each of so many faults, the first ones.
-#[tactic(auto, using(crate::proofs::Statuses::of_the_surroundings))]
-fn tell_each<W: Write>(
-    alloc: Global,
-    found: &TextFaults,
-    count: usize,
-    out: &mut Watched<W>,
-) -> Result<(), Fault>
-    ensures shown { OnOk result ((text : List ℕ) × Appends (W.contents (inner_of out.old)) (W.contents (inner_of out.new)) text) }
-    ensures fault { IfErr result IsOfSurroundings }
-{
-    for fault in found.faults.iter().take(count) {
-        let line = fault_text(alloc, fault, found)?;
-        writeln!(out, "{line}")?;
+// A line for each of the first faults, and how many more there are, if there are.
+fn lines_of(alloc: Global, found: &TextFaults) -> Result<String, AllocError> {
+    let mut lines = String::new(alloc);
+    for fault in found.faults.iter().take(MOST_TOLD) {
+        lines.push_str(&fault_text(alloc, fault, found)?)?;
+        lines.push_str("\n")?;
     }
-    Ok(())
-}
-
-// Shows how many faults there are beyond those that were told, if there are.
-#[tactic(auto, using(crate::proofs::Statuses::of_the_surroundings))]
-fn tell_more<W: Write>(out: &mut Watched<W>, count: usize) -> Result<(), Fault>
-    ensures shown { OnOk result ((text : List ℕ) × Appends (W.contents (inner_of out.old)) (W.contents (inner_of out.new)) text) }
-    ensures fault { IfErr result IsOfSurroundings }
-{
-    if count > 0 {
-        writeln!(out, "{count} more")?;
+    let more = found.faults.len().saturating_sub(MOST_TOLD);
+    if more > 0 {
+        lines.push_str(&format!(in alloc; "{more} more\n")?)?;
     }
-    Ok(())
+    Ok(lines)
 }
 
 // Shows how many faults there are, and ends as refused where there are any.
@@ -69,10 +53,9 @@ fn tell_faults<W: Write>(alloc: Global, text: &[u8], out: &mut Watched<W>) -> Re
     ensures fault { IfErr result IsOfSurroundings }
 {
     let found = faults_of_text(alloc, text)?;
-    let count = found.faults.len();
-    tell_each(alloc, &found, MOST_TOLD, out)?;
-    tell_more(out, count.saturating_sub(MOST_TOLD))?;
-    tell_count(out, count)
+    let lines = lines_of(alloc, &found)?;
+    out.write_all(lines.as_bytes())?;
+    tell_count(out, found.faults.len())
 }
 
 /// `validate`: the text of a plan is judged, record by record: a line for each of the first hundred faults, how many more

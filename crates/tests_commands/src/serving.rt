@@ -1,8 +1,8 @@
 // Connections over the loopback, in one thread: each client writes before it is served, and reads after it. And what
 // can't be served.
 use crate::loads::{DAY, run_load};
-use desk_commands::serve_listener;
 use crate::runs::{NIGHT, Ran, own_folder, run, text_of};
+use desk_commands::serve_listener;
 use plan_basics::{Watched, minute_of_text};
 use plan_import::read_plan;
 use plan_records::{Request, What};

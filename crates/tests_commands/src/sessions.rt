@@ -1,6 +1,6 @@
 // Sessions: runs of the program one after another over the files of a folder, and what each answers.
-use desk_commands::desk_run;
 use crate::runs::own_folder;
+use desk_commands::desk_run;
 use plan_basics::Watched;
 use sqlite::Connection;
 use std::fs;
@@ -448,7 +448,12 @@ END 1
 
 // Texts of plans that are judged.
 const JUDGED: [Turn; 4] = [
-    (&["validate", "--plan", "@night.csv"], "no faults\n", NO_FAULT, 0),
+    (
+        &["validate", "--plan", "@night.csv"],
+        "no faults\n",
+        NO_FAULT,
+        0,
+    ),
     (
         &["validate", "--plan", "@empty"],
         "line 1: workstation: the plan has none: it must have at least one

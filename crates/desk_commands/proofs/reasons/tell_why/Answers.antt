@@ -14,6 +14,6 @@ returns-clause-shown g c =
     let between = g.W.Write.contents (inner_of c.why_report-written.new.writer) in
     let owed = why_refusal_of c.args.desk.now.is_usable c.args.desk.now.plan c.args.key.now in
     let refused : (r : Refusal) → c.why_report-written.result ≡ Err (fault.Refused r) → IsOwed owed r × (between ≡ old) =
-        λ r e. let found = c.why_report-written.ensures.refused r e in (found.0, rw found.1 refl) in
+    λ r e. let found = c.why_report-written.ensures.refused r e in (found.0, rw found.1 refl) in
     why_ends c.args.key.now old (g.W.Write.contents (inner_of c.end_of.new.out)) c.end_of.result c.args.minute c.args.desk.now.is_usable c.args.desk.now.plan
     c.in-Some.at is between c.why_report-written.result c.why_report-written.ensures.written refused c.end_of.ensures.shown

@@ -15,7 +15,7 @@ returns-clause-shown g c =
     let between = g.W.Write.contents (inner_of c.write_report-written.new.out) in
     let new = g.W.Write.contents (inner_of c.end_of.new.out) in
     let refused : (r : Refusal) → c.write_report-written.result ≡ Err (fault.Refused r) → IsOwed owed r × (between ≡ old) =
-        λ r is. let found = c.write_report-written.ensures.refused r is in (found.0, rw found.1 refl) in
+    λ r is. let found = c.write_report-written.ensures.refused r is in (found.0, rw found.1 refl) in
     IfOk-weaker c.end_of.result (IsEndOf c.write_report-written.result between new) (IsReportShown c.args.kind.now c.args.desk.now.is_usable c.args.desk.now.plan old new)
     (told owed (IsReport c.args.kind.now c.args.desk.now.plan) old between new c.write_report-written.result c.write_report-written.ensures.written refused)
     c.end_of.ensures.shown

@@ -8,7 +8,7 @@ pub returns-then-is_none-clause-refused : goal.returns-then-is_none-clause-refus
 returns-then-is_none-clause-refused g c =
     let none = c.if-is_none.true in
     let absent : ¬ IsInPlan c.args.desk.now.plan.contents c.args.key.now =
-        absent_of c.view_op.result (IsInPlan c.args.desk.now.plan.contents c.args.key.now) (search rules) (rw c.in_ok-plan.ensures.plan at c.view_op.ensures.some) in
+    absent_of c.view_op.result (IsInPlan c.args.desk.now.plan.contents c.args.key.now) (search rules) (rw c.in_ok-plan.ensures.plan at c.view_op.ensures.some) in
     rw (not_in_plan c.args.desk.now.is_usable c.args.desk.now.plan c.args.key.now c.in_ok-plan.ensures.none_owed absent) refl
 
 pub returns-clause-text : goal.returns-clause-text
