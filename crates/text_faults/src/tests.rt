@@ -136,8 +136,8 @@ fn too_many_needs(rt: HostRuntime) -> Result<(), Fail> {
         )?;
         text.push_str(&more)?;
     }
-    assert_eq!(
-        rt; told(rt.alloc(), &text)?.as_str(),
+    assert_eq!(rt;
+        told(rt.alloc(), &text)?.as_str(),
         "line 8: need: operation DAILY/2024-03-01T22:00/010 has 17: it may have at most 16\n",
         "seventeen needs"
     );

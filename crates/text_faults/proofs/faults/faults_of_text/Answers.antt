@@ -1,4 +1,4 @@
-use Rattle.std.proofs.Common.{◌≡◌, ap, sym, subst, ◌∙◌}
+use Rattle.std.proofs.Common.{◌≡◌, ap, sym, subst}
 use Rattle.record_faults.specs.Sayings.{texts_of}
 use Rattle.text_records.specs.Denoting.{DenotesPlansOf}
 use Rattle.text_records.specs.Records.{AreRecordsOf}
