@@ -20,4 +20,4 @@ pub judged : (text told : List ℕ) (count : ℕ) (old between new : Option (Lis
 judged text told count old between new r lines none shown =
     IfOk-weaker r (λ e. Appends between new (count_line count) × (e ≡ ending_of_count count)) (IsJudged text old new)
     (λ (e : Ending) (was : Appends between new (count_line count) × (e ≡ ending_of_count count)).
-        (count, told, Appends-trans old between new told (count_line count) lines was.0, was.1, none)) shown
+    (count, told, Appends-trans old between new told (count_line count) lines was.0, was.1, none)) shown
