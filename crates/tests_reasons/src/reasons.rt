@@ -181,10 +181,7 @@ const ROWS: [Row; 26] = [
     // a file that isn't available
     Row {
         beginning: "BILLS_IN",
-        turns: &[
-            "22:50 away CUSTFILE | names -",
-            "23:40 ended 20 | names -",
-        ],
+        turns: &["22:50 away CUSTFILE | names -", "23:40 ended 20 | names -"],
         told: "BILLING/2024-03-01T22:00/010 A 2024-03-01T23:40\n\
             CUSTFILE not available\n\
             END 1\n",
@@ -224,19 +221,13 @@ const ROWS: [Row; 26] = [
     // what was interrupted may be started again; what is complete is not
     Row {
         beginning: "LOADED",
-        turns: &[
-            "22:00 started 5 | names -",
-            "22:05 interrupted 5 | names -",
-        ],
+        turns: &["22:00 started 5 | names -", "22:05 interrupted 5 | names -"],
         told: "PAYROLL/2024-03-01T22:00/005 I 2024-03-01T22:06\n\
             END 0\n",
     },
     Row {
         beginning: "LOADED",
-        turns: &[
-            "22:00 started 5 | names -",
-            "22:10 ended 5 | names 10",
-        ],
+        turns: &["22:00 started 5 | names -", "22:10 ended 5 | names 10"],
         told: "PAYROLL/2024-03-01T22:00/005 C 2024-03-01T22:10\n\
             status C\n\
             END 1\n",
@@ -307,6 +298,9 @@ fn tells_nothing(alloc: Global, beginning: &str, told: &str) -> Option<bool> {
 fn nothing_of_what_is_not_in_the_plan(rt: HostRuntime) {
     for beginning in ["-", "LOADED"] {
         let told = "BILLING/2024-03-01T22:00/010 A 2024-03-01T21:00\n";
-        assert!(rt; tells_nothing(rt.alloc(), beginning, told) == Some(true), "{beginning}");
+        assert!(rt;
+            tells_nothing(rt.alloc(), beginning, told) == Some(true),
+            "{beginning}"
+        );
     }
 }
