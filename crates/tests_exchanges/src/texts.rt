@@ -96,6 +96,11 @@ pub fn reply(alloc: Global, status: &str, more: &str, length: usize, body: &str)
     ).ok()
 }
 
+/// The reply to a request that is accepted and names no operation.
+pub fn accepted(alloc: Global) -> Option<String> {
+    reply(alloc, "200 OK", "", 12, "{\"named\":[]}")
+}
+
 /// The reply to a request that fails a test of its form: its body has the code of the status.
 pub fn fault(alloc: Global, status: &str, more: &str) -> Option<String> {
     let code = status.get(..3)?;
