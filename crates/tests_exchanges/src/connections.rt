@@ -119,43 +119,35 @@ impl Bench {
         }
     }
 
-    // How many exchanges end as they are to, up to the first that doesn't.
-    fn count_right(&mut self, alloc: Global, exchanges: &[Exchange]) -> usize {
-        let mut count = 0;
+    // Whether exchanges end as they are to, one after the other.
+    fn is_right(&mut self, alloc: Global, exchanges: &[Exchange]) -> bool {
         for exchange in exchanges {
             let told = self.told(alloc, exchange.pieces(), exchange.paper(alloc));
             if !exchange.is_told(&told) {
-                return count;
+                return false;
             }
-            count += 1;
         }
-        count
+        true
     }
 
-    // Whether operation 5 of PAYROLL has this mark and this status.
-    fn is_five(&self, mark: Mark, status: Status) -> bool {
+    // Whether operation 5 of PAYROLL has this mark and this status, or isn't there.
+    fn has_five(&self, five: Option<(Mark, Status)>) -> bool {
         let Some(key) = OpKey::from_text(b"PAYROLL/2024-03-01T22:00/005") else {
             return false;
         };
-        match self.desk.plan().view_op(&key) {
-            Some(view) => view.mark == mark && view.status == status,
-            None => false,
+        match (self.desk.plan().view_op(&key), five) {
+            (Some(view), Some((mark, status))) => view.mark == mark && view.status == status,
+            (None, None) => true,
+            _ => false,
         }
     }
 }
 
-/// Whether exchanges end as they are to, one after the other, at a desk at which nothing is loaded.
-pub fn are_right(alloc: Global, exchanges: &[Exchange]) -> bool {
-    let Some(mut bench) = Bench::empty(alloc) else {
-        return false;
-    };
-    bench.count_right(alloc, exchanges) == exchanges.len()
-}
-
-/// The same, and whether operation 5 of PAYROLL has this mark and this status afterwards.
-pub fn leave_five(alloc: Global, exchanges: &[Exchange], mark: Mark, status: Status) -> bool {
-    let Some(mut bench) = Bench::empty(alloc) else {
-        return false;
-    };
-    bench.count_right(alloc, exchanges) == exchanges.len() && bench.is_five(mark, status)
+/// Whether exchanges end as they are to, one after the other, at a desk at which nothing is loaded; and operation 5 of
+/// PAYROLL has this mark and this status afterwards, or isn't there.
+pub fn are_right(alloc: Global, exchanges: &[Exchange], five: Option<(Mark, Status)>) -> bool {
+    match Bench::empty(alloc) {
+        Some(mut bench) => bench.is_right(alloc, exchanges) && bench.has_five(five),
+        None => false,
+    }
 }

@@ -1,6 +1,6 @@
 // What connections bring, and what is to come of them.
 use super::connections::{After, Paper, Pieces, Told};
-use super::texts::{accepted, night, post};
+use super::texts::{NIGHT, accepted, post};
 use std::alloc::Global;
 use tracker_http::WireFault;
 
@@ -60,7 +60,7 @@ impl Exchange {
 
 /// The request of an operator that loads the night, alone in a list that others go on.
 pub fn loading(alloc: Global) -> Option<Vec<Exchange>> {
-    let input = post(alloc, "/operator", &night(alloc)?)?;
+    let input = post(alloc, "/operator", NIGHT)?;
     let load = Exchange::new(input, After::End, accepted(alloc)?);
     let mut exchanges = Vec::new(alloc);
     exchanges.push(load).ok()?;

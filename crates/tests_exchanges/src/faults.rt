@@ -1,5 +1,5 @@
 // Readers and writers that fail.
-use super::connections::{After, leave_five};
+use super::connections::{After, are_right};
 use super::exchanges::{Exchange, loading};
 use super::texts::{START, accepted};
 use status_rules::{Mark, Status};
@@ -24,7 +24,7 @@ fn is_each_reader_told(alloc: Global) -> Option<bool> {
             .push(reader_fault(alloc, report.get(..end)?)?)
             .ok()?;
     }
-    Some(leave_five(alloc, &exchanges, Mark::Unmarked, Status::Arriving))
+    Some(are_right(alloc, &exchanges, Some((Mark::Unmarked, Status::Arriving))))
 }
 
 #[test]
@@ -50,7 +50,7 @@ fn is_each_writer_told(alloc: Global) -> Option<bool> {
     }
     let again = Exchange::new(START.request(alloc)?, After::End, accepted(alloc)?);
     exchanges.push(again).ok()?;
-    Some(leave_five(alloc, &exchanges, Mark::Running, Status::Started))
+    Some(are_right(alloc, &exchanges, Some((Mark::Running, Status::Started))))
 }
 
 #[test]

@@ -1,5 +1,5 @@
 // Requests that fail a test of their form, and bodies that are no requests.
-use super::connections::{After, leave_five};
+use super::connections::{After, are_right};
 use super::exchanges::{Exchange, loading};
 use super::texts::{START, accepted, fault, post, reply};
 use status_rules::{Mark, Status};
@@ -74,7 +74,7 @@ fn are_heads_rejected(alloc: Global) -> Option<bool> {
     for head in &HEADS {
         exchanges.push(rejected(alloc, head)?).ok()?;
     }
-    Some(leave_five(alloc, &exchanges, Mark::Unmarked, Status::Arriving))
+    Some(are_right(alloc, &exchanges, Some((Mark::Unmarked, Status::Arriving))))
 }
 
 #[test]
@@ -114,7 +114,7 @@ fn are_changes_bad(alloc: Global) -> Option<bool> {
     for (part, other) in &CHANGES {
         exchanges.push(bad_change(alloc, part, other)?).ok()?;
     }
-    Some(leave_five(alloc, &exchanges, Mark::Unmarked, Status::Arriving))
+    Some(are_right(alloc, &exchanges, Some((Mark::Unmarked, Status::Arriving))))
 }
 
 #[test]
@@ -155,7 +155,7 @@ fn are_others_bad(alloc: Global) -> Option<bool> {
     exchanges.push(brackets(alloc)?).ok()?;
     exchanges.push(with_fields(alloc, 65)?).ok()?;
     exchanges.push(with_fields(alloc, 2000)?).ok()?;
-    Some(leave_five(alloc, &exchanges, Mark::Unmarked, Status::Arriving))
+    Some(are_right(alloc, &exchanges, Some((Mark::Unmarked, Status::Arriving))))
 }
 
 #[test]
@@ -192,7 +192,7 @@ fn are_past_and_taken(alloc: Global) -> Option<bool> {
     let mut exchanges = loading(alloc)?;
     exchanges.push(past(alloc)?).ok()?;
     exchanges.push(another_name(alloc)?).ok()?;
-    Some(leave_five(alloc, &exchanges, Mark::Running, Status::Started))
+    Some(are_right(alloc, &exchanges, Some((Mark::Running, Status::Started))))
 }
 
 #[test]

@@ -1,5 +1,5 @@
 // The lists that a desk tells.
-use super::connections::{After, are_right, leave_five};
+use super::connections::{After, are_right};
 use super::exchanges::{Exchange, loading};
 use super::texts::{get, reply};
 use status_rules::{Mark, Status};
@@ -49,7 +49,7 @@ fn are_told(alloc: Global) -> Option<bool> {
     for row in &LISTS {
         exchanges.push(list(alloc, row)?).ok()?;
     }
-    Some(leave_five(alloc, &exchanges, Mark::Unmarked, Status::Arriving))
+    Some(are_right(alloc, &exchanges, Some((Mark::Unmarked, Status::Arriving))))
 }
 
 #[test]
@@ -63,7 +63,7 @@ fn are_refused(alloc: Global) -> Option<bool> {
     for row in &BEFORE_A_LOAD {
         exchanges.push(list(alloc, row)?).ok()?;
     }
-    Some(are_right(alloc, &exchanges))
+    Some(are_right(alloc, &exchanges, None))
 }
 
 #[test]

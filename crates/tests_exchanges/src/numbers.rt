@@ -1,5 +1,5 @@
 // The numbers of trackers, over connections.
-use super::connections::{After, leave_five};
+use super::connections::{After, are_right};
 use super::exchanges::{Exchange, loading};
 use super::texts::{Report, accepted, reply};
 use status_rules::{Mark, Status};
@@ -105,7 +105,7 @@ fn are_turns_answered(alloc: Global) -> Option<bool> {
     for turn in &TURNS {
         exchanges.push(numbered(alloc, turn)?).ok()?;
     }
-    Some(leave_five(alloc, &exchanges, Mark::Done, Status::Complete))
+    Some(are_right(alloc, &exchanges, Some((Mark::Done, Status::Complete))))
 }
 
 #[test]
@@ -154,7 +154,11 @@ fn is_there_no_room(alloc: Global) -> Option<bool> {
     exchanges.push(refused(alloc, 1, 29, limit)?).ok()?;
     let gap = "{\"name\":\"Gap\",\"refusal\":23}";
     exchanges.push(refused(alloc, 2, 27, gap)?).ok()?;
-    Some(leave_five(alloc, &exchanges, Mark::Interrupted, Status::Interrupted))
+    Some(are_right(
+        alloc,
+        &exchanges,
+        Some((Mark::Interrupted, Status::Interrupted)),
+    ))
 }
 
 #[test]

@@ -1,5 +1,5 @@
 // A report of a tracker, in pieces and cut short; and requests of operators.
-use super::connections::{After, are_right, leave_five};
+use super::connections::{After, are_right};
 use super::exchanges::{Exchange, loading};
 use super::texts::{START, accepted, fault, post, reply};
 use status_rules::{Mark, Status};
@@ -21,7 +21,7 @@ fn is_started_in_pieces(alloc: Global) -> Option<bool> {
     for most in &SIZES {
         exchanges.push(in_pieces(alloc, *most)?).ok()?;
     }
-    Some(leave_five(alloc, &exchanges, Mark::Running, Status::Started))
+    Some(are_right(alloc, &exchanges, Some((Mark::Running, Status::Started))))
 }
 
 #[test]
@@ -43,7 +43,7 @@ fn is_refused_cut_short(alloc: Global) -> Option<bool> {
     for end in 0..report.len() {
         exchanges.push(cut_short(alloc, report.get(..end)?)?).ok()?;
     }
-    Some(leave_five(alloc, &exchanges, Mark::Unmarked, Status::Arriving))
+    Some(are_right(alloc, &exchanges, Some((Mark::Unmarked, Status::Arriving))))
 }
 
 #[test]
@@ -62,14 +62,16 @@ fn tick(alloc: Global, reply: String) -> Option<Exchange> {
 fn is_tick_refused(alloc: Global) -> Option<bool> {
     let body = "{\"name\":\"NotLoaded\",\"refusal\":3}";
     let refused = tick(alloc, reply(alloc, "409 Conflict", "", 32, body)?)?;
-    Some(are_right(alloc, &[refused]))
+    let mut exchanges = Vec::new(alloc);
+    exchanges.push(refused).ok()?;
+    Some(are_right(alloc, &exchanges, None))
 }
 
 // Whether a tick is accepted after that.
 fn is_tick_accepted(alloc: Global) -> Option<bool> {
     let mut exchanges = loading(alloc)?;
     exchanges.push(tick(alloc, accepted(alloc)?)?).ok()?;
-    Some(leave_five(alloc, &exchanges, Mark::Unmarked, Status::Arriving))
+    Some(are_right(alloc, &exchanges, Some((Mark::Unmarked, Status::Arriving))))
 }
 
 #[test]
