@@ -67,7 +67,7 @@ fn is_tick_refused(alloc: Global) -> Option<bool> {
     Some(are_right(alloc, &exchanges, None))
 }
 
-// Whether a tick is accepted after that.
+// Whether a tick is accepted once a plan is loaded.
 fn is_tick_accepted(alloc: Global) -> Option<bool> {
     let mut exchanges = loading(alloc)?;
     exchanges.push(tick(alloc, accepted(alloc)?)?).ok()?;
