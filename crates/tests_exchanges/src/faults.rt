@@ -1,105 +1,59 @@
 // Readers and writers that fail.
-use super::connections::{Pieces, is_five, loaded, served, served_from};
-use super::texts::{START, reply};
-use plan_basics::Watched;
-use plan_tables::Desk;
-use sqlite::MemStore;
+use super::connections::{After, are_right};
+use super::exchanges::{Exchange, loading};
+use super::texts::{START, accepted};
 use status_rules::{Mark, Status};
 use std::alloc::Global;
-use std::io;
-use std::io::Write;
-use std::test::Fail;
-use tracker_http::{WireFault, serve_one};
+use tracker_http::WireFault;
 
-// Whether the reader's fault at each read but the last, of one byte each, is told.
-fn is_reader_told(alloc: Global, desk: &mut Desk<MemStore>) -> Option<bool> {
-    let input = START.request(alloc)?;
-    for end in 0..input.len() {
-        let left = input.as_bytes().get(..end)?;
-        let pieces = Pieces { left, most: 1 };
-        if served_from(alloc, desk, pieces).err() != Some(WireFault::Reader) {
-            return Some(false);
-        }
+// A reader's fault after the front of a report, of which a byte is read a call: it is told, and nothing is written.
+fn reader_fault(alloc: Global, front: &str) -> Option<Exchange> {
+    let input = String::from_str(alloc, front).ok()?;
+    let mut exchange = Exchange::new(input, After::Fault, String::new(alloc));
+    exchange.most = 1;
+    exchange.fault = Some(WireFault::Reader);
+    Some(exchange)
+}
+
+// Whether the reader's fault at each read but the last is told.
+fn is_each_reader_told(alloc: Global) -> Option<bool> {
+    let mut exchanges = loading(alloc)?;
+    let report = START.request(alloc)?;
+    for end in 0..report.len() {
+        exchanges
+            .push(reader_fault(alloc, report.get(..end)?)?)
+            .ok()?;
     }
-    Some(true)
+    Some(are_right(alloc, &exchanges, Some((Mark::Unmarked, Status::Arriving))))
 }
 
 #[test]
-fn a_reader_that_fails_at_each_read(rt: HostRuntime) -> Result<(), Fail> {
-    let mut desk = loaded(rt.alloc()).ok_or("no desk")?;
-    assert!(rt; is_reader_told(rt.alloc(), &mut desk) == Some(true));
-    assert!(rt; is_five(&desk, Mark::Unmarked, Status::Arriving));
-    Ok(())
+fn a_reader_that_fails_at_each_read(rt: HostRuntime) {
+    assert!(rt; is_each_reader_told(rt.alloc()) == Some(true));
 }
 
-// Takes at most sixteen bytes a call, and fails once so many calls are made, of which a flush is one.
-#[derive(Drop)]
-struct Failing {
-    bytes: Vec<u8>,
-    calls: u32,
-}
-
-impl Failing {
-    fn count(&mut self) -> io::Result<()> {
-        match self.calls.checked_sub(1) {
-            Some(calls) => {
-                self.calls = calls;
-                Ok(())
-            }
-            None => Err(io::Error::from(io::ErrorKind::ConnectionReset)),
-        }
-    }
-}
-
-impl Write for Failing {
-    fn write(&mut self, buf: &[u8]) -> io::Result<usize> {
-        self.count()?;
-        let n = buf.len().min(16);
-        self.bytes.extend_from_slice(&buf[..n])?;
-        Ok(n)
-    }
-
-    fn flush(&mut self) -> io::Result<()> {
-        self.count()
-    }
-}
-
-// Whether the start's reply is begun where the writer fails after so many calls, and whole where only its flush does.
-fn is_writer_told(
-    alloc: Global,
-    desk: &mut Desk<MemStore>,
-    wanted: &str,
-    calls: u32,
-) -> Option<bool> {
+// The start, whose reply is begun where the writer fails after so many calls, and whole where only its flush does.
+fn writer_fault(alloc: Global, calls: u32) -> Option<Exchange> {
     let input = START.request(alloc)?;
-    let bytes = Vec::new(alloc);
-    let mut writer = Watched::new(Failing { bytes, calls });
-    let mut reader = Watched::new(input.as_bytes());
-    let ended = serve_one(alloc, &mut reader, &mut writer, desk);
-    let is_told = ended.err() == Some(WireFault::Writer) && writer.failed();
-    let written = writer.into_inner().bytes;
-    Some(
-        is_told
-            && wanted.as_bytes().starts_with(&written)
-            && (written.len() < wanted.len()) == (calls < 7),
-    )
+    let mut exchange = Exchange::new(input, After::End, accepted(alloc)?);
+    exchange.calls = calls;
+    exchange.fault = Some(WireFault::Writer);
+    exchange.is_whole = calls >= 7;
+    Some(exchange)
 }
 
-// Whether a writer that fails at each of its calls is told; the start acts once.
-fn is_each_writer_told(alloc: Global, desk: &mut Desk<MemStore>) -> Option<bool> {
-    let wanted = reply(alloc, "200 OK", "", 12, "{\"named\":[]}")?;
+// Whether a writer that fails at each of its calls is told; the start acts once, and is then repeated.
+fn is_each_writer_told(alloc: Global) -> Option<bool> {
+    let mut exchanges = loading(alloc)?;
     for calls in 0..8 {
-        if !is_writer_told(alloc, desk, &wanted, calls)? {
-            return Some(false);
-        }
+        exchanges.push(writer_fault(alloc, calls)?).ok()?;
     }
-    Some(served(alloc, desk, &START.request(alloc)?)? == wanted)
+    let again = Exchange::new(START.request(alloc)?, After::End, accepted(alloc)?);
+    exchanges.push(again).ok()?;
+    Some(are_right(alloc, &exchanges, Some((Mark::Running, Status::Started))))
 }
 
 #[test]
-fn a_writer_that_fails_at_each_write(rt: HostRuntime) -> Result<(), Fail> {
-    let mut desk = loaded(rt.alloc()).ok_or("no desk")?;
-    assert!(rt; is_each_writer_told(rt.alloc(), &mut desk) == Some(true));
-    assert!(rt; is_five(&desk, Mark::Running, Status::Started));
-    Ok(())
+fn a_writer_that_fails_at_each_write(rt: HostRuntime) {
+    assert!(rt; is_each_writer_told(rt.alloc()) == Some(true));
 }

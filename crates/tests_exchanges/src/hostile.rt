@@ -1,14 +1,14 @@
 // Requests that fail a test of their form, and bodies that are no requests.
-use super::connections::{Pieces, is_five, loaded, served, served_from};
-use super::texts::{START, fault, post, reply};
-use plan_tables::Desk;
-use sqlite::MemStore;
+use super::connections::{After, are_right};
+use super::exchanges::{Exchange, loading};
+use super::texts::{START, accepted, fault, post, reply};
 use status_rules::{Mark, Status};
 use std::alloc::Global;
-use std::test::Fail;
 
 // A request, the status of its reply, and what its head has beside.
-const HEADS: [(&str, &str, &str); 13] = [
+type Head = (&'static str, &'static str, &'static str);
+
+const HEADS: [Head; 13] = [
     ("GET * HTTP/1.1\r\n\r\n", "400 Bad Request", ""),
     ("POST /nothing HTTP/1.1\r\n\r\n", "404 Not Found", ""),
     ("GET /ready/ HTTP/1.1\r\n\r\n", "404 Not Found", ""),
@@ -60,37 +60,32 @@ const HEADS: [(&str, &str, &str); 13] = [
     ),
 ];
 
-// Whether a request gets this reply of a test that it fails, and no more is read: the reader would answer a fault.
-fn is_rejected(
-    alloc: Global,
-    desk: &mut Desk<MemStore>,
-    input: &str,
-    status: &str,
-    more: &str,
-) -> Option<bool> {
-    let pieces = Pieces {
-        left: input.as_bytes(),
-        most: 8192,
-    };
-    Some(served_from(alloc, desk, pieces).ok()? == fault(alloc, status, more)?)
+// A head that is rejected so, and no more is read: the reader would answer a fault.
+fn rejected(alloc: Global, head: &Head) -> Option<Exchange> {
+    let (input, status, more) = *head;
+    let input = String::from_str(alloc, input).ok()?;
+    let reply = fault(alloc, status, more)?;
+    Some(Exchange::new(input, After::Fault, reply))
 }
 
-#[test]
-fn nothing_is_sent(rt: HostRuntime) -> Result<(), Fail> {
-    let mut desk = loaded(rt.alloc()).ok_or("no desk")?;
-    let told = served(rt.alloc(), &mut desk, "");
-    assert!(rt; told.is_some() && told == fault(rt.alloc(), "400 Bad Request", ""));
-    Ok(())
-}
-
-#[test]
-fn heads_that_are_rejected(rt: HostRuntime) -> Result<(), Fail> {
-    let mut desk = loaded(rt.alloc()).ok_or("no desk")?;
-    for (input, status, more) in HEADS {
-        let told = is_rejected(rt.alloc(), &mut desk, input, status, more);
-        assert!(rt; told == Some(true), "{input}");
+// Whether the heads are rejected so.
+fn are_heads_rejected(alloc: Global) -> Option<bool> {
+    let mut exchanges = loading(alloc)?;
+    for head in &HEADS {
+        exchanges.push(rejected(alloc, head)?).ok()?;
     }
-    Ok(())
+    Some(are_right(alloc, &exchanges, Some((Mark::Unmarked, Status::Arriving))))
+}
+
+#[test]
+fn heads_that_are_rejected(rt: HostRuntime) {
+    assert!(rt; are_heads_rejected(rt.alloc()) == Some(true));
+}
+
+// A request that is rejected as bad, and no more is read.
+fn bad(alloc: Global, input: String) -> Option<Exchange> {
+    let reply = fault(alloc, "400 Bad Request", "")?;
+    Some(Exchange::new(input, After::Fault, reply))
 }
 
 // The start as a body in which a part stands as another.
@@ -98,97 +93,109 @@ fn changed(alloc: Global, part: &str, other: &str) -> Option<String> {
     START.body(alloc)?.replace(alloc, part, other).ok()
 }
 
-#[test]
-fn bodies_that_are_no_reports(rt: HostRuntime) -> Result<(), Fail> {
-    let mut desk = loaded(rt.alloc()).ok_or("no desk")?;
-    let changes = [
-        ("}", ",\"more\":1}"),
-        ("\"number\":1", "\"number\":1.0"),
-        ("\"number\":1", "\"number\":1000000000"),
-        ("2024-03-01T22:00\",\"do", "2024-02-30T22:00\",\"do"),
-        ("started", "hold"),
-    ];
-    for (part, other) in changes {
-        let body = changed(rt.alloc(), part, other).ok_or("no body")?;
-        let input = post(rt.alloc(), "/report", &body).ok_or("no request")?;
-        let told = is_rejected(rt.alloc(), &mut desk, &input, "400 Bad Request", "");
-        assert!(rt; told == Some(true), "{other}");
+// Parts of the start's body, and what makes it no report in their place.
+const CHANGES: [(&str, &str); 5] = [
+    ("}", ",\"more\":1}"),
+    ("\"number\":1", "\"number\":1.0"),
+    ("\"number\":1", "\"number\":1000000000"),
+    ("2024-03-01T22:00\",\"do", "2024-02-30T22:00\",\"do"),
+    ("started", "hold"),
+];
+
+// The start rejected where a part of its body stands as another.
+fn bad_change(alloc: Global, part: &str, other: &str) -> Option<Exchange> {
+    let body = changed(alloc, part, other)?;
+    bad(alloc, post(alloc, "/report", &body)?)
+}
+
+// Whether the bodies that are no reports are rejected.
+fn are_changes_bad(alloc: Global) -> Option<bool> {
+    let mut exchanges = loading(alloc)?;
+    for (part, other) in &CHANGES {
+        exchanges.push(bad_change(alloc, part, other)?).ok()?;
     }
-    assert!(rt; is_five(&desk, Mark::Unmarked, Status::Arriving));
-    Ok(())
+    Some(are_right(alloc, &exchanges, Some((Mark::Unmarked, Status::Arriving))))
 }
 
 #[test]
-fn a_report_is_no_request_of_an_operator(rt: HostRuntime) -> Result<(), Fail> {
-    let mut desk = loaded(rt.alloc()).ok_or("no desk")?;
-    let body = START.body(rt.alloc()).ok_or("no body")?;
-    let input = post(rt.alloc(), "/operator", &body).ok_or("no request")?;
-    let told = is_rejected(rt.alloc(), &mut desk, &input, "400 Bad Request", "");
-    assert!(rt; told == Some(true));
-    Ok(())
+fn bodies_that_are_no_reports(rt: HostRuntime) {
+    assert!(rt; are_changes_bad(rt.alloc()) == Some(true));
+}
+
+// Nothing is sent.
+fn nothing(alloc: Global) -> Option<Exchange> {
+    let reply = fault(alloc, "400 Bad Request", "")?;
+    Some(Exchange::new(String::new(alloc), After::End, reply))
+}
+
+// The body of a report as a request of an operator.
+fn report_of_operator(alloc: Global) -> Option<Exchange> {
+    let body = START.body(alloc)?;
+    bad(alloc, post(alloc, "/operator", &body)?)
+}
+
+// A body of brackets as a report.
+fn brackets(alloc: Global) -> Option<Exchange> {
+    let body = "[".repeat(alloc, 200).ok()?;
+    bad(alloc, post(alloc, "/report", &body)?)
+}
+
+// A head with so many fields, too many of them.
+fn with_fields(alloc: Global, count: usize) -> Option<Exchange> {
+    let fields = "A: b\r\n".repeat(alloc, count).ok()?;
+    let head = format!(in alloc; "GET /occurrences HTTP/1.1\r\n{fields}\r\n").ok()?;
+    bad(alloc, head)
+}
+
+// Whether these are rejected.
+fn are_others_bad(alloc: Global) -> Option<bool> {
+    let mut exchanges = loading(alloc)?;
+    exchanges.push(nothing(alloc)?).ok()?;
+    exchanges.push(report_of_operator(alloc)?).ok()?;
+    exchanges.push(brackets(alloc)?).ok()?;
+    exchanges.push(with_fields(alloc, 65)?).ok()?;
+    exchanges.push(with_fields(alloc, 2000)?).ok()?;
+    Some(are_right(alloc, &exchanges, Some((Mark::Unmarked, Status::Arriving))))
 }
 
 #[test]
-fn a_body_of_brackets(rt: HostRuntime) -> Result<(), Fail> {
-    let mut desk = loaded(rt.alloc()).ok_or("no desk")?;
-    let body = "[".repeat(rt.alloc(), 200)?;
-    let input = post(rt.alloc(), "/report", &body).ok_or("no request")?;
-    let told = is_rejected(rt.alloc(), &mut desk, &input, "400 Bad Request", "");
-    assert!(rt; told == Some(true));
-    Ok(())
+fn nothing_and_too_much(rt: HostRuntime) {
+    assert!(rt; are_others_bad(rt.alloc()) == Some(true));
 }
 
-// Whether the start at a moment before all plans is refused as past.
-fn is_past(alloc: Global, desk: &mut Desk<MemStore>) -> Option<bool> {
+// The start at a moment before all plans, which is refused as past.
+fn past(alloc: Global) -> Option<Exchange> {
     let at = "\"at\":\"2024-03-01T22:00\"";
     let body = changed(alloc, at, "\"at\":\"1971-12-31T23:59\"")?;
     let input = post(alloc, "/report", &body)?;
-    let wanted = reply(
+    let reply = reply(
         alloc,
         "409 Conflict",
         "",
         27,
         "{\"name\":\"Past\",\"refusal\":1}",
     )?;
-    Some(served(alloc, desk, &input)? == wanted)
+    Some(Exchange::new(input, After::End, reply))
 }
 
-// Whether the start is taken whatever the case of the field's name.
-fn is_taken_by_another_name(alloc: Global, desk: &mut Desk<MemStore>) -> Option<bool> {
+// The start, which is taken whatever the case of the field's name.
+fn another_name(alloc: Global) -> Option<Exchange> {
     let input = START.request(alloc)?;
     let input = input
         .replace(alloc, "Content-Length", "content-LENGTH")
         .ok()?;
-    let wanted = reply(alloc, "200 OK", "", 12, "{\"named\":[]}")?;
-    Some(served(alloc, desk, &input)? == wanted)
+    Some(Exchange::new(input, After::End, accepted(alloc)?))
+}
+
+// Whether the first is refused, and the second taken.
+fn are_past_and_taken(alloc: Global) -> Option<bool> {
+    let mut exchanges = loading(alloc)?;
+    exchanges.push(past(alloc)?).ok()?;
+    exchanges.push(another_name(alloc)?).ok()?;
+    Some(are_right(alloc, &exchanges, Some((Mark::Running, Status::Started))))
 }
 
 #[test]
-fn a_moment_before_all_plans_and_a_name_in_small_letters(rt: HostRuntime) -> Result<(), Fail> {
-    let mut desk = loaded(rt.alloc()).ok_or("no desk")?;
-    assert!(rt; is_past(rt.alloc(), &mut desk) == Some(true));
-    assert!(rt; is_taken_by_another_name(rt.alloc(), &mut desk) == Some(true));
-    Ok(())
-}
-
-// A head with so many fields.
-fn with_fields(alloc: Global, count: u32) -> Option<String> {
-    let mut head = String::from_str(alloc, "GET /occurrences HTTP/1.1\r\n").ok()?;
-    for _ in 0..count {
-        head.push_str("A: b\r\n").ok()?;
-    }
-    head.push_str("\r\n").ok()?;
-    Some(head)
-}
-
-#[test]
-fn a_head_with_too_many_fields(rt: HostRuntime) -> Result<(), Fail> {
-    let mut desk = loaded(rt.alloc()).ok_or("no desk")?;
-    let input = with_fields(rt.alloc(), 65).ok_or("no head")?;
-    let told = is_rejected(rt.alloc(), &mut desk, &input, "400 Bad Request", "");
-    assert!(rt; told == Some(true));
-    let long = with_fields(rt.alloc(), 2000).ok_or("no head")?;
-    let told = is_rejected(rt.alloc(), &mut desk, &long, "400 Bad Request", "");
-    assert!(rt; told == Some(true));
-    Ok(())
+fn a_moment_before_all_plans_and_a_name_in_small_letters(rt: HostRuntime) {
+    assert!(rt; are_past_and_taken(rt.alloc()) == Some(true));
 }

@@ -1,83 +1,81 @@
-// A report of a tracker, whole, in pieces and cut short; and requests of operators.
-use super::connections::{Pieces, empty, is_five, loaded, served, served_from};
-use super::texts::{START, fault, post, reply};
-use plan_tables::Desk;
-use sqlite::MemStore;
+// A report of a tracker, in pieces and cut short; and requests of operators.
+use super::connections::{After, are_right};
+use super::exchanges::{Exchange, loading};
+use super::texts::{START, accepted, fault, post, reply};
 use status_rules::{Mark, Status};
 use std::alloc::Global;
-use std::test::Fail;
+
+// The start's report in pieces of so many bytes.
+fn in_pieces(alloc: Global, most: usize) -> Option<Exchange> {
+    let input = START.request(alloc)?;
+    let mut exchange = Exchange::new(input, After::Fault, accepted(alloc)?);
+    exchange.most = most;
+    Some(exchange)
+}
+
+const SIZES: [usize; 5] = [8192, 1, 2, 7, 64];
 
 // Whether the start is reported and accepted, in pieces of each of these sizes; each after the first is a repetition.
-fn is_started_in_pieces(alloc: Global, desk: &mut Desk<MemStore>, sizes: &[usize]) -> Option<bool> {
-    let input = START.request(alloc)?;
-    let wanted = reply(alloc, "200 OK", "", 12, "{\"named\":[]}")?;
-    for most in sizes {
-        let left = input.as_bytes();
-        let pieces = Pieces { left, most: *most };
-        if served_from(alloc, desk, pieces).ok()? != wanted {
-            return Some(false);
-        }
+fn is_started_in_pieces(alloc: Global) -> Option<bool> {
+    let mut exchanges = loading(alloc)?;
+    for most in &SIZES {
+        exchanges.push(in_pieces(alloc, *most)?).ok()?;
     }
-    Some(true)
+    Some(are_right(alloc, &exchanges, Some((Mark::Running, Status::Started))))
 }
 
 #[test]
-fn a_start_is_reported_in_pieces(rt: HostRuntime) -> Result<(), Fail> {
-    let mut desk = loaded(rt.alloc()).ok_or("no desk")?;
-    assert!(rt; is_five(&desk, Mark::Unmarked, Status::Arriving));
-    let sizes = [8192, 1, 2, 7, 64];
-    assert!(rt; is_started_in_pieces(rt.alloc(), &mut desk, &sizes) == Some(true));
-    assert!(rt; is_five(&desk, Mark::Running, Status::Started));
-    Ok(())
+fn a_start_is_reported_in_pieces(rt: HostRuntime) {
+    assert!(rt; is_started_in_pieces(rt.alloc()) == Some(true));
+}
+
+// The front of a report, which is no request.
+fn cut_short(alloc: Global, front: &str) -> Option<Exchange> {
+    let input = String::from_str(alloc, front).ok()?;
+    let reply = fault(alloc, "400 Bad Request", "")?;
+    Some(Exchange::new(input, After::End, reply))
 }
 
 // Whether the report of the start, cut after each byte but the last, is no request.
-fn is_refused_cut_short(alloc: Global, desk: &mut Desk<MemStore>) -> Option<bool> {
-    let input = START.request(alloc)?;
-    let wanted = fault(alloc, "400 Bad Request", "")?;
-    for end in 0..input.len() {
-        let front = input.as_bytes().get(..end)?;
-        if served_from(alloc, desk, front).ok()? != wanted {
-            return Some(false);
-        }
+fn is_refused_cut_short(alloc: Global) -> Option<bool> {
+    let mut exchanges = loading(alloc)?;
+    let report = START.request(alloc)?;
+    for end in 0..report.len() {
+        exchanges.push(cut_short(alloc, report.get(..end)?)?).ok()?;
     }
-    Some(true)
+    Some(are_right(alloc, &exchanges, Some((Mark::Unmarked, Status::Arriving))))
 }
 
 #[test]
-fn a_report_cut_after_each_byte(rt: HostRuntime) -> Result<(), Fail> {
-    let mut desk = loaded(rt.alloc()).ok_or("no desk")?;
-    assert!(rt; is_refused_cut_short(rt.alloc(), &mut desk) == Some(true));
-    assert!(rt; is_five(&desk, Mark::Unmarked, Status::Arriving));
-    Ok(())
+fn a_report_cut_after_each_byte(rt: HostRuntime) {
+    assert!(rt; is_refused_cut_short(rt.alloc()) == Some(true));
 }
 
-// Whether a tick of an operator is answered so.
-fn is_tick_answered(
-    alloc: Global,
-    desk: &mut Desk<MemStore>,
-    status: &str,
-    length: usize,
-    body: &str,
-) -> Option<bool> {
-    let tick = "{\"at\":\"2024-03-01T21:00\",\"do\":\"tick\"}";
-    let input = post(alloc, "/operator", tick)?;
-    Some(served(alloc, desk, &input)? == reply(alloc, status, "", length, body)?)
+// A tick of an operator, and the reply to it.
+fn tick(alloc: Global, reply: String) -> Option<Exchange> {
+    let body = "{\"at\":\"2024-03-01T21:00\",\"do\":\"tick\"}";
+    let input = post(alloc, "/operator", body)?;
+    Some(Exchange::new(input, After::End, reply))
 }
 
-#[test]
-fn a_tick_of_an_operator(rt: HostRuntime) -> Result<(), Fail> {
-    let mut desk = loaded(rt.alloc()).ok_or("no desk")?;
-    let told = is_tick_answered(rt.alloc(), &mut desk, "200 OK", 12, "{\"named\":[]}");
-    assert!(rt; told == Some(true));
-    Ok(())
-}
-
-#[test]
-fn a_tick_before_a_plan_is_loaded(rt: HostRuntime) -> Result<(), Fail> {
-    let mut desk = empty(rt.alloc()).ok_or("no desk")?;
+// Whether a tick is refused before a plan is loaded.
+fn is_tick_refused(alloc: Global) -> Option<bool> {
     let body = "{\"name\":\"NotLoaded\",\"refusal\":3}";
-    let told = is_tick_answered(rt.alloc(), &mut desk, "409 Conflict", 32, body);
-    assert!(rt; told == Some(true));
-    Ok(())
+    let refused = tick(alloc, reply(alloc, "409 Conflict", "", 32, body)?)?;
+    let mut exchanges = Vec::new(alloc);
+    exchanges.push(refused).ok()?;
+    Some(are_right(alloc, &exchanges, None))
+}
+
+// Whether a tick is accepted once a plan is loaded.
+fn is_tick_accepted(alloc: Global) -> Option<bool> {
+    let mut exchanges = loading(alloc)?;
+    exchanges.push(tick(alloc, accepted(alloc)?)?).ok()?;
+    Some(are_right(alloc, &exchanges, Some((Mark::Unmarked, Status::Arriving))))
+}
+
+#[test]
+fn a_tick_of_an_operator(rt: HostRuntime) {
+    assert!(rt; is_tick_refused(rt.alloc()) == Some(true));
+    assert!(rt; is_tick_accepted(rt.alloc()) == Some(true));
 }

@@ -1,40 +1,29 @@
 // Requests and replies as texts.
 use std::alloc::Global;
 
-/// The plan of a worked night.
-const NIGHT: [&str; 19] = [
-    "W,CPU1,A,,,,,,,",
-    "W,SETP,S,,,,,,,",
-    "W,PRT1,C,,,,,,,",
-    "W,DUMM,N,,,,,,,",
-    "I,CPU1,2024-03-01T22:00,2024-03-02T06:00,2,3,0,,,",
-    "I,SETP,2024-03-01T22:00,2024-03-02T02:00,1,0,0,,,",
-    "X,CUSTFILE,Y,,,,,,,",
-    "O,PAYROLL,2024-03-01T22:00,5,2024-03-02T05:00,,,,,",
-    "P,PAYROLL,2024-03-01T22:00,5,SETP,10,0,0,,",
-    "P,PAYROLL,2024-03-01T22:00,10,CPU1,30,0,0,,",
-    "P,PAYROLL,2024-03-01T22:00,20,CPU1,60,0,0,,",
-    "P,PAYROLL,2024-03-01T22:00,30,DUMM,1,0,0,,",
-    "P,PAYROLL,2024-03-01T22:00,40,PRT1,20,0,0,,",
-    "N,PAYROLL,2024-03-01T22:00,20,CUSTFILE,X,K,,,",
-    "D,PAYROLL,2024-03-01T22:00,5,PAYROLL,2024-03-01T22:00,10,,,",
-    "D,PAYROLL,2024-03-01T22:00,10,PAYROLL,2024-03-01T22:00,20,,,",
-    "D,PAYROLL,2024-03-01T22:00,20,PAYROLL,2024-03-01T22:00,30,,,",
-    "D,PAYROLL,2024-03-01T22:00,30,PAYROLL,2024-03-01T22:00,40,,,",
-    "",
-];
-
-/// The body that loads the night at 21:00.
-pub fn night(alloc: Global) -> Option<String> {
-    let begin = "{\"at\":\"2024-03-01T21:00\",\"do\":\"load\",\"records\":\"";
-    let mut body = String::from_str(alloc, begin).ok()?;
-    for line in NIGHT {
-        body.push_str(line).ok()?;
-        body.push_str("\\n").ok()?;
-    }
-    body.push_str("\"}").ok()?;
-    Some(body)
-}
+/// The body that loads the plan of a worked night at 21:00.
+pub const NIGHT: &str = concat!(
+    "{\"at\":\"2024-03-01T21:00\",\"do\":\"load\",\"records\":\"",
+    "W,CPU1,A,,,,,,,\\n",
+    "W,SETP,S,,,,,,,\\n",
+    "W,PRT1,C,,,,,,,\\n",
+    "W,DUMM,N,,,,,,,\\n",
+    "I,CPU1,2024-03-01T22:00,2024-03-02T06:00,2,3,0,,,\\n",
+    "I,SETP,2024-03-01T22:00,2024-03-02T02:00,1,0,0,,,\\n",
+    "X,CUSTFILE,Y,,,,,,,\\n",
+    "O,PAYROLL,2024-03-01T22:00,5,2024-03-02T05:00,,,,,\\n",
+    "P,PAYROLL,2024-03-01T22:00,5,SETP,10,0,0,,\\n",
+    "P,PAYROLL,2024-03-01T22:00,10,CPU1,30,0,0,,\\n",
+    "P,PAYROLL,2024-03-01T22:00,20,CPU1,60,0,0,,\\n",
+    "P,PAYROLL,2024-03-01T22:00,30,DUMM,1,0,0,,\\n",
+    "P,PAYROLL,2024-03-01T22:00,40,PRT1,20,0,0,,\\n",
+    "N,PAYROLL,2024-03-01T22:00,20,CUSTFILE,X,K,,,\\n",
+    "D,PAYROLL,2024-03-01T22:00,5,PAYROLL,2024-03-01T22:00,10,,,\\n",
+    "D,PAYROLL,2024-03-01T22:00,10,PAYROLL,2024-03-01T22:00,20,,,\\n",
+    "D,PAYROLL,2024-03-01T22:00,20,PAYROLL,2024-03-01T22:00,30,,,\\n",
+    "D,PAYROLL,2024-03-01T22:00,30,PAYROLL,2024-03-01T22:00,40,,,\\n",
+    "\\n\"}",
+);
 
 /// A request with a body.
 pub fn post(alloc: Global, path: &str, body: &str) -> Option<String> {
@@ -94,6 +83,11 @@ pub fn reply(alloc: Global, status: &str, more: &str, length: usize, body: &str)
     format!(in alloc;
         "HTTP/1.1 {status}\r\nContent-Type: application/json\r\nContent-Length: {length}\r\nConnection: close\r\n{more}\r\n{body}"
     ).ok()
+}
+
+/// The reply to a request that is accepted and names no operation.
+pub fn accepted(alloc: Global) -> Option<String> {
+    reply(alloc, "200 OK", "", 12, "{\"named\":[]}")
 }
 
 /// The reply to a request that fails a test of its form: its body has the code of the status.
