@@ -12,6 +12,7 @@ use crate::requests::make;
 use crate::serving::serve;
 use crate::validating::validate;
 use crate::words::desk_command;
+use clap::ArgMatches;
 use clap::error::{Error, ErrorKind};
 use plan_basics::Watched;
 use std::io::Write;
@@ -39,6 +40,26 @@ fn explain<W: Write, E: Write>(
     }
 }
 
+/// Does what a command asks for.
+fn do_command<W: Write>(
+    rt: &HostRuntime,
+    name: &str,
+    given: &ArgMatches,
+    out: &mut Watched<W>,
+) -> Result<Ending, Fault> {
+    match name {
+        "validate" => validate(rt, given, out),
+        "check" => check(rt, given, out),
+        "load" => load(rt, given, out),
+        "do" => make(rt, given, out),
+        "report" => report(rt, given, out),
+        "why" => why(rt, given, out),
+        "serve" => serve(rt, given, out),
+        "play" => play(rt, given, out),
+        _ => Err(Fault::Words),
+    }
+}
+
 /// Understands the words and does what they ask for.
 fn obey<W: Write, E: Write>(
     rt: &HostRuntime,
@@ -50,17 +71,10 @@ fn obey<W: Write, E: Write>(
         Ok(matches) => matches,
         Err(error) => return explain(&error, out, err),
     };
-    let ending = match matches.subcommand() {
-        Some(("validate", given)) => validate(rt, given, out)?,
-        Some(("check", given)) => check(rt, given, out)?,
-        Some(("load", given)) => load(rt, given, out)?,
-        Some(("do", given)) => make(rt, given, out)?,
-        Some(("report", given)) => report(rt, given, out)?,
-        Some(("why", given)) => why(rt, given, out)?,
-        Some(("serve", given)) => serve(rt, given, out)?,
-        Some(("play", given)) => play(rt, given, out)?,
-        _ => return Err(Fault::Words),
+    let Some((name, given)) = matches.subcommand() else {
+        return Err(Fault::Words);
     };
+    let ending = do_command(rt, name, given, out)?;
     out.flush()?;
     Ok(ending)
 }
