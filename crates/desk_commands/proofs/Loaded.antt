@@ -3,7 +3,7 @@ use Rattle.std.proofs.Common.{◌≡◌, refl, inl, inr, ℕ, ℤ, List, Option,
 use Rattle.std.proofs.lemmas.Result.{IfOk-weaker}
 use Rattle.plan_basics.specs.Minutes.{IsMinuteText}
 use Rattle.plan_loads.specs.Databases.{IsAnswerToLoad}
-use Rattle.plan_model.specs.Contents.{Contents}
+use Rattle.plan_loads.specs.plan_model.specs.Contents.{Contents}
 use Rattle.plan_records.specs.Answer.{Answer, accepted, refused}
 use Rattle.sqlite.specs.State.{State as StoreState}
 use Rattle.desk_commands.specs.Answers.{IsShown}

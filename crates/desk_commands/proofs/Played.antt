@@ -5,10 +5,10 @@ use Rattle.std.proofs.KnownBytes.{Appends-nil, Appends-trans}
 use Rattle.plan_basics.specs.declared.Refusal.{Refusal}
 use Rattle.plan_basics.specs.declared.keys.OpKey.{OpKey}
 use Rattle.plan_loads.specs.Databases.{load_request}
-use Rattle.plan_model.specs.Contents.{Contents}
+use Rattle.plan_loads.specs.plan_model.specs.Contents.{Contents}
 use Rattle.plan_records.specs.Answer.{Answer, accepted, refused}
 use Rattle.plan_records.specs.Run.{Answers, State, Usable, empty_state, plain}
-use Rattle.plan_tables.specs.Desk.{usability}
+use Rattle.plan_loads.specs.plan_tables.specs.Desk.{usability}
 use Rattle.desk_commands.specs.Statuses.{IsOfSurroundings}
 use Rattle.desk_commands.specs.Answers.{IsShown}
 use Rattle.desk_commands.specs.Asked.{IsNoRequest}

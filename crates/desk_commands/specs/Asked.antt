@@ -5,7 +5,7 @@ use Rattle.plan_basics.specs.declared.Refusal.{Refusal}
 use Rattle.plan_records.specs.Answer.{Answer, refused}
 use Rattle.plan_records.specs.Run.{Answers, State, Usable, plain}
 use Rattle.plan_records.specs.declared.Request.{Request}
-use Rattle.plan_tables.specs.Faults.{IsOpeningRefusal}
+use Rattle.plan_loads.specs.plan_tables.specs.Faults.{IsOpeningRefusal}
 use Rattle.request_texts.specs.Requests.{ReadsAsRequest}
 use Rattle.desk_commands.specs.Answers.{IsShown}
 use Rattle.desk_commands.specs.declared.endings.Ending.{Ending}

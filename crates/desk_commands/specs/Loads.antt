@@ -4,10 +4,10 @@ use Rattle.plan_basics.specs.Minutes.{IsMinuteText}
 use Rattle.plan_basics.specs.declared.Refusal.{Refusal}
 use Rattle.plan_import.specs.Texts.{TextDenotes}
 use Rattle.plan_loads.specs.Databases.{load_request}
-use Rattle.plan_model.specs.Contents.{Contents}
+use Rattle.plan_loads.specs.plan_model.specs.Contents.{Contents}
 use Rattle.plan_records.specs.Answer.{Answer, refused}
 use Rattle.plan_records.specs.Run.{CallStep, State, plain}
-use Rattle.plan_tables.specs.Faults.{IsOpeningRefusal}
+use Rattle.plan_loads.specs.plan_tables.specs.Faults.{IsOpeningRefusal}
 use Rattle.desk_commands.specs.Answers.{IsShown}
 use Rattle.desk_commands.specs.declared.endings.Ending.{Ending}
 

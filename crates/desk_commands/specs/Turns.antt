@@ -6,11 +6,11 @@ use Rattle.plan_basics.specs.Minutes.{IsShownAs}
 use Rattle.plan_basics.specs.declared.Refusal.{Refusal}
 use Rattle.plan_basics.specs.declared.keys.OpKey.{OpKey}
 use Rattle.plan_loads.specs.Databases.{load_request}
-use Rattle.plan_model.specs.Contents.{Contents}
+use Rattle.plan_loads.specs.plan_model.specs.Contents.{Contents}
 use Rattle.plan_records.specs.Answer.{Answer, accepted, refused}
 use Rattle.plan_records.specs.Run.{Answers, State, Usable, empty_state, plain, usable}
 use Rattle.plan_records.specs.declared.Request.{Request}
-use Rattle.plan_tables.specs.Faults.{IsOpeningRefusal}
+use Rattle.plan_loads.specs.plan_tables.specs.Faults.{IsOpeningRefusal}
 use Rattle.request_texts.specs.Requests.{ReadsAsRequest}
 use Rattle.desk_commands.specs.Answers.{IsShown, answer_text, line}
 use Rattle.desk_commands.specs.Asked.{IsNoRequest}

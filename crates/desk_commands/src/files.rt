@@ -2,13 +2,13 @@
 ghost use Rattle.std.specs.Prelude.{◌≡◌, IfOk, IfErr, IfSome};
 ghost use Rattle.desk_commands.specs.Loads.{IsPlanOf};
 ghost use Rattle.desk_commands.specs.Statuses.{IsOfSurroundings};
-ghost use Rattle.plan_tables.specs.Faults.{IsOpeningRefusal};
+ghost use Rattle.plan_loads.specs.plan_tables.specs.Faults.{IsOpeningRefusal};
 
 use crate::endings::Fault;
 use plan_basics::{Refusal, Watched};
 use plan_import::read_plan;
+use plan_loads::Desk;
 use plan_records::{PlanDraft, Reply};
-use plan_tables::Desk;
 use sqlite::{Connection, File, FileStore};
 use std::alloc::Global;
 use std::fs;

@@ -8,7 +8,7 @@ ghost use Rattle.desk_commands.specs.Statuses.{IsOfSurroundings};
 ghost use Rattle.desk_commands.specs.Turns.{is_blank_byte, is_refusal, IsFirstLine, IsLinePlayed, IsLoadRefusal, IsLoaded, IsPlanPlayed, IsPlayed, joined, number_line, turn_head};
 ghost use Rattle.desk_commands.specs.declared.endings.Ending.{Ending as Ended};
 ghost use Rattle.plan_records.specs.Answer.{accepted, answer_of};
-ghost use Rattle.plan_tables.specs.Desk.{state_of, usability};
+ghost use Rattle.plan_loads.specs.plan_tables.specs.Desk.{state_of, usability};
 ghost use Rattle.plan_basics.specs.declared.keys.OpKey.{OpKey};
 
 use crate::answers::tell;
@@ -18,8 +18,8 @@ use crate::given::{moment_of, request_of};
 use crate::words::value_of;
 use clap::ArgMatches;
 use plan_basics::{Refusal, Watched, minute_text};
+use plan_loads::Desk;
 use plan_records::{PlanDraft, Reply, Request, What};
-use plan_tables::Desk;
 use sqlite::{Alter, Connection, MemStore};
 use std::alloc::Global;
 use std::fs;

@@ -23,7 +23,7 @@ mod topics;
 mod words;
 
 pub use changes::are_changes;
-pub use looks::is_seen;
+pub use looks::{is_like, is_ready_alike, is_seen};
 pub use playing::{Deviation, Player, after, pass};
 pub use requests::request;
 pub use topics::play_all;

@@ -1,7 +1,7 @@
 // Looks at a plan, and what they show.
 use super::names::{minute, moment_text, occurrence, operation, workstation};
 use super::words::{cut, listed};
-use plan_basics::{OpKey, minute_text};
+use plan_basics::{OpKey, WsName, minute_text};
 use plan_core::{OccView, OpView, Plan};
 use plan_records::Reply;
 use status_rules::Mark;
@@ -134,9 +134,11 @@ fn has_number(view: &OpView, column: &str, number: i64) -> Option<bool> {
 // Whether two views of operations are equal.
 fn is_same_operation(one: &OpView, other: &OpView) -> bool {
     one.key == other.key
+        && one.workstation == other.workstation
         && one.mark == other.mark
         && one.held == other.held
         && one.nop == other.nop
+        && one.priority == other.priority
         && one.status == other.status
         && one.latest == other.latest
         && one.waiting == other.waiting
@@ -148,6 +150,8 @@ fn is_same_occurrence(one: &OccView, other: &OccView) -> bool {
         && one.priority == other.priority
         && one.deadline == other.deadline
         && one.status == other.status
+        && one.operations == other.operations
+        && one.complete == other.complete
 }
 
 // The loop compares marks itself, too: else the check doesn't learn their type, and refuses the function.
@@ -167,6 +171,18 @@ fn shows_same_occurrences(one: &Plan, other: &Plan) -> Option<bool> {
     for view in one.occs() {
         let like = others.next()?;
         if !is_same_occurrence(&view, &like) {
+            return None;
+        }
+    }
+    Some(others.next().is_none())
+}
+
+/// Whether two plans show the same as ready at a workstation. Nothing where they don't, or have no such workstation.
+pub fn is_ready_alike(one: &Plan, other: &Plan, name: &WsName) -> Option<bool> {
+    let mut others = other.ready(name)?;
+    for view in one.ready(name)? {
+        let like = others.next()?;
+        if view.mark != like.mark || !is_same_operation(&view, &like) {
             return None;
         }
     }

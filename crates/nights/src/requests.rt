@@ -3,10 +3,12 @@ use super::crowds::{crowd, filled};
 use super::names::{minute, moment, occurrence, operation, resource, workstation};
 use super::sections::joined;
 use super::words::cut;
+use addition_faults::faults_of_addition_text;
 use plan_basics::{ErrCode, Interval, OpKey, Watched};
 use plan_import::{read_occurrence, read_plan};
 use plan_records::{Request, What};
 use std::alloc::Global;
+use text_faults::faults_of_text;
 
 /// What a turn asks: its minute and its words, before the bar.
 pub fn request(alloc: Global, turn: &str) -> Option<Request> {
@@ -45,16 +47,24 @@ fn tick(rest: &str) -> Option<What> {
     }
 }
 
-// The plan of a text is loaded.
+// The plan of a text is loaded. Something is wrong with the text exactly where it denotes none.
 fn load(alloc: Global, text: &str) -> Option<What> {
-    let mut reader = Watched::new(text.as_bytes());
-    Some(What::Load(read_plan(alloc, &mut reader).ok()?))
+    let told = faults_of_text(alloc, text.as_bytes()).ok()?;
+    let draft = read_plan(alloc, &mut Watched::new(text.as_bytes())).ok()?;
+    if told.faults.is_empty() != draft.is_some() {
+        return None;
+    }
+    Some(What::Load(draft))
 }
 
-// The occurrence of a text is added.
+// The occurrence of a text is added. Something is wrong with the text exactly where it denotes none.
 fn add(alloc: Global, text: &str) -> Option<What> {
-    let mut reader = Watched::new(text.as_bytes());
-    Some(What::AddOccurrence(read_occurrence(alloc, &mut reader).ok()?))
+    let told = faults_of_addition_text(alloc, text.as_bytes()).ok()?;
+    let addition = read_occurrence(alloc, &mut Watched::new(text.as_bytes())).ok()?;
+    if told.faults.is_empty() != addition.is_some() {
+        return None;
+    }
+    Some(What::AddOccurrence(addition))
 }
 
 // What is asked of one operation.

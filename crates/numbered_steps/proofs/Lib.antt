@@ -1,3 +1,3 @@
 mod Rooms
 mod Receipts
-pub mod Prepared
+pub mod PreparedSteps

@@ -5,8 +5,8 @@ use Rattle.std.specs.FinMap.{get, get-empty, get-insert, insert, len-empty}
 use Rattle.std.specs.FinMap as map
 use Rattle.plan_basics.specs.Keys.{name_cmp, name_cmp_total}
 use Rattle.plan_basics.specs.declared.keys.OpKey.{OpKey}
-use Rattle.plan_laws.proofs.Receipts.{answer_keeps_receipts, empty_is_desk_state}
-use Rattle.plan_model.specs.Plan.{Plan, IsSoundPlan}
+use Rattle.plan_core.specs.plan_laws.proofs.Receipts.{answer_keeps_receipts, empty_is_desk_state}
+use Rattle.plan_core.specs.plan_model.specs.Plan.{Plan, IsSoundPlan}
 use Rattle.plan_records.specs.Answer.{accepted}
 use Rattle.plan_records.specs.Receipts.{IsReceipt}
 use Rattle.plan_records.specs.Run.{State, numbered, usable}

@@ -2,7 +2,7 @@
 use Rattle.std.specs.Prelude.{◌≡◌, List}
 use Rattle.std.specs.FinMap.{insert}
 use Rattle.plan_basics.specs.declared.keys.OpKey.{OpKey}
-use Rattle.plan_core.specs.State.{PlanState}
+use Rattle.plan_core.specs.State.{IsMovedFrom, PlanState}
 use Rattle.plan_records.specs.Answer.{accepted}
 use Rattle.plan_records.specs.Receipts.{IsReceipt}
 use Rattle.plan_records.specs.Rows.{AreChanges}
@@ -23,6 +23,7 @@ pub record IsNumberedStepFor (s : PlanState) (T : Receipts) (n : Numbered) (p : 
   pub step : StepsAnew s.plan T n (accepted p.prepared.named) p.prepared.plan (insert T n.tracker p.receipt)
   pub legal : IsReceipt n.tracker p.receipt
   pub changes : AreChanges s.plan p.prepared.plan p.prepared.rows p.prepared.gone
+  pub moved : IsMovedFrom s p.prepared
   pub row : p.row ≡ columns_of n.tracker p.receipt
 
 -- if it is answered again, this holds of the keys

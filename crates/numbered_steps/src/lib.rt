@@ -5,5 +5,6 @@
 mod preparing;
 mod steps;
 
+pub use plan_core::{OccView, Occs, OpView, Ops, Plan, Prepared, Ready};
 pub use preparing::prepare_numbered;
 pub use steps::{NumberedStep, Outcome};

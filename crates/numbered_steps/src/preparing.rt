@@ -4,7 +4,7 @@ ghost use Rattle.std.specs.FinMap.{get};
 ghost use Rattle.plan_basics.specs.Refusals.{IsLeastRefusal};
 ghost use Rattle.plan_basics.specs.declared.limits.TheConstants.{GREATEST_REQUEST_NUMBER};
 ghost use Rattle.plan_core.specs.Provided.{StartsAreProvided};
-ghost use Rattle.plan_model.specs.Plan.{IsSoundPlan};
+ghost use Rattle.plan_core.specs.plan_model.specs.Plan.{IsSoundPlan};
 ghost use Rattle.plan_records.specs.Answer.{accepted, refused};
 ghost use Rattle.plan_records.specs.Step.{AnswersAgain, HasReceiptRoom, IsNumbered, Numbered, NumberedMayBeAccepted, NumberedStep as NumberedStepOf, Receipts as LastReceipts, StepBy, last_number};
 ghost use Rattle.plan_records.specs.declared.Request.{Request};

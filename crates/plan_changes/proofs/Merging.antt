@@ -10,11 +10,11 @@ use Rattle.std.proofs.lemmas.Bool.{or_cases, or_left, or_right}
 use Rattle.std.proofs.lemmas.List.Elements.{All-contains, Contains-append_left, Contains-append_right, Contains-append_cases}
 use Rattle.std.proofs.lemmas.List.Sorted.{Contains-permutation, IsPermutation-sym}
 use Rattle.std.specs.Cmp.{both_ways as same_bool}
-use Rattle.plan_model.specs.Revise.{get-joined, joined, or_else}
-use Rattle.plan_drafts.proofs.Keyed.{ascend_by}
-use Rattle.plan_drafts.proofs.Lists.{Differ, all_by_members, contains_head, contains_later, pairs_from_differ}
-use Rattle.plan_drafts.proofs.Orders.{map_same}
-use Rattle.plan_drafts.proofs.Tables.{from_set, get_row, in_set, is_none, row_found, rows_apart, same_entries, some_is, sorted_apart}
+use Rattle.plan_records.specs.plan_model.specs.Revise.{get-joined, joined, or_else}
+use Rattle.plan_records.specs.plan_drafts.proofs.Keyed.{ascend_by}
+use Rattle.plan_records.specs.plan_drafts.proofs.Lists.{Differ, all_by_members, contains_head, contains_later, pairs_from_differ}
+use Rattle.plan_records.specs.plan_drafts.proofs.Orders.{map_same}
+use Rattle.plan_records.specs.plan_drafts.proofs.Tables.{from_set, get_row, in_set, is_none, row_found, rows_apart, same_entries, some_is, sorted_apart}
 use Rattle.plan_changes.specs.Additions.{ShareNoKey, ShareNoMember}
 use Rattle.std.proofs.lemmas.Option.{none-some}
 

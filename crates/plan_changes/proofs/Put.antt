@@ -6,11 +6,11 @@ use Rattle.std.specs.Ordering.{eq_by_cmp}
 use Rattle.plan_basics.specs.Keys.{operation_cmp, operation_cmp_total, operation_cmp-IsAntisymmetric}
 use Rattle.plan_basics.specs.declared.keys.OpKey.{OpKey}
 use Rattle.status_rules.specs.declared.Mark.{Mark}
-use Rattle.ready_list.specs.Choice.{is_among}
-use Rattle.plan_drafts.proofs.MadeEntries.{key_of}
-use Rattle.plan_model.specs.Contents.{Operation, Operations}
-use Rattle.plan_model.specs.Ready.{with_mark}
-use Rattle.plan_model.specs.Revise.{get-revise, revise}
+use Rattle.plan_records.specs.ready_list.specs.Choice.{is_among}
+use Rattle.plan_records.specs.plan_drafts.proofs.MadeEntries.{key_of}
+use Rattle.plan_records.specs.plan_model.specs.Contents.{Operation, Operations}
+use Rattle.plan_records.specs.plan_model.specs.Ready.{with_mark}
+use Rattle.plan_records.specs.plan_model.specs.Revise.{get-revise, revise}
 
 put_by : {X : Type 0} (f : X → X) (v : X) (e : Bool) (y : Option X) → (e ≡ true → y ≡ Some v) → cond e (Some (f v)) y ≡ option_map (λ z. cond e (f z) z) y
 put_by f v true y h = sym (ap (option_map f) (h refl))

@@ -7,9 +7,9 @@ use Rattle.plan_basics.specs.declared.Refusal.TheVariants as refusal
 use Rattle.plan_basics.specs.Intervals.{OpenInterval}
 use Rattle.plan_basics.specs.Keys.{Name, name_cmp_total, name_cmp-IsAntisymmetric}
 use Rattle.plan_basics.specs.Refusals.{IsLeastRefusal, NoneRefuses}
-use Rattle.workstations.specs.Timetables.{MayBeTaken, reopened}
-use Rattle.workstations.specs.Workstations.{Workstation, with_intervals}
-use Rattle.plan_model.specs.Contents.{Contents}
+use Rattle.plan_records.specs.workstations.specs.Timetables.{MayBeTaken, reopened}
+use Rattle.plan_records.specs.workstations.specs.Workstations.{Workstation, with_intervals}
+use Rattle.plan_records.specs.plan_model.specs.Contents.{Contents}
 use Rattle.plan_records.specs.Acceptance.{MayBeOpenBy}
 use Rattle.plan_changes.specs.Intervals.{opened}
 use Rattle.plan_changes.proofs.Put.{put_made}

@@ -3,7 +3,7 @@ use Rattle.std.specs.Prelude.{◌≡◌, true, false}
 use Rattle.std.specs.declared.cmp.Ordering.{Ordering}
 use Rattle.std.specs.FinMap.{FinMap, contains_key}
 use Rattle.std.specs.FinSet.{FinSet, contains}
-use Rattle.plan_model.specs.Contents.{Contents, AddedParts}
+use Rattle.plan_records.specs.plan_model.specs.Contents.{Contents, AddedParts}
 
 -- no key is in both
 abbrev pub ShareNoKey : {K X : Type 0} {R : K → K → Ordering} → FinMap R X → FinMap R X → Type 0

@@ -5,15 +5,13 @@ ghost use Rattle.std.specs.FinSet as set;
 ghost use Rattle.std.specs.List.Sorted.{IsStrictlySortedBy};
 ghost use Rattle.std.specs.Map.{keys_of};
 ghost use Rattle.plan_basics.specs.Keys.{occurrence_cmp, operation_cmp};
-ghost use Rattle.plan_model.specs.Contents.{pair_cmp};
-ghost use Rattle.plan_model.specs.Revise.{joined};
+ghost use Rattle.plan_records.specs.plan_model.specs.Contents.{pair_cmp};
+ghost use Rattle.plan_records.specs.plan_model.specs.Revise.{joined};
 ghost use Rattle.plan_records.specs.Changes.{with_pair as with_pair_of, with_added};
 ghost use Rattle.plan_changes.specs.Additions.{HasNothingOf, ShareNoKey, ShareNoMember};
 
 use plan_basics::{OccKey, OpKey};
-use plan_drafts::copies_of;
-use plan_model::{Occurrence, OperationRecord};
-use plan_records::{Addition, PlanContents};
+use plan_records::{Addition, Occurrence, OperationRecord, PlanContents, copies_of};
 use std::alloc::{AllocError, Global};
 
 // Puts in rows of other keys, by key, where keys that compare equal are the same.

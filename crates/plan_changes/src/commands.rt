@@ -6,8 +6,8 @@ ghost use Rattle.std.specs.Ordering.{eq_by_cmp};
 ghost use Rattle.plan_basics.specs.Keys.{occurrence_cmp};
 ghost use Rattle.plan_basics.specs.Refusals.{NoneRefuses};
 ghost use Rattle.plan_basics.specs.declared.keys.OpKey.{OpKey as OpKeyValue};
-ghost use Rattle.plan_model.specs.Contents.{IsInPlan, Operation};
-ghost use Rattle.ready_list.specs.Choice.{is_among};
+ghost use Rattle.plan_records.specs.plan_model.specs.Contents.{IsInPlan, Operation};
+ghost use Rattle.plan_records.specs.ready_list.specs.Choice.{is_among};
 ghost use Rattle.plan_records.specs.Acceptance.{MayBeOpenBy};
 ghost use Rattle.plan_records.specs.Changes.{Changes, is_at, revised};
 ghost use Rattle.plan_records.specs.declared.What.TheVariants as what;
@@ -15,8 +15,7 @@ ghost use Rattle.plan_changes.specs.Intervals.{opened};
 
 use super::mark_rows::with_marks;
 use plan_basics::{Interval, OccKey, OpKey, ResName, WsName};
-use plan_model::OperationRecord;
-use plan_records::PlanContents;
+use plan_records::{OperationRecord, PlanContents};
 use status_rules::Mark;
 use std::alloc::{AllocError, Global};
 

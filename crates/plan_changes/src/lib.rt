@@ -8,4 +8,4 @@ mod mark_rows;
 
 pub use additions::{with_addition, with_pair};
 pub use commands::{deleted, with_available, with_held, with_intervals, with_nop};
-pub use mark_rows::with_marks;
+pub use mark_rows::{mark_all, with_marks};

@@ -1,12 +1,11 @@
 // Contents with a mark on some of their operations.
 ghost use Rattle.std.specs.Prelude.{◌≡◌, IfOk};
-ghost use Rattle.ready_list.specs.Choice.{is_among};
-ghost use Rattle.plan_model.specs.Ready.{with_mark};
+ghost use Rattle.plan_records.specs.ready_list.specs.Choice.{is_among};
+ghost use Rattle.plan_records.specs.plan_model.specs.Ready.{with_mark};
 ghost use Rattle.plan_records.specs.Changes.{revised};
 
 use plan_basics::OpKey;
-use plan_model::OperationRecord;
-use plan_records::PlanContents;
+use plan_records::{OperationRecord, PlanContents};
 use status_rules::Mark;
 use std::alloc::{AllocError, Global};
 
@@ -20,6 +19,18 @@ fn marked(operation: &OperationRecord, mark: &Mark) -> OperationRecord
     }
 }
 
+/// Puts this mark on these operations. A key that has no operation is passed over. It takes no memory.
+pub fn mark_all(contents: &mut PlanContents, keys: &[OpKey], mark: &Mark)
+    ensures { contents.new ≡ revised (is_among keys.now) (with_mark mark.now) contents.old }
+{
+    for key in keys {
+        if let Some(operation) = contents.operation(key) {
+            let operation = marked(operation, mark);
+            contents.set_operation(key, operation);
+        }
+    }
+}
+
 /// The contents with this mark on these operations. A key that has no operation is passed over.
 pub fn with_marks(
     alloc: Global,
@@ -30,10 +41,6 @@ pub fn with_marks(
     ensures { IfOk result (λ new. new ≡ revised (is_among keys.now) (with_mark mark) contents.now) }
 {
     let mut new = contents.try_clone(alloc)?;
-    for key in keys {
-        if let Some(operation) = contents.operation(key) {
-            new.set_operation(key, marked(operation, &mark));
-        }
-    }
+    mark_all(&mut new, keys, &mark);
     Ok(new)
 }

@@ -5,7 +5,7 @@ use Rattle.plan_basics.specs.declared.limits.TheConstants.{MOST_PAIRS}
 use Rattle.std.specs.FinMap.{entries}
 use Rattle.std.specs.FinSet as set
 use Rattle.operation_graph.specs.Graphs.{Digraph, MayTakeEdge}
-use Rattle.plan_drafts.specs.PlanGraphs.{IsGraphFor}
+use Rattle.plan_state.specs.plan_drafts.specs.PlanGraphs.{IsGraphFor}
 use Rattle.plan_basics.specs.declared.Refusal.{Refusal}
 use Rattle.plan_basics.specs.declared.Refusal.TheVariants as refusal
 use Rattle.plan_basics.specs.declared.keys.OpKey.{OpKey}

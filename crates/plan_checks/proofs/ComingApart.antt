@@ -6,9 +6,9 @@ use Rattle.plan_basics.specs.declared.keys.OpKey.{OpKey}
 use Rattle.plan_model.specs.Contents.{Contents, IsPairOf, AddedParts}
 use Rattle.plan_model.specs.Valid.{IsValid}
 use Rattle.plan_records.specs.Acceptance.{MayBeAdded}
-use Rattle.plan_drafts.specs.Drafts.{IsAddition}
-use Rattle.plan_laws.proofs.ComingIn.{not_own}
-use Rattle.plan_drafts.proofs.Tables.{is_found}
+use Rattle.plan_state.specs.plan_drafts.specs.Drafts.{IsAddition}
+use Rattle.plan_state.specs.plan_laws.proofs.ComingIn.{not_own}
+use Rattle.plan_state.specs.plan_drafts.proofs.Tables.{is_found}
 use Rattle.std.proofs.lemmas.Bool.{false_from_ne_true}
 use Rattle.plan_changes.specs.Additions.{HasNothingOf}
 

@@ -3,8 +3,8 @@ use Rattle.std.proofs.Common.{◌≡◌, inl, inr, sym, subst, true}
 use Rattle.std.specs.FinMap.{contains_key}
 use Rattle.plan_basics.specs.declared.Refusal.TheVariants as refusal
 use Rattle.plan_basics.specs.declared.keys.OpKey.{OpKey}
-use Rattle.plan_drafts.specs.PlanGraphs.{JoinOperations}
-use Rattle.plan_laws.proofs.ComingIn.{an_end, from_first, pair_cases}
+use Rattle.plan_state.specs.plan_drafts.specs.PlanGraphs.{JoinOperations}
+use Rattle.plan_state.specs.plan_laws.proofs.ComingIn.{an_end, from_first, pair_cases}
 use Rattle.plan_model.specs.Contents.{Contents, IsPairOf, AddedParts}
 use Rattle.plan_model.specs.Valid.{IsValid}
 use Rattle.plan_records.specs.Acceptance.{MayBeAdded}

@@ -7,7 +7,7 @@ use Rattle.plan_model.specs.Status.{HasStatus}
 use Rattle.status_rules.specs.Classes.{is_waiting_or_ready}
 use Rattle.status_rules.specs.declared.Status.{Status}
 use Rattle.status_rules.specs.declared.Status.TheVariants as status
-use Rattle.plan_laws.proofs.Classes.{waits_by}
+use Rattle.plan_state.specs.plan_laws.proofs.Classes.{waits_by}
 use Rattle.plan_checks.proofs.ByCommand.{not_waiting_or_ready}
 use Rattle.plan_checks.specs.Additions.{IsOldWith, MayPrecede, MaySucceed}
 

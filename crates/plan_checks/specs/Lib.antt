@@ -1,3 +1,16 @@
+pub use Rattle.plan_state.specs.latest_start
+pub use Rattle.operation_graph
+pub use Rattle.plan_state.specs.plan_choice
+pub use Rattle.plan_state.specs.plan_drafts
+pub use Rattle.plan_state.specs.plan_laws
+pub use Rattle.plan_model
+pub use Rattle.plan_state.specs.plan_moves
+pub use Rattle.plan_state
+pub use Rattle.plan_state.specs.plan_status
+pub use Rattle.plan_state.specs.plan_waiting
+pub use Rattle.plan_state.specs.ready_list
+pub use Rattle.status_rules
+pub use Rattle.plan_state.specs.workstations
 pub mod Loads
 pub mod Bars
 pub mod Reach

@@ -4,8 +4,8 @@ ghost use Rattle.plan_basics.specs.Refusals.{from_on, IsLeastRefusal, NoneRefuse
 ghost use Rattle.plan_basics.specs.declared.Refusal.{Refusal};
 ghost use Rattle.plan_model.specs.Valid.{IsWithinLimits};
 ghost use Rattle.plan_records.specs.Acceptance.{IsOld, MayBeAdded};
-ghost use Rattle.plan_drafts.specs.Contents.{added_of};
-ghost use Rattle.plan_drafts.specs.Drafts.{IsAddition};
+ghost use Rattle.plan_state.specs.plan_drafts.specs.Contents.{added_of};
+ghost use Rattle.plan_state.specs.plan_drafts.specs.Drafts.{IsAddition};
 ghost use Rattle.plan_checks.specs.Additions.{IsOldWith, IsOpenPair, MayPrecede, MaySucceed};
 
 use super::known::{

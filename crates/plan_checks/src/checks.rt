@@ -7,7 +7,7 @@ ghost use Rattle.plan_records.specs.Acceptance.{MayBeDone, MayBeEnded, MayBeInte
 ghost use Rattle.plan_checks.specs.Bars.{FailsAt, MayBeStartedAt, MeetsAll};
 ghost use Rattle.plan_state.specs.Reports.{IsReported};
 ghost use Rattle.plan_checks.specs.Loads.{MayBeLoadedWhere};
-ghost use Rattle.plan_model.specs.Holdings.{given_out, takes};
+ghost use Rattle.plan_model.specs.Holdings.{takes};
 ghost use Rattle.plan_records.specs.declared.What.{What};
 
 use super::additions::check_added;
@@ -16,13 +16,10 @@ use super::commands::{
 };
 use super::dependencies::check_paired;
 use plan_basics::{Attr, Moment, OpKey, Refusal};
-use plan_choice::{check_start, given_out_of, holdings_of};
-use plan_model::OperationRecord;
 use plan_records::{PlanDraft, What};
-use plan_state::{LoadedPlan, Reported};
+use plan_state::{LoadedPlan, Reported, check_start};
 use status_rules::{Mark, Status};
-use std::alloc::{AllocError, Global};
-use workstations::Capacity;
+use std::alloc::Global;
 
 // The operation of a key, if it is in the plan.
 fn reported_of(loaded: &LoadedPlan, key: &OpKey) -> Result<Reported, Refusal>
@@ -30,21 +27,6 @@ fn reported_of(loaded: &LoadedPlan, key: &OpKey) -> Result<Reported, Refusal>
     ensures unknown { IfErr result (λ r. (r ≡ Refusal.UnknownOperation) × (get loaded.now.operations key.now ≡ None)) }
 {
     loaded.reported(key).ok_or(Refusal::UnknownOperation)
-}
-
-// What a workstation has given out.
-fn given_out_at(
-    alloc: Global,
-    loaded: &LoadedPlan,
-    operation: &OperationRecord,
-) -> Result<Capacity, AllocError>
-    requires { (o : OpKey) × (get loaded.now.operations o ≡ Some operation.now) }
-    ensures { IfOk result (λ taken. given_out loaded.now operation.now.workstation ≡ taken) }
-{
-    let contents = loaded.contents();
-    let given_out = given_out_of(alloc, contents)?;
-    let place = contents.workstation_place_of(operation);
-    Ok(given_out[place])
 }
 
 // On an automatic workstation a start may be reported of what is named.
@@ -63,7 +45,6 @@ fn check_started_on_automatic(reported: &Reported) -> Result<(), Refusal>
 // What stands in the way of a start: on an automatic workstation one may be reported of what is named; where starts are
 // reported, of what is ready or interrupted, where its workstation and the special resources that it needs are free for it.
 fn check_started(
-    alloc: Global,
     loaded: &LoadedPlan,
     key: &OpKey,
     reported: &Reported,
@@ -77,10 +58,16 @@ fn check_started(
         Attr::Automatic => check_started_on_automatic(reported),
         Attr::StartAndCompletion if !reported.status.is_startable() => Err(Refusal::WrongStatus),
         Attr::StartAndCompletion => {
-            let taken = given_out_at(alloc, loaded, &reported.operation)?;
+            let taken = loaded.given_out_at(&reported.operation);
             let contents = loaded.contents();
-            let holdings = holdings_of(alloc, contents.valid())?;
-            check_start(contents, key, &reported.operation, &taken, &holdings, at)
+            check_start(
+                contents,
+                key,
+                &reported.operation,
+                &taken,
+                loaded.holdings(),
+                at,
+            )
         }
         Attr::CompletionOnly | Attr::Nonreporting => Err(Refusal::WrongWorkstation),
     }
@@ -166,7 +153,7 @@ pub fn check_request(
 {
     match what {
         What::Tick => Ok(()),
-        What::Started(key) => check_started(alloc, loaded, key, &reported_of(loaded, key)?, at),
+        What::Started(key) => check_started(loaded, key, &reported_of(loaded, key)?, at),
         What::Ended(key) | What::Error(key, _) => check_ended(&reported_of(loaded, key)?),
         What::Interrupted(key) => check_interrupted(&reported_of(loaded, key)?),
         What::Unknown(key) => check_undecided(&reported_of(loaded, key)?),

@@ -3,7 +3,7 @@ ghost use Rattle.std.specs.Prelude.{◌≡◌, true, Decides};
 ghost use Rattle.std.specs.FinMap.{contains_key};
 ghost use Rattle.plan_basics.specs.declared.Refusal.{Refusal};
 ghost use Rattle.plan_records.specs.Acceptance.{MayBeAdded};
-ghost use Rattle.plan_drafts.specs.Contents.{added_of, AreAdditionParts};
+ghost use Rattle.plan_state.specs.plan_drafts.specs.Contents.{added_of, AreAdditionParts};
 ghost use Rattle.plan_checks.specs.Additions.{HasResources, HasWorkstation, IsKnown, IsKnownPair};
 
 use plan_basics::{OpKey, ResName};

@@ -3,10 +3,10 @@ ghost use Rattle.std.specs.Prelude.{◌≡◌, ◌↔◌, ◌<◌, true, All, So
 ghost use Rattle.std.specs.Map.{keys_of};
 ghost use Rattle.plan_basics.specs.declared.Refusal.{Refusal};
 ghost use Rattle.plan_basics.specs.declared.keys.OpKey.{OpKey as OpKeyValue};
-ghost use Rattle.plan_drafts.specs.PlanGraphs.{StandAt};
+ghost use Rattle.plan_state.specs.plan_drafts.specs.PlanGraphs.{StandAt};
 ghost use Rattle.plan_model.specs.Contents.{IsInPlan};
 ghost use Rattle.plan_model.specs.Starts.{Reaches};
-ghost use Rattle.ready_list.specs.Choice.{is_among};
+ghost use Rattle.plan_state.specs.ready_list.specs.Choice.{is_among};
 ghost use Rattle.plan_checks.specs.Reach.{is_live_row};
 
 use plan_basics::{OpKey, Refusal};

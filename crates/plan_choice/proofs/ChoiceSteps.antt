@@ -17,15 +17,15 @@ use Rattle.ready_list.specs.declared.ReadyKey.{ReadyKey}
 use Rattle.ready_list.specs.declared.entry.ReadyEntry.{ReadyEntry}
 use Rattle.ready_list.proofs.ByAnswers.{choice_by_answers}
 use Rattle.ready_list.proofs.Steps.{AreDistinctKeys, chosen_among, not_before}
-use Rattle.plan_model.proofs.Entries.{entries_in_order}
-use Rattle.plan_model.specs.Holdings.{given_out}
-use Rattle.plan_model.specs.Contents.{Contents, HasAttribute, Operation}
-use Rattle.plan_model.specs.Ready.{IsChosen, IsOnAutomatic, named}
-use Rattle.plan_model.specs.Starts.{IsAllowedToStart}
-use Rattle.plan_model.specs.Status.{IsReady}
-use Rattle.plan_model.specs.Valid.{IsValid}
-use Rattle.plan_laws.proofs.Kept.{named_none, ready_unmarked}
-use Rattle.plan_model.proofs.Looks.{same_key}
+use Rattle.plan_status.specs.plan_model.proofs.Entries.{entries_in_order}
+use Rattle.plan_status.specs.plan_model.specs.Holdings.{given_out}
+use Rattle.plan_status.specs.plan_model.specs.Contents.{Contents, HasAttribute, Operation}
+use Rattle.plan_status.specs.plan_model.specs.Ready.{IsChosen, IsOnAutomatic, named}
+use Rattle.plan_status.specs.plan_model.specs.Starts.{IsAllowedToStart}
+use Rattle.plan_status.specs.plan_model.specs.Status.{IsReady}
+use Rattle.plan_status.specs.plan_model.specs.Valid.{IsValid}
+use Rattle.plan_status.specs.plan_laws.proofs.Kept.{named_none, ready_unmarked}
+use Rattle.plan_status.specs.plan_model.proofs.Looks.{same_key}
 use Rattle.std.proofs.lemmas.Option.{same_Some}
 use Rattle.plan_basics.proofs.Members.{contains_head, contains_later}
 use Rattle.plan_choice.specs.Choices.{AreGivenOut, AreHeldIn, AreReadyEntries}
@@ -179,6 +179,10 @@ module _ (c : Contents) (m : ℕ) (es : List ReadyEntry) (are : AreReadyEntries 
     is_ready_list = are.list;
     choice = (choice_by_answers Answers (Stands c m) automatic allowed es distinct attributes tells g stands os last run).0;
   }
+
+  -- and what the gate counts in the end is given out and held with that named
+  pub counted_by_gate : (g : Counted) → Stands P m [] g → (os : List OpKey) (last : Counted) → AnswersInTurn Answers (on_automatic es) g os last → Stands P m os last
+  counted_by_gate g stands os last run = (choice_by_answers Answers (Stands P m) automatic allowed es distinct attributes tells g stands os last run).1
 
 -- a gate that refuses with one refusal alone refuses with it in turn
 pub refuses_alone : (only r : Refusal) (os : List OpKey) (g : Counted) → RefusesInTurn Answers (λ _ _ s. s ≡ only) os g r → r ≡ only

@@ -4,8 +4,8 @@ use Rattle.std.specs.FinMap.{entries, get}
 use Rattle.plan_basics.specs.declared.Refusal.{Refusal}
 use Rattle.plan_basics.specs.declared.keys.OpKey.{OpKey}
 use Rattle.std.proofs.lemmas.Option.{same_Some}
-use Rattle.plan_model.specs.Contents.{Contents, Operation}
-use Rattle.plan_model.specs.Starts.{MayStart}
+use Rattle.plan_status.specs.plan_model.specs.Contents.{Contents, Operation}
+use Rattle.plan_status.specs.plan_model.specs.Starts.{MayStart}
 use Rattle.workstations.specs.Workstations.{Workstation}
 use Rattle.workstations.specs.declared.Capacity.{Capacity}
 use Rattle.plan_choice.specs.Choices.{HasTaken, IsStartLine}

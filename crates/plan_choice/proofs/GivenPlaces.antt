@@ -5,8 +5,8 @@ use Rattle.std.proofs.lemmas.Option.{slice_get_read, some_pair_parts}
 use Rattle.std.specs.List.Sorted.{IsStrictlySortedBy}
 use Rattle.std.specs.Map.{keys_of}
 use Rattle.plan_basics.specs.Keys.{Name, name_cmp, name_cmp_total}
-use Rattle.plan_model.specs.Contents.{Operation}
-use Rattle.plan_drafts.specs.Places.{AreByPlace}
+use Rattle.plan_status.specs.plan_model.specs.Contents.{Operation}
+use Rattle.plan_status.specs.plan_drafts.specs.Places.{AreByPlace}
 use Rattle.plan_status.proofs.Ascending.{one_place, set_cases}
 use Rattle.workstations.specs.Timetables.{NamedWorkstation}
 use Rattle.workstations.specs.Workstations.{Workstation}
@@ -25,19 +25,21 @@ pub read_at : (rows : List NamedWorkstation) (given : List Capacity) (f : Name �
     → read ≡ get_or given place read → slice_get given place ≡ Some read
 read_at rows given f are place read lt e = slice_get_read given (length given) place read refl (omega (arith, lt, are.size)) e
 
-module _ (rows : List NamedWorkstation) (sorted : IsStrictlySortedBy name_cmp (keys_of rows)) (place : ℕ) (name : Name) (ws : Workstation)
-    (at : slice_get rows place ≡ Some (name, ws)) (op : Operation) where
-  -- one operation more at one index
-  pub more_at : (given : List Capacity) (old new : Name → Capacity) → new name ≡ with_one_more (old name) op → ((w : Name) → name ≢ w → new w ≡ old w)
-      → (was : Capacity) → slice_get given place ≡ Some was → AreAt rows given old → AreAt rows (set given place (with_one_more was op)) new
-  more_at given old new more same was there are = record {
-    size = length-set given place (with_one_more was op) ∙ are.size;
-    each = λ j w v x here is. elim (set_cases given place j (with_one_more was op) x is) [
-      | inl this ↦
-          let name_is : name ≡ w = (some_pair_parts name w ws v (sym at ∙ ap (slice_get rows) (sym this.0) ∙ here)).0 in
-          this.1 ∙ ap (λ c. with_one_more c op) (are.each place name ws was at there) ∙ sym more ∙ ap new name_is
+module _ (rows : List NamedWorkstation) (sorted : IsStrictlySortedBy name_cmp (keys_of rows)) (place : ℕ) (name : Name) (ws : Workstation) (at : slice_get rows place ≡ Some (name, ws)) where
+  -- something else at one index
+  pub changed_at : (given : List Capacity) (old new : Name → Capacity) → ((w : Name) → name ≢ w → new w ≡ old w) → AreAt rows given old → AreAt rows (set given place (new name)) new
+  changed_at given old new same are = record {
+    size = length-set given place (new name) ∙ are.size;
+    each = λ j w v x here is. elim (set_cases given place j (new name) x is) [
+      | inl this ↦ this.1 ∙ ap new (some_pair_parts name w ws v (sym at ∙ ap (slice_get rows) (sym this.0) ∙ here)).0
       | inr other ↦
           let apart : name ≢ w = λ e. other.0 (one_place name_cmp_total rows sorted j place w v ws here (subst (λ z. slice_get rows place ≡ Some (z, ws)) e at)) in
           are.each j w v x here other.1 ∙ sym (same w apart)
     ];
   }
+
+  -- one operation more at one index
+  pub more_at : (op : Operation) (given : List Capacity) (old new : Name → Capacity) → new name ≡ with_one_more (old name) op → ((w : Name) → name ≢ w → new w ≡ old w)
+      → (was : Capacity) → slice_get given place ≡ Some was → AreAt rows given old → AreAt rows (set given place (with_one_more was op)) new
+  more_at op given old new more same was there are =
+      subst (λ c. AreAt rows (set given place c) new) (more ∙ ap (λ c. with_one_more c op) (sym (are.each place name ws was at there))) (changed_at given old new same are)

@@ -1,3 +1,9 @@
+pub use Rattle.plan_status.specs.plan_drafts
+pub use Rattle.plan_status.specs.plan_laws
+pub use Rattle.plan_status.specs.plan_model
+pub use Rattle.plan_status.specs.plan_records
+pub use Rattle.plan_status
+pub use Rattle.workstations
 pub mod Choices
 pub mod ReadyItems
 pub mod StartGates

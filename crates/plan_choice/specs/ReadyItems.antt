@@ -3,9 +3,9 @@ use Rattle.std.specs.Prelude.{◌≡◌, ◌≢◌, List, Contains}
 use Rattle.std.specs.List.{AllPairs}
 use Rattle.plan_basics.specs.declared.keys.OpKey.{OpKey}
 use Rattle.ready_list.specs.declared.entry.ReadyEntry.{ReadyEntry}
-use Rattle.plan_model.specs.Contents.{Contents}
-use Rattle.plan_model.specs.Ready.{IsEntry}
-use Rattle.plan_model.specs.Status.{IsReady}
+use Rattle.plan_status.specs.plan_model.specs.Contents.{Contents}
+use Rattle.plan_status.specs.plan_model.specs.Ready.{IsEntry}
+use Rattle.plan_status.specs.plan_model.specs.Status.{IsReady}
 use Rattle.plan_choice.specs.Choices.{HasItsWorkstation}
 
 -- an operation that is ready, with what its place goes by, its workstation and how that reports

@@ -8,9 +8,9 @@ use Rattle.plan_basics.specs.declared.keys.OpKey.{OpKey}
 use Rattle.special_resources.specs.Holdings.{Held}
 use Rattle.special_resources.specs.contracts.Mode as mode
 use Rattle.status_rules.specs.declared.Mark.TheVariants.{Named}
-use Rattle.plan_model.specs.Contents.{Contents, Operation}
-use Rattle.plan_model.specs.Valid.{IsValid}
-use Rattle.plan_model.specs.Code.{contents_code}
+use Rattle.plan_status.specs.plan_model.specs.Contents.{Contents, Operation}
+use Rattle.plan_status.specs.plan_model.specs.Valid.{IsValid}
+use Rattle.plan_status.specs.plan_model.specs.Code.{contents_code}
 use Rattle.workstations.specs.Workstations.{Workstation}
 use Rattle.workstations.specs.contracts.Capacity as capacity
 use Rattle.workstations.specs.declared.Capacity.{Capacity}

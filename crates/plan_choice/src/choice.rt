@@ -1,8 +1,9 @@
 // What is named to start.
 ghost use Rattle.std.specs.Prelude.{◌≡◌, IfOk, IfErr};
+ghost use Rattle.std.specs.FinMap.{entries};
 ghost use Rattle.plan_basics.specs.declared.Refusal.{Refusal};
-ghost use Rattle.plan_model.specs.Ready.{IsChosen};
-ghost use Rattle.plan_choice.specs.Choices.{AreReadyEntries};
+ghost use Rattle.plan_status.specs.plan_model.specs.Ready.{IsChosen, named};
+ghost use Rattle.plan_choice.specs.Choices.{AreGivenOut, AreHeldIn, AreReadyEntries};
 
 use super::holders::{holdings_of, take_needs};
 use super::taken::{check_start, given_out_of, with_operation};
@@ -61,6 +62,47 @@ impl<'a> Gate for StartGate<'a> {
     }
 }
 
+/// What is named, and what workstations have given out and who holds special resources once it is named.
+#[derive(Drop)]
+pub struct Choice {
+    pub named: Vec<OpKey>,
+    /// What each workstation has given out, at its row's index.
+    pub given: Vec<Capacity>,
+    pub holdings: Holdings,
+}
+
+/// What is named to start at a moment, in order, where this is given out and held: from the front of the ready list, each
+/// operation on an automatic workstation that is allowed to start once those before it are named; the others are passed over
+/// (IBM OPC/ESA, Planning and Scheduling the Workload). The error is always `Memory`.
+pub fn chosen_with(
+    contents: &SoundContents,
+    ready: &ReadyList,
+    at: Moment,
+    given: Vec<Capacity>,
+    holdings: Holdings,
+) -> Result<Choice, Refusal>
+    requires ready { AreReadyEntries contents.now ready.now.entries }
+    requires given { AreGivenOut contents.now (entries contents.now.workstations) given.items }
+    requires held { AreHeldIn contents.now holdings.held }
+    ensures chosen { IfOk result (λ c. IsChosen contents.now at c.named.items) }
+    ensures given { IfOk result (λ c. let after = named c.named.items contents.now in AreGivenOut after (entries after.workstations) c.given.items) }
+    ensures held { IfOk result (λ c. AreHeldIn (named c.named.items contents.now) c.holdings.held) }
+    ensures refused { IfErr result (λ r. r ≡ Refusal.Memory) }
+{
+    let mut gate = StartGate {
+        contents,
+        at,
+        given,
+        holdings,
+    };
+    let named = ready.choose(&mut gate)?;
+    Ok(Choice {
+        named,
+        given: gate.given,
+        holdings: gate.holdings,
+    })
+}
+
 /// What is named to start at a moment, in order: from the front of the ready list, each operation on an automatic
 /// workstation that is allowed to start once those before it are named; the others are passed over (IBM OPC/ESA, Planning
 /// and Scheduling the Workload). The error is always `Memory`.
@@ -74,11 +116,8 @@ pub fn chosen(
     ensures chosen { IfOk result (λ named. IsChosen contents.now at named.items) }
     ensures refused { IfErr result (λ r. r ≡ Refusal.Memory) }
 {
-    let mut gate = StartGate {
-        contents,
-        at,
-        given: given_out_of(alloc, contents)?,
-        holdings: holdings_of(alloc, contents.valid())?,
-    };
-    ready.choose(&mut gate)
+    let given = given_out_of(alloc, contents)?;
+    let holdings = holdings_of(alloc, contents.valid())?;
+    let choice = chosen_with(contents, ready, at, given, holdings)?;
+    Ok(choice.named)
 }

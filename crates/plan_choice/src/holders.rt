@@ -7,14 +7,14 @@ ghost use Rattle.plan_choice.specs.Takings.{HaveTaken};
 
 use super::taken::starts_are_known;
 use plan_basics::{OpKey, Refusal};
-use plan_model::OperationRecord;
-use plan_status::ValidContents;
+use plan_status::{OperationRecord, ValidContents};
 use special_resources::Holdings;
 use status_rules::Mark;
 use std::alloc::Global;
 
-// Takes what an operation with this mark holds of what it needs, unless it holds it already.
-fn take_marked(
+/// Takes what an operation with this mark holds of what it needs, on a workstation where starts are known, unless it holds it
+/// already. The error is always `Memory`: then it may have taken a part of it.
+pub fn take_marked(
     holdings: &mut Holdings,
     key: &OpKey,
     operation: &OperationRecord,

@@ -7,8 +7,12 @@ mod latest;
 mod ready;
 mod taken;
 
-pub use choice::chosen;
-pub use holders::holdings_of;
+pub use choice::{Choice, chosen, chosen_with};
+pub use holders::{holdings_of, take_marked};
 pub use latest::latest_of;
+pub use plan_status::{
+    OperationRecord, SoundContents, Standing, ValidContents, attribute_of, graph_for,
+    occurrence_status_with, standings_of, status_with, statuses_of, tallies_of,
+};
 pub use ready::ready_of;
-pub use taken::{check_start, given_out_of};
+pub use taken::{check_start, given_out_of, starts_are_known, with_operation};

@@ -1,19 +1,18 @@
 // The ready list.
 ghost use Rattle.std.specs.Prelude.{◌≡◌, Some, IfOk, IfErr};
 ghost use Rattle.std.specs.FinMap.{get};
-ghost use Rattle.plan_model.specs.declared.Occurrence.{Occurrence};
+ghost use Rattle.plan_status.specs.plan_model.specs.declared.Occurrence.{Occurrence};
 ghost use Rattle.plan_basics.specs.declared.Refusal.{Refusal};
-ghost use Rattle.plan_drafts.specs.Places.{AreStatuses};
-ghost use Rattle.plan_model.specs.Starts.{IsLatestStart};
-ghost use Rattle.plan_model.specs.Status.{IsReady};
-ghost use Rattle.plan_model.specs.Contents.{Operation};
+ghost use Rattle.plan_status.specs.plan_drafts.specs.Places.{AreStatuses};
+ghost use Rattle.plan_status.specs.plan_model.specs.Starts.{IsLatestStart};
+ghost use Rattle.plan_status.specs.plan_model.specs.Status.{IsReady};
+ghost use Rattle.plan_status.specs.plan_model.specs.Contents.{Operation};
 ghost use Rattle.plan_choice.specs.Choices.{AreLatestStarts, AreReadyEntries};
 ghost use Rattle.plan_choice.specs.ReadyItems.{AreAllReady, IsReadyEntry};
 
 use latest_start::Latest;
 use plan_basics::{OpKey, Refusal};
-use plan_model::OperationRecord;
-use plan_status::{SoundContents, attribute_of};
+use plan_status::{OperationRecord, SoundContents, attribute_of};
 use ready_list::{ReadyEntry, ReadyKey, ReadyList};
 use status_rules::Status;
 use std::alloc::{AllocError, Global};

@@ -3,15 +3,14 @@ ghost use Rattle.std.specs.Prelude.{◌≡◌, ◌↔◌, ◌+◌, ◌≤◌, tr
 ghost use Rattle.std.specs.FinMap.{entries, get};
 ghost use Rattle.plan_basics.specs.declared.Refusal.{Refusal};
 ghost use Rattle.plan_basics.specs.declared.keys.OpKey.{OpKey};
-ghost use Rattle.plan_model.specs.Contents.{Contents, attribute_at};
-ghost use Rattle.plan_model.specs.Starts.{MayStart};
-ghost use Rattle.plan_model.specs.Holdings.{takes};
+ghost use Rattle.plan_status.specs.plan_model.specs.Contents.{Contents, attribute_at};
+ghost use Rattle.plan_status.specs.plan_model.specs.Starts.{MayStart};
+ghost use Rattle.plan_status.specs.plan_model.specs.Holdings.{takes};
 ghost use Rattle.plan_choice.specs.Choices.{AreGivenOut, HasTaken, IsStartLine};
 ghost use Rattle.plan_choice.specs.Takings.{CanMeetNeed, CanMeetNeeds, CanStart, IsAtMost, MeetsLinesBelow, most_given_out, takes_server, with_one_more};
 
 use plan_basics::{Attr, Moment, OpKey, Refusal, ResName};
-use plan_model::OperationRecord;
-use plan_status::{SoundContents, ValidContents, attribute_of};
+use plan_status::{OperationRecord, SoundContents, ValidContents, attribute_of};
 use special_resources::{Holdings, Need};
 use std::alloc::{AllocError, Global};
 use workstations::Capacity;

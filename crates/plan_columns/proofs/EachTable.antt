@@ -6,13 +6,13 @@ use Rattle.plan_basics.specs.Keys.{Name}
 use Rattle.plan_basics.specs.declared.Attr.{Attr}
 use Rattle.plan_basics.specs.declared.keys.OccKey.{OccKey}
 use Rattle.plan_basics.specs.declared.keys.OpKey.{OpKey}
-use Rattle.special_resources.specs.declared.Need.{Need}
-use Rattle.status_rules.specs.declared.OccStatus.{OccStatus}
-use Rattle.plan_drafts.specs.declared.RowKey.TheVariants as key
-use Rattle.plan_records.specs.Rows.{key_of, table_of}
-use Rattle.plan_records.specs.declared.OperationRow.{OperationRow}
-use Rattle.plan_records.specs.declared.PlanRow.{PlanRow}
-use Rattle.plan_records.specs.declared.PlanRow.TheVariants as row
+use Rattle.tracker_receipts.specs.special_resources.specs.declared.Need.{Need}
+use Rattle.tracker_receipts.specs.status_rules.specs.declared.OccStatus.{OccStatus}
+use Rattle.tracker_receipts.specs.plan_drafts.specs.declared.RowKey.TheVariants as key
+use Rattle.tracker_receipts.specs.plan_records.specs.Rows.{key_of, table_of}
+use Rattle.tracker_receipts.specs.plan_records.specs.declared.OperationRow.{OperationRow}
+use Rattle.tracker_receipts.specs.plan_records.specs.declared.PlanRow.{PlanRow}
+use Rattle.tracker_receipts.specs.plan_records.specs.declared.PlanRow.TheVariants as row
 use Rattle.sqlite.specs.Order.{Row}
 use Rattle.sqlite.specs.declared.types.Value.TheVariants.{Int, Text}
 use Rattle.plan_schema.specs.Stored.{StoredMeta, StoredWorkstation, StoredInterval, StoredResource, StoredOccurrence, StoredOperation, StoredDependency, StoredNeed, workstation_row, interval_row, resource_row, occurrence_row, operation_row, dependency_row, need_row}

@@ -2,9 +2,9 @@
 use Rattle.std.proofs.Common.{◌≡◌, ◌≢◌, ◌⊎◌, ◌↔◌, inl, inr, refl, sym, ◌∙◌, ap, ℕ, false, true≢false, List, Option, Some, None, is_some, ◌==◌}
 use Rattle.std.proofs.lemmas.Option.{none-some, same_Some}
 use Rattle.sqlite_rules.specs.Lists.{Has}
-use Rattle.plan_drafts.specs.declared.RowKey.{RowKey}
-use Rattle.plan_records.specs.Rows.{key_of, table_of}
-use Rattle.plan_records.specs.declared.PlanRow.{PlanRow}
+use Rattle.tracker_receipts.specs.plan_drafts.specs.declared.RowKey.{RowKey}
+use Rattle.tracker_receipts.specs.plan_records.specs.Rows.{key_of, table_of}
+use Rattle.tracker_receipts.specs.plan_records.specs.declared.PlanRow.{PlanRow}
 
 -- the table holds the columns of these rows and no others; of a row of another table `of` has none
 abbrev pub HoldsOf : {X : Type 0} → (PlanRow → Option X) → (PlanRow → Type 0) → List X → Type 0

@@ -1,18 +1,18 @@
 -- What the changes from one plan to the next, written into the tables, make of them: they hold the rows of the next.
 use Rattle.std.proofs.Common.{◌≡◌, ◌↔◌, inl, inr, refl, sym, subst, List, Contains}
-use Rattle.plan_drafts.specs.declared.RowKey.{RowKey}
-use Rattle.plan_laws.proofs.Carrying.{only_intervals_go}
-use Rattle.plan_laws.proofs.Every.{every_step_keeps_sound}
-use Rattle.plan_laws.proofs.RowsListed.{one_of_key}
-use Rattle.plan_laws.proofs.RowsTold.{row_told}
-use Rattle.plan_laws.specs.Tables.{IsIntervalKey}
-use Rattle.plan_model.specs.Plan.{Plan, IsSoundPlan}
-use Rattle.plan_model.specs.Valid.{IsValid}
-use Rattle.plan_records.specs.Answer.{Answer}
-use Rattle.plan_records.specs.Rows.{AreChanges, IsRow, key_of}
-use Rattle.plan_records.specs.Step.{Step}
-use Rattle.plan_records.specs.declared.PlanRow.{PlanRow}
-use Rattle.plan_records.specs.declared.Request.{Request}
+use Rattle.tracker_receipts.specs.plan_drafts.specs.declared.RowKey.{RowKey}
+use Rattle.tracker_receipts.specs.plan_laws.proofs.Carrying.{only_intervals_go}
+use Rattle.tracker_receipts.specs.plan_laws.proofs.Every.{every_step_keeps_sound}
+use Rattle.tracker_receipts.specs.plan_laws.proofs.RowsListed.{one_of_key}
+use Rattle.tracker_receipts.specs.plan_laws.proofs.RowsTold.{row_told}
+use Rattle.tracker_receipts.specs.plan_laws.specs.Tables.{IsIntervalKey}
+use Rattle.tracker_receipts.specs.plan_model.specs.Plan.{Plan, IsSoundPlan}
+use Rattle.tracker_receipts.specs.plan_model.specs.Valid.{IsValid}
+use Rattle.tracker_receipts.specs.plan_records.specs.Answer.{Answer}
+use Rattle.tracker_receipts.specs.plan_records.specs.Rows.{AreChanges, IsRow, key_of}
+use Rattle.tracker_receipts.specs.plan_records.specs.Step.{Step}
+use Rattle.tracker_receipts.specs.plan_records.specs.declared.PlanRow.{PlanRow}
+use Rattle.tracker_receipts.specs.plan_records.specs.declared.Request.{Request}
 use Rattle.plan_schema.specs.Stored.{Held}
 use Rattle.plan_columns.specs.Tables.{HoldRows, written}
 use Rattle.plan_columns.proofs.RowPut.{rows_alike}

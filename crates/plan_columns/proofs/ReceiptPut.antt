@@ -8,11 +8,11 @@ use Rattle.sqlite_rules.specs.Lists.{Has}
 use Rattle.sqlite.specs.declared.types.Value.TheVariants.{Text}
 use Rattle.plan_basics.proofs.Members.{tied_is}
 use Rattle.plan_basics.specs.Keys.{Name, name_cmp, name_cmp_total, name_cmp-IsAntisymmetric}
-use Rattle.plan_drafts.proofs.Tables.{itself, other_key}
-use Rattle.plan_drafts.specs.declared.RowKey.{RowKey}
-use Rattle.plan_records.specs.Receipts.{IsReceiptRow}
-use Rattle.plan_records.specs.Step.{Receipt, Receipts}
-use Rattle.plan_records.specs.declared.PlanRow.{PlanRow}
+use Rattle.tracker_receipts.specs.plan_drafts.proofs.Tables.{itself, other_key}
+use Rattle.tracker_receipts.specs.plan_drafts.specs.declared.RowKey.{RowKey}
+use Rattle.tracker_receipts.specs.plan_records.specs.Receipts.{IsReceiptRow}
+use Rattle.tracker_receipts.specs.plan_records.specs.Step.{Receipt, Receipts}
+use Rattle.tracker_receipts.specs.plan_records.specs.declared.PlanRow.{PlanRow}
 use Rattle.plan_schema.specs.Stored.{Held, StoredReceipt, receipt_row, with_receipt}
 use Rattle.tracker_receipts.specs.Stored.{columns_of}
 use Rattle.plan_columns.specs.Receipts.{HoldReceipts, receipt_columns, written_numbered}

@@ -8,16 +8,16 @@ use Rattle.sqlite.specs.Tree.{has_rowid}
 use Rattle.sqlite.specs.declared.types.Value.TheVariants.{Int, Text}
 use Rattle.sqlite_rules.proofs.ListLemmas.{has_filtered, has_kept}
 use Rattle.sqlite_value.proofs.OrderLemmas.{value_cmp_total, value_cmp-Int}
-use Rattle.table_rows.specs.Stored.{BeginsExactly, with_value, with_value_at, without_key}
-use Rattle.table_rows.proofs.Rowids.{eq_of}
-use Rattle.table_rows.proofs.Stored.{without_key_has}
-use Rattle.table_rows.proofs.Writes.{not_is}
+use Rattle.plan_schema.specs.table_rows.specs.Stored.{BeginsExactly, with_value, with_value_at, without_key}
+use Rattle.plan_schema.specs.table_rows.proofs.Rowids.{eq_of}
+use Rattle.plan_schema.specs.table_rows.proofs.Stored.{without_key_has}
+use Rattle.plan_schema.specs.table_rows.proofs.Writes.{not_is}
 use Rattle.plan_basics.specs.Keys.{Name}
-use Rattle.plan_drafts.specs.declared.RowKey.{RowKey}
-use Rattle.plan_drafts.specs.declared.RowKey.TheVariants as key
-use Rattle.plan_records.specs.Rows.{key_of}
-use Rattle.plan_records.specs.declared.PlanRow.{PlanRow}
-use Rattle.plan_records.specs.declared.PlanRow.TheVariants as row
+use Rattle.tracker_receipts.specs.plan_drafts.specs.declared.RowKey.{RowKey}
+use Rattle.tracker_receipts.specs.plan_drafts.specs.declared.RowKey.TheVariants as key
+use Rattle.tracker_receipts.specs.plan_records.specs.Rows.{key_of}
+use Rattle.tracker_receipts.specs.plan_records.specs.declared.PlanRow.{PlanRow}
+use Rattle.tracker_receipts.specs.plan_records.specs.declared.PlanRow.TheVariants as row
 use Rattle.plan_schema.specs.Stored.{Held, StoredMeta, StoredInterval, meta_row, workstation_row, interval_row, resource_row, occurrence_row, operation_row, dependency_row, need_row}
 use Rattle.plan_columns.specs.Tables.{HoldRows, with_row, without_row}
 use Rattle.plan_columns.proofs.EachTable.{BeginAlike, HaveOneId, dependency_of, dependency_rows, dependency_table, interval_keys, interval_of, interval_is, interval_rows, interval_table, meta_of, meta_rows, meta_table, need_of, need_rows, need_table, occurrence_of, occurrence_rows, occurrence_table, operation_of, operation_rows, operation_table, resource_of, resource_rows, resource_table, workstation_of, workstation_rows, workstation_table}

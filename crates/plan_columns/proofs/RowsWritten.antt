@@ -1,14 +1,14 @@
 -- What changed rows and gone keys make of all tables.
 use Rattle.std.proofs.Common.{◌≡◌, ◌≢◌, ◌⊎◌, ◌↔◌, inl, inr, refl, sym, ◌∙◌, ap, subst, List, [], ◌∷◌, map, Contains, Less}
 use Rattle.std.specs.List.Sorted.{IsStrictlySortedBy}
-use Rattle.plan_drafts.proofs.Lists.{at_member, contains_head, contains_later, contains_cases, contains_none}
-use Rattle.plan_drafts.specs.declared.RowKey.{RowKey}
-use Rattle.plan_drafts.specs.RowKeys.{row_cmp_total}
-use Rattle.plan_laws.proofs.RowOrder.{keys_above}
-use Rattle.plan_laws.proofs.Sorted.{not_itself}
-use Rattle.plan_laws.specs.Tables.{IsIntervalKey}
-use Rattle.plan_records.specs.Rows.{key_of, row_cmp}
-use Rattle.plan_records.specs.declared.PlanRow.{PlanRow}
+use Rattle.tracker_receipts.specs.plan_drafts.proofs.Lists.{at_member, contains_head, contains_later, contains_cases, contains_none}
+use Rattle.tracker_receipts.specs.plan_drafts.specs.declared.RowKey.{RowKey}
+use Rattle.tracker_receipts.specs.plan_drafts.specs.RowKeys.{row_cmp_total}
+use Rattle.tracker_receipts.specs.plan_laws.proofs.RowOrder.{keys_above}
+use Rattle.tracker_receipts.specs.plan_laws.proofs.Sorted.{not_itself}
+use Rattle.tracker_receipts.specs.plan_laws.specs.Tables.{IsIntervalKey}
+use Rattle.tracker_receipts.specs.plan_records.specs.Rows.{key_of, row_cmp}
+use Rattle.tracker_receipts.specs.plan_records.specs.declared.PlanRow.{PlanRow}
 use Rattle.plan_schema.specs.Stored.{Held}
 use Rattle.plan_columns.specs.Tables.{HoldRows, with_row, with_rows, without_row, without_rows, written}
 use Rattle.plan_columns.proofs.RowPut.{WithRow, WithoutKey, interval_taken, receipts_beside_key, receipts_beside_row, row_put, rows_alike}

@@ -6,23 +6,23 @@ use Rattle.plan_basics.specs.Keys.{Name}
 use Rattle.plan_basics.specs.declared.Attr.{Attr}
 use Rattle.plan_basics.specs.declared.keys.OccKey.{OccKey}
 use Rattle.plan_basics.specs.declared.keys.OpKey.{OpKey}
-use Rattle.plan_items.specs.Parts.{mode_letter, keep_letter}
-use Rattle.plan_items.proofs.PartLaws.{one_attribute}
-use Rattle.special_resources.specs.declared.Mode.{Mode}
-use Rattle.special_resources.specs.declared.Mode.TheVariants as mode
-use Rattle.special_resources.specs.declared.Need.{Need}
-use Rattle.status_rules.specs.Texts.{code_text, mark_text, marks_without_code, occurrence_letter, status_letter}
-use Rattle.status_rules.specs.declared.Mark.{Mark}
-use Rattle.status_rules.specs.declared.Mark.TheVariants as mark
-use Rattle.status_rules.specs.declared.OccStatus.{OccStatus}
-use Rattle.status_rules.specs.declared.OccStatus.TheVariants as occurrence
-use Rattle.status_rules.specs.declared.Status.{Status}
-use Rattle.status_rules.specs.declared.Status.TheVariants as status
-use Rattle.plan_model.specs.Plan.{Plan}
-use Rattle.plan_records.specs.Rows.{AreRows, IsRow}
-use Rattle.plan_records.specs.declared.OperationRow.{OperationRow}
-use Rattle.plan_records.specs.declared.PlanRow.{PlanRow}
-use Rattle.plan_records.specs.declared.PlanRow.TheVariants as row
+use Rattle.tracker_receipts.specs.plan_items.specs.Parts.{mode_letter, keep_letter}
+use Rattle.tracker_receipts.specs.plan_items.proofs.PartLaws.{one_attribute}
+use Rattle.tracker_receipts.specs.special_resources.specs.declared.Mode.{Mode}
+use Rattle.tracker_receipts.specs.special_resources.specs.declared.Mode.TheVariants as mode
+use Rattle.tracker_receipts.specs.special_resources.specs.declared.Need.{Need}
+use Rattle.tracker_receipts.specs.status_rules.specs.Texts.{code_text, mark_text, marks_without_code, occurrence_letter, status_letter}
+use Rattle.tracker_receipts.specs.status_rules.specs.declared.Mark.{Mark}
+use Rattle.tracker_receipts.specs.status_rules.specs.declared.Mark.TheVariants as mark
+use Rattle.tracker_receipts.specs.status_rules.specs.declared.OccStatus.{OccStatus}
+use Rattle.tracker_receipts.specs.status_rules.specs.declared.OccStatus.TheVariants as occurrence
+use Rattle.tracker_receipts.specs.status_rules.specs.declared.Status.{Status}
+use Rattle.tracker_receipts.specs.status_rules.specs.declared.Status.TheVariants as status
+use Rattle.tracker_receipts.specs.plan_model.specs.Plan.{Plan}
+use Rattle.tracker_receipts.specs.plan_records.specs.Rows.{AreRows, IsRow}
+use Rattle.tracker_receipts.specs.plan_records.specs.declared.OperationRow.{OperationRow}
+use Rattle.tracker_receipts.specs.plan_records.specs.declared.PlanRow.{PlanRow}
+use Rattle.tracker_receipts.specs.plan_records.specs.declared.PlanRow.TheVariants as row
 use Rattle.plan_schema.specs.Stored.{Held, StoredInterval, StoredOperation, StoredNeed}
 use Rattle.plan_columns.specs.Columns.{flag, meta_columns, workstation_columns, interval_columns, resource_columns, occurrence_columns, operation_columns, dependency_columns, need_columns}
 use Rattle.plan_columns.specs.Tables.{HoldRows}

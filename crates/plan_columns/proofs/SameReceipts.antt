@@ -1,9 +1,9 @@
 -- Tables hold the receipts of one map.
 use Rattle.std.proofs.Common.{◌≡◌, refl, sym, ap, subst}
 use Rattle.plan_basics.specs.Keys.{Name}
-use Rattle.plan_laws.proofs.Tabling.{rows_tell_receipts}
-use Rattle.plan_records.specs.Receipts.{IsReceipt, IsReceiptRow}
-use Rattle.plan_records.specs.Step.{Receipt, Receipts}
+use Rattle.tracker_receipts.specs.plan_laws.proofs.Tabling.{rows_tell_receipts}
+use Rattle.tracker_receipts.specs.plan_records.specs.Receipts.{IsReceipt, IsReceiptRow}
+use Rattle.tracker_receipts.specs.plan_records.specs.Step.{Receipt, Receipts}
 use Rattle.plan_schema.specs.Stored.{Held, StoredReceipt}
 use Rattle.tracker_receipts.specs.Stored.{columns_of}
 use Rattle.tracker_receipts.proofs.SameReceipt.{one_receipt}

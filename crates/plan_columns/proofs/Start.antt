@@ -4,12 +4,12 @@ use Rattle.std.proofs.lemmas.Bool.{true≢false}
 use Rattle.std.specs.FinMap.{get, get-empty}
 use Rattle.std.specs.FinSet as set
 use Rattle.plan_basics.specs.Keys.{name_cmp, occurrence_cmp, operation_cmp}
-use Rattle.plan_laws.proofs.Every.{nothing_at}
-use Rattle.plan_model.specs.Contents.{nothing, pair_cmp}
-use Rattle.plan_model.specs.Plan.{no_plan}
-use Rattle.plan_records.specs.Rows.{IsRow}
-use Rattle.plan_records.specs.declared.PlanRow.{PlanRow}
-use Rattle.plan_records.specs.declared.PlanRow.TheVariants as row
+use Rattle.tracker_receipts.specs.plan_laws.proofs.Every.{nothing_at}
+use Rattle.tracker_receipts.specs.plan_model.specs.Contents.{nothing, pair_cmp}
+use Rattle.tracker_receipts.specs.plan_model.specs.Plan.{no_plan}
+use Rattle.tracker_receipts.specs.plan_records.specs.Rows.{IsRow}
+use Rattle.tracker_receipts.specs.plan_records.specs.declared.PlanRow.{PlanRow}
+use Rattle.tracker_receipts.specs.plan_records.specs.declared.PlanRow.TheVariants as row
 use Rattle.plan_schema.specs.Stored.{none_held}
 use Rattle.plan_columns.specs.Tables.{HoldRows, with_row}
 use Rattle.plan_columns.proofs.RowPut.{WithRow, row_put, rows_alike}

@@ -6,11 +6,11 @@ use Rattle.plan_basics.specs.Keys.{Name}
 use Rattle.plan_basics.specs.declared.Attr.{Attr}
 use Rattle.plan_basics.specs.declared.keys.OccKey.{OccKey}
 use Rattle.plan_basics.specs.declared.keys.OpKey.{OpKey}
-use Rattle.plan_items.specs.Parts.{mode_letter, keep_letter}
-use Rattle.special_resources.specs.declared.Need.{Need}
-use Rattle.status_rules.specs.Texts.{mark_text, code_text, status_letter, occurrence_letter}
-use Rattle.status_rules.specs.declared.OccStatus.{OccStatus}
-use Rattle.plan_records.specs.declared.OperationRow.{OperationRow}
+use Rattle.tracker_receipts.specs.plan_items.specs.Parts.{mode_letter, keep_letter}
+use Rattle.tracker_receipts.specs.special_resources.specs.declared.Need.{Need}
+use Rattle.tracker_receipts.specs.status_rules.specs.Texts.{mark_text, code_text, status_letter, occurrence_letter}
+use Rattle.tracker_receipts.specs.status_rules.specs.declared.OccStatus.{OccStatus}
+use Rattle.tracker_receipts.specs.plan_records.specs.declared.OperationRow.{OperationRow}
 use Rattle.plan_schema.specs.Stored.{StoredMeta, StoredWorkstation, StoredInterval, StoredResource, StoredOccurrence, StoredOperation, StoredDependency, StoredNeed}
 
 -- a truth value is 1 or 0

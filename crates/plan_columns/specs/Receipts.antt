@@ -2,10 +2,10 @@
 use Rattle.std.specs.Prelude.{◌≡◌, ◌↔◌, List}
 use Rattle.sqlite_rules.specs.Lists.{Has}
 use Rattle.plan_basics.specs.Keys.{Name}
-use Rattle.plan_drafts.specs.declared.RowKey.{RowKey}
-use Rattle.plan_records.specs.Receipts.{IsReceiptRow}
-use Rattle.plan_records.specs.Step.{Receipt, Receipts}
-use Rattle.plan_records.specs.declared.PlanRow.{PlanRow}
+use Rattle.tracker_receipts.specs.plan_drafts.specs.declared.RowKey.{RowKey}
+use Rattle.tracker_receipts.specs.plan_records.specs.Receipts.{IsReceiptRow}
+use Rattle.tracker_receipts.specs.plan_records.specs.Step.{Receipt, Receipts}
+use Rattle.tracker_receipts.specs.plan_records.specs.declared.PlanRow.{PlanRow}
 use Rattle.plan_schema.specs.Stored.{Held, StoredReceipt, with_receipt}
 use Rattle.tracker_receipts.specs.Stored.{Columns, columns_of}
 use Rattle.plan_columns.specs.Tables.{written}

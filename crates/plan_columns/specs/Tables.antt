@@ -6,13 +6,13 @@ use Rattle.plan_basics.specs.Keys.{Name}
 use Rattle.plan_basics.specs.declared.Attr.{Attr}
 use Rattle.plan_basics.specs.declared.keys.OccKey.{OccKey}
 use Rattle.plan_basics.specs.declared.keys.OpKey.{OpKey}
-use Rattle.special_resources.specs.declared.Need.{Need}
-use Rattle.status_rules.specs.declared.OccStatus.{OccStatus}
-use Rattle.plan_drafts.specs.declared.RowKey.{RowKey}
-use Rattle.plan_drafts.specs.declared.RowKey.TheVariants as key
-use Rattle.plan_records.specs.declared.OperationRow.{OperationRow}
-use Rattle.plan_records.specs.declared.PlanRow.{PlanRow}
-use Rattle.plan_records.specs.declared.PlanRow.TheVariants as row
+use Rattle.tracker_receipts.specs.special_resources.specs.declared.Need.{Need}
+use Rattle.tracker_receipts.specs.status_rules.specs.declared.OccStatus.{OccStatus}
+use Rattle.tracker_receipts.specs.plan_drafts.specs.declared.RowKey.{RowKey}
+use Rattle.tracker_receipts.specs.plan_drafts.specs.declared.RowKey.TheVariants as key
+use Rattle.tracker_receipts.specs.plan_records.specs.declared.OperationRow.{OperationRow}
+use Rattle.tracker_receipts.specs.plan_records.specs.declared.PlanRow.{PlanRow}
+use Rattle.tracker_receipts.specs.plan_records.specs.declared.PlanRow.TheVariants as row
 use Rattle.plan_schema.specs.Stored.{Held, StoredMeta, StoredWorkstation, StoredInterval, StoredResource, StoredOccurrence, StoredOperation, StoredDependency, StoredNeed, with_meta, with_workstation, with_interval, with_resource, with_occurrence, with_operation, with_dependency, with_need, without_interval}
 use Rattle.plan_columns.specs.Columns.{meta_columns, workstation_columns, interval_columns, resource_columns, occurrence_columns, operation_columns, dependency_columns, need_columns}
 

@@ -5,15 +5,15 @@ use Rattle.plan_basics.specs.Keys.{operation_cmp}
 use Rattle.plan_basics.specs.Refusals.{NoneRefuses}
 use Rattle.plan_basics.specs.declared.Refusal.TheVariants as refusal
 use Rattle.plan_basics.specs.declared.keys.OpKey.{OpKey}
-use Rattle.plan_model.specs.Contents.{AddedParts, Contents}
-use Rattle.plan_model.specs.Ready.{with_mark}
+use Rattle.plan_steps.specs.plan_model.specs.Contents.{AddedParts, Contents}
+use Rattle.plan_steps.specs.plan_model.specs.Ready.{with_mark}
 use Rattle.plan_records.specs.Acceptance.{MayBeDone}
 use Rattle.plan_records.specs.Changes.{Changes, IsRequest, marked, revised}
 use Rattle.plan_records.specs.declared.What.{What}
 use Rattle.plan_records.specs.declared.What.TheVariants as what
-use Rattle.plan_drafts.specs.Contents.{AreAdditionParts, added_of}
-use Rattle.plan_drafts.specs.Drafts.{IsAddition}
-use Rattle.plan_drafts.specs.declared.contents.AdditionParts.{AdditionParts}
+use Rattle.plan_steps.specs.plan_drafts.specs.Contents.{AreAdditionParts, added_of}
+use Rattle.plan_steps.specs.plan_drafts.specs.Drafts.{IsAddition}
+use Rattle.plan_steps.specs.plan_drafts.specs.declared.contents.AdditionParts.{AdditionParts}
 use Rattle.ready_list.specs.Choice.{is_among}
 use Rattle.status_rules.specs.declared.Mark.{Mark}
 use Rattle.plan_core.specs.Requested.{AreMadeBy}

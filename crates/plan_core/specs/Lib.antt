@@ -1,4 +1,14 @@
+pub use Rattle.plan_steps.specs.operation_graph
+pub use Rattle.plan_steps.specs.plan_drafts
+pub use Rattle.plan_steps.specs.plan_laws
+pub use Rattle.plan_steps.specs.plan_model
+pub use Rattle.plan_opening
+pub use Rattle.plan_records
+pub use Rattle.plan_steps.specs.plan_state
+pub use Rattle.plan_status
+pub use Rattle.ready_list
 pub mod State
+pub mod Next
 pub mod Provided
 pub mod Requested
 pub mod Views

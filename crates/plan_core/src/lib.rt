@@ -13,6 +13,7 @@ mod views;
 
 pub use lists::{Occs, Ops};
 pub use plan::Plan;
+pub use plan_steps::{LoadedPlan, Reported};
 pub use prepared::Prepared;
 pub use ready_views::Ready;
 pub use views::{OccView, OpView};

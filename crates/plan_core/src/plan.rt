@@ -1,7 +1,9 @@
 // The plan in memory, and the steps that requests take in it.
-ghost use Rattle.std.specs.Prelude.{◌≡◌, ◌⊎◌, ℕ, pos, map, Some, None, IfOk, IfErr, OnOk};
+ghost use Rattle.std.specs.Prelude.{◌≡◌, ◌⊎◌, ℕ, pos, true, map, Some, None, IfOk, IfErr, OnOk};
 ghost use Rattle.plan_basics.specs.Refusals.{IsLeastRefusal, NoneRefuses};
-ghost use Rattle.plan_model.specs.Plan.{no_plan, plan_held, IsSoundPlan};
+ghost use Rattle.plan_core.specs.Next.{IsRight, contents_next, moves};
+ghost use Rattle.plan_steps.specs.plan_model.specs.Contents.{Contents};
+ghost use Rattle.plan_steps.specs.plan_model.specs.Plan.{no_plan, plan_held, IsSoundPlan};
 ghost use Rattle.plan_records.specs.declared.What.{What};
 ghost use Rattle.plan_records.specs.declared.Request.{Request};
 ghost use Rattle.plan_records.specs.Answer.{accepted, refused, answer_of};
@@ -10,17 +12,22 @@ ghost use Rattle.plan_records.specs.Rows.{AreChanges};
 ghost use Rattle.plan_records.specs.Step.{Step};
 ghost use Rattle.plan_core.specs.Provided.{RunStartsAreProvided, StartsAreProvided};
 ghost use Rattle.plan_core.specs.Requested.{AreMadeBy, IsAnswered, MayBeMadeAt};
-ghost use Rattle.plan_core.specs.State.{IsPreparedFor, plan_after, AcceptedAnswerAll, AnswersAll};
+ghost use Rattle.plan_core.specs.State.{IsPreparedBy, IsPreparedFor, plan_after, AcceptedAnswerAll, AnswersAll};
+ghost use Rattle.plan_steps.specs.plan_kept.specs.Edits.{IsSmall};
+ghost use Rattle.plan_steps.specs.plan_rows.specs.Touched.{StaysBeside};
+ghost use Rattle.plan_steps.specs.plan_state.specs.Figures.{AreFigures, KeepsFrame};
+ghost use Rattle.plan_steps.specs.Touched.{IsTouchedAt};
 
-use super::prepared::Prepared;
-use super::requests::{changed, drafted};
+use super::prepared::{Next, Prepared};
+use super::requests::{beside, changed, drafted};
 use super::settle::settle;
 use plan_basics::{Moment, OpKey, Refusal};
-use plan_checks::{check_load, check_request};
 use plan_records::{Changes, PlanContents, Reply, Request, What};
-use plan_rows::{PlanShown, Shown, changes_between};
-use plan_state::LoadedPlan;
 use plan_status::SoundContents;
+use plan_steps::{
+    Beside, LoadedPlan, Moved, PlanShown, Shown, SmallStep, changes_between, check_load,
+    check_request, edit_of, is_small, small_step, touched_changes,
+};
 use std::alloc::Global;
 use std::marker::Model;
 
@@ -34,8 +41,8 @@ pub struct Plan {
 
 impl Model for Plan {
     ghost use Rattle.plan_core.specs.State.{PlanState, state_code};
-    ghost use Rattle.plan_model.specs.Plan.{IsSoundPlan};
-    ghost use Rattle.plan_model.specs.Plan.{plan_held};
+    ghost use Rattle.plan_steps.specs.plan_model.specs.Plan.{IsSoundPlan};
+    ghost use Rattle.plan_steps.specs.plan_model.specs.Plan.{plan_held};
 
     ghost Value = { PlanState };
 
@@ -44,6 +51,22 @@ impl Model for Plan {
     ghost view = { λ p. record { plan = plan_held p.clock p.loaded } };
 
     ghost invariant = { λ p. IsSoundPlan (plan_held p.clock p.loaded) };
+}
+
+// Puts what a request makes of a plan in that plan's place. It takes no memory.
+fn put(loaded: &mut Option<LoadedPlan>, next: Next)
+    requires right { IsRight next }
+    requires frame { moves next ≡ true → (P : Contents) × (loaded.old ≡ Some P) × KeepsFrame P (contents_next next) }
+    ensures { loaded.new ≡ Some (contents_next next) }
+{
+    match next {
+        Next::Whole(whole) => *loaded = Some(whole),
+        Next::Moved(moved) => {
+            if let Some(plan) = loaded {
+                plan.take_up(moved);
+            }
+        }
+    }
 }
 
 impl Plan {
@@ -122,7 +145,92 @@ impl Plan {
         Ok(changes_between(self.alloc, before, after)?)
     }
 
-    /// What a request leads to, if it is accepted: it makes all checks and takes all memory, and the plan stays as it is.
+    // The plan is looked at for the proof alone, which learns that it is sound.
+    fn look_at(&self)
+        ensures { IsSoundPlan self.now.plan }
+    {
+        let _ = self.clock();
+    }
+
+    // What a request that may be accepted leads to at its moment, all worked out afresh. The error is always `Memory`.
+    fn prepare_whole(&self, request: &Request, at: Moment) -> Result<Prepared, Refusal>
+        requires clear { NoneRefuses (MayBeAccepted self.now.plan request.now) }
+        requires at { request.now.at ≡ pos at }
+        ensures prepared { IfOk result (IsPreparedBy request.now self.now) }
+        ensures refused { IfErr result (λ r. r ≡ Refusal.Memory) }
+    {
+        self.look_at();
+        let contents = SoundContents::of(self.contents_after(request)?);
+        let settled = settle(self.alloc, &contents, at)?;
+        let changes = self.changes_to(at, &settled.loaded)?;
+        Ok(Prepared {
+            clock: at,
+            next: Next::Whole(settled.loaded),
+            named: settled.named,
+            changes,
+        })
+    }
+
+    // Which rows of the tables change where these operations were touched, and moved so at this moment. The error is always
+    // `Memory`.
+    fn changes_at(
+        &self,
+        at: Moment,
+        moved: &Moved,
+        beside: Beside,
+        touched: &[usize],
+    ) -> Result<Changes, Refusal>
+        requires loaded { self.now.plan.loaded ≡ true }
+        requires figures { AreFigures moved.now.contents moved.now.figures }
+        requires frame { KeepsFrame self.now.plan.contents moved.now.contents }
+        requires touched { IsTouchedAt self.now.plan.contents moved.now.contents touched.now }
+        requires beside { StaysBeside beside self.now.plan.contents moved.now.contents }
+        ensures changes { IfOk result (λ c. AreChanges self.now.plan (plan_held at (Some moved.now.contents)) c.rows.items c.gone.items) }
+        ensures refused { IfErr result (λ r. r ≡ Refusal.Memory) }
+    {
+        let loaded = self.loaded.as_ref().unwrap();
+        let before = PlanShown {
+            clock: self.clock,
+            loaded: Some(Shown::of(loaded)),
+        };
+        let after = PlanShown {
+            clock: at,
+            loaded: Some(Shown::moved(loaded, moved)),
+        };
+        Ok(touched_changes(self.alloc, before, after, beside, touched)?)
+    }
+
+    // What a small request that may be accepted leads to at its moment: what is kept of the plan moves with it. The error is
+    // always `Memory`.
+    fn prepare_small(&self, request: &Request, at: Moment) -> Result<Prepared, Refusal>
+        requires clear { NoneRefuses (MayBeAccepted self.now.plan request.now) }
+        requires small { IsSmall request.now.what }
+        requires at { request.now.at ≡ pos at }
+        ensures prepared { IfOk result (IsPreparedBy request.now self.now) }
+        ensures refused { IfErr result (λ r. r ≡ Refusal.Memory) }
+    {
+        self.look_at();
+        let alloc = self.alloc;
+        let before = self.loaded.as_ref().unwrap();
+        let edit = edit_of(alloc, before, &request.what)?;
+        let contents = SoundContents::of(changed(alloc, before, &request.what)?);
+        let SmallStep {
+            moved,
+            named,
+            touched,
+        } = small_step(alloc, before, contents, &edit, at)?;
+        let changes = self.changes_at(at, &moved, beside(&request.what), &touched)?;
+        Ok(Prepared {
+            clock: at,
+            next: Next::Moved(moved),
+            named,
+            changes,
+        })
+    }
+
+    /// What a request leads to, if it is accepted: it makes all checks and takes all memory, and the plan stays as it is. A
+    /// request by which only marks and flags change, which special resources are available, or when workstations are open,
+    /// moves what is kept of the plan from what it touches; any other works all out afresh.
     /// It is refused for the least number that applies (this project's own), or for want of memory. What it leads to is
     /// sound, for whatever becomes started there was all that it needs, and the rows that change are told exactly.
     pub fn prepare(&mut self, request: &Request) -> Result<Prepared, Refusal>
@@ -134,16 +242,13 @@ impl Plan {
         ensures changes { IfOk result (λ p. AreChanges self.old.plan (plan_after self.old p) p.rows p.gone) }
         ensures refused { IfErr result (λ r. (r ≡ Refusal.Memory) ⊎ Step self.old.plan request.now (refused r) self.old.plan) }
     {
+        self.look_at();
         let at = self.check(request)?;
-        let contents = SoundContents::of(self.contents_after(request)?);
-        let settled = settle(self.alloc, &contents, at)?;
-        let changes = self.changes_to(at, &settled.loaded)?;
-        Ok(Prepared {
-            clock: at,
-            loaded: settled.loaded,
-            named: settled.named,
-            changes,
-        })
+        if is_small(&request.what) {
+            self.prepare_small(request, at)
+        } else {
+            self.prepare_whole(request, at)
+        }
     }
 
     /// Takes the step that was prepared for this plan, and gives the operations that are named to start, in order. It takes
@@ -157,7 +262,7 @@ impl Plan {
         ensures starts { (q : Request) × Step self.old.plan q (accepted result.items) self.new.plan × StartsAreProvided self.old.plan q (accepted result.items) self.new.plan }
     {
         self.clock = prepared.clock;
-        self.loaded = Some(prepared.loaded);
+        put(&mut self.loaded, prepared.next);
         prepared.named
     }
 

@@ -3,32 +3,43 @@ ghost use Rattle.std.specs.Prelude.{◌≡◌};
 
 use plan_basics::{Moment, OpKey};
 use plan_records::Changes;
-use plan_state::LoadedPlan;
+use plan_steps::{LoadedPlan, Moved};
 use std::marker::Model;
+
+/// What a request that is accepted makes of a plan.
+#[derive(Drop)]
+pub(crate) enum Next {
+    /// All of it anew.
+    Whole(LoadedPlan),
+    /// What moves with marks and flags; the graph and the latest starts stay.
+    Moved(Moved),
+}
 
 /// A request that is accepted, with all that it takes: the plan that it leads to, the operations that are named to start,
 /// and which rows of the tables change. Contracts see it as that plan, those keys and those rows.
 #[derive(Drop)]
 pub struct Prepared {
     pub(crate) clock: Moment,
-    pub(crate) loaded: LoadedPlan,
+    pub(crate) next: Next,
     pub(crate) named: Vec<OpKey>,
     pub(crate) changes: Changes,
 }
 
 impl Model for Prepared {
     ghost use Rattle.std.specs.Prelude.{Some};
-    ghost use Rattle.plan_model.specs.Plan.{IsSoundPlan};
-    ghost use Rattle.plan_model.specs.Plan.{plan_held};
+    ghost use Rattle.plan_steps.specs.plan_model.specs.Plan.{IsSoundPlan};
+    ghost use Rattle.plan_steps.specs.plan_model.specs.Plan.{plan_held};
     ghost use Rattle.plan_core.specs.State.{PreparedState, prepared_code};
 
     ghost Value = { PreparedState };
 
     ghost coded = { prepared_code };
 
-    ghost view = { λ p. record { plan = plan_held p.clock (Some p.loaded); named = p.named.items; rows = p.changes.rows.items; gone = p.changes.gone.items } };
+    ghost use Rattle.plan_core.specs.Next.{IsRight, contents_next, moves};
 
-    ghost invariant = { λ p. IsSoundPlan (plan_held p.clock (Some p.loaded)) };
+    ghost view = { λ p. record { plan = plan_held p.clock (Some (contents_next p.next)); moves = moves p.next; named = p.named.items; rows = p.changes.rows.items; gone = p.changes.gone.items } };
+
+    ghost invariant = { λ p. IsSoundPlan (plan_held p.clock (Some (contents_next p.next))) × IsRight p.next };
 }
 
 impl Prepared {

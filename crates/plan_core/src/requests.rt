@@ -4,22 +4,23 @@ ghost use Rattle.plan_basics.specs.Intervals.{IsInterval};
 ghost use Rattle.plan_basics.specs.Names.{IsName};
 ghost use Rattle.plan_basics.specs.Refusals.{NoneRefuses};
 ghost use Rattle.plan_basics.specs.declared.Refusal.{Refusal};
-ghost use Rattle.plan_drafts.specs.Drafts.{IsAddition};
-ghost use Rattle.plan_model.specs.Contents.{Contents, IsInPlan};
+ghost use Rattle.plan_steps.specs.plan_drafts.specs.Drafts.{IsAddition};
+ghost use Rattle.plan_steps.specs.plan_model.specs.Contents.{Contents, IsInPlan};
 ghost use Rattle.plan_records.specs.Acceptance.{MayBeAdded, MayBeDone, NeedsPlan};
 ghost use Rattle.plan_records.specs.Changes.{Changes, with_added};
 ghost use Rattle.plan_records.specs.declared.What.{What};
 ghost use Rattle.plan_records.specs.declared.What.TheVariants as what;
 ghost use Rattle.plan_core.specs.Requested.{AreMadeBy};
+ghost use Rattle.plan_steps.specs.plan_kept.specs.Edits.{IsSmall};
+ghost use Rattle.plan_steps.specs.plan_rows.specs.Touched.{StaysBeside};
 
 use plan_basics::{ErrCode, Interval, OpKey, Refusal};
 use plan_changes::{
     deleted, with_addition, with_available, with_held, with_intervals, with_marks, with_nop,
     with_pair,
 };
-use plan_checks::reached_keys;
 use plan_records::{Addition, PlanContents, PlanDraft, What};
-use plan_state::LoadedPlan;
+use plan_steps::{Beside, LoadedPlan, reached_keys};
 use status_rules::Mark;
 use std::alloc::{AllocError, Global};
 
@@ -100,6 +101,18 @@ pub fn changed(alloc: Global, loaded: &LoadedPlan, what: &What) -> Result<PlanCo
         What::Load(_) => unreachable!(),
     };
     Ok(new?)
+}
+
+/// What a small request may change beside operations.
+pub fn beside(what: &What) -> Beside
+    requires { IsSmall what.now }
+    ensures { (P Q : Contents) → Changes P what.now Q → StaysBeside result P Q }
+{
+    match what {
+        What::SetAvailable(_, _) => Beside::Resources,
+        What::ReplaceIntervals(_, _) => Beside::Workstations,
+        _ => Beside::Nothing,
+    }
 }
 
 /// The contents of a draft, which a load makes.

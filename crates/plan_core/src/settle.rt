@@ -1,17 +1,16 @@
 // What is named once a request has changed what the plan holds.
 ghost use Rattle.std.specs.Prelude.{◌≡◌, IfOk, IfErr};
 ghost use Rattle.plan_basics.specs.declared.Refusal.{Refusal};
-ghost use Rattle.plan_choice.specs.Choices.{AreLatestStarts};
-ghost use Rattle.plan_model.specs.Ready.{IsChosen, named};
+ghost use Rattle.plan_steps.specs.plan_choice.specs.Choices.{AreLatestStarts};
+ghost use Rattle.plan_steps.specs.plan_model.specs.Ready.{IsChosen, named};
 ghost use Rattle.plan_status.specs.Standings.{AreStandings};
 
 use latest_start::Latest;
 use plan_basics::{Moment, OpKey, Refusal};
 use plan_changes::with_marks;
-use plan_choice::{chosen, latest_of, ready_of};
 use plan_opening::loaded_with;
-use plan_state::LoadedPlan;
 use plan_status::{SoundContents, Standing, graph_for, standings_of, statuses_of};
+use plan_steps::{LoadedPlan, chosen, latest_of, ready_of};
 use status_rules::Mark;
 use std::alloc::Global;
 

@@ -8,8 +8,8 @@ use Rattle.plan_basics.specs.declared.Attr.{Attr}
 use Rattle.plan_basics.specs.declared.keys.OccKey.{OccKey}
 use Rattle.plan_basics.specs.declared.keys.OpKey.{OpKey}
 use Rattle.plan_basics.specs.Keys.{Name}
-use Rattle.workstations.specs.Timetables.{NamedWorkstation}
-use Rattle.special_resources.specs.declared.Need.{Need}
+use Rattle.plan_model.specs.workstations.specs.Timetables.{NamedWorkstation}
+use Rattle.plan_model.specs.special_resources.specs.declared.Need.{Need}
 use Rattle.plan_model.specs.Contents.{Operation}
 use Rattle.plan_model.specs.declared.Occurrence.{Occurrence}
 use Rattle.plan_items.specs.declared.Item.{Item}

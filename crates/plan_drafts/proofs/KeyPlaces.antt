@@ -11,8 +11,8 @@ use Rattle.std.proofs.lemmas.Cmp.{tied_itself}
 use Rattle.std.proofs.lemmas.List.Sorted.{searchable_from_sorted}
 use Rattle.std.proofs.lemmas.Map.Keys.{Less-from_sorted}
 use Rattle.std.proofs.lemmas.Option.{slice_get-get_or, slice_get_within, get_or_from_slice_get}
-use Rattle.operation_graph.specs.Graphs.{AreDifferent}
-pub use Rattle.operation_graph.proofs.SetMembers.{in_listed, listed_in}
+use Rattle.plan_model.specs.operation_graph.specs.Graphs.{AreDifferent}
+pub use Rattle.plan_model.specs.operation_graph.proofs.SetMembers.{in_listed, listed_in}
 use Rattle.plan_basics.specs.Keys.{operation_cmp_total, operation_cmp-IsAntisymmetric}
 use Rattle.plan_basics.proofs.PairOrders.{by_two_total, by_two-IsAntisymmetric}
 use Rattle.plan_model.specs.Contents.{pair_cmp}

@@ -12,10 +12,10 @@ use Rattle.plan_basics.specs.declared.keys.OpKey.{OpKey}
 use Rattle.plan_basics.specs.Keys.{Name, name_cmp_total, name_cmp-IsAntisymmetric, occurrence_cmp_total, occurrence_cmp-IsAntisymmetric, operation_cmp_total, operation_cmp-IsAntisymmetric}
 use Rattle.plan_basics.specs.Intervals.{OpenInterval}
 use Rattle.plan_basics.specs.Names.{IsName, IsResourceName}
-use Rattle.workstations.specs.Timetables.{NamedWorkstation}
-use Rattle.workstations.specs.Workstations.{Workstation, IsWorkstation}
-use Rattle.special_resources.specs.Holders.{Usage}
-use Rattle.special_resources.specs.Needs.{usages_of}
+use Rattle.plan_model.specs.workstations.specs.Timetables.{NamedWorkstation}
+use Rattle.plan_model.specs.workstations.specs.Workstations.{Workstation, IsWorkstation}
+use Rattle.plan_model.specs.special_resources.specs.Holders.{Usage}
+use Rattle.plan_model.specs.special_resources.specs.Needs.{usages_of}
 use Rattle.plan_model.specs.Contents.{Contents, IsPairOf}
 use Rattle.plan_model.specs.Valid.{IsValid, IsAcyclic, IsWithinLimits}
 use Rattle.plan_model.specs.declared.Occurrence.{Occurrence}

@@ -13,7 +13,7 @@ use Rattle.plan_drafts.proofs.KeyPlaces.{in_listed, listed_in}
 use Rattle.std.specs.Cmp.{both_ways as same_bool}
 use Rattle.plan_drafts.proofs.MadeEntries.{key_of}
 use Rattle.plan_drafts.proofs.Pairs.{sorted_dropped}
-use Rattle.ready_list.proofs.Ordered.{comparisons_rise, sorted_around}
+use Rattle.plan_model.specs.ready_list.proofs.Ordered.{comparisons_rise, sorted_around}
 
 module _ {K : Type 0} {R : K → K → Ordering} (total : IsTotalOrder R) (exact : IsAntisymmetric R) where
   -- a part of a list in order

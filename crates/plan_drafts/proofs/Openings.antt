@@ -9,8 +9,8 @@ use Rattle.plan_basics.specs.declared.limits.TheConstants.{MOST_WORKSTATIONS}
 use Rattle.plan_basics.specs.declared.Attr.{Attr}
 use Rattle.plan_basics.specs.Keys.{Name, name_cmp, name_cmp_total, name_cmp-IsAntisymmetric}
 use Rattle.plan_basics.specs.Intervals.{OpenInterval}
-use Rattle.workstations.specs.Timetables.{NamedWorkstation}
-use Rattle.workstations.specs.Workstations.{Workstation}
+use Rattle.plan_model.specs.workstations.specs.Timetables.{NamedWorkstation}
+use Rattle.plan_model.specs.workstations.specs.Workstations.{Workstation}
 use Rattle.plan_drafts.specs.PlanItems.{own_interval, intervals_of, CanOpen, opened_in, AreOfThese, AreWorkstations, AreWorkstationsInOrder}
 use Rattle.plan_drafts.specs.KeyOrder.{AreInKeyOrder}
 use Rattle.plan_drafts.proofs.Lists.{all_by_members}

@@ -10,8 +10,8 @@ use Rattle.plan_basics.specs.declared.limits.TheConstants.{MOST_INTERVALS}
 use Rattle.plan_basics.specs.declared.Attr.{Attr}
 use Rattle.plan_basics.specs.Keys.{Name, name_cmp_total, name_cmp-IsAntisymmetric}
 use Rattle.plan_basics.specs.Intervals.{OpenInterval, IsInterval, AreApart}
-use Rattle.workstations.specs.Workstations.{Workstation, IsWorkstation, with_intervals}
-use Rattle.workstations.proofs.Lookups.{entries_of, timetable_of, got_among, opened_is}
+use Rattle.plan_model.specs.workstations.specs.Workstations.{Workstation, IsWorkstation, with_intervals}
+use Rattle.plan_model.specs.workstations.proofs.Lookups.{entries_of, timetable_of, got_among, opened_is}
 use Rattle.plan_drafts.specs.PlanItems.{own_interval, intervals_of, IsOpening, CanOpen, AreWorkstations}
 use Rattle.plan_drafts.proofs.Lists.{all_by_members, Differ, differ_from_pairs, pairs_from_differ, differ_weaken, differ_map, differ_kept, Kept, in_map, from_map}
 use Rattle.plan_drafts.proofs.Tables.{is_found, get_row}

@@ -5,9 +5,9 @@ use Rattle.std.specs.List.Sorted.{IsStrictlySortedBy}
 use Rattle.std.proofs.lemmas.List.{get_or-map, length-map}
 use Rattle.std.proofs.lemmas.List.Elements.{All-contains, All-contains_itself}
 use Rattle.std.proofs.lemmas.Option.{slice_get_within}
-use Rattle.operation_graph.specs.Graphs.{AreDifferent, Digraph, HasEdge, IsBuiltOf, IsEdgeOf, edges_of}
-use Rattle.operation_graph.specs.Paths.{IsAcyclicBy, LeadsBy, by_edge, by_more}
-use Rattle.operation_graph.proofs.EdgeSets.{edge_listed, listed_edge}
+use Rattle.plan_model.specs.operation_graph.specs.Graphs.{AreDifferent, Digraph, HasEdge, IsBuiltOf, IsEdgeOf, edges_of}
+use Rattle.plan_model.specs.operation_graph.specs.Paths.{IsAcyclicBy, LeadsBy, by_edge, by_more}
+use Rattle.plan_model.specs.operation_graph.proofs.EdgeSets.{edge_listed, listed_edge}
 use Rattle.plan_basics.proofs.Members.{contains_mapped, mapped_contains, place_of}
 use Rattle.plan_basics.specs.Keys.{operation_cmp, operation_cmp_total}
 use Rattle.plan_basics.specs.declared.keys.OpKey.{OpKey}

@@ -2,9 +2,9 @@
 use Rattle.std.proofs.Common.{◌≡◌, ◌↔◌, refl, sym, ap, subst, ◌∙◌, arith, ℕ, ℤ, pos, ◌-ℤ◌, ◌≤ℤ◌, List, [], ◌∷◌, slice_get, Some, sum_by}
 use Rattle.std.specs.List.Sorted.{IsStrictlySortedBy}
 use Rattle.std.proofs.lemmas.List.Sums.{sum_by-cons}
-use Rattle.operation_graph.specs.Graphs.{Digraph, HasEdge}
-use Rattle.operation_graph.specs.Paths.{IsPathBy, ReachesBy, end_of}
-use Rattle.latest_start.specs.LeastStart.{IsLeastStart, start_by}
+use Rattle.plan_model.specs.operation_graph.specs.Graphs.{Digraph, HasEdge}
+use Rattle.plan_model.specs.operation_graph.specs.Paths.{IsPathBy, ReachesBy, end_of}
+use Rattle.plan_model.specs.latest_start.specs.LeastStart.{IsLeastStart, start_by}
 use Rattle.plan_basics.proofs.Members.{place_of}
 use Rattle.plan_basics.specs.Keys.{operation_cmp, operation_cmp_total}
 use Rattle.plan_basics.specs.declared.keys.OpKey.{OpKey}

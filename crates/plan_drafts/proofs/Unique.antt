@@ -8,8 +8,8 @@ use Rattle.plan_basics.specs.declared.keys.OccKey.{OccKey}
 use Rattle.plan_basics.specs.declared.keys.OpKey.{OpKey}
 use Rattle.plan_basics.specs.Keys.{Name, name_cmp_total, name_cmp-IsAntisymmetric, occurrence_cmp_total, occurrence_cmp-IsAntisymmetric, operation_cmp_total, operation_cmp-IsAntisymmetric}
 use Rattle.plan_basics.specs.Intervals.{OpenInterval}
-use Rattle.workstations.specs.Workstations.{Workstation}
-use Rattle.special_resources.specs.Holders.{Usage}
+use Rattle.plan_model.specs.workstations.specs.Workstations.{Workstation}
+use Rattle.plan_model.specs.special_resources.specs.Holders.{Usage}
 use Rattle.plan_model.specs.Contents.{Contents, Operation, AddedParts}
 use Rattle.plan_model.specs.declared.Occurrence.{Occurrence}
 use Rattle.plan_items.specs.declared.Item.{Item}

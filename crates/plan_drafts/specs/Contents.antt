@@ -7,7 +7,7 @@ use Rattle.std.specs.FinSet as set
 use Rattle.plan_basics.specs.declared.keys.OccKey.{OccKey}
 use Rattle.plan_basics.specs.declared.keys.OpKey.{OpKey}
 use Rattle.plan_basics.specs.Keys.{Name, name_cmp, occurrence_cmp, operation_cmp}
-use Rattle.workstations.specs.Timetables.{NamedWorkstation}
+use Rattle.plan_model.specs.workstations.specs.Timetables.{NamedWorkstation}
 use Rattle.plan_model.specs.declared.Occurrence.{Occurrence}
 use Rattle.plan_model.specs.Contents.{Contents, Operation, AddedParts, pair_cmp}
 use Rattle.plan_drafts.specs.declared.contents.PlanContents.TheInside.{Inside}

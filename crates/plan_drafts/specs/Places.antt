@@ -1,7 +1,7 @@
 -- What is known of rows, index by index.
 use Rattle.std.specs.Prelude.{◌≡◌, ℕ, List, length, Some, slice_get}
 use Rattle.std.specs.FinMap.{entries}
-use Rattle.status_rules.specs.declared.Status.{Status}
+use Rattle.plan_model.specs.status_rules.specs.declared.Status.{Status}
 use Rattle.plan_model.specs.Contents.{Contents}
 use Rattle.plan_model.specs.Status.{HasStatus}
 

@@ -1,8 +1,8 @@
 -- The graph of a plan's operations: its nodes are the indices of their keys, its edges come from the pairs.
 use Rattle.std.specs.Prelude.{◌≡◌, ◌↔◌, ℕ, true, List, All, Contains, Option, Some, length, map, slice_get}
 use Rattle.std.specs.FinMap.{contains_key, keys}
-use Rattle.operation_graph.specs.Graphs.{Digraph, HasEdge, IsGraph}
-use Rattle.operation_graph.specs.Paths.{ReachesBy}
+use Rattle.plan_model.specs.operation_graph.specs.Graphs.{Digraph, HasEdge, IsGraph}
+use Rattle.plan_model.specs.operation_graph.specs.Paths.{ReachesBy}
 use Rattle.plan_basics.specs.declared.keys.OpKey.{OpKey}
 use Rattle.plan_model.specs.Contents.{Contents, Operations, Pairs, IsPairOf}
 

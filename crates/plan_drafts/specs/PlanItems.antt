@@ -3,8 +3,8 @@ use Rattle.std.specs.Prelude.{◌≡◌, ◌≢◌, ◌≤◌, List, length, map
 use Rattle.std.specs.List.{AllPairs, filter_map}
 use Rattle.std.specs.declared.cmp.Ordering.{Ordering}
 use Rattle.std.specs.FinSet.{from_list}
-use Rattle.special_resources.specs.declared.Need.{Need}
-use Rattle.special_resources.specs.Needs.{usages_of}
+use Rattle.plan_model.specs.special_resources.specs.declared.Need.{Need}
+use Rattle.plan_model.specs.special_resources.specs.Needs.{usages_of}
 use Rattle.plan_model.specs.Valid.{IsAcyclic}
 use Rattle.std.specs.FinMap as fin
 use Rattle.std.specs.Ordering.{eq_by_cmp, ordering_then}
@@ -14,8 +14,8 @@ use Rattle.plan_basics.specs.declared.keys.OpKey.{OpKey}
 use Rattle.plan_basics.specs.declared.limits.TheConstants.{MOST_INTERVALS, MOST_NEEDS, MOST_OCCURRENCES, MOST_OPERATIONS, MOST_PAIRS, MOST_RESOURCES, MOST_WORKSTATIONS}
 use Rattle.plan_basics.specs.Keys.{Name, name_cmp, occurrence_cmp, operation_cmp}
 use Rattle.plan_basics.specs.Intervals.{OpenInterval, AreApart}
-use Rattle.workstations.specs.Timetables.{NamedWorkstation, workstation_by}
-use Rattle.status_rules.specs.declared.Mark.TheVariants.{Unmarked}
+use Rattle.plan_model.specs.workstations.specs.Timetables.{NamedWorkstation, workstation_by}
+use Rattle.plan_model.specs.status_rules.specs.declared.Mark.TheVariants.{Unmarked}
 use Rattle.plan_model.specs.Contents.{Contents, Operation, pair_cmp}
 use Rattle.plan_model.specs.declared.Occurrence.{Occurrence}
 use Rattle.plan_items.specs.declared.Item.{Item}

@@ -14,8 +14,7 @@ use super::key_order::{in_key_order, keys};
 use super::needs::needs_in_order;
 use plan_basics::{OccKey, OpKey};
 use plan_items::{Item, OperationItem};
-use plan_model::{Occurrence, OperationRecord};
-use special_resources::Need;
+use plan_model::{Need, Occurrence, OperationRecord};
 use std::alloc::{AllocError, Global};
 
 // Whether an item is of an occurrence, an operation, a pair or a need.

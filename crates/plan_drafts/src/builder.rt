@@ -13,8 +13,7 @@ use super::key_order::keys;
 use super::needs::{are_needs_in, needs_in_order, resources_in_order};
 use plan_basics::{Attr, Interval, OccKey, OpKey, ResName, WsName};
 use plan_items::{Item, OperationItem, read_item};
-use plan_model::Occurrence;
-use special_resources::Need;
+use plan_model::{Need, Occurrence};
 use std::alloc::{AllocError, Global};
 
 /// The ten fields of one record of a plan's text.

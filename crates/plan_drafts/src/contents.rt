@@ -7,14 +7,13 @@ ghost use Rattle.std.specs.Map.{keys_of};
 ghost use Rattle.plan_basics.specs.Keys.{name_cmp, occurrence_cmp, operation_cmp};
 ghost use Rattle.plan_model.specs.Contents.{pair_cmp, Operation};
 ghost use Rattle.plan_model.specs.declared.Occurrence.{Occurrence as OccurrenceValue};
-ghost use Rattle.workstations.specs.Workstations.{Workstation as WorkstationValue};
+ghost use Rattle.plan_model.specs.workstations.specs.Workstations.{Workstation as WorkstationValue};
 
 use super::places::{known_row, known_workstation, row_place, workstation_place};
 use plan_basics::{OccKey, OpKey, ResName, WsName};
-use plan_model::{Occurrence, OperationRecord};
+use plan_model::{Occurrence, OperationRecord, Workstation};
 use std::alloc::{AllocError, Global};
 use std::marker::Model;
-use workstations::Workstation;
 
 /// What a loaded plan holds: its workstations and special resources, by name; its occurrences and their operations, in key
 /// order; and the pairs of predecessor and successor, by predecessor and then successor. Contracts see it as contents.

@@ -10,8 +10,8 @@ ghost use Rattle.plan_drafts.specs.PlanGraphs.{AreAmong, AreAtPlaces, IsGraphOf,
 use super::contents::PlanContents;
 use super::in_order::are_pairs_acyclic;
 use super::key_order::keys;
-use operation_graph::{EdgeFault, Graph};
 use plan_basics::OpKey;
+use plan_model::{EdgeFault, Graph};
 use std::alloc::{AllocError, Global};
 
 // The index of a key that is among keys in order.

@@ -20,11 +20,8 @@ use super::places::row_place;
 use plan_basics::limits::{MOST_OCCURRENCES, MOST_OPERATIONS, MOST_PAIRS};
 use plan_basics::{OccKey, OpKey};
 use plan_items::OperationItem;
-use plan_model::{Occurrence, OperationRecord};
-use special_resources::Need;
-use status_rules::Mark;
+use plan_model::{Mark, Need, Occurrence, OperationRecord, Workstation};
 use std::alloc::{AllocError, Global};
-use workstations::Workstation;
 
 // The occurrences in key order, where there are no more than a plan may hold, and none is repeated.
 pub fn occurrences_in_order(

@@ -9,8 +9,8 @@ use super::key_order::in_key_order;
 use super::places::workstation_place;
 use plan_basics::limits::MOST_WORKSTATIONS;
 use plan_basics::{Attr, Interval, WsName};
+use plan_model::Workstation;
 use std::alloc::{AllocError, Global};
-use workstations::Workstation;
 
 // Whether a name is that of one of these.
 pub fn is_named(workstations: &[Workstation], name: &WsName) -> bool

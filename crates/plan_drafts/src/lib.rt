@@ -24,6 +24,7 @@ pub use graphs::{graph_of, is_acyclic};
 pub use key_order::{ExactKey, in_key_order, keys};
 pub use places::row_place;
 use plan_basics::{Moment, OccKey, OpKey, ResName, WsName};
+pub use plan_model::{Mark, Need, OccStatus, Occurrence, OperationRecord, Status};
 use std::cmp::Ordering;
 
 /// A row's key columns. Ordered by table, in the order of the variants, then by the columns.

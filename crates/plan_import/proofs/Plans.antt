@@ -2,9 +2,9 @@
 use Rattle.std.proofs.Common.{◌≡◌, ℕ, List, Option, Some, None, IfSome, MatchOption}
 use Rattle.csv.specs.Reading.{strip_bom, default_config}
 use Rattle.csv.specs.declared.parser.State.TheVariants as st
-use Rattle.plan_model.specs.Contents.{Contents, AddedParts}
-use Rattle.plan_items.specs.Items.{Fields}
-use Rattle.plan_drafts.specs.Records.{Denotes, DenotesAddition}
+use Rattle.plan_records.specs.plan_model.specs.Contents.{Contents, AddedParts}
+use Rattle.plan_records.specs.plan_items.specs.Items.{Fields}
+use Rattle.plan_records.specs.plan_drafts.specs.Records.{Denotes, DenotesAddition}
 use Rattle.plan_import.specs.Records.{IsReadingOf}
 use Rattle.plan_import.specs.Texts.{TextDenotes, TextDenotesAddition, ReadsAs}
 use Rattle.plan_import.proofs.Rows.{one_reading}

@@ -1,9 +1,9 @@
 -- Which plan a text denotes, and which addition: that of its records.
 use Rattle.std.specs.Prelude.{ℕ, List}
 use Rattle.csv.specs.Reading.{strip_bom}
-use Rattle.plan_model.specs.Contents.{Contents, AddedParts}
-use Rattle.plan_items.specs.Items.{Fields}
-use Rattle.plan_drafts.specs.Records.{Denotes, DenotesAddition}
+use Rattle.plan_records.specs.plan_model.specs.Contents.{Contents, AddedParts}
+use Rattle.plan_records.specs.plan_items.specs.Items.{Fields}
+use Rattle.plan_records.specs.plan_drafts.specs.Records.{Denotes, DenotesAddition}
 use Rattle.plan_import.specs.Records.{AreOfTen}
 
 -- the text reads as these records, each of ten fields; a byte order mark at its front is no part of the first

@@ -5,9 +5,9 @@ ghost use Rattle.std.specs.Prelude.{◌≡◌, ◌↔◌, IfOk, IfSome, MatchOpt
 ghost use Rattle.csv.specs.Records.{fields_of as row_fields};
 ghost use Rattle.csv.specs.Reading.{strip_bom, source_of, reader_state, stops_reader, error_kind};
 ghost use Rattle.csv.specs.declared.parser.State.TheVariants as st;
-ghost use Rattle.plan_model.specs.Contents.{Contents, AddedParts};
-ghost use Rattle.plan_items.specs.Items.{fields_of};
-ghost use Rattle.plan_drafts.specs.Records.{records_of};
+ghost use Rattle.plan_records.specs.plan_model.specs.Contents.{Contents, AddedParts};
+ghost use Rattle.plan_records.specs.plan_items.specs.Items.{fields_of};
+ghost use Rattle.plan_records.specs.plan_drafts.specs.Records.{records_of};
 ghost use Rattle.plan_import.specs.Records.{IsReadingOf, IsPlain, TurnsTo};
 ghost use Rattle.plan_import.specs.Texts.{TextDenotes, TextDenotesAddition};
 ghost use Rattle.plan_basics.specs.Watched.{inner_of, failed_of};

@@ -9,21 +9,21 @@ use Rattle.plan_basics.specs.Keys.{Name, name_cmp, name_cmp-IsAntisymmetric, nam
 use Rattle.plan_basics.specs.declared.Refusal.TheVariants as refusal
 use Rattle.plan_basics.specs.declared.keys.OccKey.{OccKey}
 use Rattle.plan_basics.specs.declared.keys.OpKey.{OpKey}
-use Rattle.ready_list.specs.Choice.{is_among}
-use Rattle.status_rules.specs.declared.Mark.{Mark}
-use Rattle.status_rules.specs.declared.Mark.TheVariants as mark
-use Rattle.workstations.specs.Workstations.{Workstation, with_intervals}
-use Rattle.plan_model.proofs.Looks.{as_named, get-named}
-use Rattle.plan_model.specs.Contents.{AddedParts, Contents, Operation, Precedes, nothing, pair_cmp}
-use Rattle.plan_model.specs.Plan.{Plan, IsSoundPlan}
-use Rattle.plan_model.specs.Ready.{named, with_mark}
-use Rattle.plan_model.specs.Revise.{get-joined, get-revise, revise}
-use Rattle.plan_model.specs.Valid.{IsValid}
-use Rattle.plan_drafts.proofs.Needed.{mapped}
-use Rattle.plan_drafts.proofs.Tables.{is_found}
-use Rattle.plan_drafts.specs.Drafts.{IsAddition}
-use Rattle.plan_drafts.specs.declared.RowKey.{RowKey}
-use Rattle.plan_drafts.specs.declared.RowKey.TheVariants as key
+use Rattle.plan_records.specs.ready_list.specs.Choice.{is_among}
+use Rattle.plan_records.specs.status_rules.specs.declared.Mark.{Mark}
+use Rattle.plan_records.specs.status_rules.specs.declared.Mark.TheVariants as mark
+use Rattle.plan_records.specs.workstations.specs.Workstations.{Workstation, with_intervals}
+use Rattle.plan_records.specs.plan_model.proofs.Looks.{as_named, get-named}
+use Rattle.plan_records.specs.plan_model.specs.Contents.{AddedParts, Contents, Operation, Precedes, nothing, pair_cmp}
+use Rattle.plan_records.specs.plan_model.specs.Plan.{Plan, IsSoundPlan}
+use Rattle.plan_records.specs.plan_model.specs.Ready.{named, with_mark}
+use Rattle.plan_records.specs.plan_model.specs.Revise.{get-joined, get-revise, revise}
+use Rattle.plan_records.specs.plan_model.specs.Valid.{IsValid}
+use Rattle.plan_records.specs.plan_drafts.proofs.Needed.{mapped}
+use Rattle.plan_records.specs.plan_drafts.proofs.Tables.{is_found}
+use Rattle.plan_records.specs.plan_drafts.specs.Drafts.{IsAddition}
+use Rattle.plan_records.specs.plan_drafts.specs.declared.RowKey.{RowKey}
+use Rattle.plan_records.specs.plan_drafts.specs.declared.RowKey.TheVariants as key
 use Rattle.plan_records.specs.Acceptance.{MayBeAccepted, MayBeAdded}
 use Rattle.plan_records.specs.Answer.{accepted, refused}
 use Rattle.plan_records.specs.Changes.{Changes, IsRequest, is_at, revised, with_added, with_pair}

@@ -6,7 +6,7 @@ use Rattle.std.specs.FinMap.{get, insert, get-insert, len, len-insert, contains_
 use Rattle.std.proofs.lemmas.Bool.{cond_both}
 use Rattle.plan_basics.specs.declared.limits.TheConstants.{MOST_RESOURCES, MOST_WORKSTATIONS}
 use Rattle.plan_basics.specs.declared.Refusal.TheVariants as refusal
-use Rattle.status_rules.specs.declared.Mark.TheVariants as mark
+use Rattle.plan_records.specs.status_rules.specs.declared.Mark.TheVariants as mark
 use Rattle.plan_records.specs.declared.What.TheVariants as what
 use Rattle.plan_basics.specs.declared.moments.Interval.{Interval}
 use Rattle.std.proofs.Common.{Vec, Global}
@@ -14,21 +14,21 @@ use Rattle.plan_basics.specs.Intervals.{OpenInterval}
 use Rattle.plan_basics.specs.Keys.{Name, name_cmp, name_cmp-IsAntisymmetric, name_cmp_total}
 use Rattle.plan_basics.specs.Names.{IsName}
 use Rattle.plan_basics.specs.declared.keys.OpKey.{OpKey}
-use Rattle.plan_drafts.proofs.Tables.{is_found}
-use Rattle.plan_drafts.proofs.Needed.{mapped}
+use Rattle.plan_records.specs.plan_drafts.proofs.Tables.{is_found}
+use Rattle.plan_records.specs.plan_drafts.proofs.Needed.{mapped}
 use Rattle.std.proofs.lemmas.Option.{same_Some}
-use Rattle.plan_model.specs.Holdings.{Holds, holds_resource, takes}
-use Rattle.plan_model.specs.Contents.{Contents, Operation, attribute_at}
-use Rattle.plan_model.specs.Revise.{get-revise, len-revise, revise}
-use Rattle.plan_model.specs.Status.{IsSatisfied, NeedsNoReport}
-use Rattle.plan_model.specs.Valid.{IsSound, MayBear}
-use Rattle.plan_drafts.specs.Drafts.{IsDraft}
+use Rattle.plan_records.specs.plan_model.specs.Holdings.{Holds, holds_resource, takes}
+use Rattle.plan_records.specs.plan_model.specs.Contents.{Contents, Operation, attribute_at}
+use Rattle.plan_records.specs.plan_model.specs.Revise.{get-revise, len-revise, revise}
+use Rattle.plan_records.specs.plan_model.specs.Status.{IsSatisfied, NeedsNoReport}
+use Rattle.plan_records.specs.plan_model.specs.Valid.{IsSound, MayBear}
+use Rattle.plan_records.specs.plan_drafts.specs.Drafts.{IsDraft}
 use Rattle.plan_records.specs.Laws.{ChangeKeepsSound}
-use Rattle.special_resources.specs.Holders.{Usage}
-use Rattle.status_rules.specs.LeastSet.{LeastSet, by_all_before, by_given}
-use Rattle.status_rules.specs.Table.{marked_status}
-use Rattle.workstations.proofs.Lookups.{opened_is}
-use Rattle.workstations.specs.Workstations.{IsWorkstation, Workstation, with_intervals}
+use Rattle.plan_records.specs.special_resources.specs.Holders.{Usage}
+use Rattle.plan_records.specs.status_rules.specs.LeastSet.{LeastSet, by_all_before, by_given}
+use Rattle.plan_records.specs.status_rules.specs.Table.{marked_status}
+use Rattle.plan_records.specs.workstations.proofs.Lookups.{opened_is}
+use Rattle.plan_records.specs.workstations.specs.Workstations.{IsWorkstation, Workstation, with_intervals}
 
 -- ---- a load
 

@@ -14,9 +14,9 @@ use Rattle.plan_basics.specs.declared.Refusal.TheVariants as refusal
 use Rattle.plan_basics.specs.Intervals.{AreApart, OpenInterval}
 use Rattle.plan_basics.specs.Keys.{Name, name_cmp-IsAntisymmetric, name_cmp_total, occurrence_cmp-IsAntisymmetric, occurrence_cmp_total, operation_cmp-IsAntisymmetric, operation_cmp_total}
 use Rattle.plan_basics.specs.Minutes.{IsMoment}
-use Rattle.status_rules.specs.declared.Mark.{Mark}
-use Rattle.status_rules.specs.declared.Mark.TheVariants as mark
-use Rattle.status_rules.specs.declared.Status.TheVariants as status
+use Rattle.plan_records.specs.status_rules.specs.declared.Mark.{Mark}
+use Rattle.plan_records.specs.status_rules.specs.declared.Mark.TheVariants as mark
+use Rattle.plan_records.specs.status_rules.specs.declared.Status.TheVariants as status
 use Rattle.plan_laws.proofs.Allowing.{may_start_told, told_le}
 use Rattle.plan_laws.proofs.Elements.{told_pairs_of}
 use Rattle.plan_laws.proofs.Entries.{told_each_at, told_entries}
@@ -25,10 +25,10 @@ use Rattle.plan_laws.proofs.Reaching.{each_operation_told, in_plan_told, limits_
 use Rattle.plan_laws.proofs.Readying.{ready_told}
 use Rattle.plan_laws.proofs.Standing.{status_told}
 use Rattle.plan_laws.proofs.Decide.{told_attribute}
-use Rattle.operation_graph.proofs.Telling.{Told, told_alike, told_and, told_if_then, told_none, told_or, told_true}
-use Rattle.plan_model.specs.Plan.{Plan}
-use Rattle.plan_model.specs.Contents.{Contents, Operation, AddedParts, attribute_at}
-use Rattle.plan_model.specs.Valid.{HaveResources, HaveWorkstations, IsAcyclic}
+use Rattle.plan_records.specs.operation_graph.proofs.Telling.{Told, told_alike, told_and, told_if_then, told_none, told_or, told_true}
+use Rattle.plan_records.specs.plan_model.specs.Plan.{Plan}
+use Rattle.plan_records.specs.plan_model.specs.Contents.{Contents, Operation, AddedParts, attribute_at}
+use Rattle.plan_records.specs.plan_model.specs.Valid.{HaveResources, HaveWorkstations, IsAcyclic}
 use Rattle.plan_records.specs.Acceptance.{IsBadText, IsLoad, IsNew, IsOld, MayBeAccepted, MayBeAdded, MayBeCompleted, MayBeDeleted, MayBeDone, MayBeEnded, MayBeFlagged, MayBeInterrupted, MayBeLoaded, MayBeOpenBy, MayBePaired, MayBeRerun, MayBeSetAvailable, MayBeStarted, MayBeUndecided, NeedsPlan, OfOperation, minute_of}
 use Rattle.plan_records.specs.Changes.{with_pair, with_added}
 use Rattle.plan_records.specs.declared.Request.{Request}

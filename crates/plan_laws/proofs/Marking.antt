@@ -4,25 +4,25 @@ use Rattle.std.proofs.lemmas.Bool.{cond-false, false_from_ne_true}
 use Rattle.std.specs.Ordering.{is_eq}
 use Rattle.std.specs.Cmp.{tied_itself}
 use Rattle.std.specs.FinMap.{get}
-use Rattle.status_rules.specs.declared.Mark.TheVariants as mark
-use Rattle.special_resources.specs.declared.Mode.TheVariants.{Shared}
+use Rattle.plan_records.specs.status_rules.specs.declared.Mark.TheVariants as mark
+use Rattle.plan_records.specs.special_resources.specs.declared.Mode.TheVariants.{Shared}
 use Rattle.plan_basics.specs.Keys.{Name, operation_cmp_total}
 use Rattle.plan_basics.specs.Names.{IsName}
 use Rattle.plan_basics.specs.declared.Attr.{Attr}
 use Rattle.plan_basics.specs.declared.keys.OpKey.{OpKey}
 use Rattle.plan_laws.proofs.Entries.{same_operation}
-use Rattle.plan_model.proofs.Looks.{same_key}
+use Rattle.plan_records.specs.plan_model.proofs.Looks.{same_key}
 use Rattle.std.proofs.lemmas.Option.{same_Some}
 use Rattle.plan_laws.proofs.Revising.{now_at, now_elsewhere, valid_revised, was, with_state}
-use Rattle.plan_model.specs.Holdings.{Holds}
-use Rattle.plan_model.specs.Contents.{Contents, Has, HasAttribute, IsLive, LivePredecessor, Operation, attribute_at}
-use Rattle.plan_model.specs.Ready.{with_mark}
-use Rattle.plan_model.specs.Status.{AllPredecessorsSatisfied, IsSatisfied}
-use Rattle.plan_model.specs.Valid.{IsOperation, IsSound, IsValid, MayBear}
+use Rattle.plan_records.specs.plan_model.specs.Holdings.{Holds}
+use Rattle.plan_records.specs.plan_model.specs.Contents.{Contents, Has, HasAttribute, IsLive, LivePredecessor, Operation, attribute_at}
+use Rattle.plan_records.specs.plan_model.specs.Ready.{with_mark}
+use Rattle.plan_records.specs.plan_model.specs.Status.{AllPredecessorsSatisfied, IsSatisfied}
+use Rattle.plan_records.specs.plan_model.specs.Valid.{IsOperation, IsSound, IsValid, MayBear}
 use Rattle.plan_records.specs.Changes.{is_at, marked, revised}
-use Rattle.special_resources.specs.Holders.{Usage}
-use Rattle.status_rules.specs.LeastSet.{by_all_before, by_given}
-use Rattle.status_rules.specs.declared.Mark.{Mark}
+use Rattle.plan_records.specs.special_resources.specs.Holders.{Usage}
+use Rattle.plan_records.specs.status_rules.specs.LeastSet.{by_all_before, by_given}
+use Rattle.plan_records.specs.status_rules.specs.declared.Mark.{Mark}
 
 -- what a change f of the operation o has to meet
 pub record MayChange (P : Contents) (o : OpKey) (op : Operation) (f : Operation → Operation) : Type 0 where

@@ -4,15 +4,15 @@ use Rattle.std.specs.List.{AllZip, swap}
 use Rattle.std.specs.List.Sorted.{IsPermutation}
 use Rattle.std.proofs.lemmas.List.Sorted.{All-permutation, Contains-permutation, IsPermutation-keeps, IsPermutation-refl, IsPermutation-swap, IsPermutation-sym, IsPermutation-trans}
 use Rattle.std.proofs.lemmas.Slice.Zip.{AllZip-long}
-use Rattle.plan_model.specs.Contents.{Contents, AddedParts}
-use Rattle.plan_items.specs.declared.Item.{Item}
-use Rattle.plan_items.specs.Items.{Fields, Says}
-use Rattle.plan_drafts.specs.declared.RowKey.{RowKey}
-use Rattle.plan_drafts.specs.Records.{AreDescriptions, AreItems, Denotes, DenotesAddition, key_of}
-use Rattle.plan_drafts.proofs.Lists.{differ_from_pairs, pairs_from_differ}
-use Rattle.plan_drafts.proofs.Orders.{differ_permuted}
+use Rattle.plan_records.specs.plan_model.specs.Contents.{Contents, AddedParts}
+use Rattle.plan_records.specs.plan_items.specs.declared.Item.{Item}
+use Rattle.plan_records.specs.plan_items.specs.Items.{Fields, Says}
+use Rattle.plan_records.specs.plan_drafts.specs.declared.RowKey.{RowKey}
+use Rattle.plan_records.specs.plan_drafts.specs.Records.{AreDescriptions, AreItems, Denotes, DenotesAddition, key_of}
+use Rattle.plan_records.specs.plan_drafts.proofs.Lists.{differ_from_pairs, pairs_from_differ}
+use Rattle.plan_records.specs.plan_drafts.proofs.Orders.{differ_permuted}
 use Rattle.plan_laws.specs.Denoting.{OrderDoesNotMatter, OrderDoesNotMatterToAdditions}
-use Rattle.plan_drafts.specs.RowKeys.{row_cmp_total, row_cmp-IsAntisymmetric}
+use Rattle.plan_records.specs.plan_drafts.specs.RowKeys.{row_cmp_total, row_cmp-IsAntisymmetric}
 
 -- ---- two lists, index by index
 module _ {A B : Type 0} (R : A → B → Type 0) where

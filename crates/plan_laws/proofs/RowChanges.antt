@@ -10,13 +10,13 @@ use Rattle.plan_laws.proofs.RowsListed.{one_of_key, rows_listed}
 use Rattle.plan_laws.proofs.RowsTold.{row_told}
 use Rattle.plan_laws.proofs.Sorted.{contains_cases, contains_head, contains_later, contains_none, not_itself}
 use Rattle.plan_laws.proofs.Sorting.{ascending}
-use Rattle.operation_graph.proofs.Telling.{Told, told_alike, told_and, told_contains, told_equal, told_none}
+use Rattle.plan_records.specs.operation_graph.proofs.Telling.{Told, told_alike, told_and, told_contains, told_equal, told_none}
 use Rattle.plan_laws.proofs.Waiting.{told_listed}
 use Rattle.plan_laws.specs.Tables.{SomeChanges, SomeRows}
 use Rattle.plan_records.specs.Rows.{HasKey, IsRow, key_of, row_cmp}
 use Rattle.plan_records.specs.declared.PlanRow.{PlanRow}
-use Rattle.plan_drafts.specs.RowKeys.{row_cmp-IsAntisymmetric, row_cmp_total}
-use Rattle.plan_drafts.specs.declared.RowKey.{RowKey}
+use Rattle.plan_records.specs.plan_drafts.specs.RowKeys.{row_cmp-IsAntisymmetric, row_cmp_total}
+use Rattle.plan_records.specs.plan_drafts.specs.declared.RowKey.{RowKey}
 
 module _ (S : PlanRow → Type 0) where
   -- one of them for each of these keys

@@ -7,8 +7,8 @@ use Rattle.plan_laws.proofs.Sorted.{sorted_unique}
 use Rattle.plan_laws.specs.Tables.{OneListOfChanges}
 use Rattle.plan_records.specs.Rows.{key_of, row_cmp}
 use Rattle.plan_records.specs.declared.PlanRow.{PlanRow}
-use Rattle.plan_drafts.specs.RowKeys.{row_cmp_total}
-use Rattle.plan_drafts.specs.declared.RowKey.{RowKey}
+use Rattle.plan_records.specs.plan_drafts.specs.RowKeys.{row_cmp_total}
+use Rattle.plan_records.specs.plan_drafts.specs.declared.RowKey.{RowKey}
 
 pub keys_above : (k : RowKey) (rows : List PlanRow) → AllByRecursion (λ l. row_cmp k l ≡ Less) (map key_of rows) → AllByRecursion (λ r. row_cmp k (key_of r) ≡ Less) rows
 keys_above k [] h = tt

@@ -15,10 +15,10 @@ use Rattle.plan_laws.proofs.Elements.{all_of, first_of_all, rest_of_all}
 use Rattle.plan_laws.proofs.Every.{answer_keeps_sound}
 use Rattle.plan_laws.proofs.Repeating.{Again, again}
 use Rattle.plan_laws.proofs.Stepping.{some_step, some_step_by}
-use Rattle.operation_graph.proofs.Telling.{Told, told_and, told_equal, told_if_then, told_or, told_three, told_true}
+use Rattle.plan_records.specs.operation_graph.proofs.Telling.{Told, told_and, told_equal, told_if_then, told_or, told_three, told_true}
 use Rattle.plan_laws.specs.Steps.{IsCall, IsOfThePlan, PlanAnswers, SomeNumberedStep, SomeRun}
-use Rattle.plan_model.specs.Plan.{Plan, IsSoundPlan}
-use Rattle.plan_model.specs.Contents.{Contents, Operation, attribute_at}
+use Rattle.plan_records.specs.plan_model.specs.Plan.{Plan, IsSoundPlan}
+use Rattle.plan_records.specs.plan_model.specs.Contents.{Contents, Operation, attribute_at}
 use Rattle.plan_records.specs.Acceptance.{MayBeAccepted, MayBeCompleted, MayBeDone, MayBeEnded, MayBeFlagged, MayBeInterrupted, MayBeRerun, MayBeStarted, MayBeUndecided, OfOperation, minute_of}
 use Rattle.plan_records.specs.Answer.{Answer, accepted, refused}
 use Rattle.plan_records.specs.Run.{Answers, Call, CallStep, State, numbered, plain, usable}

@@ -4,7 +4,7 @@ use Rattle.std.specs.List.{AllByRecursion}
 use Rattle.std.specs.List.Sorted.{IsStrictlySortedBy}
 use Rattle.std.specs.Cmp.{IsTotalOrder}
 use Rattle.std.specs.Ordering.{ordering_reverse}
-pub use Rattle.plan_drafts.proofs.Lists.{at_member, contains_head, contains_later, contains_cases, contains_none}
+pub use Rattle.plan_records.specs.plan_drafts.proofs.Lists.{at_member, contains_head, contains_later, contains_cases, contains_none}
 
 module _ {K : Type 0} {R : K → K → Ordering} (o : IsTotalOrder R) where
   no_less : (x y : K) → R x y ≡ Less → R y x ≡ Less → ⊥

@@ -5,36 +5,36 @@ use Rattle.std.specs.Ordering.{eq_by_cmp}
 use Rattle.std.specs.FinMap.{get}
 use Rattle.plan_basics.specs.declared.Attr.TheVariants as attribute
 use Rattle.plan_basics.specs.declared.Refusal.TheVariants as refusal
-use Rattle.status_rules.specs.declared.Mark.TheVariants as mark
-use Rattle.status_rules.specs.declared.Status.TheVariants as status
+use Rattle.plan_records.specs.status_rules.specs.declared.Mark.TheVariants as mark
+use Rattle.plan_records.specs.status_rules.specs.declared.Status.TheVariants as status
 use Rattle.plan_records.specs.declared.What.TheVariants as what
 use Rattle.plan_records.specs.Answer.{accepted, refused}
 use Rattle.plan_basics.specs.Keys.{occurrence_cmp, operation_cmp_total}
 use Rattle.plan_basics.specs.declared.Attr.{Attr}
 use Rattle.plan_basics.specs.declared.Refusal.{Refusal}
 use Rattle.plan_basics.specs.declared.keys.OpKey.{OpKey}
-use Rattle.plan_drafts.proofs.Tables.{is_found}
-use Rattle.plan_model.proofs.Looks.{get-named, same_key, same_workstation, split_at}
+use Rattle.plan_records.specs.plan_drafts.proofs.Tables.{is_found}
+use Rattle.plan_records.specs.plan_model.proofs.Looks.{get-named, same_key, same_workstation, split_at}
 use Rattle.plan_laws.proofs.Revised.{get-revised}
-use Rattle.plan_drafts.proofs.Needed.{mapped}
+use Rattle.plan_records.specs.plan_drafts.proofs.Needed.{mapped}
 use Rattle.std.proofs.lemmas.Option.{none-some, same_Some}
-use Rattle.plan_model.specs.Plan.{Plan, IsSoundPlan}
-use Rattle.plan_model.specs.Contents.{Contents, Has, HasAttribute, Operation, attribute_at}
-use Rattle.plan_model.specs.Ready.{IsChosen, IsOnAutomatic, named, with_mark}
-use Rattle.plan_model.specs.Revise.{get-joined, or_else}
-use Rattle.plan_model.specs.Starts.{IsAllowedToStart}
-use Rattle.plan_model.specs.Status.{AllPredecessorsSatisfied, HasStatus, IsReady, UnmarkedStatus}
-use Rattle.plan_model.specs.Valid.{IsSound, IsUntouched}
+use Rattle.plan_records.specs.plan_model.specs.Plan.{Plan, IsSoundPlan}
+use Rattle.plan_records.specs.plan_model.specs.Contents.{Contents, Has, HasAttribute, Operation, attribute_at}
+use Rattle.plan_records.specs.plan_model.specs.Ready.{IsChosen, IsOnAutomatic, named, with_mark}
+use Rattle.plan_records.specs.plan_model.specs.Revise.{get-joined, or_else}
+use Rattle.plan_records.specs.plan_model.specs.Starts.{IsAllowedToStart}
+use Rattle.plan_records.specs.plan_model.specs.Status.{AllPredecessorsSatisfied, HasStatus, IsReady, UnmarkedStatus}
+use Rattle.plan_records.specs.plan_model.specs.Valid.{IsSound, IsUntouched}
 use Rattle.plan_records.specs.Acceptance.{MayBeAccepted, MayBeDone, MayBeStarted, minute_of}
 use Rattle.plan_records.specs.Changes.{Changes, IsRequest, is_at, revised}
-use Rattle.plan_drafts.specs.Drafts.{IsAddition, IsDraft}
+use Rattle.plan_records.specs.plan_drafts.specs.Drafts.{IsAddition, IsDraft}
 use Rattle.plan_records.specs.Laws.{IsAtStart, IsProvidedFor, StartsAreProvidedFor}
 use Rattle.plan_records.specs.declared.Request.{Request}
 use Rattle.plan_records.specs.declared.What.{What}
-use Rattle.ready_list.specs.Choice.{is_among}
-use Rattle.status_rules.specs.Table.{marked_status}
-use Rattle.status_rules.specs.declared.Mark.{Mark}
-use Rattle.status_rules.specs.declared.Status.{Status}
+use Rattle.plan_records.specs.ready_list.specs.Choice.{is_among}
+use Rattle.plan_records.specs.status_rules.specs.Table.{marked_status}
+use Rattle.plan_records.specs.status_rules.specs.declared.Mark.{Mark}
+use Rattle.plan_records.specs.status_rules.specs.declared.Status.{Status}
 
 -- its mark says that it is started
 abbrev IsStarted : Contents → OpKey → Type 0

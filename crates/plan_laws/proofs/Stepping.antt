@@ -5,7 +5,7 @@ use Rattle.plan_basics.specs.Refusals.{number_of, IsLeastRefusal, NoneRefuses}
 use Rattle.plan_basics.specs.declared.Refusal.{Refusal}
 use Rattle.plan_basics.specs.declared.Refusal.TheVariants as refusal
 use Rattle.plan_basics.specs.declared.keys.OpKey.{OpKey}
-use Rattle.status_rules.specs.declared.Mark.TheVariants as mark
+use Rattle.plan_records.specs.status_rules.specs.declared.Mark.TheVariants as mark
 use Rattle.plan_laws.proofs.Choosing.{some_choice}
 use Rattle.plan_laws.proofs.Deciding.{accepted_told}
 use Rattle.plan_laws.proofs.Every.{every_change_keeps_sound}
@@ -13,12 +13,12 @@ use Rattle.plan_laws.proofs.Listed.{Listed, alike_listed, one_listed, union_list
 use Rattle.plan_laws.proofs.Latest.{least_of}
 use Rattle.plan_laws.proofs.Numbers.{all_refusals, in_all}
 use Rattle.plan_laws.proofs.Reaching.{reach_told}
-use Rattle.operation_graph.proofs.Telling.{Told, if_told, is_told, told_if, told_none, told_some}
+use Rattle.plan_records.specs.operation_graph.proofs.Telling.{Told, if_told, is_told, told_if, told_none, told_some}
 use Rattle.plan_laws.specs.Steps.{SomeStep}
-use Rattle.plan_model.specs.Contents.{Contents}
-use Rattle.plan_model.specs.Plan.{Plan, IsSoundPlan}
-use Rattle.plan_model.specs.Ready.{named, with_mark}
-use Rattle.plan_model.specs.Valid.{IsAcyclic, IsSound}
+use Rattle.plan_records.specs.plan_model.specs.Contents.{Contents}
+use Rattle.plan_records.specs.plan_model.specs.Plan.{Plan, IsSoundPlan}
+use Rattle.plan_records.specs.plan_model.specs.Ready.{named, with_mark}
+use Rattle.plan_records.specs.plan_model.specs.Valid.{IsAcyclic, IsSound}
 use Rattle.plan_records.specs.Acceptance.{MayBeAccepted, MayBeDone, minute_of}
 use Rattle.plan_records.specs.Answer.{Answer, accepted, refused}
 use Rattle.plan_records.specs.Changes.{Changes, IsRequest, revised, with_added}

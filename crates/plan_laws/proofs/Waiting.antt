@@ -6,25 +6,25 @@ use Rattle.std.specs.FinMap.{keys}
 use Rattle.plan_basics.specs.Keys.{operation_cmp-IsAntisymmetric, operation_cmp_total}
 use Rattle.plan_basics.specs.declared.keys.OccKey.{OccKey}
 use Rattle.plan_basics.specs.declared.keys.OpKey.{OpKey}
-use Rattle.status_rules.specs.Table.{occurrence_status_place}
-use Rattle.status_rules.specs.declared.OccStatus.{OccStatus}
-use Rattle.status_rules.specs.declared.OccStatus.TheVariants as occurrence
-use Rattle.status_rules.specs.declared.Status.{Status}
-use Rattle.status_rules.specs.declared.Status.TheVariants as status
+use Rattle.plan_records.specs.status_rules.specs.Table.{occurrence_status_place}
+use Rattle.plan_records.specs.status_rules.specs.declared.OccStatus.{OccStatus}
+use Rattle.plan_records.specs.status_rules.specs.declared.OccStatus.TheVariants as occurrence
+use Rattle.plan_records.specs.status_rules.specs.declared.Status.{Status}
+use Rattle.plan_records.specs.status_rules.specs.declared.Status.TheVariants as status
 use Rattle.plan_laws.proofs.Decide.{told_live_predecessor}
 use Rattle.plan_laws.proofs.Entries.{told_operation}
 use Rattle.plan_laws.proofs.Listed.{Listed, alike_listed, one_listed, union_listed, where_told}
-use Rattle.plan_model.proofs.Members.{in_keys}
+use Rattle.plan_records.specs.plan_model.proofs.Members.{in_keys}
 use Rattle.plan_laws.proofs.Latest.{least_of}
 use Rattle.plan_laws.proofs.Reaching.{each_operation_told, same_occurrence}
 use Rattle.plan_laws.proofs.Sorted.{sorted_unique}
 use Rattle.plan_laws.proofs.Sorting.{ascending}
 use Rattle.plan_laws.proofs.Standing.{satisfied_told, status_told}
-use Rattle.operation_graph.proofs.Telling.{Told, told_alike, told_and, told_none, told_or}
+use Rattle.plan_records.specs.operation_graph.proofs.Telling.{Told, told_alike, told_and, told_none, told_or}
 use Rattle.plan_laws.specs.Derived.{EachHasOneOccurrenceStatus}
-use Rattle.plan_model.specs.Contents.{Contents, IsInPlan, LivePredecessor}
-use Rattle.plan_model.specs.Status.{HasOccurrenceStatus, HasStatus, IsSatisfied, OccurrenceCase, SomeOperation}
-use Rattle.plan_model.specs.Valid.{IsAcyclic}
+use Rattle.plan_records.specs.plan_model.specs.Contents.{Contents, IsInPlan, LivePredecessor}
+use Rattle.plan_records.specs.plan_model.specs.Status.{HasOccurrenceStatus, HasStatus, IsSatisfied, OccurrenceCase, SomeOperation}
+use Rattle.plan_records.specs.plan_model.specs.Valid.{IsAcyclic}
 use Rattle.plan_records.specs.Rows.{IsCount, IsWaitingFor}
 
 -- those things of a list of which something can be decided

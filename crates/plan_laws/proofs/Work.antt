@@ -3,7 +3,7 @@ use Rattle.std.proofs.Common.{◌≡◌, refl, sym, ◌∙◌, ℕ, true, List, 
 use Rattle.std.specs.Prelude.{sum_by}
 use Rattle.plan_basics.specs.Keys.{operation_cmp-IsAntisymmetric, operation_cmp_total}
 use Rattle.plan_basics.specs.declared.keys.OpKey.{OpKey}
-use Rattle.operation_graph.specs.Paths.{end_of}
+use Rattle.plan_records.specs.operation_graph.specs.Paths.{end_of}
 use Rattle.plan_laws.proofs.Choice.{one_ready_list}
 use Rattle.plan_laws.proofs.Listed.{Listed, alike_listed, either_listed, images_listed, none_listed, one_listed, union_listed}
 use Rattle.plan_laws.proofs.Readying.{some_ready_list}
@@ -12,15 +12,15 @@ use Rattle.plan_laws.proofs.Sorted.{sorted_unique}
 use Rattle.plan_laws.proofs.Sorting.{ascending}
 use Rattle.plan_laws.proofs.Latest.{plan_paths}
 use Rattle.plan_laws.specs.Work.{OneAllowance, SomeAllowance}
-use Rattle.plan_model.specs.Contents.{Contents}
-use Rattle.plan_model.specs.Plan.{Plan}
-use Rattle.plan_model.specs.Starts.{Reaches}
-use Rattle.plan_model.specs.Valid.{IsAcyclic, IsValid}
+use Rattle.plan_records.specs.plan_model.specs.Contents.{Contents}
+use Rattle.plan_records.specs.plan_model.specs.Plan.{Plan}
+use Rattle.plan_records.specs.plan_model.specs.Starts.{Reaches}
+use Rattle.plan_records.specs.plan_model.specs.Valid.{IsAcyclic, IsValid}
 use Rattle.plan_records.specs.Rows.{AreChanges}
 use Rattle.plan_records.specs.Work.{HasChangedRow, IsAllowanceByChange, IsWorkedOn, by_whole_plan, neighbours}
 use Rattle.plan_records.specs.declared.PlanRow.{PlanRow}
 use Rattle.plan_records.specs.declared.PlanRow.TheVariants as row
-use Rattle.plan_drafts.specs.declared.RowKey.{RowKey}
+use Rattle.plan_records.specs.plan_drafts.specs.declared.RowKey.{RowKey}
 use Rattle.plan_records.specs.declared.What.{What}
 use Rattle.plan_records.specs.declared.What.TheVariants as what
 

@@ -1,9 +1,9 @@
 -- What records denote goes by the records alone, in whatever order they are.
 use Rattle.std.specs.Prelude.{◌↔◌, List}
 use Rattle.std.specs.List.Sorted.{IsPermutation}
-use Rattle.plan_items.specs.Items.{Fields}
-use Rattle.plan_model.specs.Contents.{Contents, AddedParts}
-use Rattle.plan_drafts.specs.Records.{Denotes, DenotesAddition}
+use Rattle.plan_records.specs.plan_items.specs.Items.{Fields}
+use Rattle.plan_records.specs.plan_model.specs.Contents.{Contents, AddedParts}
+use Rattle.plan_records.specs.plan_drafts.specs.Records.{Denotes, DenotesAddition}
 
 -- the same records in another order denote the same plan
 abbrev pub OrderDoesNotMatter : Type 0

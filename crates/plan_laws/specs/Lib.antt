@@ -1,3 +1,13 @@
+pub use Rattle.plan_records.specs.latest_start
+pub use Rattle.plan_records.specs.operation_graph
+pub use Rattle.plan_records.specs.plan_drafts
+pub use Rattle.plan_records.specs.plan_items
+pub use Rattle.plan_records.specs.plan_model
+pub use Rattle.plan_records
+pub use Rattle.plan_records.specs.ready_list
+pub use Rattle.plan_records.specs.special_resources
+pub use Rattle.plan_records.specs.status_rules
+pub use Rattle.plan_records.specs.workstations
 pub mod Steps
 pub mod Ranks
 pub mod Derived

@@ -1,9 +1,9 @@
 -- The rows of a valid plan, and those that change: they are there, and they determine the plan.
 use Rattle.std.specs.Prelude.{◌≡◌, ◌↔◌, ℕ, List, Contains}
 use Rattle.plan_basics.specs.declared.keys.OpKey.{OpKey}
-use Rattle.plan_model.specs.Plan.{Plan, IsSoundPlan}
-use Rattle.plan_model.specs.Contents.{Contents, IsInPlan}
-use Rattle.plan_model.specs.Valid.{IsValid}
+use Rattle.plan_records.specs.plan_model.specs.Plan.{Plan, IsSoundPlan}
+use Rattle.plan_records.specs.plan_model.specs.Contents.{Contents, IsInPlan}
+use Rattle.plan_records.specs.plan_model.specs.Valid.{IsValid}
 use Rattle.plan_basics.specs.Keys.{Name}
 use Rattle.plan_records.specs.Answer.{Answer}
 use Rattle.plan_records.specs.Receipts.{IsReceiptRow}
@@ -12,8 +12,8 @@ use Rattle.plan_records.specs.Step.{Receipt, Receipts, Step}
 use Rattle.plan_records.specs.declared.OperationRow.{OperationRow}
 use Rattle.plan_records.specs.declared.PlanRow.{PlanRow}
 use Rattle.plan_records.specs.declared.Request.{Request}
-use Rattle.plan_drafts.specs.declared.RowKey.{RowKey}
-use Rattle.plan_drafts.specs.declared.RowKey.TheVariants as key
+use Rattle.plan_records.specs.plan_drafts.specs.declared.RowKey.{RowKey}
+use Rattle.plan_records.specs.plan_drafts.specs.declared.RowKey.TheVariants as key
 
 -- each operation of a valid plan has a row, and no other
 abbrev pub EachHasOneRow : Type 0

@@ -5,16 +5,16 @@ use Rattle.std.specs.List.{list_any}
 use Rattle.sqlite.specs.Effect.{Database}
 use Rattle.sqlite.specs.Schema.{Schema}
 use Rattle.sqlite.specs.State.{State as StoreState}
-use Rattle.table_rows.specs.Tables.{no_schema}
+use Rattle.plan_tables.specs.table_rows.specs.Tables.{no_schema}
 use Rattle.plan_basics.specs.declared.Refusal.{Refusal}
 use Rattle.plan_basics.specs.declared.Refusal.TheVariants as refusal
-use Rattle.plan_model.specs.Contents.{Contents}
-use Rattle.plan_reads.specs.Reads.{OnlyReads}
+use Rattle.plan_tables.specs.plan_model.specs.Contents.{Contents}
+use Rattle.plan_tables.specs.plan_reads.specs.Reads.{OnlyReads}
 use Rattle.plan_records.specs.Answer.{Answer, accepted, refused}
 use Rattle.plan_records.specs.Run.{Answers, CallStep, State, empty_state, plain, usable}
 use Rattle.plan_records.specs.Step.{Step}
 use Rattle.plan_records.specs.declared.Request.{Request}
-use Rattle.plan_schema.specs.Schema.{schema_9}
+use Rattle.plan_tables.specs.plan_schema.specs.Schema.{schema_9}
 use Rattle.plan_tables.specs.Desk.{HasTables, HoldsState, IsClean, usability}
 use Rattle.plan_tables.specs.Faults.{IsOpeningRefusal}
 use Rattle.plan_loads.specs.Databases.{HasNoTable, HasSchema, IsAnswerToLoad, IsStateAt, load_request}

@@ -3,11 +3,11 @@ use Rattle.std.specs.Prelude.{◌≡◌, ◌⊎◌, ℤ, false, [], Option, is_s
 use Rattle.std.specs.List.{list_any}
 use Rattle.sqlite.specs.Schema.{Schema}
 use Rattle.sqlite.specs.State.{State as StoreState}
-use Rattle.table_rows.specs.Tables.{no_schema}
-use Rattle.plan_model.specs.Contents.{Contents}
+use Rattle.plan_tables.specs.table_rows.specs.Tables.{no_schema}
+use Rattle.plan_tables.specs.plan_model.specs.Contents.{Contents}
 use Rattle.plan_records.specs.Answer.{Answer, accepted, refused}
 use Rattle.plan_records.specs.Run.{CallStep, State, empty_state, plain}
-use Rattle.plan_schema.specs.Schema.{schema_9}
+use Rattle.plan_tables.specs.plan_schema.specs.Schema.{schema_9}
 use Rattle.plan_tables.specs.Desk.{HoldsState, IsClean}
 use Rattle.plan_tables.specs.Faults.{IsOpeningRefusal}
 use Rattle.plan_records.specs.declared.Request.{Request}

@@ -5,10 +5,10 @@ ghost use Rattle.sqlite.specs.Held.{state};
 ghost use Rattle.plan_records.specs.Answer.{answer_of};
 ghost use Rattle.plan_records.specs.Run.{empty_state};
 ghost use Rattle.plan_loads.specs.Databases.{HasNoTable, HasSchema, IsAnswerToLoad, IsStateAt};
-ghost use Rattle.plan_schema.specs.Schema.{schema_9};
+ghost use Rattle.plan_tables.specs.plan_schema.specs.Schema.{schema_9};
 ghost use Rattle.plan_tables.specs.Desk.{state_of, HoldsState, IsClean};
 ghost use Rattle.plan_tables.specs.Faults.{IsOpeningRefusal};
-ghost use Rattle.table_rows.specs.Tables.{no_schema};
+ghost use Rattle.plan_tables.specs.table_rows.specs.Tables.{no_schema};
 
 use plan_basics::Refusal;
 use plan_records::{PlanDraft, Reply, Request, What};

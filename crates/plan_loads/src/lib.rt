@@ -5,3 +5,4 @@
 mod database;
 
 pub use database::load_into;
+pub use plan_tables::Desk;

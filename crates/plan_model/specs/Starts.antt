@@ -9,7 +9,7 @@ use Rattle.plan_basics.specs.declared.Refusal.TheVariants as refusal
 use Rattle.plan_basics.specs.Keys.{Name}
 use Rattle.workstations.specs.Workstations.{Workstation, HasRoom}
 use Rattle.special_resources.specs.Holders.{Usage, SharesWithHolders}
-use Rattle.operation_graph.specs.Paths.{ReachesBy}
+use Rattle.latest_start.specs.operation_graph.specs.Paths.{ReachesBy}
 use Rattle.latest_start.specs.LeastStart.{IsLeastStart}
 use Rattle.status_rules.specs.declared.Status.TheVariants as status
 use Rattle.plan_model.specs.Contents.{Contents, Operation, Has, HasAttribute, Precedes, IsLive}

@@ -13,7 +13,7 @@ use Rattle.plan_basics.specs.Keys.{Name, IsOccurrenceKey, IsOperationKey}
 use Rattle.workstations.specs.Workstations.{Workstation, IsWorkstation}
 use Rattle.special_resources.specs.declared.Mode.TheVariants.{Shared}
 use Rattle.special_resources.specs.Holders.{Usage}
-use Rattle.operation_graph.specs.Paths.{IsAcyclicBy}
+use Rattle.latest_start.specs.operation_graph.specs.Paths.{IsAcyclicBy}
 use Rattle.status_rules.specs.declared.Mark.{Mark}
 use Rattle.status_rules.specs.declared.Mark.TheVariants as mark
 use Rattle.plan_model.specs.Contents.{Contents, Operation, Occurrences, Operations, Workstations, Resources, Pairs, IsPairOf, Has, HasAttribute}

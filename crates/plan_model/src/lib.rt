@@ -2,10 +2,12 @@
 //! a latest start, is defined in `specs/`, over finite maps in which nothing is derived.
 #![tactic(auto)]
 
+pub use latest_start::{EdgeFault, Graph};
 use plan_basics::{Moment, WsName};
-use special_resources::Needs;
-use status_rules::Mark;
+pub use special_resources::{Need, Needs};
+pub use status_rules::{Mark, OccStatus, Status};
 use std::marker::Model;
+pub use workstations::Workstation;
 
 /// An occurrence of an application: its priority, from 1 (low) to 9 (urgent), and its deadline.
 #[derive(Clone, Copy, Debug, PartialEq, Eq)]

@@ -2,10 +2,10 @@
 use Rattle.std.proofs.Common.{◌≡◌, sym, ap, subst, ◌∙◌, ℕ, Bool, true, false, List, Option, Some, None, Result, Ok, Err}
 use Rattle.std.specs.Prelude.{IfOk, MatchOption}
 use Rattle.std.proofs.lemmas.Option.{same_Some}
-use Rattle.plan_laws.proofs.Every.{no_plan_is_sound}
-use Rattle.plan_model.specs.Contents.{Contents}
-use Rattle.plan_model.specs.Plan.{Plan, no_plan, plan_held}
-use Rattle.plan_model.specs.Valid.{IsSound}
+use Rattle.plan_rows.specs.plan_laws.proofs.Every.{no_plan_is_sound}
+use Rattle.plan_rows.specs.plan_model.specs.Contents.{Contents}
+use Rattle.plan_rows.specs.plan_model.specs.Plan.{Plan, no_plan, plan_held}
+use Rattle.plan_rows.specs.plan_model.specs.Valid.{IsSound}
 use Rattle.plan_opening.specs.Opening.{AreContentsOf, AreOfNoPlan, IsPlanOf}
 use Rattle.plan_records.specs.Rows.{AreRows}
 use Rattle.plan_records.specs.declared.PlanRow.{PlanRow}

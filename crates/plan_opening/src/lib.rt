@@ -6,5 +6,5 @@ mod first;
 mod loading;
 mod opening;
 
-pub use loading::loaded_with;
+pub use loading::{figures_of, loaded_with};
 pub use opening::{OpenedPlan, plan_of_rows};

@@ -2,9 +2,9 @@
 ghost use Rattle.std.specs.Prelude.{◌≡◌, Some, ◌↔◌, IfErr, IfOk, IfSome, IsTrue, MatchOption};
 ghost use Rattle.plan_basics.specs.Minutes.{IsMoment};
 ghost use Rattle.plan_basics.specs.declared.Refusal.{Refusal};
-ghost use Rattle.plan_model.specs.Contents.{Contents};
-ghost use Rattle.plan_model.specs.Plan.{Plan, plan_held};
-ghost use Rattle.plan_model.specs.Valid.{IsSound};
+ghost use Rattle.plan_rows.specs.plan_model.specs.Contents.{Contents};
+ghost use Rattle.plan_rows.specs.plan_model.specs.Plan.{Plan, plan_held};
+ghost use Rattle.plan_rows.specs.plan_model.specs.Valid.{IsSound};
 ghost use Rattle.plan_opening.specs.Opening.{AreContentsOf, AreOfNoPlan, IsPlanOf};
 ghost use Rattle.plan_records.specs.Rows.{AreRows};
 
@@ -13,10 +13,8 @@ use super::loading::loaded_of;
 use plan_basics::{Moment, Refusal};
 use plan_records::PlanRow;
 use plan_restore::{contents_of_rows, meta_of_rows};
-use plan_rows::{Shown, rows_of};
+use plan_rows::{LoadedPlan, Shown, SoundContents, ValidContents, rows_of};
 use plan_soundness::judged;
-use plan_state::LoadedPlan;
-use plan_status::{SoundContents, ValidContents};
 use row_lists::are_these;
 use std::alloc::Global;
 

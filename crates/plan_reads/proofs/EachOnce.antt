@@ -16,16 +16,16 @@ use Rattle.sqlite_schema.specs.Rules.{agree, clashes, differ, guards, Keeps}
 use Rattle.sqlite_schema.specs.declared.schema.Constraint.TheVariants.{Unique}
 use Rattle.sqlite_schema.specs.declared.schema.Index.{Index}
 use Rattle.sqlite_value.specs.Keys.{plain}
-use Rattle.table_rows.specs.Rows.{AreNumbered, same_key, shown_by_rowid}
-use Rattle.table_rows.specs.Stored.{BeginsExactly}
-use Rattle.table_rows.specs.Tables.{placed}
-use Rattle.table_rows.proofs.Keys.{one_key}
-use Rattle.table_rows.proofs.Queries.{has_mapped}
-use Rattle.table_rows.proofs.Rowids.{differs, numbered_has, rowid_is}
+use Rattle.stored_rows.specs.table_rows.specs.Rows.{AreNumbered, same_key, shown_by_rowid}
+use Rattle.stored_rows.specs.table_rows.specs.Stored.{BeginsExactly}
+use Rattle.stored_rows.specs.table_rows.specs.Tables.{placed}
+use Rattle.stored_rows.specs.table_rows.proofs.Keys.{one_key}
+use Rattle.stored_rows.specs.table_rows.proofs.Queries.{has_mapped}
+use Rattle.stored_rows.specs.table_rows.proofs.Rowids.{differs, numbered_has, rowid_is}
 use Rattle.plan_records.specs.declared.PlanRow.{PlanRow}
 use Rattle.plan_schema.specs.Schema.{schema_9, workstation, interval, resource, occurrence, operation, dependency, need, receipt}
 use Rattle.plan_schema.specs.Stored.{receipt_row}
-use Rattle.plan_columns.specs.Receipts.{stored_receipt}
+use Rattle.stored_rows.specs.plan_columns.specs.Receipts.{stored_receipt}
 use Rattle.stored_rows.specs.Receipts.{IsReceiptStoredAs}
 use Rattle.stored_rows.specs.Rows.{columns_of, IsStoredAs}
 use Rattle.stored_rows.specs.declared.Table.{Table}

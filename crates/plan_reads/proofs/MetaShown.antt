@@ -5,9 +5,9 @@ use Rattle.sqlite.specs.Order.{Row, column}
 use Rattle.sqlite.specs.Tree.{rowid}
 use Rattle.sqlite.specs.declared.types.Value.TheVariants.{Null}
 use Rattle.sqlite_rules.specs.Lists.{Has}
-use Rattle.table_rows.specs.Rows.{AreNumbered, shown_by_rowid}
-use Rattle.table_rows.specs.Stored.{Holds, HoldsByRowid}
-use Rattle.table_rows.proofs.Queries.{has_mapped, mapped_has}
+use Rattle.stored_rows.specs.table_rows.specs.Rows.{AreNumbered, shown_by_rowid}
+use Rattle.stored_rows.specs.table_rows.specs.Stored.{Holds, HoldsByRowid}
+use Rattle.stored_rows.specs.table_rows.proofs.Queries.{has_mapped, mapped_has}
 use Rattle.plan_schema.specs.Stored.{StoredMeta, meta_row, meta_values}
 
 -- a row of five values, with NULL in place of the rowid's column

@@ -3,8 +3,8 @@ use Rattle.std.proofs.Common.{◌≡◌, refl, sym, ap, ◌∙◌, Some}
 use Rattle.plan_records.specs.declared.PlanRow.{PlanRow}
 use Rattle.plan_records.specs.declared.PlanRow.TheVariants as row
 use Rattle.plan_schema.specs.Stored.{StoredMeta, StoredWorkstation, StoredInterval, StoredResource, StoredOccurrence, StoredOperation, StoredDependency, StoredNeed, meta_values, workstation_row, interval_row, resource_row, occurrence_row, operation_row, dependency_row, need_row}
-use Rattle.plan_columns.specs.Columns.{meta_columns, workstation_columns, interval_columns, resource_columns, occurrence_columns, operation_columns, dependency_columns, need_columns}
-use Rattle.plan_columns.proofs.EachTable.{meta_of, workstation_of, interval_of, resource_of, occurrence_of, operation_of, dependency_of, need_of, meta_is, workstation_is, interval_is, resource_is, occurrence_is, operation_is, dependency_is, need_is}
+use Rattle.stored_rows.specs.plan_columns.specs.Columns.{meta_columns, workstation_columns, interval_columns, resource_columns, occurrence_columns, operation_columns, dependency_columns, need_columns}
+use Rattle.stored_rows.specs.plan_columns.proofs.EachTable.{meta_of, workstation_of, interval_of, resource_of, occurrence_of, operation_of, dependency_of, need_of, meta_is, workstation_is, interval_is, resource_is, occurrence_is, operation_is, dependency_is, need_is}
 use Rattle.stored_rows.specs.Rows.{columns_of, table_for}
 use Rattle.stored_rows.specs.declared.Table.TheVariants as table
 use Rattle.plan_reads.proofs.TableHeld.{IsTableOf}

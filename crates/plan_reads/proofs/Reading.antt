@@ -13,8 +13,8 @@ use Rattle.sqlite.specs.declared.error.Error.{Error}
 use Rattle.sqlite.proofs.StateLemmas.{survives_then}
 use Rattle.sqlite_rules.specs.Lists.{Has}
 use Rattle.sqlite_rules.proofs.ListLemmas.{any_has, has_either, has_left, has_right}
-use Rattle.table_rows.proofs.Queries.{has_permuted}
-use Rattle.table_rows.proofs.Reading.{numbered_permuted}
+use Rattle.stored_rows.specs.table_rows.proofs.Queries.{has_permuted}
+use Rattle.stored_rows.specs.table_rows.proofs.Reading.{numbered_permuted}
 use Rattle.plan_records.specs.declared.PlanRow.{PlanRow}
 use Rattle.plan_schema.specs.Schema.{schema_9}
 use Rattle.stored_rows.specs.Receipts.{IsNoReceipt, IsReceiptStoredAs}

@@ -6,14 +6,14 @@ use Rattle.sqlite.specs.Order.{Row}
 use Rattle.sqlite.specs.Tree.{Trees}
 use Rattle.sqlite_rules.specs.Lists.{Has}
 use Rattle.sqlite_rules.proofs.ListLemmas.{contains_had, has_contained}
-use Rattle.table_rows.specs.Stored.{Holds}
-use Rattle.table_rows.proofs.Queries.{has_mapped, has_permuted, mapped_has}
+use Rattle.stored_rows.specs.table_rows.specs.Stored.{Holds}
+use Rattle.stored_rows.specs.table_rows.proofs.Queries.{has_mapped, has_permuted, mapped_has}
 use Rattle.plan_basics.specs.Keys.{Name}
 use Rattle.plan_records.specs.Receipts.{IsReceiptRow}
 use Rattle.plan_records.specs.Step.{Receipt, Receipts}
 use Rattle.plan_records.specs.declared.PlanRow.{PlanRow}
 use Rattle.plan_schema.specs.Stored.{Held, StoredReceipt, receipt_row}
-use Rattle.plan_columns.specs.Receipts.{HoldReceipts, stored_receipt}
+use Rattle.stored_rows.specs.plan_columns.specs.Receipts.{HoldReceipts, stored_receipt}
 use Rattle.stored_rows.specs.Receipts.{IsReceiptStoredAs}
 use Rattle.stored_rows.proofs.Decoded.{one_receipt, row_for, stored_for}
 use Rattle.tracker_receipts.specs.Stored.{AreRowsOf, Columns, columns_of}

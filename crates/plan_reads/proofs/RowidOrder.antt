@@ -10,7 +10,7 @@ use Rattle.sqlite.specs.declared.types.Value.TheVariants.{Null, Int, Real, Text,
 use Rattle.sqlite_rules.specs.Lists.{Has}
 use Rattle.sqlite_rules.proofs.ListLemmas.{all_from}
 use Rattle.sqlite_trees.specs.View.{is_int}
-use Rattle.table_rows.specs.Rows.{AreNumbered}
+use Rattle.stored_rows.specs.table_rows.specs.Rows.{AreNumbered}
 use Rattle.plan_reads.specs.Reads.{follows, integer_in, rise_above}
 
 -- above the last one, if there was one

@@ -4,16 +4,16 @@ use Rattle.std.specs.List.{filter_map}
 use Rattle.sqlite.specs.Effect.{Database, IsDatabase}
 use Rattle.sqlite.specs.Order.{Row}
 use Rattle.sqlite_rules.specs.Lists.{Has}
-use Rattle.plan_model.specs.Plan.{Plan}
+use Rattle.tracker_receipts.specs.plan_model.specs.Plan.{Plan}
 use Rattle.plan_records.specs.Rows.{AreRows, IsRow}
 use Rattle.plan_records.specs.declared.PlanRow.{PlanRow}
 use Rattle.plan_schema.specs.Schema.{schema_9}
 use Rattle.plan_schema.specs.Stored.{Held, Stores, StoredMeta, StoredWorkstation, StoredInterval, StoredResource, StoredOccurrence, StoredOperation, StoredDependency, StoredNeed}
 use Rattle.plan_schema.proofs.Metas.{meta_stored}
-use Rattle.plan_columns.specs.Receipts.{stored_receipt}
-use Rattle.plan_columns.specs.Tables.{HoldRows}
-use Rattle.plan_columns.proofs.EachTable.{meta_of, workstation_of, interval_of, resource_of, occurrence_of, operation_of, dependency_of, need_of, meta_rows, workstation_rows, interval_rows, resource_rows, occurrence_rows, operation_rows, dependency_rows, need_rows}
-use Rattle.plan_columns.proofs.SameColumns.{listed_held}
+use Rattle.stored_rows.specs.plan_columns.specs.Receipts.{stored_receipt}
+use Rattle.stored_rows.specs.plan_columns.specs.Tables.{HoldRows}
+use Rattle.stored_rows.specs.plan_columns.proofs.EachTable.{meta_of, workstation_of, interval_of, resource_of, occurrence_of, operation_of, dependency_of, need_of, meta_rows, workstation_rows, interval_rows, resource_rows, occurrence_rows, operation_rows, dependency_rows, need_rows}
+use Rattle.stored_rows.specs.plan_columns.proofs.SameColumns.{listed_held}
 use Rattle.stored_rows.specs.Rows.{columns_of, table_for, IsInRange}
 use Rattle.stored_rows.specs.declared.Table.{Table}
 use Rattle.stored_rows.specs.declared.Table.TheVariants as table

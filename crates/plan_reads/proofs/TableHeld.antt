@@ -5,7 +5,7 @@ use Rattle.sqlite.specs.Order.{Row}
 use Rattle.sqlite.specs.Tree.{Trees}
 use Rattle.sqlite_rules.specs.Lists.{Has}
 use Rattle.sqlite_rules.proofs.ListLemmas.{has_contained, contains_had}
-use Rattle.table_rows.specs.Stored.{Holds}
+use Rattle.stored_rows.specs.table_rows.specs.Stored.{Holds}
 use Rattle.plan_records.specs.declared.PlanRow.{PlanRow}
 use Rattle.stored_rows.specs.Rows.{columns_of, table_for}
 use Rattle.stored_rows.specs.declared.Table.{Table}

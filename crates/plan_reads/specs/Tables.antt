@@ -6,12 +6,12 @@ use Rattle.sqlite.specs.Effect.{Database}
 use Rattle.sqlite.specs.Order.{Row}
 use Rattle.sqlite.specs.Tree.{Trees, IsAscending}
 use Rattle.sqlite_rules.specs.Lists.{Has}
-use Rattle.table_rows.specs.Rows.{AreNumbered, shown_by_rowid}
+use Rattle.stored_rows.specs.table_rows.specs.Rows.{AreNumbered, shown_by_rowid}
 use Rattle.plan_records.specs.declared.PlanRow.{PlanRow}
 use Rattle.plan_schema.specs.Stored.{Held, StoredReceipt, Stores}
 use Rattle.plan_schema.specs.declared.TheConstants.{READ_META, READ_WORKSTATION, READ_INTERVAL, READ_RESOURCE, READ_OCCURRENCE, READ_OPERATION, READ_DEPENDENCY, READ_NEED}
-use Rattle.plan_columns.specs.Receipts.{stored_receipt}
-use Rattle.plan_columns.specs.Tables.{HoldRows}
+use Rattle.stored_rows.specs.plan_columns.specs.Receipts.{stored_receipt}
+use Rattle.stored_rows.specs.plan_columns.specs.Tables.{HoldRows}
 use Rattle.stored_rows.specs.Receipts.{IsNoReceipt, IsReceiptStoredAs}
 use Rattle.stored_rows.specs.Rows.{AppendsRows, IsNoRow, IsStoredAs, table_for}
 use Rattle.stored_rows.specs.declared.Table.{Table}

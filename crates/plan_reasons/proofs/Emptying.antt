@@ -20,13 +20,13 @@ use Rattle.status_rules.specs.declared.Mark.TheVariants as mark
 use Rattle.status_rules.specs.declared.Status.{Status}
 use Rattle.status_rules.specs.declared.Status.TheVariants as status
 use Rattle.plan_basics.proofs.Members.{place_of}
-use Rattle.plan_drafts.proofs.EntryRows.{row_in}
-use Rattle.plan_drafts.proofs.Lists.{contains_none, no_members}
-use Rattle.plan_drafts.proofs.Tables.{is_found}
-use Rattle.plan_laws.proofs.Allowing.{may_start_told, told_available}
-use Rattle.plan_laws.proofs.Classes.{ready_told, satisfied_decides}
-use Rattle.plan_laws.proofs.Starts.{interrupted_mark, ready_in_order}
-use Rattle.plan_laws.proofs.Standing.{one_status, satisfied_told, some_status}
+use Rattle.plan_core.specs.plan_drafts.proofs.EntryRows.{row_in}
+use Rattle.plan_core.specs.plan_drafts.proofs.Lists.{contains_none, no_members}
+use Rattle.plan_core.specs.plan_drafts.proofs.Tables.{is_found}
+use Rattle.plan_core.specs.plan_laws.proofs.Allowing.{may_start_told, told_available}
+use Rattle.plan_core.specs.plan_laws.proofs.Classes.{ready_told, satisfied_decides}
+use Rattle.plan_core.specs.plan_laws.proofs.Starts.{interrupted_mark, ready_in_order}
+use Rattle.plan_core.specs.plan_laws.proofs.Standing.{one_status, satisfied_told, some_status}
 use Rattle.plan_model.proofs.Entries.{entries_are, entries_in_order}
 use Rattle.plan_model.specs.Contents.{Contents, Operation, attribute_at}
 use Rattle.plan_model.specs.Holdings.{given_out, takes}

@@ -1,14 +1,14 @@
 -- What an accepted request leaves ready on an automatic workstation has a reason at its moment.
 use Rattle.std.proofs.Common.{ap, subst}
-use Rattle.plan_laws.proofs.Every.{every_change_keeps_sound, every_step_keeps_sound}
+use Rattle.plan_core.specs.plan_laws.proofs.Every.{every_change_keeps_sound, every_step_keeps_sound}
 use Rattle.plan_model.specs.Contents.{Contents}
 use Rattle.plan_model.specs.Holdings.{takes}
 use Rattle.plan_model.specs.Plan.{Plan}
 use Rattle.plan_model.specs.Ready.{IsOnAutomatic}
 use Rattle.plan_model.specs.Starts.{IsAllowedToStart}
 use Rattle.plan_model.specs.Status.{IsReady}
-use Rattle.plan_records.specs.Acceptance.{minute_of}
-use Rattle.plan_records.specs.Answer.{accepted}
+use Rattle.plan_core.specs.plan_records.specs.Acceptance.{minute_of}
+use Rattle.plan_core.specs.plan_records.specs.Answer.{accepted}
 use Rattle.plan_reasons.specs.Laws.{NoneIsLeftToStart, ReadyHasReason}
 use Rattle.plan_reasons.proofs.Emptying.{empty_where_it_may_start}
 use Rattle.plan_reasons.proofs.PassedOver.{passed_over}

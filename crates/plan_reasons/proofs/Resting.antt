@@ -8,12 +8,12 @@ use Rattle.plan_basics.specs.declared.keys.OpKey.{OpKey}
 use Rattle.status_rules.specs.Classes.{is_ready}
 use Rattle.status_rules.specs.declared.Status.{Status}
 use Rattle.status_rules.specs.declared.Status.TheVariants as status
-use Rattle.plan_laws.proofs.Classes.{ready_by, ready_told}
+use Rattle.plan_core.specs.plan_laws.proofs.Classes.{ready_by, ready_told}
 use Rattle.plan_model.specs.Contents.{Contents, HasAttribute, Operation}
 use Rattle.plan_model.specs.Starts.{MayStart}
 use Rattle.plan_model.specs.Status.{HasStatus}
-use Rattle.plan_state.specs.Reports.{IsReported}
-use Rattle.plan_state.specs.declared.loaded.Reported.{Reported}
+use Rattle.plan_core.specs.plan_state.specs.Reports.{IsReported}
+use Rattle.plan_core.specs.plan_state.specs.declared.loaded.Reported.{Reported}
 use Rattle.plan_reasons.specs.Parts.{IsOfKind}
 use Rattle.plan_reasons.specs.Places.{goes_on_from}
 use Rattle.plan_reasons.specs.Reasons.{IsReasonOf, needs_start}

@@ -2,14 +2,14 @@
 use Rattle.std.proofs.Common.{◌≡◌, ◌≢◌, ◌↔◌, refl, sym, subst, arith, ℕ, ◌<◌, List, [], map, Contains, Some, slice_get}
 use Rattle.std.specs.FinMap.{keys}
 use Rattle.std.specs.List.{AllPairs}
-use Rattle.operation_graph.specs.Graphs.{Digraph, HasEdge, IsSet}
+use Rattle.plan_core.specs.operation_graph.specs.Graphs.{Digraph, HasEdge, IsSet}
 use Rattle.std.specs.declared.cmp.Ordering.TheVariants.{Less}
 use Rattle.plan_basics.specs.Keys.{operation_cmp}
 use Rattle.plan_basics.specs.declared.keys.OpKey.{OpKey}
-use Rattle.plan_drafts.proofs.Lists.{contains_none, differ_from_pairs, differ_map, from_map, in_map, pairs_from_differ}
-use Rattle.plan_drafts.specs.Places.{AreStatuses}
-use Rattle.plan_drafts.specs.PlanGraphs.{IsGraphFor}
-use Rattle.plan_laws.proofs.Standing.{one_status}
+use Rattle.plan_core.specs.plan_drafts.proofs.Lists.{contains_none, differ_from_pairs, differ_map, from_map, in_map, pairs_from_differ}
+use Rattle.plan_core.specs.plan_drafts.specs.Places.{AreStatuses}
+use Rattle.plan_core.specs.plan_drafts.specs.PlanGraphs.{IsGraphFor}
+use Rattle.plan_core.specs.plan_laws.proofs.Standing.{one_status}
 use Rattle.plan_model.specs.Contents.{Contents, Operation}
 use Rattle.plan_model.specs.Status.{HasStatus}
 use Rattle.plan_model.specs.Valid.{IsValid}

@@ -8,10 +8,10 @@ use Rattle.plan_model.specs.Ready.{IsOnAutomatic}
 use Rattle.plan_model.specs.Starts.{IsAllowedToStart}
 use Rattle.plan_model.specs.Status.{IsReady}
 use Rattle.plan_model.specs.Valid.{IsValid}
-use Rattle.plan_records.specs.Acceptance.{minute_of}
-use Rattle.plan_records.specs.Answer.{accepted}
-use Rattle.plan_records.specs.Step.{Step}
-use Rattle.plan_records.specs.declared.Request.{Request}
+use Rattle.plan_core.specs.plan_records.specs.Acceptance.{minute_of}
+use Rattle.plan_core.specs.plan_records.specs.Answer.{accepted}
+use Rattle.plan_core.specs.plan_records.specs.Step.{Step}
+use Rattle.plan_core.specs.plan_records.specs.declared.Request.{Request}
 use Rattle.plan_reasons.specs.Whys.{AreReasons}
 use Rattle.plan_reasons.specs.declared.reasons.Reason.{Reason}
 

@@ -9,7 +9,7 @@ ghost use Rattle.plan_reasons.specs.Parts.{GoesOn};
 ghost use Rattle.plan_reasons.specs.Places.{IsAt};
 ghost use Rattle.plan_reasons.specs.Reasons.{needs_start};
 ghost use Rattle.plan_reasons.specs.Whys.{AreReasons, IsWhy};
-ghost use Rattle.plan_state.specs.Reports.{IsReported};
+ghost use Rattle.plan_core.specs.plan_state.specs.Reports.{IsReported};
 
 use super::busy::{all_held, all_unavailable};
 use super::lacking::{closed, lacks};
@@ -19,8 +19,8 @@ use super::reasons::{Reason, Supply, Unsatisfied};
 use super::single::{at_rest, held, needs_start, too_early};
 use plan_basics::{Moment, OpKey, Refusal};
 use plan_choice::{given_out_of, holdings_of};
+use plan_core::{LoadedPlan, Reported};
 use plan_model::OperationRecord;
-use plan_state::{LoadedPlan, Reported};
 use plan_status::SoundContents;
 use status_rules::Status;
 use std::alloc::{AllocError, Global};

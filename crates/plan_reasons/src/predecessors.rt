@@ -12,7 +12,7 @@ ghost use Rattle.plan_reasons.specs.Whys.{AreRoots};
 
 use super::reasons::{Reason, Unsatisfied};
 use plan_basics::Refusal;
-use plan_state::LoadedPlan;
+use plan_core::LoadedPlan;
 use status_rules::Status;
 use std::alloc::{AllocError, Global};
 use upstream::{flagged_preds, sources};

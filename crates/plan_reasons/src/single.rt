@@ -7,13 +7,13 @@ ghost use Rattle.plan_model.specs.Valid.{IsValid};
 ghost use Rattle.plan_reasons.specs.Parts.{IsOfKind};
 ghost use Rattle.plan_reasons.specs.Places.{goes_on_from};
 ghost use Rattle.plan_reasons.specs.Reasons.{needs_start};
-ghost use Rattle.plan_state.specs.Reports.{IsReported};
+ghost use Rattle.plan_core.specs.plan_state.specs.Reports.{IsReported};
 ghost use Rattle.status_rules.specs.Table.{marked_status};
 
 use super::reasons::Reason;
 use plan_basics::{Attr, Moment};
+use plan_core::Reported;
 use plan_model::OperationRecord;
-use plan_state::Reported;
 use status_rules::{Mark, Status};
 
 // Whether an operation of this status goes on: it waits, is arriving or ready, or may be started again where starts are

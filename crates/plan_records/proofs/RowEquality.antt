@@ -12,21 +12,21 @@ use Rattle.plan_basics.specs.Intervals.{OpenInterval}
 use Rattle.plan_basics.specs.declared.Attr.{Attr}
 use Rattle.plan_basics.specs.declared.keys.OccKey.{OccKey}
 use Rattle.plan_basics.specs.declared.keys.OpKey.{OpKey}
-use Rattle.special_resources.specs.declared.Need.{Need}
-use Rattle.status_rules.specs.declared.Mark.{Mark}
-use Rattle.status_rules.specs.declared.Mark.TheVariants as mark
+use Rattle.plan_drafts.specs.special_resources.specs.declared.Need.{Need}
+use Rattle.plan_drafts.specs.status_rules.specs.declared.Mark.{Mark}
+use Rattle.plan_drafts.specs.status_rules.specs.declared.Mark.TheVariants as mark
 use Rattle.plan_records.specs.declared.OperationRow.{OperationRow}
 use Rattle.plan_records.specs.declared.PlanRow.{PlanRow}
 use Rattle.plan_records.specs.declared.PlanRow.TheVariants as row
 use Rattle.plan_basics.specs.contracts.Attr as attribute
-use Rattle.special_resources.specs.contracts.Mode as mode
-use Rattle.status_rules.specs.contracts.Status as status
-use Rattle.status_rules.specs.contracts.OccStatus as occurrence_status
+use Rattle.plan_drafts.specs.special_resources.specs.contracts.Mode as mode
+use Rattle.plan_drafts.specs.status_rules.specs.contracts.Status as status
+use Rattle.plan_drafts.specs.status_rules.specs.contracts.OccStatus as occurrence_status
 use Rattle.plan_basics.specs.contracts.keys.OccKeyPartialEq.TheImpl as occurrence
 use Rattle.plan_basics.specs.contracts.keys.OpKeyPartialEq.TheImpl as operation
 use Rattle.plan_basics.specs.contracts.moments.IntervalPartialEq.TheImpl as interval
-use Rattle.special_resources.specs.contracts.NeedPartialEq.TheImpl as need
-use Rattle.status_rules.specs.contracts.MarkPartialEq.TheImpl as marks
+use Rattle.plan_drafts.specs.special_resources.specs.contracts.NeedPartialEq.TheImpl as need
+use Rattle.plan_drafts.specs.status_rules.specs.contracts.MarkPartialEq.TheImpl as marks
 use Rattle.plan_records.specs.contracts.OperationRowPartialEq.TheImpl as columns
 use Rattle.plan_records.specs.contracts.PlanRowPartialEq.TheImpl as rows
 use Rattle.plan_records.specs.contracts.PlanRowEq.TheImpl.Laws as laws

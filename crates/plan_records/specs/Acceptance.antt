@@ -11,13 +11,13 @@ use Rattle.plan_basics.specs.declared.limits.TheConstants.{MOST_INTERVALS}
 use Rattle.plan_basics.specs.Minutes.{IsMoment}
 use Rattle.plan_basics.specs.Intervals.{OpenInterval, AreApart}
 use Rattle.plan_basics.specs.Keys.{Name}
-use Rattle.status_rules.specs.declared.Mark.TheVariants as mark
-use Rattle.status_rules.specs.declared.Status.TheVariants as status
-use Rattle.plan_model.specs.Plan.{Plan}
-use Rattle.plan_model.specs.Contents.{Contents, Operation, AddedParts, IsInPlan, IsPairOf, Precedes, HasAttribute, attribute_at}
-use Rattle.plan_model.specs.Status.{HasStatus, IsReady, IsWaitingOrReady, IsUnderWay, EachOperation}
-use Rattle.plan_model.specs.Starts.{MayStart, Reaches}
-use Rattle.plan_model.specs.Valid.{IsAcyclic, IsWithinLimits, HaveWorkstations, HaveResources}
+use Rattle.plan_drafts.specs.status_rules.specs.declared.Mark.TheVariants as mark
+use Rattle.plan_drafts.specs.status_rules.specs.declared.Status.TheVariants as status
+use Rattle.plan_drafts.specs.plan_model.specs.Plan.{Plan}
+use Rattle.plan_drafts.specs.plan_model.specs.Contents.{Contents, Operation, AddedParts, IsInPlan, IsPairOf, Precedes, HasAttribute, attribute_at}
+use Rattle.plan_drafts.specs.plan_model.specs.Status.{HasStatus, IsReady, IsWaitingOrReady, IsUnderWay, EachOperation}
+use Rattle.plan_drafts.specs.plan_model.specs.Starts.{MayStart, Reaches}
+use Rattle.plan_drafts.specs.plan_model.specs.Valid.{IsAcyclic, IsWithinLimits, HaveWorkstations, HaveResources}
 use Rattle.plan_records.specs.declared.What.{What}
 use Rattle.plan_records.specs.declared.What.TheVariants as what
 use Rattle.plan_records.specs.declared.Request.{Request}

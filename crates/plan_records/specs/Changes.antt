@@ -7,13 +7,13 @@ use Rattle.plan_basics.specs.declared.keys.OpKey.{OpKey}
 use Rattle.plan_basics.specs.Names.{IsName}
 use Rattle.plan_basics.specs.Intervals.{IsInterval}
 use Rattle.plan_basics.specs.Keys.{name_cmp, occurrence_cmp, operation_cmp}
-use Rattle.workstations.specs.Workstations.{with_intervals}
-use Rattle.status_rules.specs.declared.Mark.{Mark}
-use Rattle.status_rules.specs.declared.Mark.TheVariants as mark
-use Rattle.plan_model.specs.Contents.{Contents, Operation, AddedParts}
-use Rattle.plan_model.specs.Starts.{Reaches}
-use Rattle.plan_model.specs.Ready.{with_mark}
-use Rattle.plan_model.specs.Revise.{revise, joined}
+use Rattle.plan_drafts.specs.workstations.specs.Workstations.{with_intervals}
+use Rattle.plan_drafts.specs.status_rules.specs.declared.Mark.{Mark}
+use Rattle.plan_drafts.specs.status_rules.specs.declared.Mark.TheVariants as mark
+use Rattle.plan_drafts.specs.plan_model.specs.Contents.{Contents, Operation, AddedParts}
+use Rattle.plan_drafts.specs.plan_model.specs.Starts.{Reaches}
+use Rattle.plan_drafts.specs.plan_model.specs.Ready.{with_mark}
+use Rattle.plan_drafts.specs.plan_model.specs.Revise.{revise, joined}
 use Rattle.plan_records.specs.declared.What.{What}
 use Rattle.plan_records.specs.declared.What.TheVariants as what
 use Rattle.plan_drafts.specs.Drafts.{IsDraft, IsAddition}

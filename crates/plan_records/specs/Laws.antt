@@ -3,13 +3,13 @@ use Rattle.std.specs.Prelude.{◌≡◌, ◌⊎◌, ℕ, ℤ, List, ◌∷◌, �
 use Rattle.plan_basics.specs.declared.keys.OpKey.{OpKey}
 use Rattle.plan_basics.specs.Refusals.{NoneRefuses}
 use Rattle.plan_basics.specs.declared.Refusal.TheVariants as refusal
-use Rattle.status_rules.specs.declared.Status.TheVariants as status
-use Rattle.plan_model.specs.Plan.{Plan, IsSoundPlan}
-use Rattle.plan_model.specs.Contents.{Contents, Has}
-use Rattle.plan_model.specs.Status.{HasStatus, AllPredecessorsSatisfied}
-use Rattle.plan_model.specs.Starts.{MayStart}
-use Rattle.plan_model.specs.Ready.{named, IsChosen}
-use Rattle.plan_model.specs.Valid.{IsSound}
+use Rattle.plan_drafts.specs.status_rules.specs.declared.Status.TheVariants as status
+use Rattle.plan_drafts.specs.plan_model.specs.Plan.{Plan, IsSoundPlan}
+use Rattle.plan_drafts.specs.plan_model.specs.Contents.{Contents, Has}
+use Rattle.plan_drafts.specs.plan_model.specs.Status.{HasStatus, AllPredecessorsSatisfied}
+use Rattle.plan_drafts.specs.plan_model.specs.Starts.{MayStart}
+use Rattle.plan_drafts.specs.plan_model.specs.Ready.{named, IsChosen}
+use Rattle.plan_drafts.specs.plan_model.specs.Valid.{IsSound}
 use Rattle.plan_records.specs.declared.Request.{Request}
 use Rattle.plan_records.specs.Answer.{Answer}
 use Rattle.plan_records.specs.Answer.{accepted}

@@ -4,11 +4,11 @@ use Rattle.std.specs.List.Sorted.{IsStrictlySortedBy}
 use Rattle.std.specs.FinMap.{get}
 use Rattle.plan_basics.specs.declared.keys.OpKey.{OpKey}
 use Rattle.plan_basics.specs.Keys.{operation_cmp}
-use Rattle.workstations.specs.Workstations.{Workstation}
-use Rattle.plan_model.specs.Plan.{Plan}
-use Rattle.plan_model.specs.Contents.{Contents, Operation, Has, HasAttribute, Precedes, LivePredecessor}
-use Rattle.plan_model.specs.Status.{HasStatus, HasOccurrenceStatus, IsSatisfied}
-use Rattle.plan_model.specs.Starts.{IsLatestStart}
+use Rattle.plan_drafts.specs.workstations.specs.Workstations.{Workstation}
+use Rattle.plan_drafts.specs.plan_model.specs.Plan.{Plan}
+use Rattle.plan_drafts.specs.plan_model.specs.Contents.{Contents, Operation, Has, HasAttribute, Precedes, LivePredecessor}
+use Rattle.plan_drafts.specs.plan_model.specs.Status.{HasStatus, HasOccurrenceStatus, IsSatisfied}
+use Rattle.plan_drafts.specs.plan_model.specs.Starts.{IsLatestStart}
 use Rattle.plan_records.specs.declared.PlanRow.{PlanRow}
 use Rattle.plan_records.specs.declared.PlanRow.TheVariants as row
 use Rattle.plan_records.specs.declared.OperationRow.{OperationRow}

@@ -2,7 +2,7 @@
 use Rattle.std.specs.Prelude.{◌≡◌, List, [], ◌∷◌}
 use Rattle.plan_basics.specs.declared.Refusal.TheVariants as refusal
 use Rattle.std.specs.FinMap as map
-use Rattle.plan_model.specs.Plan.{Plan, no_plan}
+use Rattle.plan_drafts.specs.plan_model.specs.Plan.{Plan, no_plan}
 use Rattle.plan_records.specs.declared.Request.{Request}
 use Rattle.plan_records.specs.Answer.{Answer}
 use Rattle.plan_records.specs.Answer.{accepted, refused}

@@ -8,9 +8,9 @@ use Rattle.plan_basics.specs.declared.limits.TheConstants.{MOST_TRACKERS, GREATE
 use Rattle.plan_basics.specs.Keys.{Name, name_cmp}
 use Rattle.plan_basics.specs.Names.{IsName}
 use Rattle.plan_basics.specs.Refusals.{IsLeastRefusal, NoneRefuses}
-use Rattle.plan_model.specs.Plan.{Plan}
-use Rattle.plan_model.specs.Contents.{Contents}
-use Rattle.plan_model.specs.Ready.{IsChosen, named}
+use Rattle.plan_drafts.specs.plan_model.specs.Plan.{Plan}
+use Rattle.plan_drafts.specs.plan_model.specs.Contents.{Contents}
+use Rattle.plan_drafts.specs.plan_model.specs.Ready.{IsChosen, named}
 use Rattle.plan_records.specs.declared.Request.{Request}
 use Rattle.plan_records.specs.Answer.{Answer}
 use Rattle.plan_records.specs.Answer.{accepted, refused}

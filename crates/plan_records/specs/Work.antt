@@ -6,13 +6,13 @@ use Rattle.std.specs.FinMap.{len}
 use Rattle.std.specs.FinSet as set
 use Rattle.plan_basics.specs.declared.keys.OpKey.{OpKey}
 use Rattle.plan_basics.specs.Keys.{operation_cmp}
-use Rattle.ready_list.specs.declared.ReadyKey.{ReadyKey}
-use Rattle.plan_model.specs.Contents.{Contents}
-use Rattle.plan_model.specs.Ready.{IsReadyList}
+use Rattle.plan_drafts.specs.ready_list.specs.declared.ReadyKey.{ReadyKey}
+use Rattle.plan_drafts.specs.plan_model.specs.Contents.{Contents}
+use Rattle.plan_drafts.specs.plan_model.specs.Ready.{IsReadyList}
 use Rattle.plan_records.specs.declared.What.{What}
 use Rattle.plan_records.specs.declared.What.TheVariants as what
 use Rattle.plan_records.specs.declared.OperationRow.{OperationRow}
-use Rattle.plan_model.specs.Starts.{Reaches}
+use Rattle.plan_drafts.specs.plan_model.specs.Starts.{Reaches}
 use Rattle.plan_records.specs.Rows.{IsOperationRow}
 
 -- how many pairs it is in, as predecessor or successor

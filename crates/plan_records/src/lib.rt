@@ -6,11 +6,10 @@ ghost use Rattle.plan_records.specs.Rows.{key_of};
 
 use plan_basics::{Attr, ErrCode, Interval, Moment, OccKey, OpKey, Refusal, ResName, WsName};
 pub use plan_drafts::{
-    Addition, AdditionParts, ExactKey, PlanContents, PlanDraft, Record, RowKey, is_acyclic,
-    one_denotation, row_place,
+    Addition, AdditionParts, ExactKey, Occurrence, OperationRecord, PlanContents, PlanDraft,
+    Record, RowKey, copies_of, graph_of, is_acyclic, keys, one_denotation, row_place,
 };
-use special_resources::Need;
-use status_rules::{Mark, OccStatus, Status};
+use plan_drafts::{Mark, Need, OccStatus, Status};
 
 /// What is asked: a report of a tracker, a command of an operator, or a tick.
 #[derive(Drop)]

@@ -5,12 +5,12 @@ use Rattle.std.specs.Ordering.{int_cmp, ordering_then}
 use Rattle.std.specs.declared.cmp.Ordering.{Ordering}
 use Rattle.plan_basics.specs.Keys.{operation_cmp}
 use Rattle.plan_basics.specs.declared.keys.OpKey.{OpKey}
-use Rattle.plan_core.specs.Views.{IsOpView}
-use Rattle.plan_core.specs.declared.views.OpView.{OpView}
-use Rattle.plan_model.specs.Plan.{Plan}
-use Rattle.plan_model.specs.Starts.{IsLatestStart}
-use Rattle.plan_model.specs.Status.{IsWaitingOrReady}
-use Rattle.status_rules.specs.Classes.{is_waiting_or_ready}
+use Rattle.plan_tables.specs.plan_core.specs.Views.{IsOpView}
+use Rattle.plan_tables.specs.plan_core.specs.declared.views.OpView.{OpView}
+use Rattle.plan_tables.specs.plan_model.specs.Plan.{Plan}
+use Rattle.plan_tables.specs.plan_model.specs.Starts.{IsLatestStart}
+use Rattle.plan_tables.specs.plan_model.specs.Status.{IsWaitingOrReady}
+use Rattle.plan_tables.specs.status_rules.specs.Classes.{is_waiting_or_ready}
 
 -- o waits, is arriving or ready, and its latest start is before the clock
 abbrev pub IsLate : Plan → OpKey → Type 0
@@ -20,6 +20,7 @@ IsLate P o = IsWaitingOrReady P.contents o × ((latest : ℤ) × IsLatestStart P
 abbrev pub due : OpView → ℤ × OpKey
 due v = (v.latest, v.key)
 
+-- its order: by latest start, then key
 abbrev pub due_cmp : ℤ × OpKey → ℤ × OpKey → Ordering
 due_cmp a b = ordering_then (int_cmp a.0 b.0) (operation_cmp a.1 b.1)
 

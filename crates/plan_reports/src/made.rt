@@ -7,10 +7,8 @@ ghost use Rattle.plan_reports.specs.Reports.{IsErrorReport, IsLateReport, IsOccu
 use super::late::late_views;
 use super::texts::{errors_text, late_text, occurrences_text, ready_text};
 use plan_basics::{Moment, OpKey, Refusal, WsName};
-use plan_core::{OccView, OpView, Plan};
-use plan_reasons::why;
-use plan_tables::{Desk, ErrorRow};
-use reason_texts::why_text;
+use plan_tables::{Desk, ErrorRow, OccView, OpView, Plan};
+use reason_texts::{why, why_text};
 use sqlite::Alter;
 use std::alloc::Global;
 

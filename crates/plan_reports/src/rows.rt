@@ -6,8 +6,7 @@ ghost use Rattle.plan_reports.specs.Lines.{line};
 
 use super::lines::{Field, put_line, right};
 use plan_basics::{Moment, OccKey, minute_text};
-use plan_core::{OccView, OpView};
-use plan_tables::ErrorRow;
+use plan_tables::{ErrorRow, OccView, OpView};
 use std::alloc::AllocError;
 
 /// The text of a moment.

@@ -5,8 +5,7 @@ ghost use Rattle.plan_reports.specs.Texts.{errors_text, late_text, occurrences_t
 use super::lines::{Field, put_end, put_line};
 use super::rows::{moment_text, put_error, put_late, put_occurrence, put_ready};
 use plan_basics::{Moment, WsName};
-use plan_core::{OccView, OpView};
-use plan_tables::ErrorRow;
+use plan_tables::{ErrorRow, OccView, OpView};
 use std::alloc::{AllocError, Global};
 
 /// The report of these operations, which are ready on a workstation. It fails for want of memory only.

@@ -8,7 +8,7 @@ use Rattle.plan_basics.specs.declared.keys.OpKey.{OpKey}
 use Rattle.plan_basics.specs.Keys.{IsOperationKey}
 use Rattle.plan_basics.specs.Minutes.{IsMoment}
 use Rattle.plan_basics.specs.Names.{IsName}
-use Rattle.special_resources.specs.Holdings.{usage_of}
+use Rattle.plan_laws.specs.special_resources.specs.Holdings.{usage_of}
 use Rattle.plan_items.specs.declared.Item.{Item}
 use Rattle.plan_items.specs.Items.{IsItem, IsOperationItem}
 use Rattle.plan_items.specs.Parts.{IsWithin}

@@ -9,3 +9,8 @@ mod BothKeys
 mod WithinRows
 mod MetaRow
 mod AllTables
+mod DifferentRows
+mod MovedRows
+mod OccurrencesOf
+mod TouchedTables
+mod TouchedRows

@@ -8,9 +8,9 @@ use Rattle.plan_basics.specs.declared.keys.OccKey.{OccKey}
 use Rattle.plan_basics.specs.declared.keys.OpKey.{OpKey}
 use Rattle.plan_model.specs.Contents.{Operation}
 use Rattle.plan_model.specs.declared.Occurrence.{Occurrence}
-use Rattle.plan_records.specs.declared.OperationRow.{OperationRow}
-use Rattle.plan_records.specs.declared.PlanRow.{PlanRow}
-use Rattle.plan_records.specs.declared.PlanRow.TheVariants as row
+use Rattle.plan_state.specs.plan_records.specs.declared.OperationRow.{OperationRow}
+use Rattle.plan_state.specs.plan_records.specs.declared.PlanRow.{PlanRow}
+use Rattle.plan_state.specs.plan_records.specs.declared.PlanRow.TheVariants as row
 use Rattle.plan_rows.specs.Shown.{Known, known_of}
 use Rattle.plan_rows.specs.declared.shown.Shown.{Shown}
 use Rattle.special_resources.specs.Needs.{need_of}
@@ -54,6 +54,7 @@ operation_row_of x = record {
   waiting = x.1.0.waiting;
 }
 
+-- its row, under its key
 abbrev pub keyed_operation : (OpKey × Operation) × Known → OpKey × PlanRow
 keyed_operation x = (x.0.0, row.Operation (operation_row_of x))
 

@@ -1,13 +1,13 @@
 -- What is kept of a loaded plan, for its views.
 use Rattle.std.specs.Prelude.{ℕ, ℤ, List, Option, Some, None, option_map}
 use Rattle.std.specs.List.{zip}
-use Rattle.plan_choice.specs.Choices.{AreLatestStarts}
-use Rattle.plan_drafts.specs.Places.{AreStatuses}
+use Rattle.plan_state.specs.plan_choice.specs.Choices.{AreLatestStarts}
+use Rattle.plan_state.specs.plan_drafts.specs.Places.{AreStatuses}
 use Rattle.plan_model.specs.Contents.{Contents, nothing}
 use Rattle.plan_model.specs.Plan.{Plan, plan_held}
 use Rattle.plan_model.specs.Valid.{IsSound}
-use Rattle.plan_status.specs.Standings.{AreStandings, AreTallies}
-use Rattle.plan_status.specs.declared.standings.Standing.{Standing}
+use Rattle.plan_state.specs.plan_status.specs.Standings.{AreStandings, AreTallies}
+use Rattle.plan_state.specs.plan_status.specs.declared.standings.Standing.{Standing}
 use Rattle.status_rules.specs.declared.Status.{Status}
 use Rattle.plan_rows.specs.declared.shown.Shown.{Shown}
 

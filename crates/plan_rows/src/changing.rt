@@ -1,7 +1,7 @@
 // All tables together: what changes from one plan to another, and all rows of a plan.
 ghost use Rattle.std.specs.Prelude.{◌≡◌, Some, IfOk, is_some, map};
 ghost use Rattle.std.specs.List.Sorted.{IsStrictlySortedBy};
-ghost use Rattle.plan_records.specs.Rows.{AreChanges, AreRows, key_of, row_cmp};
+ghost use Rattle.plan_state.specs.plan_records.specs.Rows.{AreChanges, AreRows, key_of, row_cmp};
 ghost use Rattle.plan_rows.specs.Shown.{IsShown, IsShownIfAny, plan_shown};
 
 use super::dependencies::push_dependencies;
@@ -14,11 +14,11 @@ use super::operations::push_operations;
 use super::shown::{PlanShown, Shown};
 use super::workplaces::push_workstations;
 use plan_basics::Moment;
-use plan_records::{Changes, PlanRow};
+use plan_state::{Changes, PlanRow};
 use std::alloc::{AllocError, Global};
 
-// Whether a plan is loaded.
-fn is_loaded(shown: Option<Shown<'_>>) -> bool
+/// Whether a plan is loaded.
+pub fn is_loaded(shown: Option<Shown<'_>>) -> bool
     ensures { result ≡ is_some shown.entry }
 {
     match shown {

@@ -1,6 +1,6 @@
 // The table of the intervals of workstations.
 ghost use Rattle.std.specs.Prelude.{◌≡◌, ◌↔◌, ◌<◌, ◌++◌, ℕ, List, Some, IfOk, OnOk, length, map, refl, slice_get};
-ghost use Rattle.plan_drafts.specs.declared.RowKey.TheVariants as key;
+ghost use Rattle.plan_state.specs.plan_drafts.specs.declared.RowKey.TheVariants as key;
 ghost use Rattle.plan_rows.specs.Alike.{interval_alike, interval_key_exact};
 ghost use Rattle.plan_rows.specs.Rows.{all_intervals, interval_row, intervals_within, under_both};
 ghost use Rattle.plan_rows.specs.Shown.{IsShownIfAny, plan_shown};
@@ -10,7 +10,7 @@ use super::kept::workstations_of;
 use super::shown::Shown;
 use super::tables::{PlanTable, push_changes};
 use plan_basics::{Interval, Moment, WsName};
-use plan_records::{Changes, PlanRow, RowKey};
+use plan_state::{Changes, PlanRow, RowKey};
 use row_differences::KeyedRows;
 use std::alloc::{AllocError, Global};
 use workstations::Workstation;

@@ -1,7 +1,7 @@
 // The table of special resources: rows of a key and a value each.
 ghost use Rattle.std.specs.Prelude.{◌≡◌, ◌↔◌, ◌<◌, ℕ, List, Some, OnOk, length, map, refl, slice_get};
 ghost use Rattle.plan_basics.specs.Keys.{name_cmp-IsAntisymmetric};
-ghost use Rattle.plan_drafts.specs.declared.RowKey.TheVariants as key;
+ghost use Rattle.plan_state.specs.plan_drafts.specs.declared.RowKey.TheVariants as key;
 ghost use Rattle.plan_rows.specs.Alike.{resource_alike};
 ghost use Rattle.plan_rows.specs.Rows.{resource_row};
 ghost use Rattle.plan_rows.specs.Shown.{plan_shown};
@@ -11,7 +11,7 @@ use super::kept::resources_of;
 use super::shown::Shown;
 use super::tables::{PlanTable, push_changes};
 use plan_basics::ResName;
-use plan_records::{Changes, PlanRow, RowKey};
+use plan_state::{Changes, PlanRow, RowKey};
 use row_differences::KeyedRows;
 use std::alloc::{AllocError, Global};
 

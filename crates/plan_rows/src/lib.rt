@@ -1,6 +1,7 @@
 //! The rows of the tables for a loaded plan, and which of them change from one plan to the next.
 #![tactic(auto)]
 
+mod at_places;
 mod changing;
 mod dependencies;
 mod intervals;
@@ -8,10 +9,12 @@ mod kept;
 mod keyed;
 mod meta;
 mod needs;
+mod occurrence_places;
 mod occurrences;
 mod operations;
 mod shown;
 mod tables;
+mod touched;
 mod workplaces;
 
 pub use changing::{changes_between, rows_of};
@@ -21,5 +24,10 @@ pub use keyed::push_resources;
 pub use needs::push_needs;
 pub use occurrences::push_occurrences;
 pub use operations::push_operations;
+pub use plan_state::{
+    Figures, LoadedPlan, SoundContents, Standing, ValidContents, given_out_of, graph_for,
+    holdings_of, kept_of, latest_of, ready_of, standings_of, statuses_of, tallies_of,
+};
 pub use shown::{PlanShown, Shown};
+pub use touched::{Beside, touched_changes};
 pub use workplaces::push_workstations;

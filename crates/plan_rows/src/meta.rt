@@ -1,11 +1,11 @@
 // The table that tells whether a plan is loaded, and its clock: one row.
 ghost use Rattle.std.specs.Prelude.{◌≡◌, ◌↔◌, ◌++◌, ◌∷◌, [], IsTrue, OnOk};
 ghost use Rattle.plan_model.specs.Plan.{Plan};
-ghost use Rattle.plan_records.specs.declared.PlanRow.TheVariants as row;
+ghost use Rattle.plan_state.specs.plan_records.specs.declared.PlanRow.TheVariants as row;
 ghost use Rattle.plan_rows.specs.Tables.{AreChangesBelow};
 
 use plan_basics::Moment;
-use plan_records::{Changes, PlanRow};
+use plan_state::{Changes, PlanRow};
 use row_differences::push_made;
 use std::alloc::AllocError;
 

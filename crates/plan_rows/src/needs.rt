@@ -1,6 +1,6 @@
 // The table of the needs of operations.
 ghost use Rattle.std.specs.Prelude.{◌≡◌, ◌↔◌, ◌<◌, ◌++◌, ℕ, List, Some, IfOk, OnOk, length, map, refl, slice_get};
-ghost use Rattle.plan_drafts.specs.declared.RowKey.TheVariants as key;
+ghost use Rattle.plan_state.specs.plan_drafts.specs.declared.RowKey.TheVariants as key;
 ghost use Rattle.plan_rows.specs.Alike.{need_alike, need_key_exact};
 ghost use Rattle.plan_rows.specs.Rows.{all_needs, need_row, needs_within, under_both};
 ghost use Rattle.plan_rows.specs.Shown.{plan_shown};
@@ -11,7 +11,7 @@ use super::shown::Shown;
 use super::tables::{PlanTable, push_changes};
 use plan_basics::{OpKey, ResName};
 use plan_model::OperationRecord;
-use plan_records::{Changes, PlanRow, RowKey};
+use plan_state::{Changes, PlanRow, RowKey};
 use row_differences::KeyedRows;
 use special_resources::Need;
 use std::alloc::{AllocError, Global};

@@ -4,18 +4,20 @@ ghost use Rattle.std.specs.FinMap.{entries};
 ghost use Rattle.std.specs.Map.{keys_of};
 ghost use Rattle.plan_basics.specs.Keys.{occurrence_cmp-IsAntisymmetric};
 ghost use Rattle.plan_basics.specs.declared.keys.OccKey.{OccKey as OccKeyValue};
-ghost use Rattle.plan_drafts.specs.declared.RowKey.TheVariants as key;
+ghost use Rattle.plan_state.specs.plan_drafts.specs.declared.RowKey.TheVariants as key;
 ghost use Rattle.plan_rows.specs.Rows.{if_shown, keyed_occurrences, rows_of};
 ghost use Rattle.plan_rows.specs.Shown.{IsShown, IsShownIfAny, plan_shown};
 ghost use Rattle.plan_rows.specs.Tables.{AreChangesBelow};
+ghost use Rattle.plan_rows.specs.Touched.{AreTouched};
 
+use super::at_places::{ComparedTable, push_touched};
 use super::kept::occurrences_of;
+use super::occurrence_places::occurrence_places;
 use super::shown::Shown;
 use super::tables::{PlanTable, push_changes};
 use plan_basics::OccKey;
 use plan_model::Occurrence;
-use plan_records::{Changes, PlanRow, RowKey};
-use plan_status::occurrence_status_with;
+use plan_state::{Changes, PlanRow, RowKey, occurrence_status_with};
 use row_differences::TwoTables;
 use std::alloc::{AllocError, Global};
 use std::cmp::Ordering;
@@ -53,7 +55,7 @@ struct OccurrenceRows<'a> {
 impl<'a> Model for OccurrenceRows<'a> {
     ghost use Rattle.std.specs.Prelude.{List};
     ghost use Rattle.plan_basics.specs.declared.keys.OccKey.{OccKey};
-    ghost use Rattle.plan_records.specs.declared.PlanRow.{PlanRow};
+    ghost use Rattle.plan_state.specs.plan_records.specs.declared.PlanRow.{PlanRow};
     ghost use Rattle.plan_rows.specs.Rows.{if_shown, keyed_occurrences};
     ghost use Rattle.plan_rows.specs.Shown.{IsShownIfAny};
 
@@ -152,6 +154,12 @@ impl<'a, 'b> PlanTable for Occurrences<'a, 'b> {
     ghost alike = { λ t i j one. (λ h. h, λ h. h) };
 }
 
+impl<'a, 'b> ComparedTable for Occurrences<'a, 'b> {
+    fn row_before(&self, old: usize) -> PlanRow {
+        self.before.row(old)
+    }
+}
+
 /// Adds what changes in the table of occurrences.
 pub fn push_occurrences(
     alloc: Global,
@@ -169,6 +177,30 @@ pub fn push_occurrences(
             before: OccurrenceRows::new(before),
             after: OccurrenceRows::new(after),
         },
+        changes,
+    )
+}
+
+/// Adds what changes in the table of occurrences, where no more operations were touched than these.
+pub fn push_touched_occurrences(
+    alloc: Global,
+    before: Option<Shown<'_>>,
+    after: Option<Shown<'_>>,
+    touched: &[usize],
+    changes: &mut Changes,
+) -> Result<(), AllocError>
+    requires before { IsShownIfAny before }
+    requires after { IsShownIfAny after }
+    requires touched { AreTouched before after touched.now }
+    ensures { (clock now : ℕ) → AreChangesBelow 4 (plan_shown clock before.entry) (plan_shown now after.entry) changes.old → OnOk result (AreChangesBelow 5 (plan_shown clock before.entry) (plan_shown now after.entry) changes.new) }
+{
+    let places = occurrence_places(alloc, before, touched)?;
+    push_touched(
+        &Occurrences {
+            before: OccurrenceRows::new(before),
+            after: OccurrenceRows::new(after),
+        },
+        &places,
         changes,
     )
 }

@@ -4,17 +4,19 @@ ghost use Rattle.std.specs.FinMap.{entries};
 ghost use Rattle.std.specs.Map.{keys_of};
 ghost use Rattle.plan_basics.specs.Keys.{operation_cmp-IsAntisymmetric};
 ghost use Rattle.plan_basics.specs.declared.keys.OpKey.{OpKey as OpKeyValue};
-ghost use Rattle.plan_drafts.specs.declared.RowKey.TheVariants as key;
+ghost use Rattle.plan_state.specs.plan_drafts.specs.declared.RowKey.TheVariants as key;
 ghost use Rattle.plan_rows.specs.Rows.{if_shown, keyed_operations, rows_of};
 ghost use Rattle.plan_rows.specs.Shown.{IsShown, IsShownIfAny, plan_shown};
 ghost use Rattle.plan_rows.specs.Tables.{AreChangesBelow};
+ghost use Rattle.plan_rows.specs.Touched.{AreTouched};
 
+use super::at_places::{ComparedTable, push_touched};
 use super::kept::operations_of;
 use super::shown::Shown;
 use super::tables::{PlanTable, push_changes};
 use plan_basics::OpKey;
 use plan_model::OperationRecord;
-use plan_records::{Changes, OperationRow, PlanRow, RowKey};
+use plan_state::{Changes, OperationRow, PlanRow, RowKey};
 use row_differences::TwoTables;
 use std::alloc::{AllocError, Global};
 use std::cmp::Ordering;
@@ -61,7 +63,7 @@ struct OperationRows<'a> {
 impl<'a> Model for OperationRows<'a> {
     ghost use Rattle.std.specs.Prelude.{List};
     ghost use Rattle.plan_basics.specs.declared.keys.OpKey.{OpKey};
-    ghost use Rattle.plan_records.specs.declared.PlanRow.{PlanRow};
+    ghost use Rattle.plan_state.specs.plan_records.specs.declared.PlanRow.{PlanRow};
     ghost use Rattle.plan_rows.specs.Rows.{if_shown, keyed_operations};
     ghost use Rattle.plan_rows.specs.Shown.{IsShownIfAny};
 
@@ -160,6 +162,12 @@ impl<'a, 'b> PlanTable for Operations<'a, 'b> {
     ghost alike = { λ t i j one. (λ h. h, λ h. h) };
 }
 
+impl<'a, 'b> ComparedTable for Operations<'a, 'b> {
+    fn row_before(&self, old: usize) -> PlanRow {
+        self.before.row(old)
+    }
+}
+
 /// Adds what changes in the table of operations.
 pub fn push_operations(
     alloc: Global,
@@ -177,6 +185,28 @@ pub fn push_operations(
             before: OperationRows::new(before),
             after: OperationRows::new(after),
         },
+        changes,
+    )
+}
+
+/// Adds what changes in the table of operations, where no more was touched than these.
+pub fn push_touched_operations(
+    before: Option<Shown<'_>>,
+    after: Option<Shown<'_>>,
+    touched: &[usize],
+    changes: &mut Changes,
+) -> Result<(), AllocError>
+    requires before { IsShownIfAny before }
+    requires after { IsShownIfAny after }
+    requires touched { AreTouched before after touched.now }
+    ensures { (clock now : ℕ) → AreChangesBelow 5 (plan_shown clock before.entry) (plan_shown now after.entry) changes.old → OnOk result (AreChangesBelow 6 (plan_shown clock before.entry) (plan_shown now after.entry) changes.new) }
+{
+    push_touched(
+        &Operations {
+            before: OperationRows::new(before),
+            after: OperationRows::new(after),
+        },
+        touched,
         changes,
     )
 }

@@ -1,2 +1,3 @@
+pub use Rattle.table_rows
 pub mod Schema
 pub mod Stored

@@ -4,7 +4,7 @@ use Rattle.std.specs.Cmp.{IsTotalOrder}
 use Rattle.std.specs.FinMap.{FinMap, IsAntisymmetric, entries, get}
 use Rattle.std.proofs.lemmas.Bool.{cases_lt}
 use Rattle.std.proofs.lemmas.Option.{same_Some, slice_get_within}
-use Rattle.plan_drafts.proofs.EntryRows.{entry_of}
+use Rattle.plan_choice.specs.plan_drafts.proofs.EntryRows.{entry_of}
 
 -- it is so of each of the first rows
 abbrev pub IsSoBefore : {K V : Type 0} → List (K × V) → (K → V → Type 0) → ℕ → Type 0

@@ -9,11 +9,11 @@ use Rattle.std.proofs.lemmas.Bool.{cases_lt, cases_order}
 use Rattle.std.proofs.lemmas.Option.{same_Some, slice_get-get_or, slice_get_within}
 use Rattle.plan_basics.specs.Keys.{occurrence_cmp, occurrence_cmp_total, occurrence_cmp-IsAntisymmetric, operation_cmp, operation_cmp_total}
 use Rattle.plan_basics.specs.declared.keys.OpKey.{OpKey}
-use Rattle.plan_laws.proofs.Sorted.{not_itself}
+use Rattle.plan_choice.specs.plan_laws.proofs.Sorted.{not_itself}
 use Rattle.plan_model.proofs.Entries.{entries_in_order}
 use Rattle.plan_model.specs.Contents.{Contents, Operation}
-use Rattle.plan_status.proofs.Ascending.{keys_ascend}
-use Rattle.plan_status.proofs.LoadedRows.{row_found, row_of}
+use Rattle.plan_choice.specs.plan_status.proofs.Ascending.{keys_ascend}
+use Rattle.plan_choice.specs.plan_status.proofs.LoadedRows.{row_found, row_of}
 use Rattle.status_rules.specs.Classes.{is_live}
 use Rattle.status_rules.specs.declared.Mark.{Mark}
 use Rattle.status_rules.specs.declared.Mark.TheVariants.{Deleted}

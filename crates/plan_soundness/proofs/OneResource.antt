@@ -16,8 +16,8 @@ use Rattle.special_resources.specs.Holdings.{AreInOrder, Held, holding_cmp, hold
 use Rattle.special_resources.specs.declared.Mode.TheVariants.{Shared}
 use Rattle.special_resources.specs.declared.holders.Holder.{Holder}
 use Rattle.plan_choice.specs.Choices.{AreHeldIn}
-use Rattle.plan_drafts.proofs.Tables.{is_found}
-use Rattle.plan_laws.proofs.Sorted.{not_itself}
+use Rattle.plan_choice.specs.plan_drafts.proofs.Tables.{is_found}
+use Rattle.plan_choice.specs.plan_laws.proofs.Sorted.{not_itself}
 use Rattle.plan_model.specs.Contents.{Contents}
 use Rattle.plan_model.specs.Holdings.{Holds}
 use Rattle.plan_model.specs.Valid.{IsValid}

@@ -2,8 +2,8 @@
 ghost use Rattle.std.specs.Prelude.{◌≡◌, ◌↔◌, IsTrue};
 ghost use Rattle.plan_soundness.specs.Laws.{HasNoReport, HeldAreWithoutReport, IsHeldRightly};
 
+use plan_choice::ValidContents;
 use plan_model::OperationRecord;
-use plan_status::ValidContents;
 use status_rules::Mark;
 
 /// Whether nothing was reported of an operation of this mark, or it is deleted.

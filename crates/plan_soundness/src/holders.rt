@@ -4,7 +4,7 @@ ghost use Rattle.plan_choice.specs.Choices.{AreHeldIn};
 ghost use Rattle.plan_soundness.specs.Laws.{HoldersAreCompatible};
 ghost use Rattle.special_resources.specs.declared.Mode.TheVariants.{Shared};
 
-use plan_status::ValidContents;
+use plan_choice::ValidContents;
 use special_resources::{Holder, Holdings, Mode};
 
 // Whether none of the holders of one resource is exclusive beside another.

@@ -6,8 +6,8 @@ ghost use Rattle.plan_model.specs.Valid.{IsValid, MayBear};
 ghost use Rattle.plan_soundness.specs.Laws.{HasMarkAllowed, MarksAreAllowed};
 
 use plan_basics::Attr;
+use plan_choice::{ValidContents, attribute_of};
 use plan_model::OperationRecord;
-use plan_status::{ValidContents, attribute_of};
 use status_rules::Mark;
 
 // Whether an operation on a workstation of this attribute may bear this mark.

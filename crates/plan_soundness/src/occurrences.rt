@@ -3,8 +3,8 @@ ghost use Rattle.std.specs.Prelude.{◌≡◌, ◌↔◌, IsTrue};
 ghost use Rattle.plan_soundness.specs.Laws.{AreDeletedAlike, OccurrencesAreDeletedWhole};
 
 use plan_basics::OpKey;
+use plan_choice::ValidContents;
 use plan_model::OperationRecord;
-use plan_status::ValidContents;
 
 // Whether two operations are both deleted or both not, if they are of one occurrence.
 fn are_deleted_alike(a: &(OpKey, OperationRecord), b: &(OpKey, OperationRecord)) -> bool

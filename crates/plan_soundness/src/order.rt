@@ -3,11 +3,11 @@ ghost use Rattle.std.specs.Prelude.{◌≡◌, ◌↔◌, Some, IsTrue};
 ghost use Rattle.plan_basics.specs.declared.keys.OpKey.{OpKey};
 ghost use Rattle.plan_model.specs.Contents.{Contents};
 ghost use Rattle.plan_soundness.specs.Laws.{IsReportedInOrder, ReportsAreInOrder};
-ghost use Rattle.plan_status.specs.Standings.{AreStandings, IsStanding};
+ghost use Rattle.plan_choice.specs.plan_status.specs.Standings.{AreStandings, IsStanding};
 
 use super::flags::has_no_report;
+use plan_choice::{Standing, ValidContents};
 use plan_model::OperationRecord;
-use plan_status::{Standing, ValidContents};
 
 // Whether what was reported of an operation came after its predecessors, by its standing.
 fn is_reported_in_order(operation: &OperationRecord, standing: &Standing) -> bool

@@ -4,7 +4,7 @@ ghost use Rattle.plan_basics.specs.declared.Refusal.{Refusal};
 ghost use Rattle.plan_choice.specs.Choices.{AreHeldIn};
 ghost use Rattle.plan_model.specs.Valid.{IsSound, IsValid};
 ghost use Rattle.plan_soundness.specs.Laws.{HeldAreWithoutReport, HoldersAreCompatible, MarksAreAllowed, OccurrencesAreDeletedWhole, ReportsAreInOrder};
-ghost use Rattle.plan_status.specs.Standings.{AreStandings};
+ghost use Rattle.plan_choice.specs.plan_status.specs.Standings.{AreStandings};
 
 use super::flags::held_are_without_report;
 use super::holders::holders_are_compatible;
@@ -12,8 +12,7 @@ use super::marks::marks_are_allowed;
 use super::occurrences::occurrences_are_deleted_whole;
 use super::order::reports_are_in_order;
 use plan_basics::Refusal;
-use plan_choice::holdings_of;
-use plan_status::{SoundContents, Standing, ValidContents, graph_for, standings_of};
+use plan_choice::{SoundContents, Standing, ValidContents, graph_for, holdings_of, standings_of};
 use special_resources::Holdings;
 use std::alloc::Global;
 

@@ -1,2 +1,14 @@
+pub use Rattle.latest_start
+pub use Rattle.plan_choice
+pub use Rattle.plan_choice.specs.plan_drafts
+pub use Rattle.plan_choice.specs.plan_laws
+pub use Rattle.plan_waiting.specs.plan_moves
+pub use Rattle.plan_waiting.specs.plan_records
+pub use Rattle.plan_choice.specs.plan_status
+pub use Rattle.plan_waiting
+pub use Rattle.ready_list
+pub use Rattle.special_resources
+pub use Rattle.workstations
 pub mod Reports
+pub mod Figures
 pub mod Held

@@ -2,8 +2,8 @@
 use Rattle.std.specs.Prelude.{◌≡◌, Some}
 use Rattle.std.specs.FinMap.{get}
 use Rattle.plan_basics.specs.declared.keys.OpKey.{OpKey}
-use Rattle.plan_model.specs.Contents.{Contents, HasAttribute}
-use Rattle.plan_model.specs.Status.{HasStatus}
+use Rattle.plan_choice.specs.plan_model.specs.Contents.{Contents, HasAttribute}
+use Rattle.plan_choice.specs.plan_model.specs.Status.{HasStatus}
 use Rattle.plan_state.specs.declared.loaded.Reported.{Reported}
 use Rattle.status_rules.specs.declared.Status.{Status}
 

@@ -1,6 +1,16 @@
-//! A plan that is loaded, with all that is read off it.
+//! A plan that is loaded, with all that is kept of it.
 #![tactic(auto)]
 
+mod figures;
 mod loaded;
 
+pub use figures::{Figures, Moved};
 pub use loaded::{LoadedPlan, Reported};
+pub use plan_choice::{
+    Choice, SoundContents, Standing, ValidContents, check_start, chosen, chosen_with, given_out_of,
+    graph_for, holdings_of, latest_of, occurrence_status_with, ready_of, standings_of, statuses_of,
+    tallies_of,
+};
+pub use plan_waiting::{
+    Changes, OperationRow, PlanContents, PlanRow, RowKey, kept_of, row_place, satisfy, unsatisfy,
+};

@@ -2,22 +2,26 @@
 ghost use Rattle.std.specs.Prelude.{◌≡◌, ◌<◌, true, None, Some, IfSome, IsNone, IsSome, length, slice_get};
 ghost use Rattle.std.specs.FinMap.{contains_key, entries, get};
 ghost use Rattle.plan_basics.specs.declared.keys.OpKey.{OpKey as OpKeyValue};
-ghost use Rattle.plan_choice.specs.Choices.{AreLatestStarts, AreReadyEntries};
-ghost use Rattle.plan_drafts.specs.Places.{AreStatuses};
-ghost use Rattle.plan_drafts.specs.PlanGraphs.{IsGraphFor};
-ghost use Rattle.plan_model.specs.Contents.{Operation};
-ghost use Rattle.plan_model.specs.Status.{HasOccurrenceStatus, HasStatus};
+ghost use Rattle.plan_choice.specs.Choices.{AreHeldIn, AreLatestStarts, AreReadyEntries};
+ghost use Rattle.plan_choice.specs.plan_drafts.specs.Places.{AreStatuses};
+ghost use Rattle.plan_choice.specs.plan_drafts.specs.PlanGraphs.{IsGraphFor};
+ghost use Rattle.plan_choice.specs.plan_model.specs.Contents.{Operation};
+ghost use Rattle.plan_choice.specs.plan_model.specs.Holdings.{given_out};
+ghost use Rattle.plan_choice.specs.plan_model.specs.Status.{HasOccurrenceStatus, HasStatus};
+ghost use Rattle.plan_state.specs.Figures.{AreFigures, KeepsFrame};
 ghost use Rattle.plan_state.specs.Reports.{IsReported};
-ghost use Rattle.plan_status.specs.Standings.{AreStandings, AreTallies};
+ghost use Rattle.plan_choice.specs.plan_status.specs.Standings.{AreStandings, AreTallies};
 
+use crate::figures::{Figures, Moved};
 use latest_start::Latest;
 use operation_graph::Graph;
 use plan_basics::{Attr, OccKey, OpKey};
-use plan_model::OperationRecord;
-use plan_status::{SoundContents, Standing, attribute_of, occurrence_status_with};
+use plan_choice::{OperationRecord, SoundContents, Standing, attribute_of, occurrence_status_with};
 use ready_list::ReadyList;
+use special_resources::Holdings;
 use status_rules::{Counts, OccStatus, Status};
 use std::marker::Model;
+use workstations::Capacity;
 
 /// An operation of which something is reported, with what is read off the plan for it.
 #[derive(Clone, Copy)]
@@ -28,23 +32,19 @@ pub struct Reported {
     pub status: Status,
 }
 
-/// What a loaded plan holds, with what is read off it: the graph of its pairs, the standing, the status and the latest
-/// start of each operation and the numbers of each occurrence's operations, in key order, and the ready list. Contracts
-/// see it as its contents.
+/// What a loaded plan holds, with what is kept of it: the graph of its pairs and the latest start of each operation, and the
+/// figures, which move with its marks and flags. Contracts see it as its contents.
 #[derive(Drop)]
 pub struct LoadedPlan {
     contents: SoundContents,
     graph: Graph,
-    standings: Vec<Standing>,
-    statuses: Vec<Status>,
-    tallies: Vec<Counts>,
     latest: Latest,
-    ready: ReadyList,
+    figures: Figures,
 }
 
 impl Model for LoadedPlan {
-    ghost use Rattle.plan_model.specs.Contents.{Contents};
-    ghost use Rattle.plan_model.specs.Code.{contents_code};
+    ghost use Rattle.plan_choice.specs.plan_model.specs.Contents.{Contents};
+    ghost use Rattle.plan_choice.specs.plan_model.specs.Code.{contents_code};
 
     ghost Value = { Contents };
 
@@ -58,33 +58,29 @@ impl Model for LoadedPlan {
 }
 
 impl LoadedPlan {
-    /// The plan of these contents, with what is read off them.
-    pub fn of(
-        contents: SoundContents,
-        graph: Graph,
-        standings: Vec<Standing>,
-        statuses: Vec<Status>,
-        tallies: Vec<Counts>,
-        latest: Latest,
-        ready: ReadyList,
-    ) -> LoadedPlan
+    /// The plan of these contents, with what is kept of them.
+    pub fn of(contents: SoundContents, graph: Graph, latest: Latest, figures: Figures) -> LoadedPlan
         requires graph { IsGraphFor contents graph }
-        requires standings { AreStandings contents standings.items }
-        requires statuses { AreStatuses contents statuses.items }
-        requires tallies { AreTallies contents tallies.items }
         requires latest { AreLatestStarts contents latest.starts }
-        requires ready { AreReadyEntries contents ready.entries }
+        requires figures { AreFigures contents figures }
         ensures { result ≡ contents }
     {
         LoadedPlan {
             contents,
             graph,
-            standings,
-            statuses,
-            tallies,
             latest,
-            ready,
+            figures,
         }
+    }
+
+    /// Takes up contents of which the graph and the latest starts are the same, with their figures. It takes no memory.
+    pub fn take_up(&mut self, moved: Moved)
+        requires frame { KeepsFrame self.old moved.contents }
+        requires figures { AreFigures moved.contents moved.figures }
+        ensures { self.new ≡ moved.contents }
+    {
+        self.contents = moved.contents;
+        self.figures = moved.figures;
     }
 
     /// What it holds.
@@ -105,21 +101,21 @@ impl LoadedPlan {
     pub fn standings(&self) -> &[Standing]
         ensures { AreStandings self.now result.now }
     {
-        &self.standings
+        &self.figures.standings
     }
 
     /// The status of each operation, in key order.
     pub fn statuses(&self) -> &[Status]
         ensures { AreStatuses self.now result.now }
     {
-        &self.statuses
+        &self.figures.statuses
     }
 
     /// The numbers of each occurrence's operations, in key order.
     pub fn tallies(&self) -> &[Counts]
         ensures { AreTallies self.now result.now }
     {
-        &self.tallies
+        &self.figures.tallies
     }
 
     /// The latest start of each operation, in key order.
@@ -133,7 +129,30 @@ impl LoadedPlan {
     pub fn ready(&self) -> &ReadyList
         ensures { AreReadyEntries self.now result.now.entries }
     {
-        &self.ready
+        &self.figures.ready
+    }
+
+    /// All that is kept of it and moves with its marks and flags.
+    pub fn figures(&self) -> &Figures
+        ensures { AreFigures self.now result.now }
+    {
+        &self.figures
+    }
+
+    /// What the workstation of an operation of the plan has given out.
+    pub fn given_out_at(&self, operation: &OperationRecord) -> Capacity
+        requires { (o : OpKeyValue) × (get self.now.operations o ≡ Some operation.now) }
+        ensures { given_out self.now operation.now.workstation ≡ result }
+    {
+        let place = self.contents.workstation_place_of(operation);
+        self.figures.given[place]
+    }
+
+    /// Who holds what of special resources.
+    pub fn holdings(&self) -> &Holdings
+        ensures { AreHeldIn self.now result.now.held }
+    {
+        &self.figures.holdings
     }
 
     /// The index of the operation of a key, if there is one.
@@ -162,7 +181,7 @@ impl LoadedPlan {
         requires { place < length (entries self.now.operations) }
         ensures { (o : OpKeyValue) → (op : Operation) → slice_get (entries self.now.operations) place ≡ Some (o, op) → HasStatus self.now o result }
     {
-        self.statuses[place]
+        self.figures.statuses[place]
     }
 
     /// The operation of a key, if there is one, with what is read off the plan for it.
@@ -183,7 +202,7 @@ impl LoadedPlan {
         ensures absent { IsNone result → get self.now.occurrences key.now ≡ None }
     {
         match self.contents.occurrence_place(key) {
-            Some(place) => Some(occurrence_status_with(self.tallies[place])),
+            Some(place) => Some(occurrence_status_with(self.figures.tallies[place])),
             None => None,
         }
     }

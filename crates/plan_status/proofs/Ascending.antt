@@ -7,7 +7,7 @@ use Rattle.std.specs.List.{AllByRecursion}
 use Rattle.std.specs.List.Sorted.{IsStrictlySortedBy}
 use Rattle.std.specs.Map.{keys_of}
 use Rattle.plan_laws.proofs.Sorted.{not_itself}
-use Rattle.plan_drafts.proofs.RowPlaces.{later_key}
+use Rattle.plan_laws.specs.plan_drafts.proofs.RowPlaces.{later_key}
 use Rattle.plan_basics.proofs.Members.{contains_cases, contains_head, contains_later, contains_none}
 
 -- at the index that is set is the new element, elsewhere what was there

@@ -3,7 +3,7 @@ use Rattle.std.proofs.Common.{◌≡◌, ◌⊎◌, inl, inr, ◌∙◌, ap, sub
 use Rattle.plan_basics.specs.Keys.{operation_cmp_total, operation_cmp-IsAntisymmetric}
 use Rattle.plan_basics.specs.declared.keys.OpKey.{OpKey}
 use Rattle.plan_laws.proofs.Sorting.{put_in}
-use Rattle.plan_records.specs.Rows.{IsCount}
+use Rattle.plan_laws.specs.plan_records.specs.Rows.{IsCount}
 
 -- all that S has, and k
 pub count_more : {S T : OpKey → Type 0} {n : ℕ} (k : OpKey) → ¬ S k → T k → ((o : OpKey) → S o → T o) → ((o : OpKey) → T o → S o ⊎ (k ≡ o)) → IsCount S n → IsCount T (n + 1)

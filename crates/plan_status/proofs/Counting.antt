@@ -7,9 +7,9 @@ use Rattle.plan_basics.specs.Keys.{operation_cmp_total}
 use Rattle.plan_basics.specs.declared.keys.OpKey.{OpKey}
 use Rattle.plan_laws.proofs.Sorted.{not_itself}
 use Rattle.plan_laws.proofs.Waiting.{one_count}
-use Rattle.plan_drafts.proofs.ItemsHeld.{first_member, some_member}
-use Rattle.plan_records.specs.Rows.{IsCount}
-use Rattle.plan_drafts.proofs.Lists.{at_member}
+use Rattle.plan_laws.specs.plan_drafts.proofs.ItemsHeld.{first_member, some_member}
+use Rattle.plan_laws.specs.plan_records.specs.Rows.{IsCount}
+use Rattle.plan_laws.specs.plan_drafts.proofs.Lists.{at_member}
 use Rattle.plan_basics.proofs.Members.{contains_cases, contains_head, contains_later, contains_none}
 
 -- each of these is one of those

@@ -4,9 +4,9 @@ use Rattle.std.specs.FinMap.{contains_key, entries, get, keys, len-entries}
 use Rattle.plan_basics.specs.declared.limits.TheConstants.{MOST_OPERATIONS}
 use Rattle.plan_basics.specs.Keys.{operation_cmp-IsAntisymmetric, operation_cmp_total}
 use Rattle.plan_basics.specs.declared.keys.OpKey.{OpKey}
-use Rattle.plan_model.specs.Contents.{Contents, Operation}
-use Rattle.plan_model.specs.Valid.{IsValid}
-use Rattle.plan_drafts.proofs.EntryRows.{among_keys, entry_of, row_in}
+use Rattle.plan_laws.specs.plan_model.specs.Contents.{Contents, Operation}
+use Rattle.plan_laws.specs.plan_model.specs.Valid.{IsValid}
+use Rattle.plan_laws.specs.plan_drafts.proofs.EntryRows.{among_keys, entry_of, row_in}
 
 module _ (P : Contents) where
   pub row_found : (i : ℕ) (o : OpKey) (op : Operation) → slice_get (entries P.operations) i ≡ Some (o, op) → get P.operations o ≡ Some op

@@ -1,7 +1,7 @@
 -- What is known of rows index by index, as one is added after another.
 use Rattle.std.proofs.Common.{◌≡◌, ◌⊎◌, inl, inr, refl, sym, ap, subst, ◌∙◌, ℕ, zero, suc, ◌+◌, List, [], ◌∷◌, ◌++◌, length, slice_get, Some}
 use Rattle.std.proofs.lemmas.List.{length-append}
-use Rattle.plan_drafts.specs.Places.{AreByPlace}
+use Rattle.plan_laws.specs.plan_drafts.specs.Places.{AreByPlace}
 
 -- the first i rows are gone through
 pub record AreSoFar {K V X : Type 0} (i : ℕ) (rows : List (K × V)) (xs : List X) (is : K → X → Type 0) : Type 0 where

@@ -4,8 +4,8 @@ use Rattle.std.specs.Prelude.{IsSome, IsNone}
 use Rattle.std.specs.FinMap.{contains_key, get}
 use Rattle.plan_basics.specs.Keys.{Name}
 use Rattle.plan_basics.specs.declared.keys.OpKey.{OpKey}
-use Rattle.plan_model.specs.Contents.{Contents, Operation}
-use Rattle.plan_model.specs.Valid.{IsValid}
+use Rattle.plan_laws.specs.plan_model.specs.Contents.{Contents, Operation}
+use Rattle.plan_laws.specs.plan_model.specs.Valid.{IsValid}
 use Rattle.workstations.specs.Workstations.{Workstation}
 
 -- what is found where there is one

@@ -4,7 +4,7 @@ use Rattle.std.specs.FinMap.{get}
 use Rattle.std.specs.FinSet.{from_list}
 use Rattle.plan_basics.specs.declared.Attr.{Attr}
 use Rattle.plan_basics.specs.declared.keys.OpKey.{OpKey}
-use Rattle.plan_model.specs.Contents.{Contents, Operation, HasAttribute, IsPairOf}
+use Rattle.plan_laws.specs.plan_model.specs.Contents.{Contents, Operation, HasAttribute, IsPairOf}
 use Rattle.plan_status.specs.Standings.{IsStanding}
 use Rattle.plan_status.specs.declared.standings.Standing.{Standing}
 

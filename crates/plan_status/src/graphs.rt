@@ -1,10 +1,10 @@
 // The graph of what a plan holds.
 ghost use Rattle.std.specs.Prelude.{IfOk};
-ghost use Rattle.plan_drafts.specs.PlanGraphs.{IsGraphFor};
+ghost use Rattle.plan_laws.specs.plan_drafts.specs.PlanGraphs.{IsGraphFor};
 
 use super::valid::ValidContents;
 use operation_graph::Graph;
-use plan_drafts::{graph_of, keys};
+use plan_laws::{graph_of, keys};
 use std::alloc::{AllocError, Global};
 
 /// The graph of the operations and pairs of a plan: a node is the index of an operation.

@@ -12,6 +12,9 @@ mod tallies;
 mod valid;
 
 pub use graphs::graph_for;
+pub use plan_laws::{
+    Changes, OperationRecord, OperationRow, PlanContents, PlanRow, RowKey, row_place,
+};
 pub use sound::SoundContents;
 pub use standings::{Standing, attribute_of, standings_of};
 pub use statuses::{status_with, statuses_of};

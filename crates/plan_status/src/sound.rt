@@ -6,15 +6,14 @@ ghost use Rattle.std.specs.List.Sorted.{IsStrictlySortedBy};
 ghost use Rattle.std.specs.Map.{keys_of};
 ghost use Rattle.plan_basics.specs.Keys.{name_cmp, occurrence_cmp, operation_cmp};
 ghost use Rattle.plan_basics.specs.declared.keys.OpKey.{OpKey as OpKeyValue};
-ghost use Rattle.plan_model.specs.Contents.{pair_cmp, Operation};
-ghost use Rattle.plan_model.specs.declared.Occurrence.{Occurrence as OccurrenceValue};
+ghost use Rattle.plan_laws.specs.plan_model.specs.Contents.{pair_cmp, Operation};
+ghost use Rattle.plan_laws.specs.plan_model.specs.declared.Occurrence.{Occurrence as OccurrenceValue};
 ghost use Rattle.workstations.specs.Workstations.{Workstation as WorkstationValue};
-ghost use Rattle.plan_model.specs.Valid.{IsSound};
+ghost use Rattle.plan_laws.specs.plan_model.specs.Valid.{IsSound};
 
 use super::valid::ValidContents;
 use plan_basics::{OccKey, OpKey, ResName, WsName};
-use plan_model::{Occurrence, OperationRecord};
-use plan_records::PlanContents;
+use plan_laws::{Occurrence, OperationRecord, PlanContents};
 use std::marker::Model;
 use workstations::Workstation;
 
@@ -26,14 +25,14 @@ pub struct SoundContents {
 }
 
 impl Model for SoundContents {
-    ghost use Rattle.plan_model.specs.Contents.{Contents};
-    ghost use Rattle.plan_model.specs.Code.{contents_code};
+    ghost use Rattle.plan_laws.specs.plan_model.specs.Contents.{Contents};
+    ghost use Rattle.plan_laws.specs.plan_model.specs.Code.{contents_code};
 
     ghost Value = { Contents };
 
     ghost coded = { contents_code };
 
-    ghost use Rattle.plan_model.specs.Valid.{IsSound};
+    ghost use Rattle.plan_laws.specs.plan_model.specs.Valid.{IsSound};
 
     ghost view = { λ c. c.contents };
 
@@ -57,6 +56,14 @@ impl SoundContents {
         ensures { result ≡ contents }
     {
         SoundContents { contents }
+    }
+
+    /// Its rows, to be changed.
+    pub fn into_rows(self) -> PlanContents
+        ensures contents { result ≡ self }
+        ensures sound { IsSound self }
+    {
+        self.contents.into_rows()
     }
 
     /// The same, as contents of which no more than that they are valid is known.

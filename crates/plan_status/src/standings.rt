@@ -3,9 +3,9 @@ ghost use Rattle.std.specs.Prelude.{◌≡◌, ◌+◌, ◌<◌, ◌≤◌, ◌&
 ghost use Rattle.std.specs.FinMap.{get};
 ghost use Rattle.plan_basics.specs.declared.Refusal.{Refusal};
 ghost use Rattle.plan_basics.specs.declared.keys.OpKey.{OpKey};
-ghost use Rattle.plan_model.specs.Contents.{Contents, HasAttribute};
-ghost use Rattle.plan_model.specs.Status.{IsSatisfied};
-ghost use Rattle.plan_drafts.specs.PlanGraphs.{IsGraphFor};
+ghost use Rattle.plan_laws.specs.plan_model.specs.Contents.{Contents, HasAttribute};
+ghost use Rattle.plan_laws.specs.plan_model.specs.Status.{IsSatisfied};
+ghost use Rattle.plan_laws.specs.plan_drafts.specs.PlanGraphs.{IsGraphFor};
 ghost use Rattle.plan_status.specs.Incoming.{IsNextStanding, IsOperationOn};
 ghost use Rattle.plan_status.specs.Standings.{IsStanding, AreStandings};
 
@@ -13,7 +13,7 @@ use super::statuses::status_with;
 use super::valid::ValidContents;
 use operation_graph::Graph;
 use plan_basics::{Attr, Refusal};
-use plan_model::OperationRecord;
+use plan_laws::OperationRecord;
 use status_rules::Preds;
 use std::alloc::Global;
 

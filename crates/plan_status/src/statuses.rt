@@ -2,15 +2,15 @@
 ghost use Rattle.std.specs.Prelude.{◌≡◌, IfOk, Some};
 ghost use Rattle.std.specs.FinMap.{get};
 ghost use Rattle.plan_basics.specs.declared.keys.OpKey.{OpKey};
-ghost use Rattle.plan_model.specs.Contents.{Contents, HasAttribute};
-ghost use Rattle.plan_model.specs.Status.{HasStatus};
-ghost use Rattle.plan_drafts.specs.Places.{AreStatuses};
+ghost use Rattle.plan_laws.specs.plan_model.specs.Contents.{Contents, HasAttribute};
+ghost use Rattle.plan_laws.specs.plan_model.specs.Status.{HasStatus};
+ghost use Rattle.plan_laws.specs.plan_drafts.specs.Places.{AreStatuses};
 ghost use Rattle.plan_status.specs.Standings.{IsStanding, AreStandings};
 
 use super::sound::SoundContents;
 use super::standings::{Standing, attribute_of};
 use plan_basics::Attr;
-use plan_model::OperationRecord;
+use plan_laws::OperationRecord;
 use status_rules::{Status, status_of};
 use std::alloc::{AllocError, Global};
 

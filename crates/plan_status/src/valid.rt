@@ -5,12 +5,11 @@ ghost use Rattle.std.specs.FinSet as set;
 ghost use Rattle.std.specs.List.Sorted.{IsStrictlySortedBy};
 ghost use Rattle.std.specs.Map.{keys_of};
 ghost use Rattle.plan_basics.specs.Keys.{name_cmp, operation_cmp};
-ghost use Rattle.plan_model.specs.Contents.{pair_cmp};
-ghost use Rattle.plan_model.specs.Valid.{IsValid};
+ghost use Rattle.plan_laws.specs.plan_model.specs.Contents.{pair_cmp};
+ghost use Rattle.plan_laws.specs.plan_model.specs.Valid.{IsValid};
 
 use plan_basics::{OpKey, ResName, WsName};
-use plan_model::OperationRecord;
-use plan_records::PlanContents;
+use plan_laws::{OperationRecord, PlanContents};
 use std::marker::Model;
 use workstations::Workstation;
 
@@ -22,14 +21,14 @@ pub struct ValidContents {
 }
 
 impl Model for ValidContents {
-    ghost use Rattle.plan_model.specs.Contents.{Contents};
-    ghost use Rattle.plan_model.specs.Code.{contents_code};
+    ghost use Rattle.plan_laws.specs.plan_model.specs.Contents.{Contents};
+    ghost use Rattle.plan_laws.specs.plan_model.specs.Code.{contents_code};
 
     ghost Value = { Contents };
 
     ghost coded = { contents_code };
 
-    ghost use Rattle.plan_model.specs.Valid.{IsValid};
+    ghost use Rattle.plan_laws.specs.plan_model.specs.Valid.{IsValid};
 
     ghost view = { λ c. c.contents };
 
@@ -51,6 +50,14 @@ impl ValidContents {
         ensures valid { IsValid self.now }
     {
         &self.contents
+    }
+
+    /// Its rows, to be changed.
+    pub fn into_rows(self) -> PlanContents
+        ensures contents { result ≡ self }
+        ensures valid { IsValid self }
+    {
+        self.contents
     }
 
     /// Its special resources by name, and whether each is available.

@@ -5,11 +5,11 @@ use Rattle.std.specs.FinMap.{get}
 use Rattle.plan_basics.specs.declared.Refusal.{Refusal}
 use Rattle.plan_basics.specs.declared.Refusal.TheVariants as refusal
 use Rattle.plan_basics.specs.declared.keys.OpKey.{OpKey}
-use Rattle.plan_core.specs.Provided.{StartsAreProvided}
-use Rattle.plan_laws.proofs.Receipts.{answer_keeps_receipts}
-use Rattle.plan_laws.proofs.Running.{answered, plan_answers}
-use Rattle.plan_model.specs.Plan.{Plan}
-use Rattle.plan_model.specs.Status.{HasStatus}
+use Rattle.numbered_steps.specs.plan_core.specs.Provided.{StartsAreProvided}
+use Rattle.numbered_steps.specs.plan_laws.proofs.Receipts.{answer_keeps_receipts}
+use Rattle.numbered_steps.specs.plan_laws.proofs.Running.{answered, plan_answers}
+use Rattle.numbered_steps.specs.plan_model.specs.Plan.{Plan}
+use Rattle.numbered_steps.specs.plan_model.specs.Status.{HasStatus}
 use Rattle.plan_records.specs.Answer.{Answer, accepted, refused}
 use Rattle.plan_records.specs.Run.{Answers, Call, CallStep, State, numbered, plain, usable}
 use Rattle.plan_records.specs.Schedules.{IsDeskState}

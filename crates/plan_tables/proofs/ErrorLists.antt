@@ -7,10 +7,10 @@ use Rattle.std.specs.List.Sorted.{IsStrictlySortedBy}
 use Rattle.std.specs.declared.cmp.Ordering.TheVariants.{Less}
 use Rattle.plan_basics.specs.Keys.{operation_cmp}
 use Rattle.plan_basics.specs.declared.keys.OpKey.{OpKey}
-use Rattle.plan_core.specs.Views.{AreOpViews, IsOpView}
-use Rattle.plan_core.specs.declared.views.OpView.{OpView}
-use Rattle.plan_drafts.proofs.Lists.{from_filter, from_map, in_filter}
-use Rattle.plan_model.specs.Contents.{Contents}
+use Rattle.numbered_steps.specs.plan_core.specs.Views.{AreOpViews, IsOpView}
+use Rattle.numbered_steps.specs.plan_core.specs.declared.views.OpView.{OpView}
+use Rattle.plan_writes.specs.plan_drafts.proofs.Lists.{from_filter, from_map, in_filter}
+use Rattle.numbered_steps.specs.plan_model.specs.Contents.{Contents}
 use Rattle.status_rules.specs.declared.Mark.{Mark}
 use Rattle.status_rules.specs.declared.Mark.TheVariants as mark
 use Rattle.plan_tables.specs.Errors.{AreErrorRows, IsErrorRow, error_rows, row_with}

@@ -6,21 +6,21 @@ use Rattle.sqlite.specs.Held.{state}
 use Rattle.sqlite.specs.State.{State as StoreState, HasCleanDisk, Survives}
 use Rattle.sqlite_trees.specs.Tree.{Trees}
 use Rattle.sqlite_trees.specs.declared.store.Store.{Ghosts}
-use Rattle.table_rows.specs.Tables.{no_schema}
+use Rattle.plan_reads.specs.table_rows.specs.Tables.{no_schema}
 use Rattle.numbered_steps.specs.Steps.{IsNumberedStepFor}
 use Rattle.numbered_steps.specs.declared.steps.NumberedStep.{NumberedStep}
 use Rattle.plan_basics.specs.declared.keys.OpKey.{OpKey}
-use Rattle.plan_columns.proofs.PlanWritten.{step_written}
-use Rattle.plan_columns.proofs.ReceiptPut.{none_are_held, receipt_written, receipts_stay, rows_beside_receipt}
-use Rattle.plan_columns.proofs.Start.{held_at_first}
-use Rattle.plan_columns.specs.Receipts.{HoldReceipts, stored_receipt, written_numbered}
-use Rattle.plan_columns.specs.Tables.{HoldRows, written}
-use Rattle.plan_model.specs.Plan.{Plan, IsSoundPlan}
+use Rattle.plan_reads.specs.plan_columns.proofs.PlanWritten.{step_written}
+use Rattle.plan_reads.specs.plan_columns.proofs.ReceiptPut.{none_are_held, receipt_written, receipts_stay, rows_beside_receipt}
+use Rattle.plan_reads.specs.plan_columns.proofs.Start.{held_at_first}
+use Rattle.plan_reads.specs.plan_columns.specs.Receipts.{HoldReceipts, stored_receipt, written_numbered}
+use Rattle.plan_reads.specs.plan_columns.specs.Tables.{HoldRows, written}
+use Rattle.numbered_steps.specs.plan_model.specs.Plan.{Plan, IsSoundPlan}
 use Rattle.plan_records.specs.Answer.{accepted}
 use Rattle.plan_records.specs.Rows.{IsRow}
 use Rattle.plan_records.specs.Run.{Call, CallStep, State, empty_state, numbered, plain}
 use Rattle.plan_records.specs.Step.{Numbered as NumberedRequest, NumberedMayBeAccepted, Receipts, Step, StepBy, StepsAnew}
-use Rattle.plan_schema.specs.Stored.{Held, Stores, Turns}
+use Rattle.plan_reads.specs.plan_schema.specs.Stored.{Held, Stores, Turns}
 use Rattle.plan_tables.specs.Calls.{change_of, named_by, state_after, IsPreparedAt}
 use Rattle.plan_tables.specs.Desk.{DeskState, HasTables, HoldsState, IsKept, IsStepCommitted, state_of}
 use Rattle.plan_tables.specs.declared.calls.PreparedCall.{PreparedCall}
@@ -91,13 +91,13 @@ numbered_step s n p is = inr (subst (λ t. StepsAnew s.plan s.receipts n (accept
 
 -- some call leads to the state that was prepared
 pub step_of : (s : State) (p : PreparedCall) → IsPreparedAt s p → (c : Call) × CallStep s c (accepted (named_by p)) (state_after s p)
-step_of s (Plain p) is = (plain is.request, (is.step, refl))
+step_of s (Plain p) is = (plain is.request, (is.by.step, refl))
 step_of s (Numbered p) is = (numbered is.0, numbered_step s is.0 p is.1)
 
 -- what it writes leads from the tables of the one to those of the other
 pub prepared_carries : (s : State) (p : PreparedCall) → IsSoundPlan s.plan → IsPreparedAt s p → Carries s (state_after s p) (change_of p)
 prepared_carries s (Plain p) sound is held rows receipts = (
-  step_written s.plan p.plan is.request (accepted p.named) p.rows p.gone sound is.step is.changes held rows,
+  step_written s.plan p.plan is.request (accepted p.named) p.rows p.gone sound is.by.step is.by.changes held rows,
   receipts_stay s.receipts p.rows p.gone held receipts,
 )
 prepared_carries s (Numbered p) sound is held rows receipts =

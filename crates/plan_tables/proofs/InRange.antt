@@ -11,21 +11,21 @@ use Rattle.plan_basics.specs.declared.keys.OpKey.{OpKey}
 use Rattle.status_rules.specs.Texts.{HasLegalCode}
 use Rattle.status_rules.specs.declared.Mark.{Mark}
 use Rattle.status_rules.specs.declared.Mark.TheVariants as mark
-use Rattle.special_resources.specs.Holdings.{usage_of}
-use Rattle.plan_model.specs.Contents.{Contents, IsInPlan}
-use Rattle.plan_model.specs.Plan.{Plan, IsSoundPlan}
-use Rattle.plan_model.specs.Valid.{IsValid}
-use Rattle.plan_model.proofs.Entries.{entries_in_order}
-use Rattle.plan_model.proofs.Members.{in_keys}
-use Rattle.plan_drafts.proofs.Needed.{mapped}
-use Rattle.plan_drafts.proofs.Tables.{is_found, some_is}
+use Rattle.plan_writes.specs.special_resources.specs.Holdings.{usage_of}
+use Rattle.numbered_steps.specs.plan_model.specs.Contents.{Contents, IsInPlan}
+use Rattle.numbered_steps.specs.plan_model.specs.Plan.{Plan, IsSoundPlan}
+use Rattle.numbered_steps.specs.plan_model.specs.Valid.{IsValid}
+use Rattle.numbered_steps.specs.plan_model.proofs.Entries.{entries_in_order}
+use Rattle.numbered_steps.specs.plan_model.proofs.Members.{in_keys}
+use Rattle.plan_writes.specs.plan_drafts.proofs.Needed.{mapped}
+use Rattle.plan_writes.specs.plan_drafts.proofs.Tables.{is_found, some_is}
 use Rattle.plan_records.specs.Rows.{IsCount, IsOperationRow, IsRow}
 use Rattle.plan_records.specs.declared.OperationRow.{OperationRow}
 use Rattle.plan_records.specs.declared.PlanRow.{PlanRow}
 use Rattle.plan_records.specs.declared.PlanRow.TheVariants as row
-use Rattle.plan_laws.proofs.Sorted.{sorted_unique}
-use Rattle.plan_status.proofs.Counting.{Within, all_within}
-use Rattle.stored_rows.specs.Rows.{IsInRange, IsKeyInRange, IsOperationInRange}
+use Rattle.numbered_steps.specs.plan_laws.proofs.Sorted.{sorted_unique}
+use Rattle.numbered_steps.specs.plan_status.proofs.Counting.{Within, all_within}
+use Rattle.plan_reads.specs.stored_rows.specs.Rows.{IsInRange, IsKeyInRange, IsOperationInRange}
 
 -- no more operations are counted than the plan has
 few_counted : (P : Contents) (S : OpKey → Type 0) (n : ℕ) → ((o : OpKey) → S o → IsInPlan P o) → IsCount S n → n ≤ len P.operations

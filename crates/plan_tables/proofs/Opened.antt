@@ -11,9 +11,9 @@ use Rattle.sqlite.specs.declared.error.ErrorCode.TheVariants as code
 use Rattle.plan_basics.proofs.Members.{contains_head, contains_none}
 use Rattle.plan_basics.specs.Keys.{name_cmp}
 use Rattle.plan_basics.specs.declared.Refusal.TheVariants as refusal
-use Rattle.plan_laws.proofs.Receipts.{empty_is_desk_state}
-use Rattle.plan_model.specs.Plan.{Plan}
-use Rattle.plan_opening.specs.Opening.{AreOfNoPlan, IsPlanOf}
+use Rattle.numbered_steps.specs.plan_laws.proofs.Receipts.{empty_is_desk_state}
+use Rattle.numbered_steps.specs.plan_model.specs.Plan.{Plan}
+use Rattle.numbered_steps.specs.plan_opening.specs.Opening.{AreOfNoPlan, IsPlanOf}
 use Rattle.plan_reads.proofs.ReceiptsStored.{IsRowIn, hold_receipts, receipts_stored, rows_of_receipts}
 use Rattle.plan_reads.proofs.RowsStored.{none_stored, plan_stored, rows_of_plan}
 use Rattle.plan_reads.specs.Reads.{IsNotOfTables}

@@ -1,8 +1,8 @@
 -- Requests at the desk, one after another.
 use Rattle.std.proofs.Common.{refl, subst, subst₂, List, [], ◌∷◌, ◌++◌, map}
-use Rattle.plan_core.proofs.Answering.{plain_accepted}
-use Rattle.plan_core.specs.Provided.{StartsAreProvided}
-use Rattle.plan_laws.proofs.Runs.{accepted_alone}
+use Rattle.numbered_steps.specs.plan_core.proofs.Answering.{plain_accepted}
+use Rattle.numbered_steps.specs.plan_core.specs.Provided.{StartsAreProvided}
+use Rattle.numbered_steps.specs.plan_laws.proofs.Runs.{accepted_alone}
 use Rattle.plan_records.specs.Answer.{Answer}
 use Rattle.plan_records.specs.Run.{Answers, Run, State, Usable, accepted_replies, plain, usable}
 use Rattle.plan_records.specs.Schedules.{IsDeskState}

@@ -2,12 +2,12 @@
 use Rattle.std.specs.Prelude.{List}
 use Rattle.std.specs.FinMap.{insert}
 use Rattle.plan_basics.specs.declared.keys.OpKey.{OpKey}
-use Rattle.plan_columns.specs.Receipts.{written_numbered}
-use Rattle.plan_columns.specs.Tables.{written}
-use Rattle.plan_core.specs.State.{IsPreparedFor}
+use Rattle.plan_reads.specs.plan_columns.specs.Receipts.{written_numbered}
+use Rattle.plan_reads.specs.plan_columns.specs.Tables.{written}
+use Rattle.numbered_steps.specs.plan_core.specs.State.{IsPreparedFor}
 use Rattle.plan_records.specs.Run.{State}
 use Rattle.plan_records.specs.Step.{Numbered as NumberedRequest}
-use Rattle.plan_schema.specs.Stored.{Held}
+use Rattle.plan_reads.specs.plan_schema.specs.Stored.{Held}
 use Rattle.numbered_steps.specs.Steps.{IsNumberedStepFor}
 use Rattle.plan_tables.specs.declared.calls.PreparedCall.{PreparedCall}
 use Rattle.plan_tables.specs.declared.calls.PreparedCall.TheVariants.{Plain, Numbered}

@@ -8,17 +8,17 @@ use Rattle.sqlite_trees.specs.Tree.{Trees}
 use Rattle.sqlite_trees.specs.declared.store.Store.{Ghosts}
 use Rattle.plan_basics.specs.declared.keys.OpKey.{OpKey}
 use Rattle.plan_basics.specs.declared.Refusal.TheVariants as refusal
-use Rattle.plan_columns.specs.Receipts.{HoldReceipts}
-use Rattle.plan_columns.specs.Tables.{HoldRows}
-use Rattle.plan_model.specs.Code.{plan_code}
-use Rattle.plan_model.specs.Plan.{Plan}
+use Rattle.plan_reads.specs.plan_columns.specs.Receipts.{HoldReceipts}
+use Rattle.plan_reads.specs.plan_columns.specs.Tables.{HoldRows}
+use Rattle.numbered_steps.specs.plan_model.specs.Code.{plan_code}
+use Rattle.numbered_steps.specs.plan_model.specs.Plan.{Plan}
 use Rattle.plan_records.specs.Answer.{Answer, accepted, refused}
 use Rattle.plan_records.specs.Rows.{IsRow}
 use Rattle.plan_records.specs.Run.{Call, CallStep, State, Usable, usable, to_be_reopened}
 use Rattle.plan_records.specs.Schedules.{IsDeskState}
 use Rattle.plan_records.specs.Step.{Receipts}
-use Rattle.plan_schema.specs.Schema.{schema_9}
-use Rattle.plan_schema.specs.Stored.{Held, Stores}
+use Rattle.plan_reads.specs.plan_schema.specs.Schema.{schema_9}
+use Rattle.plan_reads.specs.plan_schema.specs.Stored.{Held, Stores}
 use Rattle.tracker_receipts.specs.Codes.{receipts_code}
 
 -- the plan, the receipts of trackers, whether requests are carried out, and the connection to the store

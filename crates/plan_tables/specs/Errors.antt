@@ -4,9 +4,9 @@ use Rattle.std.specs.FinMap.{get}
 use Rattle.std.specs.List.{filter_map}
 use Rattle.std.specs.List.Sorted.{IsStrictlySortedBy}
 use Rattle.plan_basics.specs.Keys.{operation_cmp}
-use Rattle.plan_core.specs.declared.views.OpView.{OpView}
-use Rattle.plan_model.specs.Contents.{Contents, Operation}
-use Rattle.plan_model.specs.Status.{HasStatus}
+use Rattle.numbered_steps.specs.plan_core.specs.declared.views.OpView.{OpView}
+use Rattle.numbered_steps.specs.plan_model.specs.Contents.{Contents, Operation}
+use Rattle.numbered_steps.specs.plan_model.specs.Status.{HasStatus}
 use Rattle.status_rules.specs.declared.Mark.{Mark}
 use Rattle.status_rules.specs.declared.Mark.TheVariants as mark
 use Rattle.status_rules.specs.declared.Status.TheVariants as status

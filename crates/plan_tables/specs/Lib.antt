@@ -1,3 +1,12 @@
+pub use Rattle.numbered_steps.specs.plan_core
+pub use Rattle.plan_writes.specs.plan_drafts
+pub use Rattle.numbered_steps.specs.plan_laws
+pub use Rattle.numbered_steps.specs.plan_model
+pub use Rattle.plan_reads
+pub use Rattle.plan_records
+pub use Rattle.plan_reads.specs.plan_schema
+pub use Rattle.status_rules
+pub use Rattle.plan_reads.specs.table_rows
 pub mod Desk
 pub mod Calls
 pub mod Opening

@@ -4,8 +4,8 @@ use Rattle.plan_records.specs.Answer.{Answer}
 use Rattle.plan_records.specs.Run.{Answers, Run, State, Usable, accepted_replies, plain, usable}
 use Rattle.plan_records.specs.Schedules.{IsDeskState}
 use Rattle.plan_records.specs.declared.Request.{Request}
-use Rattle.plan_core.specs.Provided.{StartsAreProvided}
-use Rattle.plan_core.specs.State.{accepted_requests}
+use Rattle.numbered_steps.specs.plan_core.specs.Provided.{StartsAreProvided}
+use Rattle.numbered_steps.specs.plan_core.specs.State.{accepted_requests}
 
 -- these are the answers to the requests in their order, and the state and the usability at their end: each is answered by a step of the state that the one before left, or by want of memory or a fault of the store, nothing changed; after a fault nothing is carried out
 abbrev pub AreAnswered : State → Usable → List Request → List Answer → State → Usable → Type 0

@@ -2,9 +2,8 @@
 ghost use Rattle.std.specs.Prelude.{◌≡◌};
 ghost use Rattle.plan_tables.specs.Calls.{named_by, state_after, IsPreparedAt};
 
-use numbered_steps::NumberedStep;
+use numbered_steps::{NumberedStep, Plan, Prepared};
 use plan_basics::OpKey;
-use plan_core::{Plan, Prepared};
 use tracker_receipts::Receipts;
 
 /// A call that is accepted, with all that it takes.

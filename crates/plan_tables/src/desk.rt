@@ -1,11 +1,11 @@
 // The desk: its plan and the receipts of trackers, and the store in which their rows stand.
-ghost use Rattle.std.specs.Prelude.{◌≡◌, true, false, IfOk, IfErr, IsTrue};
+ghost use Rattle.std.specs.Prelude.{◌≡◌, ◌≢◌, true, false, IfOk, IfErr, IsTrue};
 ghost use Rattle.std.specs.FinMap.{get};
 ghost use Rattle.sqlite.specs.Held.{state};
 ghost use Rattle.sqlite.specs.State.{Survives};
-ghost use Rattle.table_rows.specs.Tables.{no_schema};
+ghost use Rattle.plan_reads.specs.table_rows.specs.Tables.{no_schema};
 ghost use Rattle.plan_basics.specs.declared.Refusal.{Refusal};
-ghost use Rattle.plan_core.specs.Provided.{StartsAreProvided};
+ghost use Rattle.numbered_steps.specs.plan_core.specs.Provided.{StartsAreProvided};
 ghost use Rattle.plan_reads.specs.Reads.{OnlyReads};
 ghost use Rattle.plan_records.specs.Answer.{answer_of, refused};
 ghost use Rattle.plan_records.specs.Run.{Answers, empty_state, numbered, plain};
@@ -23,9 +23,8 @@ use super::errors::ErrorRows;
 use super::faults::opening_refusal;
 use super::opening::stored_state;
 use super::writing::write_call;
-use numbered_steps::{Outcome, prepare_numbered};
+use numbered_steps::{Outcome, Plan, prepare_numbered};
 use plan_basics::{Refusal, TrackerName};
-use plan_core::Plan;
 use plan_records::{Reply, Request};
 use plan_writes::create_tables;
 use sqlite::{Alter, Connection};
@@ -60,8 +59,9 @@ impl<S: Alter + Drop> Desk<S> {
     /// Makes the nine tables in a database that has none of them, and a desk over it at which nothing is loaded and no
     /// receipt is kept. The caller owes that no transaction is open.
     ///
-    /// Refused as `Damaged` where one of the tables' names is taken, as `Memory` for want of memory, as `Store` for any
-    /// other fault of the store; the connection is given back, and the store holds what it held.
+    /// Refused as `Damaged` where one of the tables' names is taken, and never in a database that has no table, no index
+    /// and no view; as `Memory` for want of memory, as `Store` for any other fault of the store. The connection is given
+    /// back, and the store holds what it held.
     pub fn create(
         alloc: Global,
         mut conn: Connection<S>,
@@ -71,6 +71,7 @@ impl<S: Alter + Drop> Desk<S> {
         ensures usable { IfOk result (λ desk. desk.is_usable ≡ true) }
         ensures tables { IfOk result (λ desk. IsClean (state S.Store desk.conn) → (state S.Store conn).committed.schema ≡ no_schema → HoldsState empty_state (state S.Store desk.conn).committed) }
         ensures refused { IfErr result (λ e. IsOpeningRefusal e.0) }
+        ensures damaged { IfErr result (λ e. e.0 ≡ Refusal.Damaged → IsClean (state S.Store e.1) → (state S.Store conn).committed.schema ≢ no_schema) }
         ensures unchanged { IfErr result (λ e. IsClean (state S.Store e.1) → (state S.Store e.1).committed ≡ (state S.Store conn).committed) }
     {
         let receipts = match Receipts::new(alloc) {

@@ -3,8 +3,8 @@ ghost use Rattle.std.specs.Prelude.{◌≡◌, ◌⊎◌, [], ◌∷◌, Ok, Non
 ghost use Rattle.plan_tables.specs.Errors.{row_with, error_rows};
 ghost use Rattle.plan_tables.specs.declared.errors.ErrorRow.{ErrorRow as Row};
 
+use numbered_steps::{OpView, Ops};
 use plan_basics::{ErrCode, OpKey, Refusal, WsName};
-use plan_core::{OpView, Ops};
 use sqlite::{Alter, Connection};
 use status_rules::Mark;
 use std::marker::Model;

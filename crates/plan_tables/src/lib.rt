@@ -16,4 +16,5 @@ mod writing;
 
 pub use desk::Desk;
 pub use errors::{ErrorRow, ErrorRows};
+pub use numbered_steps::{OccView, Occs, OpView, Ops, Plan, Ready};
 pub use runs::run_all;

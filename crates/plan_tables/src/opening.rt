@@ -13,8 +13,8 @@ ghost use Rattle.plan_tables.specs.Opening.{AreOfNoState, IsStateOf};
 ghost use Rattle.tracker_receipts.specs.Stored.{AreRowsOf};
 
 use super::faults::opening_refusal;
+use numbered_steps::Plan;
 use plan_basics::Refusal;
-use plan_core::Plan;
 use plan_reads::{StoredTables, read_rows};
 use sqlite::{Alter, Connection};
 use std::alloc::{AllocError, Global};

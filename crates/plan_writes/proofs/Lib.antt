@@ -3,3 +3,5 @@ pub mod Lists
 pub mod Whole
 pub mod Growth
 pub mod Texts
+pub mod Faults
+pub mod Free

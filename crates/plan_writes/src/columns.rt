@@ -2,7 +2,7 @@
 ghost use Rattle.std.specs.Prelude.{◌≡◌, pos};
 ghost use Rattle.sqlite.specs.declared.types.Value.TheVariants.{Int, Text};
 ghost use Rattle.sqlite_value.specs.Value.{owned};
-ghost use Rattle.plan_items.specs.Parts.{mode_letter, keep_letter};
+ghost use Rattle.plan_columns.specs.plan_items.specs.Parts.{mode_letter, keep_letter};
 ghost use Rattle.plan_columns.specs.Columns.{flag};
 
 use plan_basics::Moment;

@@ -1,9 +1,10 @@
 // The nine tables of a desk at which nothing is loaded.
-ghost use Rattle.std.specs.Prelude.{◌≡◌, false, IsTrue, OnErr, OnOk};
+ghost use Rattle.std.specs.Prelude.{◌≡◌, ◌≢◌, false, IfErr, IsTrue, OnErr, OnOk};
 ghost use Rattle.sqlite.specs.Held.{state};
 ghost use Rattle.sqlite.specs.State.{HasCleanDisk, Survives};
 ghost use Rattle.table_rows.specs.Tables.{no_schema};
 ghost use Rattle.plan_schema.specs.Schema.{schema_9};
+ghost use Rattle.plan_writes.specs.Faults.{FindsNamesFree, IsOfNames};
 ghost use Rattle.plan_writes.specs.Within.{Begins, Grows, IsCommitted, IsUndone, LeavesMade, RunsWithin};
 
 use crate::creation_first::create_first;
@@ -17,6 +18,7 @@ use sqlite::{Alter, Connection, Error, Transaction};
 fn create_nine<S: Alter>(tx: &mut Transaction<'_, S>) -> Result<usize, Error>
     ensures same_reference { tx.new.conn.ghost_name ≡ tx.old.conn.ghost_name }
     ensures made { RunsWithin (Grows no_schema schema_9) (state S.Store tx.old.conn.now) (state S.Store tx.new.conn.now) result }
+    ensures names { FindsNamesFree no_schema (state S.Store tx.old.conn.now) (state S.Store tx.new.conn.now) result }
 {
     create_first(tx)?;
     create_second(tx)?;
@@ -34,6 +36,7 @@ fn first_minute() -> Moment
 fn create_all<S: Alter>(tx: &mut Transaction<'_, S>) -> Result<usize, Error>
     ensures same_reference { tx.new.conn.ghost_name ≡ tx.old.conn.ghost_name }
     ensures made { RunsWithin Begins (state S.Store tx.old.conn.now) (state S.Store tx.new.conn.now) result }
+    ensures names { FindsNamesFree no_schema (state S.Store tx.old.conn.now) (state S.Store tx.new.conn.now) result }
 {
     create_nine(tx)?;
     put_meta(tx, 1, false, first_minute())
@@ -45,6 +48,7 @@ pub fn create_tables<S: Alter>(conn: &mut Connection<S>) -> Result<(), Error>
     ensures idle { conn.new.in_transaction ≡ false }
     ensures ok { HasCleanDisk (state S.Store conn.new) → OnOk result (IsCommitted Begins (state S.Store conn.old) (state S.Store conn.new)) }
     ensures err { HasCleanDisk (state S.Store conn.new) → IsTrue (state S.Store conn.new).is_open → OnErr result (IsUndone (state S.Store conn.old) (state S.Store conn.new)) }
+    ensures names { HasCleanDisk (state S.Store conn.new) → IsTrue (state S.Store conn.new).is_open → IfErr result (λ e. IsOfNames e → (state S.Store conn.old).committed.schema ≢ no_schema) }
     ensures crash { Survives (state S.Store conn.old) (state S.Store conn.new) (LeavesMade Begins (state S.Store conn.old)) }
 {
     prove!(conn.is_autocommit());

@@ -3,6 +3,7 @@ ghost use Rattle.std.specs.Prelude.{◌≡◌};
 ghost use Rattle.sqlite.specs.Held.{state};
 ghost use Rattle.table_rows.specs.Tables.{no_schema};
 ghost use Rattle.plan_schema.specs.Schema.{schema_1, schema_2, schema_3};
+ghost use Rattle.plan_writes.specs.Faults.{FindsNamesFree};
 ghost use Rattle.plan_writes.specs.Within.{Grows, RunsWithin};
 
 use plan_schema::{CREATE_INTERVAL, CREATE_META, CREATE_WORKSTATION};
@@ -12,6 +13,7 @@ use sqlite::{Alter, Error, Transaction};
 fn create_meta<S: Alter>(tx: &mut Transaction<'_, S>) -> Result<usize, Error>
     ensures same_reference { tx.new.conn.ghost_name ≡ tx.old.conn.ghost_name }
     ensures made { RunsWithin (Grows no_schema schema_1) (state S.Store tx.old.conn.now) (state S.Store tx.new.conn.now) result }
+    ensures names { FindsNamesFree no_schema (state S.Store tx.old.conn.now) (state S.Store tx.new.conn.now) result }
 {
     tx.execute(CREATE_META, &[])
 }
@@ -20,6 +22,7 @@ fn create_meta<S: Alter>(tx: &mut Transaction<'_, S>) -> Result<usize, Error>
 fn create_workstation<S: Alter>(tx: &mut Transaction<'_, S>) -> Result<usize, Error>
     ensures same_reference { tx.new.conn.ghost_name ≡ tx.old.conn.ghost_name }
     ensures made { RunsWithin (Grows schema_1 schema_2) (state S.Store tx.old.conn.now) (state S.Store tx.new.conn.now) result }
+    ensures names { FindsNamesFree schema_1 (state S.Store tx.old.conn.now) (state S.Store tx.new.conn.now) result }
 {
     tx.execute(CREATE_WORKSTATION, &[])
 }
@@ -28,6 +31,7 @@ fn create_workstation<S: Alter>(tx: &mut Transaction<'_, S>) -> Result<usize, Er
 fn create_interval<S: Alter>(tx: &mut Transaction<'_, S>) -> Result<usize, Error>
     ensures same_reference { tx.new.conn.ghost_name ≡ tx.old.conn.ghost_name }
     ensures made { RunsWithin (Grows schema_2 schema_3) (state S.Store tx.old.conn.now) (state S.Store tx.new.conn.now) result }
+    ensures names { FindsNamesFree schema_2 (state S.Store tx.old.conn.now) (state S.Store tx.new.conn.now) result }
 {
     tx.execute(CREATE_INTERVAL, &[])
 }
@@ -36,6 +40,7 @@ fn create_interval<S: Alter>(tx: &mut Transaction<'_, S>) -> Result<usize, Error
 pub fn create_first<S: Alter>(tx: &mut Transaction<'_, S>) -> Result<usize, Error>
     ensures same_reference { tx.new.conn.ghost_name ≡ tx.old.conn.ghost_name }
     ensures made { RunsWithin (Grows no_schema schema_3) (state S.Store tx.old.conn.now) (state S.Store tx.new.conn.now) result }
+    ensures names { FindsNamesFree no_schema (state S.Store tx.old.conn.now) (state S.Store tx.new.conn.now) result }
 {
     create_meta(tx)?;
     create_workstation(tx)?;

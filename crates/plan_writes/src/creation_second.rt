@@ -2,6 +2,7 @@
 ghost use Rattle.std.specs.Prelude.{◌≡◌};
 ghost use Rattle.sqlite.specs.Held.{state};
 ghost use Rattle.plan_schema.specs.Schema.{schema_3, schema_4, schema_5, schema_6};
+ghost use Rattle.plan_writes.specs.Faults.{FindsNamesFree};
 ghost use Rattle.plan_writes.specs.Within.{Grows, RunsWithin};
 
 use plan_schema::{CREATE_OCCURRENCE, CREATE_OPERATION, CREATE_RESOURCE};
@@ -11,6 +12,7 @@ use sqlite::{Alter, Error, Transaction};
 fn create_resource<S: Alter>(tx: &mut Transaction<'_, S>) -> Result<usize, Error>
     ensures same_reference { tx.new.conn.ghost_name ≡ tx.old.conn.ghost_name }
     ensures made { RunsWithin (Grows schema_3 schema_4) (state S.Store tx.old.conn.now) (state S.Store tx.new.conn.now) result }
+    ensures names { FindsNamesFree schema_3 (state S.Store tx.old.conn.now) (state S.Store tx.new.conn.now) result }
 {
     tx.execute(CREATE_RESOURCE, &[])
 }
@@ -19,6 +21,7 @@ fn create_resource<S: Alter>(tx: &mut Transaction<'_, S>) -> Result<usize, Error
 fn create_occurrence<S: Alter>(tx: &mut Transaction<'_, S>) -> Result<usize, Error>
     ensures same_reference { tx.new.conn.ghost_name ≡ tx.old.conn.ghost_name }
     ensures made { RunsWithin (Grows schema_4 schema_5) (state S.Store tx.old.conn.now) (state S.Store tx.new.conn.now) result }
+    ensures names { FindsNamesFree schema_4 (state S.Store tx.old.conn.now) (state S.Store tx.new.conn.now) result }
 {
     tx.execute(CREATE_OCCURRENCE, &[])
 }
@@ -27,6 +30,7 @@ fn create_occurrence<S: Alter>(tx: &mut Transaction<'_, S>) -> Result<usize, Err
 fn create_operation<S: Alter>(tx: &mut Transaction<'_, S>) -> Result<usize, Error>
     ensures same_reference { tx.new.conn.ghost_name ≡ tx.old.conn.ghost_name }
     ensures made { RunsWithin (Grows schema_5 schema_6) (state S.Store tx.old.conn.now) (state S.Store tx.new.conn.now) result }
+    ensures names { FindsNamesFree schema_5 (state S.Store tx.old.conn.now) (state S.Store tx.new.conn.now) result }
 {
     tx.execute(CREATE_OPERATION, &[])
 }
@@ -35,6 +39,7 @@ fn create_operation<S: Alter>(tx: &mut Transaction<'_, S>) -> Result<usize, Erro
 pub fn create_second<S: Alter>(tx: &mut Transaction<'_, S>) -> Result<usize, Error>
     ensures same_reference { tx.new.conn.ghost_name ≡ tx.old.conn.ghost_name }
     ensures made { RunsWithin (Grows schema_3 schema_6) (state S.Store tx.old.conn.now) (state S.Store tx.new.conn.now) result }
+    ensures names { FindsNamesFree schema_3 (state S.Store tx.old.conn.now) (state S.Store tx.new.conn.now) result }
 {
     create_resource(tx)?;
     create_occurrence(tx)?;

@@ -2,6 +2,7 @@
 ghost use Rattle.std.specs.Prelude.{◌≡◌};
 ghost use Rattle.sqlite.specs.Held.{state};
 ghost use Rattle.plan_schema.specs.Schema.{schema_6, schema_7, schema_8, schema_9};
+ghost use Rattle.plan_writes.specs.Faults.{FindsNamesFree};
 ghost use Rattle.plan_writes.specs.Within.{Grows, RunsWithin};
 
 use plan_schema::{CREATE_DEPENDENCY, CREATE_NEED, CREATE_RECEIPT};
@@ -11,6 +12,7 @@ use sqlite::{Alter, Error, Transaction};
 fn create_dependency<S: Alter>(tx: &mut Transaction<'_, S>) -> Result<usize, Error>
     ensures same_reference { tx.new.conn.ghost_name ≡ tx.old.conn.ghost_name }
     ensures made { RunsWithin (Grows schema_6 schema_7) (state S.Store tx.old.conn.now) (state S.Store tx.new.conn.now) result }
+    ensures names { FindsNamesFree schema_6 (state S.Store tx.old.conn.now) (state S.Store tx.new.conn.now) result }
 {
     tx.execute(CREATE_DEPENDENCY, &[])
 }
@@ -19,6 +21,7 @@ fn create_dependency<S: Alter>(tx: &mut Transaction<'_, S>) -> Result<usize, Err
 fn create_need<S: Alter>(tx: &mut Transaction<'_, S>) -> Result<usize, Error>
     ensures same_reference { tx.new.conn.ghost_name ≡ tx.old.conn.ghost_name }
     ensures made { RunsWithin (Grows schema_7 schema_8) (state S.Store tx.old.conn.now) (state S.Store tx.new.conn.now) result }
+    ensures names { FindsNamesFree schema_7 (state S.Store tx.old.conn.now) (state S.Store tx.new.conn.now) result }
 {
     tx.execute(CREATE_NEED, &[])
 }
@@ -27,6 +30,7 @@ fn create_need<S: Alter>(tx: &mut Transaction<'_, S>) -> Result<usize, Error>
 fn create_receipt<S: Alter>(tx: &mut Transaction<'_, S>) -> Result<usize, Error>
     ensures same_reference { tx.new.conn.ghost_name ≡ tx.old.conn.ghost_name }
     ensures made { RunsWithin (Grows schema_8 schema_9) (state S.Store tx.old.conn.now) (state S.Store tx.new.conn.now) result }
+    ensures names { FindsNamesFree schema_8 (state S.Store tx.old.conn.now) (state S.Store tx.new.conn.now) result }
 {
     tx.execute(CREATE_RECEIPT, &[])
 }
@@ -35,6 +39,7 @@ fn create_receipt<S: Alter>(tx: &mut Transaction<'_, S>) -> Result<usize, Error>
 pub fn create_third<S: Alter>(tx: &mut Transaction<'_, S>) -> Result<usize, Error>
     ensures same_reference { tx.new.conn.ghost_name ≡ tx.old.conn.ghost_name }
     ensures made { RunsWithin (Grows schema_6 schema_9) (state S.Store tx.old.conn.now) (state S.Store tx.new.conn.now) result }
+    ensures names { FindsNamesFree schema_6 (state S.Store tx.old.conn.now) (state S.Store tx.new.conn.now) result }
 {
     create_dependency(tx)?;
     create_need(tx)?;

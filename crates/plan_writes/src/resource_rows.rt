@@ -1,8 +1,10 @@
 // The tables `meta`, `resource` and `need`.
 ghost use Rattle.std.specs.Prelude.{◌≡◌};
 ghost use Rattle.sqlite.specs.Held.{state};
+ghost use Rattle.plan_schema.specs.Schema.{schema_9};
 ghost use Rattle.plan_schema.specs.Stored.{with_meta, with_resource, with_need};
 ghost use Rattle.plan_columns.specs.Columns.{meta_columns, resource_columns, need_columns};
+ghost use Rattle.plan_writes.specs.Faults.{FindsNamesFree};
 ghost use Rattle.plan_writes.specs.Within.{Rewrites, RunsWithin};
 
 use crate::columns::{flag, keeping, minute, mode, number};
@@ -21,6 +23,7 @@ pub fn put_meta<S: Alter>(
 ) -> Result<usize, Error>
     ensures same_reference { tx.new.conn.ghost_name ≡ tx.old.conn.ghost_name }
     ensures written { RunsWithin (Rewrites (with_meta (meta_columns version loaded clock))) (state S.Store tx.old.conn.now) (state S.Store tx.new.conn.now) result }
+    ensures names { FindsNamesFree schema_9 (state S.Store tx.old.conn.now) (state S.Store tx.new.conn.now) result }
 {
     tx.execute(
         PUT_META,

@@ -1,1 +1,2 @@
+pub use Rattle.plan_reasons
 pub mod Texts

@@ -4,4 +4,5 @@
 mod lines;
 mod texts;
 
+pub use plan_reasons::why;
 pub use texts::why_text;

@@ -5,9 +5,9 @@ use Rattle.std.specs.BTreeMap.{BTreeMap}
 use Rattle.std.proofs.lemmas.Bool.{cases_lt}
 use Rattle.std.proofs.lemmas.Option.{none-some, same_Some, slice_get_within}
 use Rattle.std.proofs.lemmas.List.Elements.{All-contains, All-nil, All-cons, Contains-append_left, Contains-append_right, Contains-append_cases}
-use Rattle.operation_graph.specs.Paths.{LeadsBy, by_edge, by_more}
-use Rattle.operation_graph.specs.Graphs.{IsEdgeOf, edges_of}
-use Rattle.operation_graph.proofs.EdgeSets.{listed_edge}
+use Rattle.returning_paths.specs.operation_graph.specs.Paths.{LeadsBy, by_edge, by_more}
+use Rattle.returning_paths.specs.operation_graph.specs.Graphs.{IsEdgeOf, edges_of}
+use Rattle.returning_paths.specs.operation_graph.proofs.EdgeSets.{listed_edge}
 use Rattle.plan_basics.proofs.Members.{all_by_members, contains_head, contains_cases, contains_none, at_place}
 use Rattle.plan_basics.specs.declared.keys.OpKey.{OpKey}
 use Rattle.plan_drafts.specs.declared.RowKey.{RowKey}

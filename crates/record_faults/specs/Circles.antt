@@ -1,6 +1,6 @@
 -- Paths of dependencies that return, by the keys that records give.
 use Rattle.std.specs.Prelude.{◌≡◌, ℕ, ◌<◌, List, All, Contains, Option, Some, IfSome}
-use Rattle.operation_graph.specs.Paths.{IsAcyclicBy}
+use Rattle.returning_paths.specs.operation_graph.specs.Paths.{IsAcyclicBy}
 use Rattle.plan_basics.specs.declared.keys.OpKey.{OpKey}
 use Rattle.plan_drafts.specs.declared.RowKey.{RowKey}
 use Rattle.plan_drafts.specs.declared.RowKey.TheVariants as key

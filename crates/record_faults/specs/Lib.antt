@@ -1,3 +1,4 @@
+pub use Rattle.plan_drafts.specs.special_resources
 pub mod Shapes
 pub mod Sayings
 pub mod Groups

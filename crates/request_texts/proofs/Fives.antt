@@ -1,7 +1,7 @@
 -- Arrays of five values.
 use Rattle.std.proofs.Common.{◌≡◌, List, [], ◌∷◌, length, get_or, Option, Some, None, sym, ap, ◌∙◌, arith}
 use Rattle.plan_basics.specs.Intervals.{OpenInterval}
-use Rattle.plan_items.specs.Parts.{IsReading}
+use Rattle.plan_import.specs.plan_items.specs.Parts.{IsReading}
 use Rattle.serde_json.specs.Data.{Data, array, Items, item, no_items}
 use Rattle.serde_json.specs.Events.{items_len}
 use Rattle.serde_json.specs.Find.{as_array}

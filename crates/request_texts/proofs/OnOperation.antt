@@ -2,7 +2,7 @@
 use Rattle.std.proofs.Common.{◌≡◌, ℕ, suc, List, [], ◌∷◌, length, Option, Some, None, MatchOption, true≢false, refl, sym, ap, subst, codes}
 use Rattle.std.specs.List.{AllByRecursion}
 use Rattle.plan_basics.specs.declared.keys.OpKey.{OpKey}
-use Rattle.plan_items.specs.Parts.{IsReading}
+use Rattle.plan_import.specs.plan_items.specs.Parts.{IsReading}
 use Rattle.plan_records.specs.declared.What.{What}
 use Rattle.plan_records.specs.declared.What.TheVariants as what
 use Rattle.serde_json.specs.Data.{Data, string}

@@ -2,7 +2,7 @@
 use Rattle.std.proofs.Common.{◌≡◌, ◌↔◌, ℕ, Option, Some, None, IsSome, IfSome, refl, sym, subst}
 use Rattle.plan_basics.specs.Intervals.{OpenInterval, IsInterval, interval_by}
 use Rattle.plan_basics.proofs.MinuteLaws.{one_moment}
-use Rattle.plan_items.specs.Parts.{IsReading}
+use Rattle.plan_import.specs.plan_items.specs.Parts.{IsReading}
 use Rattle.serde_json.specs.Data.{Data}
 use Rattle.request_texts.specs.Intervals.{whole, IsMomentOf, ArePartsOf}
 

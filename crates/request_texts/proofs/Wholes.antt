@@ -1,6 +1,6 @@
 -- Requests of objects, from their parts.
 use Rattle.std.proofs.Common.{◌≡◌, ℕ, ◌+◌, List, Option, Some, None, codes, arith}
-use Rattle.plan_items.specs.Parts.{IsReading}
+use Rattle.plan_import.specs.plan_items.specs.Parts.{IsReading}
 use Rattle.plan_records.specs.declared.Request.{Request}
 use Rattle.plan_records.specs.declared.What.{What}
 use Rattle.serde_json.specs.Data.{Data, string}

@@ -1,3 +1,4 @@
+pub use Rattle.plan_import.specs.plan_model
 pub mod Members
 pub mod Intervals
 pub mod Requests

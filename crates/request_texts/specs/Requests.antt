@@ -8,7 +8,7 @@ use Rattle.plan_basics.specs.Keys.{IsOccurrenceKey, IsOperationKey}
 use Rattle.plan_basics.specs.KeyTexts.{IsOccurrenceText, IsOperationText}
 use Rattle.plan_basics.specs.Minutes.{IsMinuteText}
 use Rattle.plan_basics.specs.Names.{IsName, IsResourceName}
-use Rattle.plan_model.specs.Contents.{Contents, AddedParts}
+use Rattle.plan_import.specs.plan_model.specs.Contents.{Contents, AddedParts}
 use Rattle.plan_records.specs.declared.Request.{Request}
 use Rattle.plan_records.specs.declared.What.{What}
 use Rattle.plan_records.specs.declared.What.TheVariants as what

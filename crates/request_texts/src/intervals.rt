@@ -3,7 +3,7 @@ ghost use Rattle.std.specs.Prelude.{◌≡◌, ℕ, ◌<◌, List, map, IfOk, Ma
 ghost use Rattle.std.specs.List.{AllZip};
 ghost use Rattle.plan_basics.specs.Intervals.{OpenInterval};
 ghost use Rattle.plan_basics.specs.Minutes.{IsMomentText};
-ghost use Rattle.plan_items.specs.Parts.{IsReading};
+ghost use Rattle.plan_import.specs.plan_items.specs.Parts.{IsReading};
 ghost use Rattle.request_texts.specs.Intervals.{whole, ArePartsOf, IsIntervalOf, IsMomentOf};
 ghost use Rattle.serde_json.specs.View.{view};
 

@@ -21,7 +21,7 @@
 #![tactic(auto)]
 
 ghost use Rattle.std.specs.Prelude.{◌≡◌, MatchOption, IfOk, IfErr};
-ghost use Rattle.plan_items.specs.Parts.{IsReading};
+ghost use Rattle.plan_import.specs.plan_items.specs.Parts.{IsReading};
 ghost use Rattle.request_texts.specs.Members.{IsJsonOf};
 ghost use Rattle.request_texts.specs.Requests.{SaysReport, ReadsAsRequest, ReadsAsReport};
 ghost use Rattle.serde_json.specs.Data.{Data};

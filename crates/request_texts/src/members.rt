@@ -3,7 +3,7 @@ ghost use Rattle.std.specs.Prelude.{◌≡◌, ℕ, ◌≤◌, Some, codes, opti
 ghost use Rattle.plan_basics.specs.Minutes.{IsMinuteText};
 ghost use Rattle.plan_basics.specs.Names.{IsName, IsResourceName};
 ghost use Rattle.plan_basics.specs.declared.limits.TheConstants.{GREATEST_REQUEST_NUMBER};
-ghost use Rattle.plan_items.specs.Parts.{IsReading};
+ghost use Rattle.plan_import.specs.plan_items.specs.Parts.{IsReading};
 ghost use Rattle.request_texts.specs.Counted.{HasBeside};
 ghost use Rattle.request_texts.specs.Intervals.{whole};
 ghost use Rattle.request_texts.specs.Members.{HasMember, HasText, IsNameAt};

@@ -1,7 +1,7 @@
 // What is asked of one operation, by `do`.
 ghost use Rattle.std.specs.Prelude.{◌≡◌, ◌↔◌, Some, MatchOption, IsTrue};
 ghost use Rattle.plan_basics.specs.declared.keys.OpKey.{OpKey};
-ghost use Rattle.plan_items.specs.Parts.{IsReading};
+ghost use Rattle.plan_import.specs.plan_items.specs.Parts.{IsReading};
 ghost use Rattle.plan_records.specs.declared.What.{What};
 ghost use Rattle.request_texts.specs.Counted.{AsksBy, IsReportVerb, on_operation, IsOnOperation};
 ghost use Rattle.serde_json.specs.View.{view};

@@ -1,6 +1,6 @@
 // Texts of records: plans that are to be loaded, and occurrences that are to be added.
 ghost use Rattle.std.specs.Prelude.{codes, IfOk};
-ghost use Rattle.plan_items.specs.Parts.{IsReading};
+ghost use Rattle.plan_import.specs.plan_items.specs.Parts.{IsReading};
 ghost use Rattle.request_texts.specs.Counted.{AsksBy};
 ghost use Rattle.serde_json.specs.View.{view};
 

@@ -1,2 +1,3 @@
+pub use Rattle.operation_graph
 pub mod Returns
 pub mod Reached

@@ -5,7 +5,7 @@ use Rattle.std.specs.Cmp.{on_total}
 use Rattle.std.specs.List.Sorted.{IsStrictlySortedBy}
 use Rattle.std.specs.declared.cmp.Ordering.TheVariants.{Less}
 use Rattle.std.proofs.lemmas.List.Sorted.{Contains-permutation, IsPermutation-sym}
-use Rattle.ready_list.proofs.Ordered.{all_of_keys, sorted_by_keys}
+use Rattle.plan_laws.specs.ready_list.proofs.Ordered.{all_of_keys, sorted_by_keys}
 use Rattle.plan_drafts.proofs.Lists.{at_member, contains_cases, contains_none, differ_from_pairs, differ_weaken, pairs_from_differ}
 use Rattle.plan_drafts.specs.KeyOrder.{AreInKeyOrder}
 use Rattle.plan_drafts.specs.RowKeys.{row_cmp_total}

@@ -7,7 +7,7 @@ use Rattle.sqlite.specs.declared.types.Value.TheVariants.{Blob, Int, Text}
 use Rattle.sqlite_rules.specs.Lists.{Has}
 use Rattle.plan_records.specs.declared.PlanRow.{PlanRow}
 use Rattle.plan_records.specs.declared.PlanRow.TheVariants as row
-use Rattle.plan_schema.specs.Stored.{StoredMeta, StoredWorkstation, StoredInterval, StoredResource, StoredOccurrence, StoredOperation, StoredDependency, StoredNeed}
+use Rattle.plan_columns.specs.plan_schema.specs.Stored.{StoredMeta, StoredWorkstation, StoredInterval, StoredResource, StoredOccurrence, StoredOperation, StoredDependency, StoredNeed}
 use Rattle.plan_columns.proofs.SameColumns.{meta_columns_injective, workstation_columns_injective, interval_columns_injective, resource_columns_injective, occurrence_columns_injective, operation_columns_injective, dependency_columns_injective, need_columns_injective}
 use Rattle.stored_rows.specs.Receipts.{IsReceiptStoredAs}
 use Rattle.stored_rows.specs.Rows.{table_for, columns_of, IsStoredAs}

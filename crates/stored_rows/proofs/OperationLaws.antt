@@ -5,7 +5,7 @@ use Rattle.sqlite.specs.declared.types.Value.TheVariants.{Text}
 use Rattle.status_rules.specs.Texts.{mark_text, code_text}
 use Rattle.plan_records.specs.declared.OperationRow.{OperationRow}
 use Rattle.plan_records.specs.declared.PlanRow.TheVariants as row
-use Rattle.plan_schema.specs.Stored.{operation_row}
+use Rattle.plan_columns.specs.plan_schema.specs.Stored.{operation_row}
 use Rattle.plan_columns.specs.Columns.{operation_columns}
 use Rattle.stored_rows.specs.Operations.{IsPlannedIn, IsReportedIn, IsDerivedIn, operation_of}
 use Rattle.stored_rows.specs.Rows.{IsOperationInRange, IsStoredAs}

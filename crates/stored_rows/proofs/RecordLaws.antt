@@ -13,10 +13,10 @@ use Rattle.status_rules.specs.declared.OccStatus.{OccStatus}
 use Rattle.plan_records.specs.declared.OperationRow.{OperationRow}
 use Rattle.plan_records.specs.declared.PlanRow.{PlanRow}
 use Rattle.plan_records.specs.declared.PlanRow.TheVariants as row
-use Rattle.plan_schema.specs.Stored.{meta_values, workstation_row, interval_row, resource_row, occurrence_row, operation_row, dependency_row, need_row}
+use Rattle.plan_columns.specs.plan_schema.specs.Stored.{meta_values, workstation_row, interval_row, resource_row, occurrence_row, operation_row, dependency_row, need_row}
 use Rattle.plan_columns.specs.Columns.{meta_columns, workstation_columns, interval_columns, resource_columns, occurrence_columns, operation_columns, dependency_columns, need_columns}
-use Rattle.table_rows.proofs.Keys.{behind}
-use Rattle.table_rows.proofs.Reading.{shown_behind, shown_whole}
+use Rattle.plan_columns.specs.table_rows.proofs.Keys.{behind}
+use Rattle.plan_columns.specs.table_rows.proofs.Reading.{shown_behind, shown_whole}
 use Rattle.stored_rows.specs.Rows.{IsStoredAs, IsInRange, IsKeyInRange, IsOperationInRange}
 use Rattle.stored_rows.specs.declared.Table.TheVariants as table
 

@@ -1,7 +1,7 @@
 -- Which receipt's row a stored row is.
 use Rattle.std.specs.Prelude.{◌≡◌, drop}
 use Rattle.sqlite.specs.Order.{Row}
-use Rattle.plan_schema.specs.Stored.{receipt_row}
+use Rattle.plan_columns.specs.plan_schema.specs.Stored.{receipt_row}
 use Rattle.plan_columns.specs.Receipts.{stored_receipt}
 use Rattle.tracker_receipts.specs.Stored.{Columns}
 

@@ -6,7 +6,7 @@ ghost use Rattle.plan_basics.specs.Attributes.{attribute_letter};
 ghost use Rattle.plan_basics.specs.Minutes.{IsMoment};
 ghost use Rattle.plan_basics.specs.Names.{IsName, IsResourceName};
 ghost use Rattle.plan_columns.specs.Columns.{flag};
-ghost use Rattle.plan_items.specs.Parts.{IsReading, mode_letter, keep_letter};
+ghost use Rattle.plan_columns.specs.plan_items.specs.Parts.{IsReading, mode_letter, keep_letter};
 ghost use Rattle.status_rules.specs.Texts.{status_letter, occurrence_letter};
 ghost use Rattle.stored_rows.specs.Cells.{IsMarkAt, IsOccurrenceKeyAt, IsOperationKeyAt};
 

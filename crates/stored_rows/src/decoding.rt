@@ -1,6 +1,6 @@
 // The rows of any table of a plan, as rows of a plan.
 ghost use Rattle.std.specs.Prelude.{[], ◌∷◌, IfOk, MatchBool, Any};
-ghost use Rattle.plan_items.specs.Parts.{IsReading};
+ghost use Rattle.plan_columns.specs.plan_items.specs.Parts.{IsReading};
 ghost use Rattle.stored_rows.specs.Rows.{AppendsRows, IsNoRow, IsStoredAs};
 
 use super::Table;

@@ -1,6 +1,6 @@
 // A row of `operation` is read in three parts: what was planned, what was reported, and what is read off the plan.
 ghost use Rattle.std.specs.Prelude.{◌≡◌};
-ghost use Rattle.plan_items.specs.Parts.{IsReading};
+ghost use Rattle.plan_columns.specs.plan_items.specs.Parts.{IsReading};
 ghost use Rattle.stored_rows.specs.Operations.{IsDerivedIn, IsPlannedIn, IsReportedIn, operation_of};
 ghost use Rattle.stored_rows.specs.Rows.{IsStoredAs};
 ghost use Rattle.stored_rows.specs.declared.Table.TheVariants as table;

@@ -1,7 +1,7 @@
 // The rows of the table of receipts, as receipts' rows.
 ghost use Rattle.std.specs.Prelude.{Any, IfOk, MatchOption};
 ghost use Rattle.std.specs.List.{AllZip};
-ghost use Rattle.plan_items.specs.Parts.{IsReading};
+ghost use Rattle.plan_columns.specs.plan_items.specs.Parts.{IsReading};
 ghost use Rattle.stored_rows.specs.Receipts.{IsNoReceipt, IsReceiptStoredAs};
 
 use super::columns::{bytes, number, text};

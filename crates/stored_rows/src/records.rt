@@ -1,5 +1,5 @@
 // The rows of each table, as rows of a plan. In front of the columns stands the rowid.
-ghost use Rattle.plan_items.specs.Parts.{IsReading};
+ghost use Rattle.plan_columns.specs.plan_items.specs.Parts.{IsReading};
 ghost use Rattle.stored_rows.specs.Rows.{IsStoredAs};
 ghost use Rattle.stored_rows.specs.declared.Table.TheVariants as table;
 

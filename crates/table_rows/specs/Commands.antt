@@ -80,6 +80,7 @@ update_terms_by_rowid width = col 1 0 ∷ col 1 0 ∷ lit Null ∷ map (col 0) (
 abbrev pub clauses_by_rowid : ℕ → ℕ → List Upsert
 clauses_by_rowid tree width = record { target = Some (0 ∷ []); update = Some (program (simple tree (equal_at 0 width ∷ []) (update_terms_by_rowid width))) } ∷ []
 
+-- the insertion of a row by its rowid, or where one has that the update of its columns
 abbrev pub upsert_by_rowid : ℕ → ℕ → ℕ → Command
 upsert_by_rowid at tree width = InsertOr at Abort (Values (row_terms_by_rowid width) (width + 1)) (clauses_by_rowid tree width)
 

@@ -1,30 +1,36 @@
 // Runs of the desk: what goes to both streams, and the exit status.
 use desk_commands::desk_run;
 use plan_basics::Watched;
+use sqlite::Connection;
 use std::alloc::{AllocError, Global};
+use std::fmt::Write as Format;
 use std::io::Write;
 use std::path::PathBuf;
 use std::test::Fail;
 use std::{env, fs, io, process};
 
-/// What a run wrote, and the status that it ended with.
-#[derive(Drop)]
-pub struct Ran {
-    pub out: String,
-    pub err: String,
-    pub status: u8,
-}
-
-fn words_of(alloc: Global, words: &[&str]) -> Result<Vec<String>, AllocError> {
-    let mut owned = Vec::new(alloc);
-    for word in words {
-        owned.push(String::from_str(alloc, *word)?)?;
+/// The words of a run in a folder, parted by single blanks. `@` stands before a file of the folder, and `''` is the
+/// empty word.
+fn words_in(rt: &HostRuntime, folder: &PathBuf, line: &str) -> Result<Vec<String>, Fail> {
+    let mut words = Vec::new(rt.alloc());
+    words.push(String::from_str(rt.alloc(), "plandesk")?)?;
+    for word in line.split(' ') {
+        match word.strip_prefix("@") {
+            Some(name) => {
+                let path = folder.join(rt.alloc(), name)?;
+                words.push(String::from_str(rt.alloc(), path.as_str())?)?;
+            }
+            None if word == "''" => words.push(String::new(rt.alloc()))?,
+            None => words.push(String::from_str(rt.alloc(), word)?)?,
+        }
     }
-    Ok(owned)
+    Ok(words)
 }
 
-pub fn run(rt: &HostRuntime, words: &[&str]) -> Result<Ran, Fail> {
-    let words = words_of(rt.alloc(), words)?;
+/// What comes of a run with the words of a line: what it shows, each line of its faults behind `!`, and its status
+/// behind `=`, unless that is 0.
+pub fn told_by(rt: &HostRuntime, folder: &PathBuf, line: &str) -> Result<String, Fail> {
+    let words = words_in(rt, folder, line)?;
     let mut out: Vec<u8> = Vec::new(rt.alloc());
     let mut err: Vec<u8> = Vec::new(rt.alloc());
     let status = desk_run(
@@ -33,11 +39,60 @@ pub fn run(rt: &HostRuntime, words: &[&str]) -> Result<Ran, Fail> {
         &mut Watched::new(&mut out),
         &mut Watched::new(&mut err),
     );
-    Ok(Ran {
-        out: String::from_utf8(out)?,
-        err: String::from_utf8(err)?,
-        status,
-    })
+    let mut told = String::from_utf8(out)?;
+    for fault in str::from_utf8(err.as_slice())?.lines() {
+        write!(told, "!{fault}\n")?;
+    }
+    if status != 0 {
+        write!(told, "={status}\n")?;
+    }
+    Ok(told)
+}
+
+/// Has another program change a database of the folder: its name stands before the statements.
+fn change(rt: &HostRuntime, folder: &PathBuf, change: &str) -> Result<(), Fail> {
+    let Some((name, statements)) = change.split_once(' ') else {
+        return Err(Fail::new("no statements stand behind the database's name"));
+    };
+    let path = folder.join(rt.alloc(), name)?;
+    let mut conn = Connection::open(rt, path.as_str())?;
+    conn.execute_batch(statements)?;
+    conn.close()?;
+    Ok(())
+}
+
+/// Plays a session in a folder, and holds what comes of it to what the session tells: `$` stands before the words of a
+/// run, `%` before a change by another program, `#` before what the next run shows.
+pub fn plays_so(rt: &HostRuntime, folder: &PathBuf, session: &'static str) -> Result<(), Fail> {
+    let mut told = String::new(rt.alloc());
+    for line in session.lines() {
+        match line.split_once(' ') {
+            Some(("$", words)) => {
+                let by_run = told_by(rt, folder, words)?;
+                write!(told, "{line}\n{by_run}")?;
+            }
+            Some(("%", statements)) => {
+                change(rt, folder, statements)?;
+                write!(told, "{line}\n")?;
+            }
+            Some(("#", _)) => write!(told, "{line}\n")?,
+            _ => {}
+        }
+    }
+    is_told(told.as_str(), session)
+}
+
+/// Holds what was told to what is wanted; the first line that differs is named.
+fn is_told(told: &str, wanted: &'static str) -> Result<(), Fail> {
+    for (line, wanted) in told.lines().zip(wanted.lines()) {
+        if line != wanted {
+            return Err(Fail::new(wanted));
+        }
+    }
+    if told != wanted {
+        return Err(Fail::new("more is told, or less"));
+    }
+    Ok(())
 }
 
 /// A folder of this test's own. It is removed by `fs::remove_dir_all` where the test passes.
@@ -49,27 +104,34 @@ pub fn own_folder(rt: &HostRuntime, name: &str) -> Result<PathBuf, Fail> {
     Ok(folder)
 }
 
-// The lines of a small plan: a workstation, its interval, an occurrence, its operations 10 and 20, and their dependency.
-pub const STATION: &[u8] = b"W,CPU1,A,,,,,,,";
+/// A small plan: a workstation, its interval, an occurrence, its operations 10 and 20, and their dependency.
+pub const DAY: &str = "W,CPU1,A,,,,,,,
+I,CPU1,1972-01-01T00:00,2071-12-31T23:59,2,0,0,,,
+O,DAILY,2024-03-01T22:00,5,2024-03-02T05:00,,,,,
+P,DAILY,2024-03-01T22:00,10,CPU1,30,0,0,,
+P,DAILY,2024-03-01T22:00,20,CPU1,60,0,0,,
+D,DAILY,2024-03-01T22:00,10,DAILY,2024-03-01T22:00,20,,,
+";
 
-pub const OPEN: &[u8] = b"I,CPU1,1972-01-01T00:00,2071-12-31T23:59,2,0,0,,,";
+// Its lines.
+const STATION: &[u8] = b"W,CPU1,A,,,,,,,";
 
-pub const DAILY: &[u8] = b"O,DAILY,2024-03-01T22:00,5,2024-03-02T05:00,,,,,";
+const OPEN: &[u8] = b"I,CPU1,1972-01-01T00:00,2071-12-31T23:59,2,0,0,,,";
 
-pub const FIRST: &[u8] = b"P,DAILY,2024-03-01T22:00,10,CPU1,30,0,0,,";
+const DAILY: &[u8] = b"O,DAILY,2024-03-01T22:00,5,2024-03-02T05:00,,,,,";
 
-pub const SECOND: &[u8] = b"P,DAILY,2024-03-01T22:00,20,CPU1,60,0,0,,";
+const FIRST: &[u8] = b"P,DAILY,2024-03-01T22:00,10,CPU1,30,0,0,,";
 
-pub const PAIR: &[u8] = b"D,DAILY,2024-03-01T22:00,10,DAILY,2024-03-01T22:00,20,,,";
+const SECOND: &[u8] = b"P,DAILY,2024-03-01T22:00,20,CPU1,60,0,0,,";
 
-/// What a run answers: standard output and the status.
-pub type Answer = (&'static str, u8);
+const PAIR: &[u8] = b"D,DAILY,2024-03-01T22:00,10,DAILY,2024-03-01T22:00,20,,,";
 
-pub const FIRST_STARTS: Answer = ("accepted\nstarts DAILY/2024-03-01T22:00/010\n", 0);
+// What comes of some runs.
+const FIRST_STARTS: &str = "accepted\nstarts DAILY/2024-03-01T22:00/010\n";
 
-pub const BAD_PLAN: Answer = ("refused 21 BadPlan\n", 1);
+const BAD_PLAN: &str = "refused 21 BadPlan\n=1\n";
 
-pub const NIGHT: &str = "2024-03-01T22:00";
+const NIGHT: &str = "2024-03-01T22:00";
 
 /// The lines of a plan's text, what ends each, and a moment; and what the run answers.
 struct Row {
@@ -77,7 +139,7 @@ struct Row {
     lines: &'static [&'static [u8]],
     end: &'static [u8],
     at: &'static str,
-    answer: Answer,
+    answer: &'static str,
 }
 
 const ROWS: [Row; 11] = [
@@ -99,10 +161,7 @@ const ROWS: [Row; 11] = [
         ],
         end: b"\n",
         at: NIGHT,
-        answer: (
-            "accepted\nstarts DAILY/2024-03-01T22:00/010\nstarts DAILY/2024-03-01T22:00/020\n",
-            0,
-        ),
+        answer: "accepted\nstarts DAILY/2024-03-01T22:00/010\nstarts DAILY/2024-03-01T22:00/020\n",
     },
     Row {
         what: "lines that end in CR LF",
@@ -116,14 +175,14 @@ const ROWS: [Row; 11] = [
         lines: &[STATION, OPEN, DAILY, FIRST],
         end: b"\n",
         at: "2071-12-31T23:59",
-        answer: ("accepted\n", 0),
+        answer: "accepted\n",
     },
     Row {
         what: "no moment",
         lines: &[STATION, OPEN, DAILY, FIRST],
         end: b"\n",
         at: "2072-01-01T00:00",
-        answer: ("refused 2 MomentRange\n", 1),
+        answer: "refused 2 MomentRange\n=1\n",
     },
     Row {
         what: "an empty text",
@@ -186,13 +245,23 @@ const ROWS: [Row; 11] = [
 ];
 
 /// The text of these lines, each with this at its end.
-pub fn text_of(alloc: Global, lines: &[&[u8]], end: &[u8]) -> Result<Vec<u8>, AllocError> {
+fn text_of(alloc: Global, lines: &[&[u8]], end: &[u8]) -> Result<Vec<u8>, AllocError> {
     let mut text = Vec::new(alloc);
     for line in lines {
         text.extend_from_slice(line)?;
         text.extend_from_slice(end)?;
     }
     Ok(text)
+}
+
+/// Whether a row's text is answered as it has to be. It is validated as it is checked: there are faults exactly where it
+/// is refused as no plan.
+fn is_answered(rt: &HostRuntime, folder: &PathBuf, row: &Row) -> Result<bool, Fail> {
+    let check = format!(in rt.alloc(); "check --plan @plan.csv --at {}", row.at)?;
+    let checked = told_by(rt, folder, check.as_str())?;
+    let validated = told_by(rt, folder, "validate --plan @plan.csv")?;
+    let is_faultless = validated.as_str() == "no faults\n";
+    Ok(checked.as_str() == row.answer && is_faultless == (row.answer != BAD_PLAN))
 }
 
 #[test]
@@ -202,63 +271,11 @@ fn texts_and_their_answers(rt: HostRuntime) -> Result<(), Fail> {
     for row in &ROWS {
         let text = text_of(rt.alloc(), row.lines, row.end)?;
         fs::write(&rt, plan.as_path(), text.as_slice())?;
-        let words = ["plandesk", "check", "--plan", plan.as_str(), "--at", row.at];
-        let ran = run(&rt, words.as_slice())?;
-        let what = row.what;
-        let (out, status) = row.answer;
-        assert_eq!(rt; ran.out.as_str(), out, "{what}");
-        assert_eq!(rt; ran.err.as_str(), "", "{what}");
-        assert_eq!(rt; ran.status, status, "{what}");
+        if !is_answered(&rt, &folder, row)? {
+            return Err(Fail::new(row.what));
+        }
     }
     fs::remove_dir_all(&rt, folder.as_path())?;
-    Ok(())
-}
-
-#[test]
-fn faults_of_the_moment_and_the_file(rt: HostRuntime) -> Result<(), Fail> {
-    let folder = own_folder(&rt, "faults")?;
-    let absent = folder.join(rt.alloc(), "absent.csv")?;
-    for (plan, at, told, status) in [
-        (absent.as_str(), "2024-3-1", "fault moment\n", 2u8),
-        (absent.as_str(), "", "fault moment\n", 2),
-        (absent.as_str(), NIGHT, "fault file\n", 3),
-        (folder.as_str(), NIGHT, "fault file\n", 3),
-        ("", NIGHT, "fault file\n", 3),
-    ] {
-        let words = ["plandesk", "check", "--plan", plan, "--at", at];
-        let ran = run(&rt, words.as_slice())?;
-        assert_eq!(rt; ran.out.as_str(), "", "{plan} {at}");
-        assert_eq!(rt; ran.err.as_str(), told, "{plan} {at}");
-        assert_eq!(rt; ran.status, status, "{plan} {at}");
-    }
-    fs::remove_dir_all(&rt, folder.as_path())?;
-    Ok(())
-}
-
-#[test]
-fn faults_of_the_words(rt: HostRuntime) -> Result<(), Fail> {
-    let ran = run(&rt, ["plandesk", "check", "--plan", "day.csv"].as_slice())?;
-    assert_eq!(rt; ran.out.as_str(), "");
-    assert_eq!(rt;
-        ran.err.as_str(),
-        "error: the following required arguments were not provided:
-  --at <MOMENT>
-
-Usage: plandesk check --plan <FILE> --at <MOMENT>
-
-For more information, try '--help'.
-"
-    );
-    assert_eq!(rt; ran.status, 2);
-    Ok(())
-}
-
-#[test]
-fn help_is_no_fault(rt: HostRuntime) -> Result<(), Fail> {
-    let ran = run(&rt, ["plandesk", "--help"].as_slice())?;
-    assert!(rt; ran.out.as_str().contains("Usage: plandesk <COMMAND>"));
-    assert_eq!(rt; ran.err.as_str(), "");
-    assert_eq!(rt; ran.status, 0);
     Ok(())
 }
 
@@ -287,8 +304,7 @@ fn faults_of_the_streams(rt: HostRuntime) -> Result<(), Fail> {
     let folder = own_folder(&rt, "streams")?;
     let plan = folder.join(rt.alloc(), "plan.csv")?;
     fs::write(&rt, plan.as_path(), "")?;
-    let words = ["plandesk", "check", "--plan", plan.as_str(), "--at", NIGHT];
-    let words = words_of(rt.alloc(), words.as_slice())?;
+    let words = words_in(&rt, &folder, "check --plan @plan.csv --at 2024-03-01T22:00")?;
     for takes in [false, true] {
         let mut err: Vec<u8> = Vec::new(rt.alloc());
         let status = desk_run(
@@ -297,10 +313,13 @@ fn faults_of_the_streams(rt: HostRuntime) -> Result<(), Fail> {
             &mut Watched::new(Failing { takes }),
             &mut Watched::new(&mut err),
         );
-        assert_eq!(rt; err.as_slice(), b"fault file\n".as_slice(), "{takes}");
-        assert_eq!(rt; status, 3, "{takes}");
+        assert!(rt;
+            err.as_slice() == b"fault file\n".as_slice() && status == 3,
+            "{takes}"
+        );
     }
-    let none = words_of(rt.alloc(), ["plandesk"].as_slice())?;
+    let mut none = Vec::new(rt.alloc());
+    none.push(String::from_str(rt.alloc(), "plandesk")?)?;
     let status = desk_run(
         &rt,
         none.as_slice(),

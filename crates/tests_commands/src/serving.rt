@@ -1,7 +1,6 @@
 // Connections over the loopback, in one thread: each client writes before it is served, and reads after it. And what
 // can't be served.
-use crate::loads::{DAY, run_load};
-use crate::runs::{NIGHT, Ran, own_folder, run, text_of};
+use crate::runs::{DAY, own_folder, plays_so, told_by};
 use desk_commands::serve_listener;
 use plan_basics::{Watched, minute_of_text};
 use plan_import::read_plan;
@@ -10,6 +9,7 @@ use plan_tables::Desk;
 use sqlite::{Connection, MemStore};
 use std::io::Write;
 use std::net::{Ipv4Addr, SocketAddr, TcpListener, TcpStream};
+use std::path::PathBuf;
 use std::test::Fail;
 use std::{fs, io};
 
@@ -43,13 +43,12 @@ Connection: close\r
 
 /// A desk in memory, at which the small plan is loaded.
 fn loaded_desk(rt: &HostRuntime) -> Result<Desk<MemStore>, Fail> {
-    let text = text_of(rt.alloc(), DAY, b"\n")?;
     let conn = Connection::open_in_memory(rt.alloc())?;
     let mut desk = Desk::create(rt.alloc(), conn).map_err(|_| Fail::new("no desk"))?;
-    let draft = read_plan(rt.alloc(), &mut Watched::new(text.as_slice())).map_err(|_| Fail::new(
+    let draft = read_plan(rt.alloc(), &mut Watched::new(DAY.as_bytes())).map_err(|_| Fail::new(
         "no plan",
     ))?;
-    let at = minute_of_text(NIGHT.as_bytes()).unwrap_or(0);
+    let at = minute_of_text(b"2024-03-01T22:00".as_slice()).unwrap_or(0);
     desk.call(&Request {
         at,
         what: What::Load(draft),
@@ -97,70 +96,31 @@ fn a_silent_client_is_let_go(rt: HostRuntime) -> Result<(), Fail> {
     Ok(())
 }
 
-/// A run of `serve` for one connection.
-fn run_serve<'a>(rt: &HostRuntime, db: &'a str, port: &'a str) -> Result<Ran, Fail> {
-    let words = [
-        "plandesk",
-        "serve",
-        "--db",
-        db,
-        "--port",
-        port,
-        "--requests",
-        "1",
-    ];
-    run(rt, words.as_slice())
-}
+// What is loaded before ports are asked for.
+const LOADED: &str = "$ load --db @night.db --plan @day.csv --at 2024-03-01T22:00
+accepted
+starts DAILY/2024-03-01T22:00/010
+";
 
-#[test]
-fn databases_that_are_not_served(rt: HostRuntime) -> Result<(), Fail> {
-    let folder = own_folder(&rt, "unserved")?;
-    let (absent, empty) = (
-        folder.join(rt.alloc(), "absent.db")?,
-        folder.join(rt.alloc(), "empty.db")?,
-    );
-    let other = folder.join(rt.alloc(), "other.db")?;
-    fs::write(&rt, empty.as_path(), "")?;
-    fs::write(&rt, other.as_path(), "a letter, and no database")?;
-    for (db, out, err, status) in [
-        (absent.as_str(), "", "fault file\n", 3u8),
-        (empty.as_str(), "refused 28 Damaged\n", "", 1),
-        (other.as_str(), "", "fault file\n", 3),
-        (folder.as_str(), "", "fault file\n", 3),
-    ] {
-        let ran = run_serve(&rt, db, "8080")?;
-        assert_eq!(rt; ran.out.as_str(), out, "{db}");
-        assert_eq!(rt; ran.err.as_str(), err, "{db}");
-        assert_eq!(rt; ran.status, status, "{db}");
-    }
-    assert!(rt; fs::open(&rt, absent.as_str()).is_err());
-    fs::remove_dir_all(&rt, folder.as_path())?;
-    Ok(())
+/// What comes of a run of `serve` for one connection at this port.
+fn served(rt: &HostRuntime, folder: &PathBuf, port: &str) -> Result<String, Fail> {
+    let line = format!(in rt.alloc(); "serve --db @night.db --requests 1 --port {port}")?;
+    told_by(rt, folder, line.as_str())
 }
 
 #[test]
 fn ports_that_are_not_had(rt: HostRuntime) -> Result<(), Fail> {
     let folder = own_folder(&rt, "ports")?;
-    let (db, plan) = (
-        folder.join(rt.alloc(), "night.db")?,
-        folder.join(rt.alloc(), "plan.csv")?,
-    );
-    fs::write(
-        &rt,
-        plan.as_path(),
-        text_of(rt.alloc(), DAY, b"\n")?.as_slice(),
-    )?;
-    run_load(&rt, db.as_str(), plan.as_str(), NIGHT)?;
+    fs::write(&rt, folder.join(rt.alloc(), "day.csv")?.as_path(), DAY)?;
+    plays_so(&rt, &folder, LOADED)?;
     let holder = TcpListener::bind(&rt, (Ipv4Addr::LOCALHOST, 0u16))?;
     let taken = format!(in rt.alloc(); "{}", holder.local_addr()?.port())?;
-    let ran = run_serve(&rt, db.as_str(), taken.as_str())?;
-    assert_eq!(rt; ran.out.as_str(), "");
-    assert_eq!(rt; ran.err.as_str(), "fault network\n");
-    assert_eq!(rt; ran.status, 3);
+    let told = served(&rt, &folder, taken.as_str())?;
+    assert!(rt; told.as_str() == "!fault network\n=3\n");
     for port in ["0", "65536", "http"] {
-        let ran = run_serve(&rt, db.as_str(), port)?;
-        assert_eq!(rt; ran.out.as_str(), "", "{port}");
-        assert_eq!(rt; ran.status, 2, "{port}");
+        let told = served(&rt, &folder, port)?;
+        let is_fault_of_words = told.as_str().starts_with("!") && told.as_str().ends_with("\n=2\n");
+        assert!(rt; is_fault_of_words, "{port}");
     }
     fs::remove_dir_all(&rt, folder.as_path())?;
     Ok(())

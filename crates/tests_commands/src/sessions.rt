@@ -1,11 +1,8 @@
 // Sessions: runs of the program one after another over the files of a folder, and what each answers.
-use crate::runs::own_folder;
-use desk_commands::desk_run;
-use plan_basics::Watched;
-use sqlite::Connection;
-use std::fs;
+use crate::runs::{own_folder, plays_so, told_by};
 use std::path::PathBuf;
 use std::test::Fail;
+use std::{env, fs};
 
 // A night: a set-up, two runs of which the second needs the customers' file for itself, a check, and a printing.
 const NIGHT: &str = "W,CPU1,A,,,,,,,
@@ -36,28 +33,18 @@ P,DAILY,2024-03-01T22:00,10,CPU1,30,0,0,,
 W,CPU1,A,,,,,,,
 ";
 
-// Requests of that night. Of a text that is played, the line with only blanks is passed over.
-const STARTED: &str =
-    r#"{"at":"2024-03-01T22:00","do":"started","op":"PAYROLL/2024-03-01T22:00/005"}"#;
+// A plan with an operation that had to start before the first minute that a plan can name.
+const OLD: &str = "W,CPU1,A,,,,,,,
+I,CPU1,2024-03-01T22:00,2024-03-02T06:00,2,3,0,,,
+O,AAA,2024-03-01T22:00,5,2024-03-02T04:00,,,,,
+P,AAA,2024-03-01T22:00,10,CPU1,30,0,0,,
+O,OLD,1972-01-01T00:00,5,1972-01-01T00:30,,,,,
+P,OLD,1972-01-01T00:00,10,CPU1,20,0,0,,
+P,OLD,1972-01-01T00:00,20,CPU1,20,0,0,,
+D,OLD,1972-01-01T00:00,10,OLD,1972-01-01T00:00,20,,,
+";
 
-const ENDED: &str = r#"{"at":"2024-03-01T22:10","do":"ended","op":"PAYROLL/2024-03-01T22:00/005"}"#;
-
-const TOO_EARLY: &str =
-    r#"{"at":"2024-03-01T21:59","do":"started","op":"PAYROLL/2024-03-01T22:00/005"}"#;
-
-const RUN_ENDED: &str =
-    r#"{"at":"2024-03-01T22:40","do":"ended","op":"PAYROLL/2024-03-01T22:00/010"}"#;
-
-const BILLS: &str =
-    r#"{"at":"2024-03-01T22:45","do":"add","records":"O,BILLING,2024-03-01T22:00,5,2024-03-02T03:00,,,,,\nP,BILLING,2024-03-01T22:00,10,CPU1,30,0,0,,\nN,BILLING,2024-03-01T22:00,10,CUSTFILE,S,F,,,"}"#;
-
-const FAILED: &str =
-    r#"{"at":"2024-03-01T23:00","do":"error","op":"PAYROLL/2024-03-01T22:00/020","code":"S0C7"}"#;
-
-const TICK_OF_ONE: &str = r#"{"at":"2024-03-01T22:00","do":"tick","op":"X"}"#;
-
-const TICK: &str = r#"{"at":"2024-03-01T22:00","do":"tick"}"#;
-
+// Requests that are played. The line with only blanks is passed over.
 const PLAYED: &str =
     "{\"at\":\"2024-03-01T21:59\",\"do\":\"started\",\"op\":\"PAYROLL/2024-03-01T22:00/005\"}
 {\"at\":\"2024-03-01T22:00\",\"do\":\"started\",\"op\":\"PAYROLL/2024-03-01T22:00/005\"}\r
@@ -69,585 +56,355 @@ const BROKEN_OFF: &str = "{\"at\":\"2024-03-01T22:00\",\"do\":\"tick\"}
 {\"at\":\"2024-03-01T22:02\",\"do\":\"tick\"}
 ";
 
-/// A run: its words but the program's name, where `@` stands before a file of the folder; and what it answers, on
-/// standard output, on standard error, and by its status.
-type Turn = (&'static [&'static str], &'static str, &'static str, u8);
-
-const NO_FAULT: &str = "";
-
 // Loads, requests and reports over one database.
-const SESSION: [Turn; 19] = [
-    (
-        &[
-            "load",
-            "--db",
-            "@night.db",
-            "--plan",
-            "@empty",
-            "--at",
-            "2024-03-01T21:00",
-        ],
-        "refused 21 BadPlan\n",
-        NO_FAULT,
-        1,
-    ),
-    (
-        &["report", "--db", "@night.db", "--kind", "late"],
-        "refused 3 NotLoaded\n",
-        NO_FAULT,
-        1,
-    ),
-    (
-        &["do", "--db", "@night.db", "--request", TICK],
-        "refused 3 NotLoaded\n",
-        NO_FAULT,
-        1,
-    ),
-    (
-        &[
-            "load",
-            "--db",
-            "@night.db",
-            "--plan",
-            "@night.csv",
-            "--at",
-            "2024-03-01T21:00",
-        ],
-        "accepted\n",
-        NO_FAULT,
-        0,
-    ),
-    (
-        &[
-            "report",
-            "--db",
-            "@night.db",
-            "--kind",
-            "ready",
-            "--ws",
-            "SETP",
-        ],
-        "READY SETP AT 2024-03-01T21:00
+const SESSION: &str = r#"$ load --db @night.db --plan @empty --at 2024-03-01T21:00
+refused 21 BadPlan
+=1
+$ report --db @night.db --kind late
+refused 3 NotLoaded
+=1
+$ do --db @night.db --request {"at":"2024-03-01T22:00","do":"tick"}
+refused 3 NotLoaded
+=1
+$ load --db @night.db --plan @night.csv --at 2024-03-01T21:00
+accepted
+$ report --db @night.db --kind ready --ws SETP
+READY SETP AT 2024-03-01T21:00
 PAYROLL          2024-03-01T22:00   5 A - 5   10 2024-03-02T02:59
 END 1
-",
-        NO_FAULT,
-        0,
-    ),
-    (
-        &[
-            "report",
-            "--db",
-            "@night.db",
-            "--kind",
-            "ready",
-            "--ws",
-            "XXXX",
-        ],
-        "refused 7 UnknownWorkstation\n",
-        NO_FAULT,
-        1,
-    ),
-    (
-        &["report", "--db", "@night.db", "--kind", "ready"],
-        "",
-        "fault words\n",
-        2,
-    ),
-    (
-        &[
-            "report",
-            "--db",
-            "@night.db",
-            "--kind",
-            "ready",
-            "--ws",
-            "SETUP",
-        ],
-        "",
-        "fault words\n",
-        2,
-    ),
-    (
-        &["do", "--db", "@night.db", "--request", TOO_EARLY],
-        "refused 13 Closed\n",
-        NO_FAULT,
-        1,
-    ),
-    (
-        &["do", "--db", "@night.db", "--request", TICK_OF_ONE],
-        "",
-        "fault request\n",
-        2,
-    ),
-    (
-        &["do", "--db", "@night.db", "--request", STARTED],
-        "accepted\n",
-        NO_FAULT,
-        0,
-    ),
-    (
-        &["do", "--db", "@night.db", "--request", ENDED],
-        "accepted\nstarts PAYROLL/2024-03-01T22:00/010\n",
-        NO_FAULT,
-        0,
-    ),
-    (
-        &["do", "--db", "@night.db", "--request", RUN_ENDED],
-        "accepted\nstarts PAYROLL/2024-03-01T22:00/020\n",
-        NO_FAULT,
-        0,
-    ),
-    (
-        &["do", "--db", "@night.db", "--request", BILLS],
-        "accepted\n",
-        NO_FAULT,
-        0,
-    ),
-    (
-        &["do", "--db", "@night.db", "--request", FAILED],
-        "accepted\n",
-        NO_FAULT,
-        0,
-    ),
-    (
-        &["report", "--db", "@night.db", "--kind", "occurrences"],
-        "OCCURRENCES AT 2024-03-01T23:00
+$ report --db @night.db --kind ready --ws XXXX
+refused 7 UnknownWorkstation
+=1
+$ report --db @night.db --kind ready
+!fault words
+=2
+$ report --db @night.db --kind ready --ws SETUP
+!fault words
+=2
+$ do --db @night.db --request {"at":"2024-03-01T21:59","do":"started","op":"PAYROLL/2024-03-01T22:00/005"}
+refused 13 Closed
+=1
+$ do --db @night.db --request {"at":"2024-03-01T22:00","do":"tick","op":"X"}
+!fault request
+=2
+$ do --db @night.db --request {"at":"2024-03-01T22:00","do":"started","op":"PAYROLL/2024-03-01T22:00/005"}
+accepted
+$ do --db @night.db --request {"at":"2024-03-01T22:10","do":"ended","op":"PAYROLL/2024-03-01T22:00/005"}
+accepted
+starts PAYROLL/2024-03-01T22:00/010
+$ do --db @night.db --request {"at":"2024-03-01T22:40","do":"ended","op":"PAYROLL/2024-03-01T22:00/010"}
+accepted
+starts PAYROLL/2024-03-01T22:00/020
+$ do --db @night.db --request {"at":"2024-03-01T22:45","do":"add","records":"O,BILLING,2024-03-01T22:00,5,2024-03-02T03:00,,,,,\nP,BILLING,2024-03-01T22:00,10,CPU1,30,0,0,,\nN,BILLING,2024-03-01T22:00,10,CUSTFILE,S,F,,,"}
+accepted
+$ do --db @night.db --request {"at":"2024-03-01T23:00","do":"error","op":"PAYROLL/2024-03-01T22:00/020","code":"S0C7"}
+accepted
+$ report --db @night.db --kind occurrences
+OCCURRENCES AT 2024-03-01T23:00
 BILLING          2024-03-01T22:00 5 W 2024-03-02T03:00     1     0
 PAYROLL          2024-03-01T22:00 5 E 2024-03-02T05:00     5     2
 END 2
-",
-        NO_FAULT,
-        0,
-    ),
-    (
-        &[
-            "report",
-            "--db",
-            "@night.db",
-            "--kind",
-            "errors",
-            "--ws",
-            "no name",
-        ],
-        "ERRORS AT 2024-03-01T23:00
+$ report --db @night.db --kind errors --ws no_name
+ERRORS AT 2024-03-01T23:00
 PAYROLL          2024-03-01T22:00  20 CPU1 S0C7
 END 1
-",
-        NO_FAULT,
-        0,
-    ),
-    (
-        &["do", "--db", "@night.db", "--request", TICK],
-        "refused 1 Past\n",
-        NO_FAULT,
-        1,
-    ),
-    (
-        &["report", "--db", "@night.db", "--kind", "late"],
-        "LATE AT 2024-03-01T23:00\nEND 0\n",
-        NO_FAULT,
-        0,
-    ),
-];
+$ do --db @night.db --request {"at":"2024-03-01T22:00","do":"tick"}
+refused 1 Past
+=1
+$ report --db @night.db --kind late
+LATE AT 2024-03-01T23:00
+END 0
+"#;
+
+// What is late when the set-up's workstation has closed, and a latest start before the first minute that a plan can name.
+const SAMPLES: &str = r#"$ load --db @late.db --plan @night.csv --at 2024-03-01T21:00
+accepted
+$ do --db @late.db --request {"at":"2024-03-02T03:00","do":"tick"}
+accepted
+$ report --db @late.db --kind late
+LATE AT 2024-03-02T03:00
+PAYROLL          2024-03-01T22:00   5 SETP A 2024-03-02T02:59
+END 1
+$ load --db @old.db --plan @old.csv --at 2024-03-01T21:00
+accepted
+$ report --db @old.db --kind ready --ws CPU1
+READY CPU1 AT 2024-03-01T21:00
+OLD              1972-01-01T00:00  10 A - 5   20 ----------------
+AAA              2024-03-01T22:00  10 A - 5   30 2024-03-02T03:30
+END 2
+"#;
 
 // What is tried out in memory.
-const PLAYS: [Turn; 5] = [
-    (
-        &[
-            "play",
-            "--plan",
-            "@night.csv",
-            "--at",
-            "2024-03-01T21:00",
-            "--requests",
-            "@played",
-        ],
-        "1 2024-03-01T21:59
+const PLAYS: &str = r#"$ play --plan @night.csv --at 2024-03-01T21:00 --requests @played
+1 2024-03-01T21:59
 refused 13 Closed
 2 2024-03-01T22:00
 accepted
 4 2024-03-01T22:10
 accepted
 starts PAYROLL/2024-03-01T22:00/010
-",
-        NO_FAULT,
-        1,
-    ),
-    (
-        &[
-            "play",
-            "--plan",
-            "@night.csv",
-            "--at",
-            "2024-03-01T21:00",
-            "--requests",
-            "@broken_off",
-        ],
-        "1 2024-03-01T22:00\naccepted\n2\n",
-        "fault request\n",
-        2,
-    ),
-    (
-        &[
-            "play",
-            "--plan",
-            "@night.csv",
-            "--at",
-            "2024-03-01T21:00",
-            "--requests",
-            "@empty",
-        ],
-        "",
-        NO_FAULT,
-        0,
-    ),
-    (
-        &[
-            "play",
-            "--plan",
-            "@empty",
-            "--at",
-            "2024-03-01T21:00",
-            "--requests",
-            "@played",
-        ],
-        "refused 21 BadPlan\n",
-        NO_FAULT,
-        1,
-    ),
-    (
-        &[
-            "play",
-            "--plan",
-            "@night.csv",
-            "--at",
-            "2024-03-01T21:00",
-            "--requests",
-            "@absent",
-        ],
-        "",
-        "fault file\n",
-        3,
-    ),
-];
+=1
+$ play --plan @night.csv --at 2024-03-01T21:00 --requests @broken_off
+1 2024-03-01T22:00
+accepted
+2
+!fault request
+=2
+$ play --plan @night.csv --at 2024-03-01T21:00 --requests @empty
+$ play --plan @empty --at 2024-03-01T21:00 --requests @played
+refused 21 BadPlan
+=1
+$ play --plan @night.csv --at 2024-03-01T21:00 --requests @absent
+!fault file
+=3
+"#;
 
 // Why operations of that night don't go on, at the desk and at one in memory.
-const WHYS: [Turn; 8] = [
-    (
-        &[
-            "why",
-            "--db",
-            "@night.db",
-            "--op",
-            "BILLING/2024-03-01T22:00/010",
-        ],
-        "BILLING/2024-03-01T22:00/010 A 2024-03-01T23:00
+const WHYS: &str = r#"$ why --db @night.db --op BILLING/2024-03-01T22:00/010
+BILLING/2024-03-01T22:00/010 A 2024-03-01T23:00
 CUSTFILE held by PAYROLL/2024-03-01T22:00/020 exclusive
 END 1
-",
-        NO_FAULT,
-        0,
-    ),
-    (
-        &[
-            "why",
-            "--db",
-            "@night.db",
-            "--op",
-            "PAYROLL/2024-03-01T22:00/040",
-            "--at",
-            "2024-03-02T00:00",
-        ],
-        "PAYROLL/2024-03-01T22:00/040 W 2024-03-02T00:00
+$ why --db @night.db --op PAYROLL/2024-03-01T22:00/040 --at 2024-03-02T00:00
+PAYROLL/2024-03-01T22:00/040 W 2024-03-02T00:00
 waits for PAYROLL/2024-03-01T22:00/030 W
 root PAYROLL/2024-03-01T22:00/020 E
 END 2
-",
-        NO_FAULT,
-        0,
-    ),
-    (
-        &[
-            "why",
-            "--plan",
-            "@night.csv",
-            "--at",
-            "2024-03-01T21:00",
-            "--op",
-            "PAYROLL/2024-03-01T22:00/005",
-        ],
-        "PAYROLL/2024-03-01T22:00/005 A 2024-03-01T21:00
+$ why --plan @night.csv --at 2024-03-01T21:00 --op PAYROLL/2024-03-01T22:00/005
+PAYROLL/2024-03-01T22:00/005 A 2024-03-01T21:00
 SETP closed until 2024-03-01T22:00
 END 1
-",
-        NO_FAULT,
-        0,
-    ),
-    (
-        &[
-            "why",
-            "--db",
-            "@night.db",
-            "--op",
-            "PAYROLL/2024-03-01T22:00/050",
-        ],
-        "refused 5 UnknownOperation\n",
-        NO_FAULT,
-        1,
-    ),
-    (
-        &[
-            "why",
-            "--db",
-            "@night.db",
-            "--op",
-            "PAYROLL/2024-03-01T22:00/040",
-            "--at",
-            "1971-12-31T23:59",
-        ],
-        "refused 2 MomentRange\n",
-        NO_FAULT,
-        1,
-    ),
-    (
-        &[
-            "why",
-            "--plan",
-            "@empty",
-            "--at",
-            "2024-03-01T21:00",
-            "--op",
-            "PAYROLL/2024-03-01T22:00/005",
-        ],
-        "refused 21 BadPlan\n",
-        NO_FAULT,
-        1,
-    ),
-    (
-        &["why", "--db", "@absent.db", "--op", "PAYROLL"],
-        "",
-        "fault words\n",
-        2,
-    ),
-    (
-        &[
-            "why",
-            "--db",
-            "@absent.db",
-            "--op",
-            "PAYROLL/2024-03-01T22:00/040",
-            "--at",
-            "22:00",
-        ],
-        "",
-        "fault moment\n",
-        2,
-    ),
-];
+$ why --db @night.db --op PAYROLL/2024-03-01T22:00/050
+refused 5 UnknownOperation
+=1
+$ why --db @night.db --op PAYROLL/2024-03-01T22:00/040 --at 1971-12-31T23:59
+refused 2 MomentRange
+=1
+$ why --plan @empty --at 2024-03-01T21:00 --op PAYROLL/2024-03-01T22:00/005
+refused 21 BadPlan
+=1
+$ why --db @absent.db --op PAYROLL
+!fault words
+=2
+$ why --db @absent.db --op PAYROLL/2024-03-01T22:00/040 --at 22:00
+!fault moment
+=2
+"#;
 
 // Texts of plans that are judged.
-const JUDGED: [Turn; 4] = [
-    (
-        &["validate", "--plan", "@night.csv"],
-        "no faults\n",
-        NO_FAULT,
-        0,
-    ),
-    (
-        &["validate", "--plan", "@empty"],
-        "line 1: workstation: the plan has none: it must have at least one
+const JUDGED: &str = r#"$ validate --plan @night.csv
+no faults
+$ validate --plan @empty
+line 1: workstation: the plan has none: it must have at least one
 line 1: occurrence: the plan has none: it must have at least one
 2 faults
-",
-        NO_FAULT,
-        1,
-    ),
-    (
-        &["validate", "--plan", "@wrong.csv"],
-        "line 5: workstation CPU1: given before, in line 1: each is given once
+=1
+$ validate --plan @wrong.csv
+line 5: workstation CPU1: given before, in line 1: each is given once
 1 faults
-",
-        NO_FAULT,
-        1,
-    ),
-    (&["validate", "--plan", "@absent"], "", "fault file\n", 3),
-];
+=1
+"#;
 
 // What is judged first: the words, the request, the files.
-const ORDER: [Turn; 4] = [
-    (
-        &[
-            "report",
-            "--db",
-            "@absent.db",
-            "--kind",
-            "ready",
-            "--ws",
-            "",
-        ],
-        "",
-        "fault words\n",
-        2,
-    ),
-    (
-        &["do", "--db", "@absent.db", "--request", "x"],
-        "",
-        "fault request\n",
-        2,
-    ),
-    (
-        &[
-            "do",
-            "--db",
-            "@absent.db",
-            "--request",
-            r#"{"tracker":"T1","number":1,"at":"2024-03-01T22:00","do":"tick"}"#,
-        ],
-        "",
-        "fault request\n",
-        2,
-    ),
-    (
-        &[
-            "play",
-            "--plan",
-            "@absent",
-            "--at",
-            "22:00",
-            "--requests",
-            "@absent",
-        ],
-        "",
-        "fault moment\n",
-        2,
-    ),
+const ORDER: &str = r#"$ report --db @absent.db --kind ready --ws ''
+!fault words
+=2
+$ do --db @absent.db --request x
+!fault request
+=2
+$ do --db @absent.db --request {"tracker":"T1","number":1,"at":"2024-03-01T22:00","do":"tick"}
+!fault request
+=2
+$ play --plan @absent --at 22:00 --requests @absent
+!fault moment
+=2
+"#;
+
+// Faults of moments, files and words.
+const FAULTS: &str = r#"$ check --plan @absent.csv --at 2024-3-1
+!fault moment
+=2
+$ check --plan @absent.csv --at ''
+!fault moment
+=2
+$ check --plan @absent.csv --at 2024-03-01T22:00
+!fault file
+=3
+$ check --plan @ --at 2024-03-01T22:00
+!fault file
+=3
+$ check --plan '' --at 2024-03-01T22:00
+!fault file
+=3
+$ check --plan day.csv
+!error: the following required arguments were not provided:
+!  --at <MOMENT>
+!
+!Usage: plandesk check --plan <FILE> --at <MOMENT>
+!
+!For more information, try '--help'.
+=2
+$ load --db @absent --plan @absent --at 2024-3-1
+!fault moment
+=2
+$ load --db @absent --plan @absent --at 2024-03-01T22:00
+!fault file
+=3
+$ load --db @other.db --plan @night.csv --at 2024-03-01T22:00
+!fault file
+=3
+$ load --db @ --plan @night.csv --at 2024-03-01T22:00
+!fault file
+=3
+$ load --db :memory: --plan @night.csv --at 2024-03-01T22:00
+!fault file
+=3
+$ load --db '' --plan @night.csv --at 2024-03-01T22:00
+!fault file
+=3
+$ validate --plan @absent
+!fault file
+=3
+"#;
+
+// Files of a session, with their texts.
+const FILES: [(&str, &str); 7] = [
+    ("empty", ""),
+    ("night.csv", NIGHT),
+    ("wrong.csv", WRONG),
+    ("old.csv", OLD),
+    ("played", PLAYED),
+    ("broken_off", BROKEN_OFF),
+    ("other.db", "a letter, and no database"),
 ];
 
-/// The words of a run in a folder.
-fn words_in(rt: &HostRuntime, folder: &PathBuf, words: &[&str]) -> Result<Vec<String>, Fail> {
-    let mut owned = Vec::new(rt.alloc());
-    owned.push(String::from_str(rt.alloc(), "plandesk")?)?;
-    for word in words {
-        match word.strip_prefix("@") {
-            Some(name) => {
-                let path = folder.join(rt.alloc(), name)?;
-                owned.push(String::from_str(rt.alloc(), path.as_str())?)?;
-            }
-            None => owned.push(String::from_str(rt.alloc(), *word)?)?,
-        }
+/// A folder of this name, with the files of a session.
+fn session_folder(rt: &HostRuntime, name: &str) -> Result<PathBuf, Fail> {
+    let folder = own_folder(rt, name)?;
+    for (file, text) in FILES {
+        fs::write(rt, folder.join(rt.alloc(), file)?.as_path(), text)?;
     }
-    Ok(owned)
-}
-
-/// Whether a run with these words answers so.
-fn answers_so(
-    rt: &HostRuntime,
-    words: &[String],
-    told: &str,
-    fault: &str,
-    ends: u8,
-) -> Result<bool, Fail> {
-    let mut out: Vec<u8> = Vec::new(rt.alloc());
-    let mut err: Vec<u8> = Vec::new(rt.alloc());
-    let status = desk_run(
-        rt,
-        words,
-        &mut Watched::new(&mut out),
-        &mut Watched::new(&mut err),
-    );
-    Ok(out.as_slice() == told.as_bytes() && err.as_slice() == fault.as_bytes() && status == ends)
-}
-
-/// Runs these turns one after another in a folder.
-fn run_turns(rt: &HostRuntime, folder: &PathBuf, turns: &[Turn]) -> Result<(), Fail> {
-    for (words, out, err, status) in turns {
-        let given = words_in(rt, folder, words)?;
-        if !answers_so(rt, given.as_slice(), out, err, *status)? {
-            return Err(Fail::new(words.last().copied().unwrap_or("no words")));
-        }
-    }
-    Ok(())
+    Ok(folder)
 }
 
 #[test]
 fn sessions(rt: HostRuntime) -> Result<(), Fail> {
-    let folder = own_folder(&rt, "sessions")?;
-    for (name, text) in [
-        ("empty", ""),
-        ("night.csv", NIGHT),
-        ("wrong.csv", WRONG),
-        ("played", PLAYED),
-        ("broken_off", BROKEN_OFF),
-    ] {
-        fs::write(&rt, folder.join(rt.alloc(), name)?.as_path(), text)?;
-    }
-    run_turns(&rt, &folder, SESSION.as_slice())?;
-    run_turns(&rt, &folder, WHYS.as_slice())?;
-    run_turns(&rt, &folder, PLAYS.as_slice())?;
-    run_turns(&rt, &folder, JUDGED.as_slice())?;
-    run_turns(&rt, &folder, ORDER.as_slice())?;
+    let folder = session_folder(&rt, "sessions")?;
+    plays_so(&rt, &folder, SESSION)?;
+    plays_so(&rt, &folder, WHYS)?;
+    plays_so(&rt, &folder, PLAYS)?;
+    plays_so(&rt, &folder, JUDGED)?;
+    plays_so(&rt, &folder, ORDER)?;
+    fs::remove_dir_all(&rt, folder.as_path())?;
+    Ok(())
+}
+
+#[test]
+fn samples_of_reports(rt: HostRuntime) -> Result<(), Fail> {
+    let folder = session_folder(&rt, "samples")?;
+    plays_so(&rt, &folder, SAMPLES)?;
+    fs::remove_dir_all(&rt, folder.as_path())?;
+    Ok(())
+}
+
+#[test]
+fn faults_are_told(rt: HostRuntime) -> Result<(), Fail> {
+    let folder = session_folder(&rt, "faults")?;
+    plays_so(&rt, &folder, FAULTS)?;
+    assert!(rt; fs::metadata(&rt, folder.join(rt.alloc(), "absent")?.as_path()).is_err());
     fs::remove_dir_all(&rt, folder.as_path())?;
     Ok(())
 }
 
 // Databases at which there is no desk, and how a run over each ends.
-const NO_DESKS: [(&str, &str, &str, u8); 5] = [
-    ("@absent.db", "", "fault file\n", 3),
-    ("@empty.db", "refused 28 Damaged\n", "", 1),
-    ("@no_tables.db", "refused 28 Damaged\n", "", 1),
-    ("@other.db", "", "fault file\n", 3),
-    ("@", "", "fault file\n", 3),
-];
+const NO_DESKS: &str =
+    r#"% no_tables.db CREATE TABLE other (id INTEGER PRIMARY KEY); DROP TABLE other
+$ do --request {"at":"2024-03-01T22:00","do":"tick"} --db @absent.db
+!fault file
+=3
+$ report --kind errors --db @absent.db
+!fault file
+=3
+$ serve --port 8080 --requests 1 --db @absent.db
+!fault file
+=3
+$ do --request {"at":"2024-03-01T22:00","do":"tick"} --db @empty
+refused 28 Damaged
+=1
+$ report --kind errors --db @empty
+refused 28 Damaged
+=1
+$ serve --port 8080 --requests 1 --db @empty
+refused 28 Damaged
+=1
+$ do --request {"at":"2024-03-01T22:00","do":"tick"} --db @no_tables.db
+refused 28 Damaged
+=1
+$ report --kind errors --db @no_tables.db
+refused 28 Damaged
+=1
+$ serve --port 8080 --requests 1 --db @no_tables.db
+refused 28 Damaged
+=1
+$ do --request {"at":"2024-03-01T22:00","do":"tick"} --db @other.db
+!fault file
+=3
+$ report --kind errors --db @other.db
+!fault file
+=3
+$ serve --port 8080 --requests 1 --db @other.db
+!fault file
+=3
+$ do --request {"at":"2024-03-01T22:00","do":"tick"} --db @
+!fault file
+=3
+$ report --kind errors --db @
+!fault file
+=3
+$ serve --port 8080 --requests 1 --db @
+!fault file
+=3
+"#;
 
 #[test]
 fn databases_without_a_desk(rt: HostRuntime) -> Result<(), Fail> {
-    let folder = own_folder(&rt, "no_desks")?;
-    fs::write(&rt, folder.join(rt.alloc(), "empty.db")?.as_path(), "")?;
-    fs::write(
-        &rt,
-        folder.join(rt.alloc(), "other.db")?.as_path(),
-        "a letter, and no database",
-    )?;
-    let no_tables = folder.join(rt.alloc(), "no_tables.db")?;
-    let mut conn = Connection::open(&rt, no_tables.as_str())?;
-    conn.execute_batch("CREATE TABLE other (id INTEGER PRIMARY KEY); DROP TABLE other")?;
-    conn.close()?;
-    for (db, out, err, status) in NO_DESKS {
-        for words in [
-            ["do", "--request", TICK, "--db", db].as_slice(),
-            ["report", "--kind", "errors", "--db", db].as_slice(),
-            ["serve", "--port", "8080", "--requests", "1", "--db", db].as_slice(),
-        ] {
-            let words = words_in(&rt, &folder, words)?;
-            let so = answers_so(&rt, words.as_slice(), out, err, status)?;
-            assert!(rt; so, "{db}");
-        }
-    }
+    let folder = session_folder(&rt, "no_desks")?;
+    plays_so(&rt, &folder, NO_DESKS)?;
     assert!(rt; fs::metadata(&rt, folder.join(rt.alloc(), "absent.db")?.as_path()).is_err());
     fs::remove_dir_all(&rt, folder.as_path())?;
     Ok(())
 }
 
+// What is shown by the help of each command, and by that of the program.
+const HELPS: [(&str, &str); 9] = [
+    ("--help", "Usage: plandesk <COMMAND>"),
+    (
+        "validate --help",
+        "Example: plandesk validate --plan day.csv",
+    ),
+    ("check --help", "Example: plandesk check --plan day.csv"),
+    ("load --help", "Example: plandesk load --db night.db"),
+    ("do --help", "Example: plandesk do --db night.db"),
+    (
+        "report --help",
+        "[possible values: ready, occurrences, errors, late]",
+    ),
+    ("why --help", "Example: plandesk why --db night.db"),
+    ("serve --help", "Example: plandesk serve --db night.db"),
+    ("play --help", "Example: plandesk play --plan day.csv"),
+];
+
 #[test]
 fn each_command_tells_its_help(rt: HostRuntime) -> Result<(), Fail> {
-    for (command, example) in [
-        ("validate", "Example: plandesk validate --plan day.csv"),
-        ("check", "Example: plandesk check --plan day.csv"),
-        ("load", "Example: plandesk load --db night.db"),
-        ("do", "Example: plandesk do --db night.db"),
-        (
-            "report",
-            "[possible values: ready, occurrences, errors, late]",
-        ),
-        ("why", "Example: plandesk why --db night.db"),
-        ("serve", "Example: plandesk serve --db night.db"),
-        ("play", "Example: plandesk play --plan day.csv"),
-    ] {
-        let ran = crate::runs::run(&rt, ["plandesk", command, "--help"].as_slice())?;
-        assert!(rt; ran.out.as_str().contains(example), "{command}");
-        assert_eq!(rt; ran.err.as_str(), "", "{command}");
-        assert_eq!(rt; ran.status, 0, "{command}");
+    let folder = env::temp_dir(&rt)?;
+    for (words, example) in HELPS {
+        let help = told_by(&rt, &folder, words)?;
+        let is_fault = help
+            .as_str()
+            .lines()
+            .any(|line| line.starts_with("!") || line.starts_with("="));
+        if is_fault || !help.as_str().contains(example) {
+            return Err(Fail::new(example));
+        }
     }
     Ok(())
 }

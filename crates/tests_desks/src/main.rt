@@ -12,5 +12,7 @@ mod players;
 mod plays;
 #[cfg(test)]
 mod stored;
+#[cfg(test)]
+mod written;
 
 fn main() {}

@@ -64,62 +64,17 @@ fn night(alloc: Global, name: &'static str) -> Result<Desk<MemStore>, &'static s
     Ok(player.into_desk())
 }
 
-const T1_REPORTS: [Turn; 9] = [
-    ("T1", 1, "22:00 started 5 | -", Told::Names(&[])),
-    ("T1", 2, "22:10 ended 5 | -", Told::Names(&[10])),
-    ("T1", 3, "22:11 started 10 | -", Told::Names(&[])),
-    ("T1", 4, "22:40 ended 10 | -", Told::Names(&[20])),
-    ("T1", 4, "22:40 ended 10 | -", Told::Names(&[20])),
-    (
-        "T1",
-        4,
-        "22:40 ended 20 | -",
-        Told::Refused(Refusal::Reused),
-    ),
-    ("T1", 6, "22:41 started 20 | -", Told::Refused(Refusal::Gap)),
-    ("T1", 3, "22:11 started 10 | -", Told::Refused(Refusal::Old)),
-    ("T1", 0, "22:41 started 20 | -", Told::Refused(Refusal::Old)),
-];
-
-#[test]
-fn a_tracker_reports_the_night(rt: HostRuntime) -> Result<(), Fail> {
-    let desk = night(rt.alloc(), "LOADED")?;
-    after_turns(rt.alloc(), desk, &T1_REPORTS)?;
-    Ok(())
-}
-
-const REFUSED_ONES: [Turn; 6] = [
-    ("T1", 2, "22:00 started 5 | -", Told::Refused(Refusal::Gap)),
-    (
-        "T1",
-        1,
-        "22:00 ended 40 | -",
-        Told::Refused(Refusal::WrongStatus),
-    ),
-    ("T1", 1, "20:00 started 5 | -", Told::Refused(Refusal::Past)),
-    ("T1", 1, "22:00 started 5 | -", Told::Names(&[])),
-    ("T2", 1, "22:10 ended 5 | -", Told::Names(&[10])),
-    ("T1", 1, "22:00 started 5 | -", Told::Names(&[])),
-];
-
-#[test]
-fn a_refused_request_uses_no_number(rt: HostRuntime) -> Result<(), Fail> {
-    let desk = night(rt.alloc(), "LOADED")?;
-    after_turns(rt.alloc(), desk, &REFUSED_ONES)?;
-    Ok(())
-}
-
-const BEFORE_A_LOAD: [Turn; 3] = [
-    ("T1", 0, "22:00 tick | -", Told::Refused(Refusal::Old)),
-    ("T1", 1, "22:00 tick | -", Told::Refused(Refusal::NotLoaded)),
-    ("T1", 2, "22:00 tick | -", Told::Refused(Refusal::Gap)),
-];
-
-#[test]
-fn numbers_come_before_the_plan(rt: HostRuntime) -> Result<(), Fail> {
-    let desk = created(rt.alloc(), Connection::open_in_memory(rt.alloc())?)?;
-    after_turns(rt.alloc(), desk, &BEFORE_A_LOAD)?;
-    Ok(())
+// Puts in the receipts of so many trackers, T1 and on, and then does what the text says.
+fn statements(alloc: Global, trackers: u32, text: &str) -> Result<String, AllocError> {
+    let mut sql = String::new(alloc);
+    for tracker in 1..=trackers {
+        writeln!(
+            sql,
+            "INSERT INTO receipt VALUES ('T{tracker}', 1, x'', '');"
+        )?;
+    }
+    sql.push_str(text)?;
+    Ok(sql)
 }
 
 // The desk that is opened after a text has changed the tables of this one.
@@ -131,75 +86,216 @@ fn changed(alloc: Global, desk: Desk<MemStore>, sql: &str) -> Result<Desk<MemSto
     opened(alloc, conn)
 }
 
-const DAMAGED_RECEIPTS: [&str; 8] = [
-    "INSERT INTO receipt VALUES ('T1', 0, x'', '')",
-    "INSERT INTO receipt VALUES ('T1', 1000000000, x'', '')",
-    "INSERT INTO receipt VALUES ('T1', 4294967297, x'', '')",
-    "INSERT INTO receipt VALUES ('t1', 1, x'', '')",
-    "INSERT INTO receipt VALUES ('', 1, x'', '')",
-    "INSERT INTO receipt VALUES ('TRACKER01', 1, x'', '')",
-    "INSERT INTO receipt VALUES ('T1', 1, x'', 'PAYROLL')",
-    "INSERT INTO receipt VALUES ('T1', 1, x'', ' PAYROLL/2024-03-01T22:00/005')",
-];
+/// A desk, and what comes of turns at it.
+struct Case {
+    what: &'static str,
+    /// The night that is played before; or nothing is loaded.
+    night: Option<&'static str>,
+    /// How many trackers' receipts are put into the tables, and how else these are changed.
+    receipts: u32,
+    sql: &'static str,
+    /// The turns, one after the other; none where the desk can't be opened, since its tables are damaged.
+    turns: &'static [Turn],
+}
 
-#[test]
-fn receipts_that_are_none_are_not_opened(rt: HostRuntime) -> Result<(), Fail> {
-    for sql in &DAMAGED_RECEIPTS {
-        let desk = night(rt.alloc(), "LOADED")?;
-        let refusal = changed(rt.alloc(), desk, sql).err();
-        assert!(rt; refusal == Some(Refusal::Damaged), "{sql}");
+// The desk of a case, opened after its tables are changed.
+fn begun(alloc: Global, case: &Case) -> Result<Desk<MemStore>, Refusal> {
+    let desk = match case.night {
+        Some(name) => night(alloc, name).ok().ok_or(Refusal::Store)?,
+        None => created(alloc, Connection::open_in_memory(alloc)?)?,
+    };
+    let sql = statements(alloc, case.receipts, case.sql)?;
+    changed(alloc, desk, &sql)
+}
+
+// Whether a case goes as it has to.
+fn goes_so(alloc: Global, case: &Case) -> bool {
+    match begun(alloc, case) {
+        Ok(desk) => !case.turns.is_empty() && after_turns(alloc, desk, case.turns).is_ok(),
+        Err(refusal) => case.turns.is_empty() && refusal == Refusal::Damaged,
     }
-    Ok(())
 }
 
-const KEPT: &str = "INSERT INTO receipt VALUES ('T1', 7, x'78', 'PAYROLL/2024-03-01T22:00/040')";
+const LOADED: Option<&str> = Some("LOADED");
 
-#[test]
-fn receipts_before_a_load_are_not_opened(rt: HostRuntime) -> Result<(), Fail> {
-    let desk = created(rt.alloc(), Connection::open_in_memory(rt.alloc())?)?;
-    let refusal = changed(rt.alloc(), desk, KEPT).err();
-    assert!(rt; refusal == Some(Refusal::Damaged));
-    Ok(())
-}
+// The receipt of a tick at 20:00, which names any operation.
+const KEPT: &str =
+    "INSERT INTO receipt VALUES ('T1', 7, x'32303a3030207469636b207c202d', 'PAYROLL/2024-03-01T22:00/040')";
 
-const AFTER_THE_KEPT: [Turn; 2] = [
-    ("T1", 7, "22:00 tick | -", Told::Refused(Refusal::Reused)),
-    ("T1", 8, "22:00 tick | -", Told::Names(&[])),
+const CASES: [Case; 16] = [
+    Case {
+        what: "a tracker reports the night",
+        night: LOADED,
+        receipts: 0,
+        sql: "",
+        turns: &[
+            ("T1", 1, "22:00 started 5 | -", Told::Names(&[])),
+            ("T1", 2, "22:10 ended 5 | -", Told::Names(&[10])),
+            ("T1", 3, "22:11 started 10 | -", Told::Names(&[])),
+            ("T1", 4, "22:40 ended 10 | -", Told::Names(&[20])),
+            ("T1", 4, "22:40 ended 10 | -", Told::Names(&[20])),
+            (
+                "T1",
+                4,
+                "22:40 ended 20 | -",
+                Told::Refused(Refusal::Reused),
+            ),
+            ("T1", 6, "22:41 started 20 | -", Told::Refused(Refusal::Gap)),
+            ("T1", 3, "22:11 started 10 | -", Told::Refused(Refusal::Old)),
+            ("T1", 0, "22:41 started 20 | -", Told::Refused(Refusal::Old)),
+        ],
+    },
+    Case {
+        what: "a refused request uses no number",
+        night: LOADED,
+        receipts: 0,
+        sql: "",
+        turns: &[
+            ("T1", 2, "22:00 started 5 | -", Told::Refused(Refusal::Gap)),
+            (
+                "T1",
+                1,
+                "22:00 ended 40 | -",
+                Told::Refused(Refusal::WrongStatus),
+            ),
+            ("T1", 1, "20:00 started 5 | -", Told::Refused(Refusal::Past)),
+            ("T1", 1, "22:00 started 5 | -", Told::Names(&[])),
+            ("T2", 1, "22:10 ended 5 | -", Told::Names(&[10])),
+            ("T1", 1, "22:00 started 5 | -", Told::Names(&[])),
+        ],
+    },
+    Case {
+        what: "numbers come before the plan",
+        night: None,
+        receipts: 0,
+        sql: "",
+        turns: &[
+            ("T1", 0, "22:00 tick | -", Told::Refused(Refusal::Old)),
+            ("T1", 1, "22:00 tick | -", Told::Refused(Refusal::NotLoaded)),
+            ("T1", 2, "22:00 tick | -", Told::Refused(Refusal::Gap)),
+        ],
+    },
+    Case {
+        what: "a receipt that is none",
+        night: LOADED,
+        receipts: 0,
+        sql: "INSERT INTO receipt VALUES ('T1', 0, x'', '')",
+        turns: &[],
+    },
+    Case {
+        what: "a receipt that is none",
+        night: LOADED,
+        receipts: 0,
+        sql: "INSERT INTO receipt VALUES ('T1', 1000000000, x'', '')",
+        turns: &[],
+    },
+    Case {
+        what: "a receipt that is none",
+        night: LOADED,
+        receipts: 0,
+        sql: "INSERT INTO receipt VALUES ('T1', 4294967297, x'', '')",
+        turns: &[],
+    },
+    Case {
+        what: "a receipt that is none",
+        night: LOADED,
+        receipts: 0,
+        sql: "INSERT INTO receipt VALUES ('t1', 1, x'', '')",
+        turns: &[],
+    },
+    Case {
+        what: "a receipt that is none",
+        night: LOADED,
+        receipts: 0,
+        sql: "INSERT INTO receipt VALUES ('', 1, x'', '')",
+        turns: &[],
+    },
+    Case {
+        what: "a receipt that is none",
+        night: LOADED,
+        receipts: 0,
+        sql: "INSERT INTO receipt VALUES ('TRACKER01', 1, x'', '')",
+        turns: &[],
+    },
+    Case {
+        what: "a receipt that is none",
+        night: LOADED,
+        receipts: 0,
+        sql: "INSERT INTO receipt VALUES ('T1', 1, x'', 'PAYROLL')",
+        turns: &[],
+    },
+    Case {
+        what: "a receipt that is none",
+        night: LOADED,
+        receipts: 0,
+        sql: "INSERT INTO receipt VALUES ('T1', 1, x'', ' PAYROLL/2024-03-01T22:00/005')",
+        turns: &[],
+    },
+    Case {
+        what: "receipts before a load are not opened",
+        night: None,
+        receipts: 0,
+        sql: KEPT,
+        turns: &[],
+    },
+    Case {
+        what: "a receipt of any keys is opened",
+        night: LOADED,
+        receipts: 0,
+        sql: KEPT,
+        turns: &[
+            ("T1", 7, "20:00 tick | -", Told::Names(&[40])),
+            ("T1", 7, "22:00 tick | -", Told::Refused(Refusal::Reused)),
+            ("T1", 8, "22:00 tick | -", Told::Names(&[])),
+        ],
+    },
+    Case {
+        what: "a tracker's last number",
+        night: LOADED,
+        receipts: 0,
+        sql: "INSERT INTO receipt VALUES ('T1', 999999999, x'78', '')",
+        turns: &[
+            (
+                "T1",
+                1_000_000_000,
+                "22:00 tick | -",
+                Told::Refused(Refusal::Limit),
+            ),
+            (
+                "T1",
+                999_999_999,
+                "22:00 tick | -",
+                Told::Refused(Refusal::Reused),
+            ),
+        ],
+    },
+    Case {
+        what: "the sixty-fifth tracker",
+        night: LOADED,
+        receipts: 64,
+        sql: "",
+        turns: &[
+            ("T65", 2, "22:00 tick | -", Told::Refused(Refusal::Gap)),
+            ("T65", 1, "22:00 tick | -", Told::Refused(Refusal::Limit)),
+            ("T65", 1, "20:00 tick | -", Told::Refused(Refusal::Past)),
+            ("T64", 2, "22:00 tick | -", Told::Names(&[])),
+        ],
+    },
+    Case {
+        what: "receipts of 65 trackers are not opened",
+        night: LOADED,
+        receipts: 65,
+        sql: "",
+        turns: &[],
+    },
 ];
 
 #[test]
-fn a_receipt_of_any_keys_is_opened(rt: HostRuntime) -> Result<(), Fail> {
-    let mut desk = changed(rt.alloc(), night(rt.alloc(), "LOADED")?, KEPT)?;
-    let tracker = TrackerName::from_text(b"T1").ok_or("a tracker's name")?;
-    let tick = request(rt.alloc(), "20:00 tick | -").ok_or("a request")?;
-    let reply = desk.call_numbered(&tracker, 7, b"x", &tick);
-    assert!(rt; is_told(&reply, Told::Names(&[40])));
-    after_turns(rt.alloc(), desk, &AFTER_THE_KEPT)?;
-    Ok(())
-}
-
-const THE_LAST: &str = "INSERT INTO receipt VALUES ('T1', 999999999, x'78', '')";
-
-const AFTER_THE_LAST: [Turn; 2] = [
-    (
-        "T1",
-        1_000_000_000,
-        "22:00 tick | -",
-        Told::Refused(Refusal::Limit),
-    ),
-    (
-        "T1",
-        999_999_999,
-        "22:00 tick | -",
-        Told::Refused(Refusal::Reused),
-    ),
-];
-
-#[test]
-fn a_trackers_last_number(rt: HostRuntime) -> Result<(), Fail> {
-    let desk = changed(rt.alloc(), night(rt.alloc(), "LOADED")?, THE_LAST)?;
-    after_turns(rt.alloc(), desk, &AFTER_THE_LAST)?;
-    Ok(())
+fn numbered_requests(rt: HostRuntime) {
+    for case in &CASES {
+        let what = case.what;
+        assert!(rt; goes_so(rt.alloc(), case), "{what}");
+    }
 }
 
 #[test]
@@ -213,40 +309,5 @@ fn a_texts_length(rt: HostRuntime) -> Result<(), Fail> {
     assert!(rt; is_told(&reply, Told::Refused(Refusal::Limit)));
     let reply = desk.call_numbered(&tracker, 1, &text[1..], &tick);
     assert!(rt; is_told(&reply, Told::Names(&[])));
-    Ok(())
-}
-
-// A text that puts in the receipts of this many trackers, T1 and on.
-fn receipts_of(alloc: Global, trackers: u32) -> Result<String, AllocError> {
-    let mut sql = String::new(alloc);
-    for tracker in 1..=trackers {
-        writeln!(
-            sql,
-            "INSERT INTO receipt VALUES ('T{tracker}', 1, x'', '');"
-        )?;
-    }
-    Ok(sql)
-}
-
-const OF_THE_65TH: [Turn; 4] = [
-    ("T65", 2, "22:00 tick | -", Told::Refused(Refusal::Gap)),
-    ("T65", 1, "22:00 tick | -", Told::Refused(Refusal::Limit)),
-    ("T65", 1, "20:00 tick | -", Told::Refused(Refusal::Past)),
-    ("T64", 2, "22:00 tick | -", Told::Names(&[])),
-];
-
-#[test]
-fn the_sixty_fifth_tracker(rt: HostRuntime) -> Result<(), Fail> {
-    let receipts = receipts_of(rt.alloc(), 64)?;
-    let desk = changed(rt.alloc(), night(rt.alloc(), "LOADED")?, &receipts)?;
-    after_turns(rt.alloc(), desk, &OF_THE_65TH)?;
-    Ok(())
-}
-
-#[test]
-fn receipts_of_65_trackers_are_not_opened(rt: HostRuntime) -> Result<(), Fail> {
-    let receipts = receipts_of(rt.alloc(), 65)?;
-    let refusal = changed(rt.alloc(), night(rt.alloc(), "LOADED")?, &receipts).err();
-    assert!(rt; refusal == Some(Refusal::Damaged));
     Ok(())
 }

@@ -3,6 +3,8 @@
 #![tactic(auto)]
 
 #[cfg(test)]
+mod afresh;
+#[cfg(test)]
 mod changes;
 #[cfg(test)]
 mod players;

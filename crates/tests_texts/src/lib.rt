@@ -4,6 +4,8 @@
 #[cfg(test)]
 mod addition_tests;
 #[cfg(test)]
+mod fault_tests;
+#[cfg(test)]
 mod full_tests;
 #[cfg(test)]
 mod lines;

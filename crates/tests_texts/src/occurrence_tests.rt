@@ -1,6 +1,6 @@
 // Texts that denote an occurrence to be added, and texts that denote none.
 use super::addition_tests::BILLING as PAIRED;
-use super::lines::{addition_of, part, records, text_of, with_lines};
+use super::lines::{addition_of, check_addition_faults, part, records, text_of, with_lines};
 use super::named::{moment, need_of_file, operation, resource, workstation};
 use plan_basics::{OpKey, Watched};
 use plan_import::read_occurrence;
@@ -174,6 +174,7 @@ fn check_none(rt: &impl Abort, alloc: Global, front: &str, cases: &str) {
     for case in cases.lines() {
         let text = text_of(alloc, front, case).expect(rt, "memory");
         assert!(rt; found(rt, alloc, text.as_bytes()).is_none(), "{case}");
+        check_addition_faults(rt, alloc, text.as_bytes(), false, case);
     }
 }
 
@@ -252,6 +253,7 @@ fn check_needs(rt: &impl Abort, alloc: Global, text: &str, more: u16, needs: Opt
     assert_eq!(rt; needs_of(rt, built), needs, "records, {more} more");
     let read = found(rt, alloc, text.as_bytes());
     assert_eq!(rt; needs_of(rt, read), needs, "a text, {more} more");
+    check_addition_faults(rt, alloc, text.as_bytes(), needs.is_some(), "needs");
 }
 
 #[test]

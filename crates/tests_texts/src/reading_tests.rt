@@ -1,5 +1,5 @@
 // Texts of plans as the formats describe them, and readers that give them in pieces or fail.
-use super::lines::text_of;
+use super::lines::{check_faults, text_of};
 use super::named::{operation, workstation};
 use plan_basics::{Attr, Watched};
 use plan_import::{ImportFault, read_plan};
@@ -156,6 +156,7 @@ fn check_no_plans(rt: &impl Abort, alloc: Global, front: &str, cases: &str) {
         let text = text_of(alloc, front, case).expect(rt, "memory");
         let mut reader = Watched::new(text.as_bytes());
         assert!(rt; found(rt, alloc, &mut reader).is_none(), "{case}");
+        check_faults(rt, alloc, text.as_bytes(), false, case);
     }
 }
 
@@ -238,6 +239,7 @@ fn texts_that_denote_no_plan(rt: HostRuntime) {
         let text = with_byte(rt.alloc(), byte).expect(&rt, "memory");
         let found = found(&rt, rt.alloc(), &mut Watched::new(text.as_slice()));
         assert_eq!(rt; found.is_some(), is_plan, "the byte {byte} in a name");
+        check_faults(&rt, rt.alloc(), &text, is_plan, "a byte in a name");
     }
 }
 

@@ -1,6 +1,6 @@
 -- From the records of a text to what it denotes.
 use Rattle.std.proofs.Common.{◌↔◌, ℕ, List}
-use Rattle.plan_items.specs.Items.{Fields}
+use Rattle.text_records.specs.plan_items.specs.Items.{Fields}
 use Rattle.record_faults.specs.Faults.{DenoteSome}
 use Rattle.text_records.specs.Denoting.{DenotesPlansOf}
 use Rattle.text_faults.specs.TextFaults.{TextDenotesSome}

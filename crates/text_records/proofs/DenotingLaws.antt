@@ -3,10 +3,10 @@ use Rattle.std.proofs.Common.{◌≡◌, ◌↔◌, ℕ, List, [], ◌∷◌, re
 use Rattle.std.specs.List.{AllZip, AllByRecursion}
 use Rattle.csv.specs.Reading.{default_config, strip_bom}
 use Rattle.csv.specs.declared.parser.State.TheVariants as st
-use Rattle.plan_items.specs.Items.{Fields, IsRecordOf, Says}
-use Rattle.plan_items.specs.declared.Item.{Item}
-use Rattle.plan_items.specs.declared.Item.TheVariants as item
-use Rattle.plan_drafts.specs.Records.{Denotes, DenotesAddition}
+use Rattle.plan_import.specs.plan_items.specs.Items.{Fields, IsRecordOf, Says}
+use Rattle.plan_import.specs.plan_items.specs.declared.Item.{Item}
+use Rattle.plan_import.specs.plan_items.specs.declared.Item.TheVariants as item
+use Rattle.plan_import.specs.plan_drafts.specs.Records.{Denotes, DenotesAddition}
 use Rattle.plan_import.specs.Records.{IsTen}
 use Rattle.plan_import.specs.Texts.{ReadsAs}
 use Rattle.plan_import.proofs.Rows.{one_reading}

@@ -1,8 +1,8 @@
 -- What a text denotes, its records do, whatever their lengths: a record of another length than ten says nothing.
 use Rattle.std.specs.Prelude.{◌↔◌, ℕ, List}
-use Rattle.plan_model.specs.Contents.{Contents, AddedParts}
-use Rattle.plan_items.specs.Items.{Fields}
-use Rattle.plan_drafts.specs.Records.{Denotes, DenotesAddition}
+use Rattle.plan_import.specs.plan_model.specs.Contents.{Contents, AddedParts}
+use Rattle.plan_import.specs.plan_items.specs.Items.{Fields}
+use Rattle.plan_import.specs.plan_drafts.specs.Records.{Denotes, DenotesAddition}
 use Rattle.plan_import.specs.Texts.{TextDenotes, TextDenotesAddition}
 
 -- the text denotes the plans that the records denote, and no others

@@ -3,7 +3,7 @@ use Rattle.std.specs.Prelude.{ℕ, List, map, Vec}
 use Rattle.std.specs.declared.alloc.Global.{Global}
 use Rattle.csv.specs.Reading.{AreRecords, default_config, strip_bom}
 use Rattle.csv.specs.declared.parser.State.TheVariants as st
-use Rattle.plan_items.specs.Items.{Fields, fields_of}
+use Rattle.plan_import.specs.plan_items.specs.Items.{Fields, fields_of}
 
 -- the fields of records, without where they lie in memory
 abbrev pub texts_of : List (Vec (Vec ℕ Global) Global) → List Fields

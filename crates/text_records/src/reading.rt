@@ -1,7 +1,7 @@
 // The records of a text, read one after the other.
 ghost use Rattle.std.specs.Prelude.{◌≡◌, IfOk};
 ghost use Rattle.csv.specs.Records.{fields_of as row_fields};
-ghost use Rattle.plan_items.specs.Items.{fields_of};
+ghost use Rattle.plan_import.specs.plan_items.specs.Items.{fields_of};
 ghost use Rattle.text_records.specs.Records.{AreRecordsOf, texts_of};
 
 use csv::{ByteRecord, ReaderBuilder};

@@ -5,9 +5,8 @@ ghost use Rattle.tracker_http.specs.Lists.{ready_row, occurrence_row, TellsReady
 
 use super::told::Told;
 use plan_basics::{Refusal, WsName};
-use plan_core::{Occs, Plan, Ready};
 use plan_records::Reply;
-use plan_tables::Desk;
+use plan_tables::{Desk, Occs, Plan, Ready};
 use request_texts::{OccurrenceRow, ReadyRow};
 use sqlite::Alter;
 use std::alloc::{AllocError, Global};

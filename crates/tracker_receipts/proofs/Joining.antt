@@ -8,7 +8,7 @@ use Rattle.plan_basics.specs.declared.keys.OpKey.{OpKey}
 use Rattle.plan_basics.specs.Digits.{digits}
 use Rattle.plan_basics.specs.Keys.{IsOperationKey}
 use Rattle.plan_basics.specs.KeyTexts.{IsOperationText, occurrence_text, operation_text}
-use Rattle.plan_drafts.proofs.Lists.{from_map}
+use Rattle.plan_laws.specs.plan_drafts.proofs.Lists.{from_map}
 use Rattle.tracker_receipts.specs.Replies.{Joins, joined}
 use Rattle.tracker_receipts.proofs.Blanks.{IsNoBlank, in_key}
 

@@ -13,19 +13,19 @@ use Rattle.std.proofs.lemmas.List.{get_or-map}
 use Rattle.std.proofs.lemmas.List.Sorted.{Contains-permutation, IsPermutation-insert, IsPermutation-sym}
 use Rattle.std.proofs.lemmas.Map.Entries.{length-keys_of}
 use Rattle.std.proofs.lemmas.Option.{none-some, same_Some}
-use Rattle.ready_list.proofs.Ordered.{comparisons_rise, sorted_by_keys}
+use Rattle.plan_laws.specs.ready_list.proofs.Ordered.{comparisons_rise, sorted_by_keys}
 use Rattle.plan_basics.proofs.Members.{tied_is}
 use Rattle.plan_basics.specs.Keys.{Name, name_cmp, name_cmp_total, name_cmp-IsAntisymmetric}
 use Rattle.plan_basics.specs.declared.limits.TheConstants.{MOST_TRACKERS}
-use Rattle.plan_drafts.proofs.Held.{absent_in, looked_up, put_in_order, put_is}
-use Rattle.plan_drafts.proofs.Lists.{all_by_members}
-use Rattle.plan_drafts.proofs.OnePair.{inserted_in_order}
-use Rattle.plan_drafts.proofs.Orders.{differ_permuted}
-use Rattle.plan_drafts.proofs.RowPlaces.{len-from_entries, search_finds, search_misses}
-use Rattle.plan_drafts.proofs.Tables.{AreApart, get_row, row_found, rows_apart, same_entries}
+use Rattle.plan_laws.specs.plan_drafts.proofs.Held.{absent_in, looked_up, put_in_order, put_is}
+use Rattle.plan_laws.specs.plan_drafts.proofs.Lists.{all_by_members}
+use Rattle.plan_laws.specs.plan_drafts.proofs.OnePair.{inserted_in_order}
+use Rattle.plan_laws.specs.plan_drafts.proofs.Orders.{differ_permuted}
+use Rattle.plan_laws.specs.plan_drafts.proofs.RowPlaces.{len-from_entries, search_finds, search_misses}
+use Rattle.plan_laws.specs.plan_drafts.proofs.Tables.{AreApart, get_row, row_found, rows_apart, same_entries}
 use Rattle.plan_laws.proofs.Receipts.{empty_is_desk_state}
-use Rattle.plan_records.specs.Receipts.{AreReceipts, IsReceipt}
-use Rattle.plan_records.specs.Step.{Receipt, Receipts}
+use Rattle.plan_laws.specs.plan_records.specs.Receipts.{AreReceipts, IsReceipt}
+use Rattle.plan_laws.specs.plan_records.specs.Step.{Receipt, Receipts}
 
 module _ {K X : Type 0} {R : K → K → Ordering} (total : IsTotalOrder R) (exact : IsAntisymmetric R) (rows : List (K × X)) (up : IsStrictlySortedBy R (keys_of rows)) (k : K) (x : X) where
   -- ---- where a search has missed its key

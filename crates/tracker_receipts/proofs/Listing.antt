@@ -14,11 +14,11 @@ use Rattle.plan_basics.specs.Keys.{Name, name_cmp, name_cmp_total, name_cmp-IsAn
 use Rattle.plan_basics.specs.Names.{IsName}
 use Rattle.plan_basics.specs.declared.keys.OpKey.{OpKey}
 use Rattle.plan_basics.specs.declared.limits.TheConstants.{GREATEST_REQUEST_NUMBER, LONGEST_REQUEST_TEXT, MOST_TRACKERS}
-use Rattle.plan_drafts.proofs.Lists.{all_by_members, contains_cases, contains_head, contains_none, differ_from_pairs, differ_map, from_map, in_map, length_map, pairs_from_differ}
-use Rattle.plan_drafts.proofs.Orders.{differ_permuted}
-use Rattle.plan_drafts.proofs.Tables.{is_found, itself, map_count, other_key, some_is}
-use Rattle.plan_records.specs.Receipts.{AreReceipts, IsReceipt, IsReceiptRow}
-use Rattle.plan_records.specs.Step.{Receipt, Receipts}
+use Rattle.plan_laws.specs.plan_drafts.proofs.Lists.{all_by_members, contains_cases, contains_head, contains_none, differ_from_pairs, differ_map, from_map, in_map, length_map, pairs_from_differ}
+use Rattle.plan_laws.specs.plan_drafts.proofs.Orders.{differ_permuted}
+use Rattle.plan_laws.specs.plan_drafts.proofs.Tables.{is_found, itself, map_count, other_key, some_is}
+use Rattle.plan_laws.specs.plan_records.specs.Receipts.{AreReceipts, IsReceipt, IsReceiptRow}
+use Rattle.plan_laws.specs.plan_records.specs.Step.{Receipt, Receipts}
 use Rattle.tracker_receipts.specs.Replies.{Joins}
 use Rattle.tracker_receipts.specs.Stored.{AreRowsOf, Columns, IsRowOf, columns_of}
 

@@ -6,8 +6,8 @@ use Rattle.plan_basics.proofs.KeyLaws.{one_key}
 use Rattle.plan_basics.specs.Keys.{IsOperationKey, Name}
 use Rattle.plan_basics.specs.KeyTexts.{operation_text}
 use Rattle.plan_basics.specs.declared.keys.OpKey.{OpKey}
-use Rattle.plan_records.specs.Receipts.{IsReceipt}
-use Rattle.plan_records.specs.Step.{Receipt}
+use Rattle.plan_laws.specs.plan_records.specs.Receipts.{IsReceipt}
+use Rattle.plan_laws.specs.plan_records.specs.Step.{Receipt}
 use Rattle.tracker_receipts.specs.Replies.{joined}
 use Rattle.tracker_receipts.specs.Stored.{columns_of}
 use Rattle.tracker_receipts.proofs.Joining.{parts, parts_are, some_joined}

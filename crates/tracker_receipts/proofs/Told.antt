@@ -1,10 +1,10 @@
 -- What a request is told by its number and its text is its one answer.
 use Rattle.std.proofs.Common.{◌≡◌, ◌↔◌, inl, inr, refl, sym, subst, ap, arith, ◌+◌, Option}
 use Rattle.std.specs.FinMap.{get}
-use Rattle.plan_model.specs.Plan.{no_plan}
+use Rattle.plan_laws.specs.plan_model.specs.Plan.{no_plan}
 use Rattle.plan_laws.proofs.Repeating.{Again as IsAgain, again, one_numbered_step}
-use Rattle.plan_records.specs.Answer.{Answer, accepted, refused}
-use Rattle.plan_records.specs.Step.{AnswersAgain, Numbered, Receipt, Receipts, last_number}
+use Rattle.plan_laws.specs.plan_records.specs.Answer.{Answer, accepted, refused}
+use Rattle.plan_laws.specs.plan_records.specs.Step.{AnswersAgain, Numbered, Receipt, Receipts, last_number}
 use Rattle.tracker_receipts.specs.declared.judging.Judged.{Judged}
 use Rattle.tracker_receipts.specs.declared.judging.Judged.TheVariants.{New, Again, Refused}
 use Rattle.tracker_receipts.specs.Judging.{IsAnsweredBy, IsJudged, IsNew}

@@ -4,8 +4,8 @@ use Rattle.std.specs.Coded.{Coded, code_by, coded×, coded_ℕ, coded_list}
 use Rattle.std.specs.FinMap as map
 use Rattle.plan_basics.specs.declared.keys.OpKey.{OpKey}
 use Rattle.plan_basics.specs.contracts.keys.OpKey as operation_key
-use Rattle.plan_model.specs.Code.{name_code}
-use Rattle.plan_records.specs.Step.{Receipt, Receipts}
+use Rattle.plan_laws.specs.plan_model.specs.Code.{name_code}
+use Rattle.plan_laws.specs.plan_records.specs.Step.{Receipt, Receipts}
 
 -- a receipt as its number, its text and its keys
 abbrev pub receipt_code : Coded Receipt

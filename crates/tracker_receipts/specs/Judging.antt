@@ -1,9 +1,9 @@
 -- What a number and a text are told.
 use Rattle.std.specs.Prelude.{◌≡◌, ℕ, ◌+◌, List, Option}
 use Rattle.plan_basics.specs.Keys.{Name}
-use Rattle.plan_records.specs.Answer.{Answer, accepted, refused}
-use Rattle.plan_records.specs.Step.{AnswersAgain, Numbered, Receipt, last_number}
-use Rattle.plan_records.specs.declared.Request.{Request}
+use Rattle.plan_laws.specs.plan_records.specs.Answer.{Answer, accepted, refused}
+use Rattle.plan_laws.specs.plan_records.specs.Step.{AnswersAgain, Numbered, Receipt, last_number}
+use Rattle.plan_laws.specs.plan_records.specs.declared.Request.{Request}
 use Rattle.tracker_receipts.specs.declared.judging.Judged.{Judged}
 use Rattle.tracker_receipts.specs.declared.judging.Judged.TheVariants.{New, Again, Refused}
 

@@ -6,7 +6,7 @@ use Rattle.std.specs.Map.{keys_of}
 use Rattle.std.specs.Vec.{vec_capacity}
 use Rattle.plan_basics.specs.declared.limits.TheConstants.{MOST_TRACKERS}
 use Rattle.plan_basics.specs.Keys.{name_cmp}
-use Rattle.plan_records.specs.Receipts.{AreReceipts}
+use Rattle.plan_laws.specs.plan_records.specs.Receipts.{AreReceipts}
 use Rattle.tracker_receipts.specs.declared.kept.Receipts.TheInside.{Inside}
 
 -- each tracker once, in order; the receipts are well formed, as beside a loaded plan; there is room for those of all trackers

@@ -1,3 +1,10 @@
+pub use Rattle.plan_laws.specs.plan_drafts
+pub use Rattle.plan_laws.specs.plan_items
+pub use Rattle.plan_laws
+pub use Rattle.plan_laws.specs.plan_model
+pub use Rattle.plan_laws.specs.plan_records
+pub use Rattle.plan_laws.specs.special_resources
+pub use Rattle.plan_laws.specs.status_rules
 pub mod Codes
 pub mod Judging
 pub mod Kept

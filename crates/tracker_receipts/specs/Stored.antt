@@ -2,8 +2,8 @@
 use Rattle.std.specs.Prelude.{◌≡◌, ◌≢◌, ◌↔◌, ◌<◌, ◌≤◌, ℕ, ℤ, pos, List, length, All, AllPairs, Contains}
 use Rattle.plan_basics.specs.declared.limits.TheConstants.{LONGEST_REQUEST_TEXT}
 use Rattle.plan_basics.specs.Keys.{Name}
-use Rattle.plan_records.specs.Receipts.{IsReceipt, IsReceiptRow}
-use Rattle.plan_records.specs.Step.{Receipt, Receipts}
+use Rattle.plan_laws.specs.plan_records.specs.Receipts.{IsReceipt, IsReceiptRow}
+use Rattle.plan_laws.specs.plan_records.specs.Step.{Receipt, Receipts}
 use Rattle.tracker_receipts.specs.Replies.{joined}
 
 -- the columns of a row

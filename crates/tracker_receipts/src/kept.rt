@@ -5,10 +5,10 @@ ghost use Rattle.std.specs.FinMap.{get, insert, len, contains_key};
 ghost use Rattle.std.specs.List.Sorted.{IsBinarySearchResult, IsSearchInRange};
 ghost use Rattle.plan_basics.specs.Keys.{Name, name_cmp};
 ghost use Rattle.plan_basics.specs.declared.limits.TheConstants.{MOST_TRACKERS};
-ghost use Rattle.plan_records.specs.Answer.{Answer};
-ghost use Rattle.plan_records.specs.Receipts.{AreReceipts, IsReceipt};
-ghost use Rattle.plan_records.specs.Step.{AnswersAgain, HasReceiptRoom, last_number};
-ghost use Rattle.plan_records.specs.declared.Request.{Request};
+ghost use Rattle.plan_laws.specs.plan_records.specs.Answer.{Answer};
+ghost use Rattle.plan_laws.specs.plan_records.specs.Receipts.{AreReceipts, IsReceipt};
+ghost use Rattle.plan_laws.specs.plan_records.specs.Step.{AnswersAgain, HasReceiptRoom, last_number};
+ghost use Rattle.plan_laws.specs.plan_records.specs.declared.Request.{Request};
 ghost use Rattle.tracker_receipts.specs.Judging.{IsAnsweredBy, IsJudged, IsNew, numbered_by};
 
 use super::judging::Judged;
@@ -26,7 +26,7 @@ pub struct Receipt {
 }
 
 impl Model for Receipt {
-    ghost use Rattle.plan_records.specs.Step.{Receipt as LastAccepted};
+    ghost use Rattle.plan_laws.specs.plan_records.specs.Step.{Receipt as LastAccepted};
     ghost use Rattle.tracker_receipts.specs.Codes.{receipt_code};
 
     ghost Value = { LastAccepted };
@@ -97,7 +97,7 @@ pub struct Receipts {
 
 impl Model for Receipts {
     ghost use Rattle.std.specs.FinMap.{from_entries};
-    ghost use Rattle.plan_records.specs.Step.{Receipts as LastReceipts};
+    ghost use Rattle.plan_laws.specs.plan_records.specs.Step.{Receipts as LastReceipts};
     ghost use Rattle.tracker_receipts.specs.Codes.{receipts_code};
 
     ghost Value = { LastReceipts };

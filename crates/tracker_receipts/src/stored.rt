@@ -2,9 +2,9 @@
 ghost use Rattle.std.specs.Prelude.{◌≡◌, ◌<◌, ◌≤◌, pos, true, length, IfOk, MatchOption};
 ghost use Rattle.plan_basics.specs.declared.limits.TheConstants.{GREATEST_REQUEST_NUMBER, LONGEST_REQUEST_TEXT};
 ghost use Rattle.plan_basics.specs.Names.{IsName};
-ghost use Rattle.plan_items.specs.Parts.{IsReading};
-ghost use Rattle.plan_records.specs.Receipts.{AreReceipts};
-ghost use Rattle.plan_records.specs.Step.{Receipts as LastReceipts};
+ghost use Rattle.plan_laws.specs.plan_items.specs.Parts.{IsReading};
+ghost use Rattle.plan_laws.specs.plan_records.specs.Receipts.{AreReceipts};
+ghost use Rattle.plan_laws.specs.plan_records.specs.Step.{Receipts as LastReceipts};
 ghost use Rattle.tracker_receipts.specs.Stored.{AreRowsOf, IsRequestText, IsRowOf, columns_of};
 
 use super::kept::{Receipt, Receipts};

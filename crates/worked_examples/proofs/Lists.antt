@@ -6,10 +6,10 @@ use Rattle.std.specs.Ordering.{eq_by_cmp}
 use Rattle.std.specs.Cmp.{IsTotalOrder}
 use Rattle.std.specs.FinMap.{IsAntisymmetric, entries, entries-from_sorted, find, from_entries, from_sorted, get-from_entries, get-from_sorted, is_sorted, same_map}
 use Rattle.std.specs.FinSet as set
-use Rattle.plan_model.specs.Revise.{get-joined, get-revise, joined, or_else, revise}
-use Rattle.plan_drafts.proofs.MadeEntries.{find-made}
-pub use Rattle.plan_drafts.proofs.MadeEntries.{each_made as anew}
-use Rattle.plan_drafts.proofs.RowPlaces.{from_made}
+use Rattle.plan_laws.specs.plan_model.specs.Revise.{get-joined, get-revise, joined, or_else, revise}
+use Rattle.plan_laws.specs.plan_drafts.proofs.MadeEntries.{find-made}
+pub use Rattle.plan_laws.specs.plan_drafts.proofs.MadeEntries.{each_made as anew}
+use Rattle.plan_laws.specs.plan_drafts.proofs.RowPlaces.{from_made}
 use Rattle.plan_laws.proofs.Sorted.{contains_head, contains_later}
 use Rattle.worked_examples.proofs.Literal.{OneOf}
 

@@ -3,7 +3,7 @@ use Rattle.csv.specs.Reading.{Reached, default_config, ReadRecord, ReadsOn}
 use Rattle.std.proofs.lemmas.List.{length-map}
 use Rattle.csv.specs.Records.{fields_of as row_fields}
 use Rattle.csv.proofs.ReadFacts.{rows-more}
-use Rattle.plan_items.specs.Items.{fields_of}
+use Rattle.plan_records.specs.plan_items.specs.Items.{fields_of}
 use Rattle.plan_import.proofs.Rows.{single}
 use Rattle.plan_import.proofs.next_turn.Goals as goal
 

@@ -2,7 +2,7 @@ use Rattle.std.proofs.Common.{rules, ◌≡◌, ◌∙◌, ap, sym, refl, ◌<�
 use Rattle.std.proofs.lemmas.List.{map-append, take_more}
 use Rattle.csv.specs.Records.{fields_of as row_fields, field_at}
 use Rattle.csv.proofs.RecordFacts.{field-get, field-there}
-use Rattle.plan_items.specs.Items.{fields_of}
+use Rattle.plan_records.specs.plan_items.specs.Items.{fields_of}
 use Rattle.plan_import.proofs.own_fields.Goals.{in-Some+in_ok-to_vec+in_ok-push, in_default}
 use Rattle.plan_import.proofs.own_fields.Goals as goal
 

@@ -1,4 +1,4 @@
-use Rattle.plan_drafts.specs.Records.{records_of}
+use Rattle.plan_records.specs.plan_drafts.specs.Records.{records_of}
 use Rattle.plan_import.proofs.Plans.{denoted_by_text}
 use Rattle.plan_import.proofs.read_plan.Goals as goal
 

@@ -1,7 +1,7 @@
 use Rattle.std.proofs.Common.{◌≡◌, ◌∙◌, ap, map, ◌++◌, ◌∷◌, []}
 use Rattle.std.proofs.lemmas.List.{map-append}
-use Rattle.plan_items.specs.Items.{fields_of}
-use Rattle.plan_drafts.specs.Records.{records_of}
+use Rattle.plan_records.specs.plan_items.specs.Items.{fields_of}
+use Rattle.plan_records.specs.plan_drafts.specs.Records.{records_of}
 use Rattle.plan_import.specs.Records.{IsTen}
 use Rattle.plan_import.proofs.Rows.{begins, goes, ends, fails, all-more}
 use Rattle.plan_import.proofs.records_left.Goals as goal

@@ -2,7 +2,7 @@ use Rattle.std.proofs.Common.{◌≡◌, ℕ, List, Some, IfSome}
 use Rattle.std.specs.List.{AllByRecursion}
 use Rattle.csv.specs.Reading.{Reached, default_config, source_of}
 use Rattle.csv.specs.declared.parser.State.TheVariants as st
-use Rattle.plan_drafts.specs.Records.{records_of}
+use Rattle.plan_records.specs.plan_drafts.specs.Records.{records_of}
 use Rattle.plan_import.specs.Records.{IsTen, IsPlain}
 use Rattle.plan_import.proofs.records_left.Given as goal
 

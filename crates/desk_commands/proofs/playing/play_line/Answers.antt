@@ -2,7 +2,7 @@ use Rattle.std.proofs.Common.{◌≡◌, ◌++◌, FitsSigned, rules, inr, refl,
 use Rattle.std.proofs.KnownBytes.{Appends-trans}
 use Rattle.plan_basics.specs.Watched.{inner_of}
 use Rattle.plan_records.specs.Answer.{answer_of}
-use Rattle.plan_tables.specs.Desk.{state_of, usability}
+use Rattle.plan_loads.specs.plan_tables.specs.Desk.{state_of, usability}
 use Rattle.desk_commands.specs.Answers.{answer_text}
 use Rattle.desk_commands.specs.Asked.{IsNoRequest}
 use Rattle.desk_commands.specs.Turns.{turn_head}

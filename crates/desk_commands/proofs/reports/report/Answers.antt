@@ -1,7 +1,7 @@
 use Rattle.std.proofs.Common.{◌≡◌, codes}
 use Rattle.clap.specs.Matches.{first_value, found_of}
 use Rattle.plan_basics.specs.Watched.{inner_of}
-use Rattle.plan_tables.specs.Faults.{IsOpeningRefusal}
+use Rattle.plan_loads.specs.plan_tables.specs.Faults.{IsOpeningRefusal}
 use Rattle.desk_commands.specs.Words.{text_given}
 use Rattle.desk_commands.specs.declared.endings.Fault.TheVariants as fault
 use Rattle.desk_commands.proofs.Told.{of_them_too, report_refused, report_shown}

@@ -2,8 +2,8 @@ use Rattle.std.proofs.Common.{◌≡◌, ◌∙◌, codes, rules, subst, Err}
 use Rattle.clap.specs.Matches.{found_of}
 use Rattle.plan_basics.specs.Watched.{inner_of}
 use Rattle.plan_records.specs.Answer.{answer_of}
-use Rattle.plan_tables.specs.Desk.{state_of, usability}
-use Rattle.plan_tables.specs.Faults.{IsOpeningRefusal}
+use Rattle.plan_loads.specs.plan_tables.specs.Desk.{state_of, usability}
+use Rattle.plan_loads.specs.plan_tables.specs.Faults.{IsOpeningRefusal}
 use Rattle.request_texts.specs.Requests.{ReadsAsRequest}
 use Rattle.desk_commands.specs.Asked.{IsNoRequest}
 use Rattle.desk_commands.specs.Words.{text_given}

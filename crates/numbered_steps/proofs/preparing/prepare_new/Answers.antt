@@ -1,9 +1,10 @@
-use Rattle.std.proofs.Common.{rules, ◌≡◌, ◌⊎◌, inl, inr, refl, sym, ap, ◌∙◌, true≢false}
+use Rattle.std.proofs.Common.{rules, ◌≡◌, ◌⊎◌, inl, inr, refl, sym, ap, subst, ◌∙◌, true≢false}
 use Rattle.plan_basics.specs.declared.Refusal.TheVariants as refusal
+use Rattle.plan_core.specs.State.{IsMovedFrom, PlanState}
 use Rattle.plan_records.specs.Answer.{refused}
 use Rattle.plan_records.specs.Step.{HasReceiptRoom, Numbered, NumberedMayBeAccepted, StepBy}
 use Rattle.tracker_receipts.specs.Judging.{numbered_by}
-use Rattle.numbered_steps.proofs.Prepared.{step_is}
+use Rattle.numbered_steps.proofs.PreparedSteps.{step_is}
 use Rattle.numbered_steps.proofs.Rooms.{refused_with_room}
 use Rattle.numbered_steps.proofs.preparing.prepare_new.Goals as goal
 use Rattle.numbered_steps.specs.Steps.{receipt_of}
@@ -40,4 +41,4 @@ returns-clause-step c =
     let n : Numbered = numbered_by c.args.tracker.now c.args.number c.args.text.now q in
     let p : NumberedStep = record { tracker = c.args.tracker.now; prepared = c.in_ok-prepared.prepared; receipt = c.in_ok-receipt.receipt; row = c.in_ok-receipt.row } in
     step_is c.args.plan.now c.args.receipts.now n p c.look_at.ensures.sound (c.look_at.ensures.legal c.args.number q) c.requires ((c.if-not-has_room.ensures q).0 refl)
-    c.in_ok-prepared.ensures.step c.in_ok-prepared.ensures.changes refl (c.in_ok-receipt.ensures.receipt ∙ ap (receipt_of n) c.named.ensures) c.in_ok-receipt.ensures.row
+    c.in_ok-prepared.ensures.step c.in_ok-prepared.ensures.changes (subst (λ (s : PlanState). IsMovedFrom s c.in_ok-prepared.prepared) c.in_ok-prepared.ensures.unchanged c.in_ok-prepared.ensures.prepared.by.moved) refl (c.in_ok-receipt.ensures.receipt ∙ ap (receipt_of n) c.named.ensures) c.in_ok-receipt.ensures.row

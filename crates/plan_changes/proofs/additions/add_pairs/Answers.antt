@@ -1,7 +1,7 @@
 use Rattle.std.proofs.Common.{subst, List}
 use Rattle.std.specs.List.Sorted.{IsPermutation}
 use Rattle.plan_basics.specs.declared.keys.OpKey.{OpKey}
-use Rattle.plan_drafts.proofs.KeyPlaces.{pair_cmp_total, pair_cmp-IsAntisymmetric}
+use Rattle.plan_records.specs.plan_drafts.proofs.KeyPlaces.{pair_cmp_total, pair_cmp-IsAntisymmetric}
 use Rattle.plan_changes.proofs.Merging.{from_keys_merged, keys_merged_up}
 use Rattle.plan_changes.proofs.additions.add_pairs.Goals as goal
 

@@ -3,10 +3,10 @@ use Rattle.std.specs.FinMap.{from_entries, insert, empty}
 use Rattle.std.specs.FinSet as set
 use Rattle.plan_basics.specs.Keys.{name_cmp, name_cmp_total, name_cmp-IsAntisymmetric, occurrence_cmp, occurrence_cmp_total, occurrence_cmp-IsAntisymmetric, operation_cmp, operation_cmp_total, operation_cmp-IsAntisymmetric}
 use Rattle.plan_basics.specs.declared.keys.OpKey.{OpKey}
-use Rattle.plan_model.specs.Contents.{Operation, AddedParts, pair_cmp}
-use Rattle.plan_model.specs.Revise.{joined}
+use Rattle.plan_records.specs.plan_model.specs.Contents.{Operation, AddedParts, pair_cmp}
+use Rattle.plan_records.specs.plan_model.specs.Revise.{joined}
 use Rattle.plan_records.specs.Changes.{with_added}
-use Rattle.plan_model.proofs.Entries.{entries_are}
+use Rattle.plan_records.specs.plan_model.proofs.Entries.{entries_are}
 use Rattle.plan_changes.specs.Additions.{HasNothingOf, ShareNoKey}
 use Rattle.plan_changes.proofs.Merging.{single_up}
 use Rattle.plan_changes.proofs.additions.with_addition.Goals as goal

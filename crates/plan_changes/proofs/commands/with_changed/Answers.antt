@@ -2,8 +2,8 @@ use Rattle.std.proofs.Common.{refl, ap, ◌∙◌}
 use Rattle.std.proofs.lemmas.Fn.{says_at}
 use Rattle.std.specs.FinMap.{insert}
 use Rattle.plan_basics.specs.Keys.{operation_cmp, operation_cmp_total, operation_cmp-IsAntisymmetric}
-use Rattle.plan_model.specs.Contents.{Contents, Operation}
-use Rattle.plan_drafts.proofs.OneRow.{unrevised}
+use Rattle.plan_records.specs.plan_model.specs.Contents.{Contents, Operation}
+use Rattle.plan_records.specs.plan_drafts.proofs.OneRow.{unrevised}
 use Rattle.plan_changes.proofs.Put.{put_made}
 use Rattle.plan_changes.proofs.commands.with_changed.Goals as goal
 use Rattle.plan_changes.proofs.commands.with_changed.Goals.{in-Some, in_default}

@@ -1,10 +1,10 @@
 use Rattle.std.proofs.Common.{refl, ap, ◌∙◌}
 use Rattle.std.specs.FinMap.{insert}
 use Rattle.plan_basics.specs.Keys.{name_cmp, name_cmp_total, name_cmp-IsAntisymmetric}
-use Rattle.workstations.specs.Timetables.{reopened}
-use Rattle.workstations.specs.Workstations.{with_intervals}
-use Rattle.plan_model.specs.Contents.{Contents}
-use Rattle.plan_drafts.proofs.OneRow.{unrevised}
+use Rattle.plan_records.specs.workstations.specs.Timetables.{reopened}
+use Rattle.plan_records.specs.workstations.specs.Workstations.{with_intervals}
+use Rattle.plan_records.specs.plan_model.specs.Contents.{Contents}
+use Rattle.plan_records.specs.plan_drafts.proofs.OneRow.{unrevised}
 use Rattle.plan_changes.proofs.Taken.{is_taken, put_opened, reopened_in}
 use Rattle.plan_changes.proofs.commands.with_intervals.Goals as goal
 use Rattle.plan_changes.proofs.commands.with_intervals.Goals.{in-Some+in_ok-workstation+in_ok-own, in_default}

@@ -2,7 +2,7 @@ use Rattle.std.proofs.Common.{◌≡◌, inr, sym, subst, ◌∙◌, ◌<◌, tr
 use Rattle.plan_basics.specs.declared.Refusal.{Refusal}
 use Rattle.plan_basics.specs.declared.Refusal.TheVariants as refusal
 use Rattle.plan_basics.specs.Refusals.{number_of, IsLeastRefusal, NoneRefuses}
-use Rattle.plan_choice.specs.Choices.{AreHeldIn, HasTaken}
+use Rattle.plan_state.specs.plan_choice.specs.Choices.{HasTaken}
 use Rattle.plan_model.specs.Contents.{Contents}
 use Rattle.plan_model.specs.Starts.{MayStart}
 use Rattle.plan_records.specs.Acceptance.{MayBeStarted}
@@ -31,40 +31,38 @@ returns-in-StartAndCompletion-clause-refused c =
     inr (subst (λ a. IsLeastRefusal (MayBeStarted P m o x.operation (Some a)) refusal.WrongStatus) (sym c.in-StartAndCompletion.is)
     (λ may. true≢false (sym (startable_told P o x c.requires m may) ∙ sym c.is_startable.ensures ∙ no), before_line P o x.operation m))
 
-module _ (c : goal.After-drop-holdings-inside) where
-  may : MayStart c.args.loaded.now c.args.key.now c.args.reported.now.operation c.args.at refusal.WrongStatus
-  may =
-      let yes : c.is_startable.result ≡ true = search rules in
-      startable c.args.loaded.now c.args.key.now c.args.reported.now c.requires c.args.at c.in-StartAndCompletion.is (sym c.is_startable.ensures ∙ yes)
-
-  has : HasTaken c.args.loaded.now c.contents-contents.result.now c.args.reported.now.operation c.in_ok-taken-in-StartAndCompletion-2.taken c.in_ok-holdings-in-StartAndCompletion-2.holdings.held
-  has =
-      let same = c.contents-contents.ensures.contents in
-      let held = c.in_ok-holdings-in-StartAndCompletion-2.holdings.held in
-      let taken = c.in_ok-taken-in-StartAndCompletion-2.taken in
-      subst (λ (Q : Contents). HasTaken c.args.loaded.now Q c.args.reported.now.operation taken held) (sym same)
-      (has_taken c.args.loaded.now c.args.reported.now.operation taken held c.in_ok-taken-in-StartAndCompletion-2.ensures (subst (λ (Q : Contents). AreHeldIn Q held) (c.valid.ensures.contents ∙ same) c.in_ok-holdings-in-StartAndCompletion-2.ensures.held))
-
 if_err : {T : Type 0} {A B C D : Refusal → Type 0} (r : Result T Refusal) → IfErr r A → IfErr r B → IfErr r C → ((e : Refusal) → A e → B e → C e → D e) → IfErr r D
 if_err (Ok t) a b z f = tt
 if_err (Err e) a b z f = f e a b z
 
-pub returns-in_ok-holdings-in-StartAndCompletion-2-clause-ok : goal.returns-in_ok-holdings-in-StartAndCompletion-2-clause-ok
-returns-in_ok-holdings-in-StartAndCompletion-2-clause-ok c =
+pub returns-in-StartAndCompletion-2-clause-ok : goal.returns-in-StartAndCompletion-2-clause-ok
+returns-in-StartAndCompletion-2-clause-ok c =
     let P = c.args.loaded.now in
     let o = c.args.key.now in
     let op = c.args.reported.now.operation in
     let m = c.args.at in
+    let yes : c.is_startable.result ≡ true = search rules in
+    let may : MayStart P o op m refusal.WrongStatus = startable P o c.args.reported.now c.requires m c.in-StartAndCompletion.is (sym c.is_startable.ensures ∙ yes) in
+    let held = c.holdings.result.now.held in
+    let taken = c.given_out_at-taken.result in
+    let has : HasTaken P c.contents-contents.result.now op taken held =
+    subst (λ (Q : Contents). HasTaken P Q op taken held) (sym c.contents-contents.ensures.contents) (has_taken P op taken held c.given_out_at-taken.ensures c.holdings.ensures) in
     if_ok c.check_start.result c.check_start.ensures.ok (λ met.
     subst (λ z. NoneRefuses (MayBeStarted P m o op (Some z))) (sym c.in-StartAndCompletion.is)
-    (λ r. line_by_line P o op m (λ _. Unit {0}) (may c) (λ line first _. met P (has c) line first) r tt))
+    (λ r. line_by_line P o op m (λ _. Unit {0}) may (λ line first _. met P has line first) r tt))
 
-pub returns-in_ok-holdings-in-StartAndCompletion-2-clause-refused : goal.returns-in_ok-holdings-in-StartAndCompletion-2-clause-refused
-returns-in_ok-holdings-in-StartAndCompletion-2-clause-refused c =
+pub returns-in-StartAndCompletion-2-clause-refused : goal.returns-in-StartAndCompletion-2-clause-refused
+returns-in-StartAndCompletion-2-clause-refused c =
     let P = c.args.loaded.now in
     let o = c.args.key.now in
     let op = c.args.reported.now.operation in
     let m = c.args.at in
+    let yes : c.is_startable.result ≡ true = search rules in
+    let may : MayStart P o op m refusal.WrongStatus = startable P o c.args.reported.now c.requires m c.in-StartAndCompletion.is (sym c.is_startable.ensures ∙ yes) in
+    let held = c.holdings.result.now.held in
+    let taken = c.given_out_at-taken.result in
+    let has : HasTaken P c.contents-contents.result.now op taken held =
+    subst (λ (Q : Contents). HasTaken P Q op taken held) (sym c.contents-contents.ensures.contents) (has_taken P op taken held c.given_out_at-taken.ensures c.holdings.ensures) in
     if_err c.check_start.result c.check_start.ensures.line c.check_start.ensures.refused c.check_start.ensures.least (λ r line never least.
     inr (subst (λ z. IsLeastRefusal (MayBeStarted P m o op (Some z)) r) (sym c.in-StartAndCompletion.is)
-    (never P (has c), line_by_line P o op m (λ lower. number_of lower < number_of r) (may c) (λ lower first less. least P (has c) lower first less))))
+    (never P has, line_by_line P o op m (λ lower. number_of lower < number_of r) may (λ lower first less. least P has lower first less))))

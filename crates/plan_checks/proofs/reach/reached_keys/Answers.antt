@@ -3,12 +3,12 @@ use Rattle.std.specs.FinMap.{contains_key, entries, get}
 use Rattle.std.specs.Map.{keys_of}
 use Rattle.operation_graph.specs.Graphs.{AreExactly, HasEdge, IsSet}
 use Rattle.operation_graph.specs.Paths.{ReachesBy}
-use Rattle.plan_drafts.proofs.Tables.{some_is}
+use Rattle.plan_state.specs.plan_drafts.proofs.Tables.{some_is}
 use Rattle.plan_basics.specs.declared.keys.OpKey.{OpKey}
-use Rattle.plan_drafts.specs.PlanGraphs.{StandAt}
+use Rattle.plan_state.specs.plan_drafts.specs.PlanGraphs.{StandAt}
 use Rattle.plan_model.specs.Contents.{Contents, Operation}
 use Rattle.plan_model.specs.Valid.{IsValid}
-use Rattle.plan_status.proofs.RowKeys.{key_of_row}
+use Rattle.plan_state.specs.plan_status.proofs.RowKeys.{key_of_row}
 use Rattle.plan_checks.proofs.ReachedKeys.{reached_among, reached_within}
 use Rattle.plan_checks.proofs.reach.reached_keys.Goals as goal
 use Rattle.plan_checks.proofs.reach.reached_keys.Goals.{After-operations-rows}

@@ -1,7 +1,7 @@
 use Rattle.std.specs.FinMap.{entries}
 use Rattle.std.proofs.Common.{◌≡◌, arith, sym, ap, subst, ◌∙◌, ◌≤◌, Some, length, slice_get}
 use Rattle.special_resources.specs.Holdings.{HoldingState}
-use Rattle.plan_model.specs.Contents.{Operation}
+use Rattle.plan_status.specs.plan_model.specs.Contents.{Operation}
 use Rattle.plan_status.proofs.LoadedRows.{row_found}
 use Rattle.plan_status.proofs.RowKeys.{row_shown}
 use Rattle.plan_choice.specs.Takings.{HaveTaken}

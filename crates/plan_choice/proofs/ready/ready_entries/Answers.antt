@@ -4,10 +4,10 @@ use Rattle.std.proofs.lemmas.Int.{ints}
 use Rattle.std.proofs.lemmas.Option.{slice_get-get_or, same_Some}
 use Rattle.plan_basics.specs.declared.keys.OpKey.{OpKey}
 use Rattle.status_rules.specs.declared.Status.TheVariants.{Started}
-use Rattle.plan_model.specs.Contents.{Operation}
-use Rattle.plan_model.specs.Starts.{IsLatestStart}
-use Rattle.plan_model.specs.Status.{IsReady}
-use Rattle.plan_drafts.proofs.RowPlaces.{row_at}
+use Rattle.plan_status.specs.plan_model.specs.Contents.{Operation}
+use Rattle.plan_status.specs.plan_model.specs.Starts.{IsLatestStart}
+use Rattle.plan_status.specs.plan_model.specs.Status.{IsReady}
+use Rattle.plan_status.specs.plan_drafts.proofs.RowPlaces.{row_at}
 use Rattle.plan_status.proofs.LoadedRows.{row_found}
 use Rattle.plan_status.proofs.RowKeys.{row_shown}
 use Rattle.plan_choice.proofs.Readied.{next_passed, next_ready, ready_all}

@@ -2,7 +2,7 @@ use Rattle.std.proofs.Common.{arith, ◌≡◌, sym, ap, subst, ◌∙◌, w64, 
 use Rattle.std.specs.FinMap.{get}
 use Rattle.std.proofs.lemmas.Int.{ints}
 use Rattle.plan_basics.specs.declared.keys.OpKey.{OpKey}
-use Rattle.plan_model.specs.Contents.{HasAttribute, Operation}
+use Rattle.plan_status.specs.plan_model.specs.Contents.{HasAttribute, Operation}
 use Rattle.plan_choice.proofs.Readied.{is_entry}
 use Rattle.plan_choice.proofs.ready.ready_entry.Goals as goal
 

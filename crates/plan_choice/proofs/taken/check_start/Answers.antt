@@ -4,8 +4,8 @@ use Rattle.std.proofs.lemmas.Int.{ints}
 use Rattle.std.specs.FinMap.{get}
 use Rattle.plan_basics.specs.Refusals.{number_of, IsLeastRefusal}
 use Rattle.plan_basics.specs.declared.Refusal.{Refusal}
-use Rattle.plan_model.specs.Contents.{Contents, Operation}
-use Rattle.plan_model.specs.Starts.{MayStart}
+use Rattle.plan_status.specs.plan_model.specs.Contents.{Contents, Operation}
+use Rattle.plan_status.specs.plan_model.specs.Starts.{MayStart}
 use Rattle.workstations.specs.Workstations.{HasRoom, Workstation}
 use Rattle.plan_choice.specs.Choices.{HasTaken, IsStartLine}
 use Rattle.plan_choice.proofs.StartLines.{before_busy, line_met, lower_met, no_room, not_free}

@@ -1,6 +1,6 @@
 use Rattle.std.proofs.Common.{◌≡◌, sym, ap, subst, ◌∙◌, arith, refl, true≢false, Contains}
 use Rattle.special_resources.specs.Needs.{usages_of}
-use Rattle.plan_model.specs.Contents.{Operation, Resources}
+use Rattle.plan_status.specs.plan_model.specs.Contents.{Operation, Resources}
 use Rattle.plan_choice.specs.Takings.{CanMeetNeeds, CanMeetNeed}
 use Rattle.plan_choice.proofs.FreeResources.{all_free, one_busy}
 use Rattle.plan_choice.proofs.taken.has_resources.Goals as goal

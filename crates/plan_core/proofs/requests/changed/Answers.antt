@@ -3,7 +3,7 @@ use Rattle.plan_basics.specs.Intervals.{IsInterval}
 use Rattle.plan_basics.specs.declared.Refusal.TheVariants as refusal
 use Rattle.plan_basics.specs.Refusals.{NoneRefuses}
 use Rattle.plan_records.specs.Acceptance.{MayBeOpenBy}
-use Rattle.plan_model.specs.Contents.{Contents}
+use Rattle.plan_steps.specs.plan_model.specs.Contents.{Contents}
 use Rattle.plan_records.specs.Changes.{Changes, marked}
 use Rattle.plan_records.specs.declared.What.TheVariants as what
 use Rattle.status_rules.specs.declared.Mark.TheVariants as mark

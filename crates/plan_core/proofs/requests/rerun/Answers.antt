@@ -1,6 +1,6 @@
 use Rattle.std.proofs.Common.{◌∙◌, ap}
 use Rattle.ready_list.specs.Choice.{is_among}
-use Rattle.plan_model.specs.Ready.{with_mark}
+use Rattle.plan_steps.specs.plan_model.specs.Ready.{with_mark}
 use Rattle.plan_records.specs.Changes.{revised}
 use Rattle.status_rules.specs.declared.Mark.TheVariants as mark
 use Rattle.plan_core.proofs.requests.rerun.Goals as goal

@@ -2,12 +2,12 @@ use Rattle.std.proofs.Common.{◌≡◌, sym, ap, subst, ◌∙◌}
 use Rattle.plan_core.proofs.Settling.{graph_stays, latest_stays, standings_stay}
 use Rattle.plan_core.proofs.settle.settle.Goals as goal
 use Rattle.plan_core.proofs.settle.settle.Goals.{In_ok-with_marks}
-use Rattle.plan_choice.specs.Choices.{AreLatestStarts}
-use Rattle.plan_drafts.specs.PlanGraphs.{IsGraphFor}
-use Rattle.plan_laws.proofs.Kept.{choice_keeps_sound}
-use Rattle.plan_model.specs.Contents.{Contents}
-use Rattle.plan_model.specs.Ready.{named}
-use Rattle.plan_model.specs.Valid.{IsSound}
+use Rattle.plan_steps.specs.plan_choice.specs.Choices.{AreLatestStarts}
+use Rattle.plan_steps.specs.plan_drafts.specs.PlanGraphs.{IsGraphFor}
+use Rattle.plan_steps.specs.plan_laws.proofs.Kept.{choice_keeps_sound}
+use Rattle.plan_steps.specs.plan_model.specs.Contents.{Contents}
+use Rattle.plan_steps.specs.plan_model.specs.Ready.{named}
+use Rattle.plan_steps.specs.plan_model.specs.Valid.{IsSound}
 use Rattle.plan_status.specs.Standings.{AreStandings}
 
 -- the new contents are those with what is named marked so

@@ -1,5 +1,5 @@
 use Rattle.std.proofs.Common.{◌<◌, refl, sym, subst, length, All}
-use Rattle.operation_graph.specs.Graphs.{IsBuiltOf}
+use Rattle.plan_model.specs.operation_graph.specs.Graphs.{IsBuiltOf}
 use Rattle.plan_drafts.proofs.PairEdges.{edges_within, graph_built, never_twice, no_path_returns, some_path_returns}
 use Rattle.plan_drafts.proofs.graphs.graph_of.Goals as goal
 

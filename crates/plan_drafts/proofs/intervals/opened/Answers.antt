@@ -3,7 +3,7 @@ use Rattle.std.specs.Prelude.{AllPairs}
 use Rattle.plan_basics.specs.declared.limits.TheConstants.{MOST_INTERVALS}
 use Rattle.plan_basics.specs.Intervals.{AreApart}
 use Rattle.plan_basics.specs.declared.Refusal.TheVariants as refusal
-use Rattle.workstations.specs.Timetables.{reopened}
+use Rattle.plan_model.specs.workstations.specs.Timetables.{reopened}
 use Rattle.plan_drafts.proofs.intervals.opened.Goals as goal
 
 pub returns-in-Ok : goal.returns-in-Ok

@@ -1,7 +1,7 @@
 use Rattle.std.proofs.Common.{◌≡◌, ◌∙◌, sym, ap, subst, true≢false, Some}
 use Rattle.std.proofs.lemmas.Option.{none-some, same_Some}
-use Rattle.plan_model.specs.Plan.{plan_held}
-use Rattle.plan_model.specs.Valid.{IsSound}
+use Rattle.plan_rows.specs.plan_model.specs.Plan.{plan_held}
+use Rattle.plan_rows.specs.plan_model.specs.Valid.{IsSound}
 use Rattle.plan_opening.proofs.opening.loaded_of_rows.Goals as goal
 use Rattle.plan_records.specs.Rows.{AreRows}
 

@@ -2,7 +2,7 @@ use Rattle.std.proofs.Common.{◌≡◌, refl, subst, IfOk, MatchOption, Some}
 use Rattle.std.specs.FinMap.{get, get-empty}
 use Rattle.plan_basics.specs.Keys.{operation_cmp}
 use Rattle.plan_model.specs.Contents.{Contents, IsInPlan, nothing}
-use Rattle.plan_laws.proofs.Every.{nothing_at}
+use Rattle.plan_core.specs.plan_laws.proofs.Every.{nothing_at}
 use Rattle.plan_reasons.specs.Whys.{IsWhy}
 use Rattle.plan_reasons.proofs.plan.why.Goals as goal
 

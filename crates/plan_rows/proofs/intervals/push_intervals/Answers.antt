@@ -5,7 +5,7 @@ use Rattle.std.specs.Map.{keys_of}
 use Rattle.std.specs.Ordering.{nat_cmp, ordering_then}
 use Rattle.plan_basics.specs.Intervals.{OpenInterval}
 use Rattle.plan_basics.specs.Keys.{Name, name_cmp}
-use Rattle.plan_drafts.specs.declared.RowKey.TheVariants as key
+use Rattle.plan_state.specs.plan_drafts.specs.declared.RowKey.TheVariants as key
 use Rattle.plan_rows.proofs.AllTables.{legal_workstations}
 use Rattle.plan_rows.proofs.NoRows.{contents_of_plan}
 use Rattle.plan_rows.proofs.WithinRows.{are_intervals, intervals_ascend}

@@ -5,7 +5,7 @@ use Rattle.std.specs.Map.{keys_of}
 use Rattle.std.specs.Ordering.{ordering_then}
 use Rattle.plan_basics.specs.Keys.{Name, name_cmp, operation_cmp}
 use Rattle.plan_basics.specs.declared.keys.OpKey.{OpKey}
-use Rattle.plan_drafts.specs.declared.RowKey.TheVariants as key
+use Rattle.plan_state.specs.plan_drafts.specs.declared.RowKey.TheVariants as key
 use Rattle.plan_rows.proofs.NoRows.{contents_of_plan}
 use Rattle.plan_rows.proofs.WithinRows.{are_needs, needs_ascend}
 use Rattle.plan_rows.proofs.needs.push_needs.Goals as goal

@@ -4,7 +4,7 @@ use Rattle.std.proofs.lemmas.Option.{same_Some, slice_get-get_or}
 use Rattle.std.specs.FinMap.{entries}
 use Rattle.plan_basics.specs.declared.keys.OpKey.{OpKey}
 use Rattle.plan_model.specs.Contents.{Operation}
-use Rattle.plan_status.specs.declared.standings.Standing.{Standing}
+use Rattle.plan_state.specs.plan_status.specs.declared.standings.Standing.{Standing}
 use Rattle.status_rules.specs.declared.Status.TheVariants.{Started}
 use Rattle.plan_rows.proofs.ShownPlaces.{row_shown}
 use Rattle.plan_rows.proofs.ShownRows.{operation_at}

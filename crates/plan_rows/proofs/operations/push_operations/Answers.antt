@@ -3,8 +3,8 @@ use Rattle.std.specs.List.Sorted.{IsStrictlySortedBy}
 use Rattle.std.specs.Map.{keys_of}
 use Rattle.plan_basics.specs.Keys.{operation_cmp}
 use Rattle.plan_basics.specs.declared.keys.OpKey.{OpKey}
-use Rattle.plan_drafts.specs.declared.RowKey.TheVariants as key
-use Rattle.plan_records.specs.declared.PlanRow.{PlanRow}
+use Rattle.plan_state.specs.plan_drafts.specs.declared.RowKey.TheVariants as key
+use Rattle.plan_state.specs.plan_records.specs.declared.PlanRow.{PlanRow}
 use Rattle.plan_rows.proofs.ShownRows.{are_operations, operations_ascend}
 use Rattle.plan_rows.proofs.operations.push_operations.Goals as goal
 use Rattle.plan_rows.specs.Rows.{rows_of}

@@ -1,7 +1,7 @@
 use Rattle.std.proofs.Common.{◌∙◌, sym, subst, ap, map}
 use Rattle.std.specs.FinMap.{entries}
 use Rattle.std.specs.Map.{keys_of}
-use Rattle.plan_drafts.specs.declared.RowKey.TheVariants as key
+use Rattle.plan_state.specs.plan_drafts.specs.declared.RowKey.TheVariants as key
 use Rattle.plan_rows.proofs.NoRows.{contents_of_plan}
 use Rattle.plan_rows.proofs.TableRows.{are_workstations}
 use Rattle.plan_rows.proofs.workplaces.push_workstations.Goals as goal

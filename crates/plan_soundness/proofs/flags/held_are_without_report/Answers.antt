@@ -1,7 +1,7 @@
 use Rattle.std.proofs.Common.{◌≡◌, ◌≤◌, refl, sym, ap, ◌∙◌, arith, true≢false, length, slice_get, Some}
 use Rattle.std.specs.FinMap.{entries}
-use Rattle.plan_status.proofs.LoadedRows.{row_found}
-use Rattle.plan_status.proofs.RowKeys.{row_shown}
+use Rattle.plan_choice.specs.plan_status.proofs.LoadedRows.{row_found}
+use Rattle.plan_choice.specs.plan_status.proofs.RowKeys.{row_shown}
 use Rattle.plan_basics.specs.Keys.{operation_cmp_total, operation_cmp-IsAntisymmetric}
 use Rattle.plan_soundness.specs.Laws.{IsHeldRightly}
 use Rattle.plan_soundness.proofs.EachRow.{so_of_all, so_of_none, so_of_one_more}

@@ -1,6 +1,6 @@
 use Rattle.std.proofs.Common.{◌≡◌, ◌≤◌, refl, sym, ap, ◌∙◌, arith, true≢false, length, slice_get, Some}
 use Rattle.std.specs.FinMap.{entries}
-use Rattle.plan_status.proofs.RowKeys.{row_shown}
+use Rattle.plan_choice.specs.plan_status.proofs.RowKeys.{row_shown}
 use Rattle.plan_basics.specs.Keys.{name_cmp_total, name_cmp-IsAntisymmetric}
 use Rattle.plan_soundness.specs.Laws.{HasCompatibleHolders}
 use Rattle.plan_soundness.proofs.EachRow.{so_of_all, so_of_none, so_of_one_more}

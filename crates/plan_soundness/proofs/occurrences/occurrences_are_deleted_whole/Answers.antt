@@ -1,6 +1,6 @@
 use Rattle.std.proofs.Common.{◌≡◌, ◌≤◌, ◌-◌, refl, sym, ap, ◌∙◌, arith, true≢false, length, slice_get, Some}
 use Rattle.std.specs.FinMap.{entries}
-use Rattle.plan_status.proofs.RowKeys.{row_shown}
+use Rattle.plan_choice.specs.plan_status.proofs.RowKeys.{row_shown}
 use Rattle.plan_soundness.proofs.Neighbours.{alike_by_whole, alike_first, alike_more, whole}
 use Rattle.plan_soundness.proofs.occurrences.occurrences_are_deleted_whole.Goals as goal
 use Rattle.plan_soundness.proofs.occurrences.occurrences_are_deleted_whole.Goals.{After-are_deleted_alike}

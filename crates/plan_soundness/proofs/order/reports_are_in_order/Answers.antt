@@ -3,8 +3,8 @@ use Rattle.std.specs.FinMap.{entries}
 use Rattle.std.proofs.lemmas.Option.{slice_get-get_or}
 use Rattle.plan_basics.specs.declared.keys.OpKey.{OpKey}
 use Rattle.plan_model.specs.Contents.{Operation}
-use Rattle.plan_status.proofs.LoadedRows.{row_found}
-use Rattle.plan_status.proofs.RowKeys.{row_read}
+use Rattle.plan_choice.specs.plan_status.proofs.LoadedRows.{row_found}
+use Rattle.plan_choice.specs.plan_status.proofs.RowKeys.{row_read}
 use Rattle.plan_basics.specs.Keys.{operation_cmp_total, operation_cmp-IsAntisymmetric}
 use Rattle.plan_soundness.specs.Laws.{IsReportedInOrder}
 use Rattle.plan_soundness.proofs.EachRow.{so_of_all, so_of_none, so_of_one_more}

@@ -2,8 +2,8 @@ use Rattle.std.proofs.Common.{arith, ◌≡◌, ap, sym, subst, ◌∙◌, Some,
 use Rattle.std.proofs.lemmas.Option.{slice_get-get_or, same_Some}
 use Rattle.std.specs.FinMap.{entries, get}
 use Rattle.plan_basics.specs.declared.keys.OpKey.{OpKey}
-use Rattle.plan_model.specs.Contents.{Contents, HasAttribute, Operation}
-use Rattle.plan_model.specs.Status.{HasStatus}
+use Rattle.plan_laws.specs.plan_model.specs.Contents.{Contents, HasAttribute, Operation}
+use Rattle.plan_laws.specs.plan_model.specs.Status.{HasStatus}
 use Rattle.plan_status.proofs.LoadedRows.{row_found}
 use Rattle.plan_status.proofs.RowKeys.{row_read}
 use Rattle.plan_status.proofs.SoFar.{one_more}

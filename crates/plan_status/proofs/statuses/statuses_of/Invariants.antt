@@ -1,4 +1,4 @@
-use Rattle.plan_model.specs.Status.{HasStatus}
+use Rattle.plan_laws.specs.plan_model.specs.Status.{HasStatus}
 use Rattle.std.specs.FinMap.{entries}
 use Rattle.plan_status.proofs.SoFar.{AreSoFar}
 use Rattle.plan_status.proofs.statuses.statuses_of.Given as goal

@@ -1,12 +1,12 @@
 use Rattle.std.proofs.Common.{rules, arith, ◌≡◌, ◌<◌, ap, Some, length, get_or, slice_get}
 use Rattle.std.proofs.lemmas.Option.{slice_get-get_or, slice_get_read}
 use Rattle.std.specs.FinMap.{entries, get}
-use Rattle.plan_drafts.proofs.Tables.{some_is}
+use Rattle.plan_laws.specs.plan_drafts.proofs.Tables.{some_is}
 use Rattle.plan_basics.specs.Keys.{occurrence_cmp, operation_cmp}
 use Rattle.plan_basics.specs.declared.keys.OpKey.{OpKey}
-use Rattle.plan_model.specs.Contents.{Operation}
-use Rattle.plan_model.specs.declared.Occurrence.{Occurrence}
-use Rattle.plan_model.proofs.Entries.{entries_in_order}
+use Rattle.plan_laws.specs.plan_model.specs.Contents.{Operation}
+use Rattle.plan_laws.specs.plan_model.specs.declared.Occurrence.{Occurrence}
+use Rattle.plan_laws.specs.plan_model.proofs.Entries.{entries_in_order}
 use Rattle.plan_status.proofs.LoadedRows.{few_rows, row_found}
 use Rattle.plan_status.proofs.RowKeys.{row_read}
 use Rattle.plan_status.proofs.Tallying.{all_tallied, at_most_rows, row_tallied, tallies_begin}

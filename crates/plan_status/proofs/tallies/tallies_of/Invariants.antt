@@ -1,5 +1,5 @@
 use Rattle.std.specs.FinMap.{entries}
-use Rattle.plan_drafts.specs.Places.{AreByPlace}
+use Rattle.plan_laws.specs.plan_drafts.specs.Places.{AreByPlace}
 use Rattle.plan_status.proofs.Tallying.{IsTallySoFar}
 use Rattle.plan_status.proofs.tallies.tallies_of.Given as goal
 

@@ -1,7 +1,7 @@
 use Rattle.std.proofs.Common.{rules, refl, subst, List, ◌≡◌, ◌+◌, ◌++◌, ◌∷◌, [], take, map, cond, length, length-append, sym, ap, ◌∙◌, arith}
 use Rattle.std.specs.Result.{is_ok}
 use Rattle.std.proofs.lemmas.List.{map-append, take_all, take_more}
-use Rattle.plan_core.proofs.Answering.{run_more}
+use Rattle.numbered_steps.specs.plan_core.proofs.Answering.{run_more}
 use Rattle.plan_records.specs.Answer.{answer_of}
 use Rattle.plan_records.specs.Run.{plain}
 use Rattle.plan_records.specs.declared.Reply.{Reply}

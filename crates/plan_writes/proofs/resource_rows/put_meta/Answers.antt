@@ -1,8 +1,11 @@
 use Rattle.sqlite.specs.Held.{state}
+use Rattle.plan_schema.specs.Schema.{schema_9}
 use Rattle.plan_schema.specs.Stored.{with_meta, meta_values}
 use Rattle.plan_schema.specs.declared.TheConstants.{PUT_META}
+use Rattle.plan_schema.proofs.MetaTexts.{put_is, put_plain}
 use Rattle.plan_schema.proofs.Metas.{meta_put}
 use Rattle.plan_columns.specs.Columns.{meta_columns}
+use Rattle.plan_writes.proofs.Faults.{finds_table_named}
 use Rattle.plan_writes.proofs.Growth.{rewrites_so}
 use Rattle.plan_writes.proofs.Texts.{writes_meta}
 use Rattle.plan_writes.specs.Within.{Rewrites}
@@ -17,3 +20,9 @@ returns-clause-written g c =
     executed (Rewrites (with_meta x)) old new PUT_META.now (meta_values x) c.execute.result (rewrites_so (with_meta x) PUT_META.now writes_meta (meta_values x) old new c.execute.result (meta_put old new x c.execute.result))
     (λ clean inside. rw (c.number.ensures, c.number-2.ensures, c.flag.ensures, c.minute.ensures) at (c.execute.ensures.runs clean inside))
     c.execute.ensures.survives
+
+pub returns-clause-names : goal.returns-clause-names
+returns-clause-names g c =
+    let x = meta_columns c.args.version c.args.loaded c.args.clock in
+    finds_table_named schema_9 PUT_META.now (meta_values x) _ _ _ _ put_is put_plain (state g.S.Store c.args.tx.now.conn.now) (state g.S.Store c.execute.new.self.conn.now) c.execute.result
+    (λ clean inside. rw (c.number.ensures, c.number-2.ensures, c.flag.ensures, c.minute.ensures) at (c.execute.ensures.runs clean inside))

@@ -1,6 +1,6 @@
 use Rattle.std.proofs.Common.{◌≡◌, refl, sym, subst}
-use Rattle.plan_drafts.specs.declared.RowKey.{RowKey}
-use Rattle.plan_drafts.specs.declared.RowKey.TheVariants as key
+use Rattle.plan_columns.specs.plan_drafts.specs.declared.RowKey.{RowKey}
+use Rattle.plan_columns.specs.plan_drafts.specs.declared.RowKey.TheVariants as key
 use Rattle.sqlite.specs.Held.{state}
 use Rattle.plan_schema.specs.Stored.{Held, Stores}
 use Rattle.plan_columns.specs.Tables.{without_row}

@@ -1,6 +1,6 @@
 use Rattle.std.proofs.Common.{◌≡◌, ◌∷◌, [], length, refl, sym, ap, subst, ◌∙◌, arith}
 use Rattle.plan_basics.specs.Intervals.{IsInterval}
-use Rattle.plan_schema.specs.Stored.{interval_row}
+use Rattle.plan_columns.specs.plan_schema.specs.Stored.{interval_row}
 use Rattle.plan_columns.specs.Columns.{interval_columns}
 use Rattle.stored_rows.proofs.RecordLaws.{at, whole, no_interval}
 use Rattle.stored_rows.proofs.records.read_interval.Goals as goal

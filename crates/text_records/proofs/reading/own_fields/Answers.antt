@@ -1,7 +1,7 @@
 use Rattle.std.proofs.Common.{rules, ◌≡◌, ◌∙◌, ap, sym, ◌++◌, ◌∷◌, [], map, Some, None}
 use Rattle.std.proofs.lemmas.List.{map-append}
 use Rattle.csv.specs.Records.{fields_of as row_fields, field_at}
-use Rattle.plan_items.specs.Items.{fields_of}
+use Rattle.plan_import.specs.plan_items.specs.Items.{fields_of}
 use Rattle.text_records.proofs.Taken.{more_taken, all_taken}
 use Rattle.text_records.proofs.reading.own_fields.Goals as goal
 

@@ -1,6 +1,6 @@
 use Rattle.std.proofs.Common.{◌≡◌, ◌+◌, [], arith, inr, refl, subst, sym, take, true, true≢false}
 use Rattle.plan_basics.specs.Names.{IsName}
-use Rattle.plan_records.specs.Receipts.{AreReceipts, IsReceipt}
+use Rattle.plan_laws.specs.plan_records.specs.Receipts.{AreReceipts, IsReceipt}
 use Rattle.tracker_receipts.specs.Stored.{AreRowsOf, columns_of}
 use Rattle.tracker_receipts.proofs.Keeping.{none_legal, one_more_legal}
 use Rattle.tracker_receipts.proofs.Listing.{closed, no_receipt, no_rows, no_tracker, row_taken}

@@ -1,5 +1,5 @@
 use Rattle.std.proofs.Common.{take, true}
-use Rattle.plan_records.specs.Receipts.{AreReceipts}
+use Rattle.plan_laws.specs.plan_records.specs.Receipts.{AreReceipts}
 use Rattle.tracker_receipts.specs.Stored.{AreRowsOf}
 use Rattle.tracker_receipts.proofs.stored.receipts_of.Given as goal
 

@@ -1,4 +1,4 @@
-use Rattle.numbered_steps.proofs.Prepared.{has_room, is_legal, is_prepared}
+use Rattle.numbered_steps.proofs.PreparedSteps.{has_room, is_legal, is_prepared}
 use Rattle.numbered_steps.proofs.steps.NumberedStep.apply.Goals as goal
 
 pub put-requires-clause-room : goal.put-requires-clause-room

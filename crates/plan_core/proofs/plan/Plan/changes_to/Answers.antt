@@ -1,10 +1,10 @@
 use Rattle.std.proofs.Common.{◌≡◌, ◌∙◌, ap, subst, Some}
 use Rattle.plan_core.proofs.FromPlace.{shown_if_any}
 use Rattle.plan_core.proofs.plan.Plan.changes_to.Goals as goal
-use Rattle.plan_model.specs.Contents.{Contents}
-use Rattle.plan_model.specs.Plan.{Plan, plan_held}
+use Rattle.plan_steps.specs.plan_model.specs.Contents.{Contents}
+use Rattle.plan_steps.specs.plan_model.specs.Plan.{Plan, plan_held}
 use Rattle.plan_records.specs.Rows.{AreChanges}
-use Rattle.plan_rows.specs.Shown.{plan_shown}
+use Rattle.plan_steps.specs.plan_rows.specs.Shown.{plan_shown}
 
 pub changes_between-requires-clause-before : goal.changes_between-requires-clause-before
 changes_between-requires-clause-before c =

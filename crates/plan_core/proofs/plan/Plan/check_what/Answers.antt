@@ -1,14 +1,14 @@
 use Rattle.std.proofs.Common.{rules, ◌≡◌, ◌⊎◌, inr, refl, sym, ap, subst, ◌∙◌, Some, IfErr, OnOk}
 use Rattle.plan_basics.specs.Refusals.{IsLeastRefusal, NoneRefuses}
 use Rattle.plan_basics.specs.declared.Refusal.TheVariants as refusal
-use Rattle.plan_model.specs.Plan.{Plan}
+use Rattle.plan_steps.specs.plan_model.specs.Plan.{Plan}
 use Rattle.plan_records.specs.Acceptance.{IsLoad}
 use Rattle.plan_records.specs.declared.What.{What}
-use Rattle.plan_checks.specs.Loads.{MayBeLoadedWhere}
-use Rattle.plan_model.specs.Plan.{plan_held}
+use Rattle.plan_steps.specs.plan_checks.specs.Loads.{MayBeLoadedWhere}
+use Rattle.plan_steps.specs.plan_model.specs.Plan.{plan_held}
 use Rattle.plan_core.specs.Requested.{MayBeMadeAt}
 use Rattle.plan_core.specs.State.{PlanState}
-use Rattle.plan_checks.proofs.Searching.{if_err, if_ok, if_refused}
+use Rattle.plan_steps.specs.plan_checks.proofs.Searching.{if_err, if_ok, if_refused}
 use Rattle.plan_core.proofs.Refusing.{held_loaded, is_free, is_stopped, load_is_free, load_is_stopped}
 use Rattle.plan_core.proofs.plan.Plan.check_what.Goals as goal
 

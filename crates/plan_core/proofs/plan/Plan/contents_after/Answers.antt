@@ -1,10 +1,10 @@
 use Rattle.std.proofs.Common.{rules, ◌≡◌, sym, ap, subst, ◌∙◌, Some, option_copied}
 use Rattle.plan_basics.specs.Refusals.{NoneRefuses}
-use Rattle.plan_model.specs.Plan.{Plan}
+use Rattle.plan_steps.specs.plan_model.specs.Plan.{Plan}
 use Rattle.plan_records.specs.Acceptance.{MayBeDone, NeedsPlan, minute_of}
 use Rattle.plan_records.specs.declared.What.{What}
 use Rattle.plan_records.specs.declared.What.TheVariants as what
-use Rattle.plan_model.specs.Plan.{plan_held}
+use Rattle.plan_steps.specs.plan_model.specs.Plan.{plan_held}
 use Rattle.plan_core.specs.Requested.{AreMadeBy}
 use Rattle.plan_core.specs.State.{PlanState}
 use Rattle.plan_core.proofs.Preparing.{has_draft, has_plan, is_clear}

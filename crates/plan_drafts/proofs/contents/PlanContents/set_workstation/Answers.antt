@@ -1,7 +1,7 @@
 use Rattle.std.proofs.Common.{◌≡◌, ap, subst, ◌∙◌, Some, slice_get}
 use Rattle.std.specs.FinMap.{insert}
 use Rattle.plan_basics.specs.Keys.{Name, name_cmp_total, name_cmp-IsAntisymmetric}
-use Rattle.workstations.specs.Workstations.{Workstation}
+use Rattle.plan_model.specs.workstations.specs.Workstations.{Workstation}
 use Rattle.plan_model.specs.Contents.{Contents}
 use Rattle.plan_drafts.specs.Contents.{held_in}
 use Rattle.plan_drafts.proofs.Held.{put_in_order, put_is}

@@ -1,7 +1,7 @@
 use Rattle.std.proofs.Common.{◌≡◌, ◌<◌, sym, subst, length, slice_get, List, Option, Some}
 use Rattle.std.specs.Map.{keys_of}
 use Rattle.plan_basics.specs.declared.keys.OccKey.{OccKey}
-use Rattle.plan_records.specs.declared.PlanRow.{PlanRow}
+use Rattle.plan_state.specs.plan_records.specs.declared.PlanRow.{PlanRow}
 use Rattle.plan_rows.proofs.ShownPlaces.{some_shown}
 use Rattle.plan_rows.proofs.ShownRows.{occurrence_within}
 use Rattle.plan_rows.proofs.occurrences.OccurrenceRows.row.Goals as goal

@@ -1,7 +1,7 @@
 use Rattle.std.proofs.Common.{◌≡◌, ◌<◌, sym, subst, length, slice_get, List, Option, Some}
 use Rattle.std.specs.Map.{keys_of}
 use Rattle.plan_basics.specs.declared.keys.OpKey.{OpKey}
-use Rattle.plan_records.specs.declared.PlanRow.{PlanRow}
+use Rattle.plan_state.specs.plan_records.specs.declared.PlanRow.{PlanRow}
 use Rattle.plan_rows.proofs.ShownPlaces.{some_shown}
 use Rattle.plan_rows.proofs.ShownRows.{operation_within}
 use Rattle.plan_rows.proofs.operations.OperationRows.row.Goals as goal

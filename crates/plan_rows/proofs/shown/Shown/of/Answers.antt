@@ -1,10 +1,10 @@
 use Rattle.std.proofs.Common.{◌≡◌, ◌∙◌, sym, subst}
-use Rattle.plan_choice.specs.Choices.{AreLatestStarts}
+use Rattle.plan_state.specs.plan_choice.specs.Choices.{AreLatestStarts}
 use Rattle.plan_rows.proofs.shown.Shown.of.Goals as goal
-use Rattle.plan_drafts.specs.Places.{AreStatuses}
+use Rattle.plan_state.specs.plan_drafts.specs.Places.{AreStatuses}
 use Rattle.plan_model.specs.Contents.{Contents}
 use Rattle.plan_model.specs.Valid.{IsSound}
-use Rattle.plan_status.specs.Standings.{AreStandings, AreTallies}
+use Rattle.plan_state.specs.plan_status.specs.Standings.{AreStandings, AreTallies}
 
 pub returns-clause-shown : goal.returns-clause-shown
 returns-clause-shown c =

@@ -2,10 +2,10 @@ use Rattle.std.proofs.Common.{◌≡◌, ◌∙◌, ◌<◌, refl, sym, ap, subs
 use Rattle.std.proofs.lemmas.Option.{slice_get_read, slice_get_within}
 use Rattle.std.specs.FinMap.{contains_key, entries, get}
 use Rattle.plan_basics.specs.Keys.{occurrence_cmp_total, occurrence_cmp-IsAntisymmetric}
-use Rattle.plan_drafts.proofs.EntryRows.{row_in}
-use Rattle.plan_drafts.proofs.Tables.{some_is}
-use Rattle.plan_model.specs.Contents.{Contents}
-use Rattle.plan_model.specs.Status.{HasOccurrenceStatus}
+use Rattle.plan_choice.specs.plan_drafts.proofs.EntryRows.{row_in}
+use Rattle.plan_choice.specs.plan_drafts.proofs.Tables.{some_is}
+use Rattle.plan_choice.specs.plan_model.specs.Contents.{Contents}
+use Rattle.plan_choice.specs.plan_model.specs.Status.{HasOccurrenceStatus}
 use Rattle.plan_state.proofs.loaded.LoadedPlan.occurrence_status.Goals as goal
 
 pub returns-in-None-clause-absent : goal.returns-in-None-clause-absent
@@ -26,8 +26,8 @@ returns-in-Some-clause-found c =
     let key = c.args.key.now in
     let i = c.in-Some.place in
     let found = c.in-Some.ensures.found in
-    let tallies = c.self.inside.tallies.items in
+    let tallies = c.self.inside.figures.tallies.items in
     let lt = slice_get_within (entries P.occurrences) i (key, found.0) found.1 in
-    let within : i < length tallies = omega (arith, lt, held.tallies.size) in
-    let tally = held.tallies.each i key found.0 c.index.result.now found.1 (slice_get_read tallies _ i c.index.result.now refl within c.index.ensures) in
+    let within : i < length tallies = omega (arith, lt, held.figures.tallies.size) in
+    let tally = held.figures.tallies.each i key found.0 c.index.result.now found.1 (slice_get_read tallies _ i c.index.result.now refl within c.index.ensures) in
     subst (λ (Q : Contents). HasOccurrenceStatus Q key c.occurrence_status_with.result) c.self.view_is (c.occurrence_status_with.ensures P key tally)

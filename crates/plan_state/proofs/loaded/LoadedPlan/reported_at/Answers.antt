@@ -2,11 +2,11 @@ use Rattle.std.proofs.Common.{◌≡◌, ◌<◌, sym, ap, subst, ◌∙◌, len
 use Rattle.std.specs.FinMap.{entries, get}
 use Rattle.plan_basics.specs.declared.keys.OpKey.{OpKey}
 use Rattle.std.proofs.lemmas.Option.{same_Some}
-use Rattle.plan_laws.proofs.Standing.{one_status}
-use Rattle.plan_model.specs.Contents.{Contents, HasAttribute, Operation}
-use Rattle.plan_model.specs.Status.{HasStatus}
-use Rattle.plan_status.proofs.LoadedRows.{row_found}
-use Rattle.plan_status.proofs.RowKeys.{row_read}
+use Rattle.plan_choice.specs.plan_laws.proofs.Standing.{one_status}
+use Rattle.plan_choice.specs.plan_model.specs.Contents.{Contents, HasAttribute, Operation}
+use Rattle.plan_choice.specs.plan_model.specs.Status.{HasStatus}
+use Rattle.plan_choice.specs.plan_status.proofs.LoadedRows.{row_found}
+use Rattle.plan_choice.specs.plan_status.proofs.RowKeys.{row_read}
 use Rattle.plan_state.specs.Reports.{IsReported}
 use Rattle.plan_state.specs.declared.loaded.Reported.{Reported}
 use Rattle.plan_state.proofs.loaded.LoadedPlan.reported_at.Goals as goal

@@ -1,14 +1,14 @@
 use Rattle.std.proofs.Common.{◌≡◌, ◌<◌, refl, sym, subst, arith, length, slice_get, Some}
 use Rattle.std.proofs.lemmas.Option.{slice_get_read}
 use Rattle.std.specs.FinMap.{entries}
-use Rattle.plan_model.specs.Contents.{Contents}
-use Rattle.plan_model.specs.Status.{HasStatus}
+use Rattle.plan_choice.specs.plan_model.specs.Contents.{Contents}
+use Rattle.plan_choice.specs.plan_model.specs.Status.{HasStatus}
 use Rattle.plan_state.proofs.loaded.LoadedPlan.status_at.Goals as goal
 
 pub returns : goal.returns
 returns c o op at =
-    let statuses = c.self.inside.statuses.items in
-    let are = c.self.invariant.statuses in
+    let statuses = c.self.inside.figures.statuses.items in
+    let are = c.self.invariant.figures.statuses in
     let i = c.args.place in
     let within = subst (λ (Q : Contents). i < length (entries Q.operations)) (sym c.self.view_is) c.requires in
     let here = subst (λ (Q : Contents). slice_get (entries Q.operations) i ≡ Some (o, op)) (sym c.self.view_is) at in

@@ -2,11 +2,10 @@ use Rattle.std.proofs.Common.{◌≡◌, ◌⊎◌, rules, refl, ap, sym, subst,
 use Rattle.sqlite.specs.Held.{state}
 use Rattle.sqlite.specs.State.{Survives}
 use Rattle.plan_basics.specs.declared.Refusal.TheVariants as refusal
-use Rattle.plan_core.specs.Provided.{StartsAreProvided}
-use Rattle.plan_core.specs.State.{PlanState}
-use Rattle.plan_laws.proofs.Receipts.{answer_keeps_receipts}
+use Rattle.numbered_steps.specs.plan_core.specs.Provided.{StartsAreProvided}
+use Rattle.numbered_steps.specs.plan_core.specs.State.{IsPreparedFor, PlanState}
+use Rattle.numbered_steps.specs.plan_laws.proofs.Receipts.{answer_keeps_receipts}
 use Rattle.plan_records.specs.Answer.{accepted, answer_of, refused}
-use Rattle.plan_records.specs.Rows.{AreChanges}
 use Rattle.plan_records.specs.Run.{Answers, plain}
 use Rattle.plan_records.specs.Schedules.{IsDeskState}
 use Rattle.plan_records.specs.Step.{Step}
@@ -65,8 +64,9 @@ returns-in-Ok-clause-stops g c is_open has =
     let plan = ap (λ (d : DeskState _). d.plan) c.self.view_is in
     let kept = subst (IsKept g.S.Store) c.self.view_is c.self.invariant in
     let step = subst (λ P. Step P q (accepted p.named) p.plan) plan c.in-Ok.ensures.step in
-    let are = subst (λ P. AreChanges P p.plan p.rows p.gone) plan c.in-Ok.ensures.changes in
-    let carries = prepared_carries (state_of old) (Plain p) kept.legal.0 (record { request = q; step = step; changes = are }) in
+    let before = subst (λ (s : PlanState). IsPreparedFor s p) c.prepare.ensures.unchanged c.in-Ok.ensures.prepared in
+    let is = subst (λ P. (let s : PlanState = record { plan = P } in IsPreparedFor s p)) plan before in
+    let carries = prepared_carries (state_of old) (Plain p) kept.legal.0 is in
     let stops = subst (λ (d : DeskState _). Survives (state g.S.Store d.conn) (state g.S.Store new.conn) (LeavesMade Makes (state g.S.Store d.conn))) c.self.view_is c.carry_out.ensures.stops in
     step_survives (state_of old) (state_after (state_of old) (Plain p)) (change_of (Plain p)) carries (state g.S.Store old.conn) (plain q) p.named (step, refl) (state g.S.Store new.conn)
     (λ clean. (is_open, kept.tables (clean, is_open) has)) stops

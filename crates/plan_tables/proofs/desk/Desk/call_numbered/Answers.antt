@@ -4,9 +4,9 @@ use Rattle.sqlite.specs.Held.{state}
 use Rattle.sqlite.specs.State.{Survives}
 use Rattle.numbered_steps.specs.Steps.{IfAgain, IfNew, IsNumberedStepFor}
 use Rattle.plan_basics.specs.declared.Refusal.TheVariants as refusal
-use Rattle.plan_core.specs.Provided.{StartsAreProvided}
-use Rattle.plan_core.specs.State.{PlanState}
-use Rattle.plan_laws.proofs.Receipts.{answer_keeps_receipts}
+use Rattle.numbered_steps.specs.plan_core.specs.Provided.{StartsAreProvided}
+use Rattle.numbered_steps.specs.plan_core.specs.State.{PlanState}
+use Rattle.numbered_steps.specs.plan_laws.proofs.Receipts.{answer_keeps_receipts}
 use Rattle.plan_records.specs.Answer.{accepted, answer_of, refused}
 use Rattle.plan_records.specs.Run.{Answers, CallStep, numbered}
 use Rattle.plan_records.specs.Schedules.{IsDeskState}

@@ -1,6 +1,6 @@
 use Rattle.std.proofs.Common.{sym, subst}
 use Rattle.sqlite.specs.Held.{state}
-use Rattle.plan_laws.proofs.Receipts.{empty_is_desk_state}
+use Rattle.numbered_steps.specs.plan_laws.proofs.Receipts.{empty_is_desk_state}
 use Rattle.plan_records.specs.Run.{State, empty_state}
 use Rattle.plan_records.specs.Schedules.{IsDeskState}
 use Rattle.plan_tables.specs.Desk.{HoldsState}

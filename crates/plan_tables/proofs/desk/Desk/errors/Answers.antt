@@ -1,5 +1,5 @@
 use Rattle.std.proofs.Common.{sym, ap, subst}
-use Rattle.plan_model.specs.Contents.{Contents}
+use Rattle.numbered_steps.specs.plan_model.specs.Contents.{Contents}
 use Rattle.plan_tables.specs.Errors.{AreErrorRows, error_rows}
 use Rattle.plan_tables.proofs.ErrorLists.{are_error_rows}
 use Rattle.plan_tables.proofs.desk.Desk.errors.Goals as goal

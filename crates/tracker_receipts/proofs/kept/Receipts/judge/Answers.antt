@@ -1,7 +1,7 @@
 use Rattle.std.proofs.Common.{sym, subst, pos, Option, refl}
-use Rattle.plan_records.specs.Step.{Receipt}
-use Rattle.plan_records.specs.declared.Request.{Request}
-use Rattle.plan_records.specs.declared.What.TheVariants.{Tick}
+use Rattle.plan_laws.specs.plan_records.specs.Step.{Receipt}
+use Rattle.plan_laws.specs.plan_records.specs.declared.Request.{Request}
+use Rattle.plan_laws.specs.plan_records.specs.declared.What.TheVariants.{Tick}
 use Rattle.tracker_receipts.specs.Judging.{IsJudged, numbered_by}
 use Rattle.tracker_receipts.proofs.Told.{told_again, told_new}
 use Rattle.tracker_receipts.proofs.kept.Receipts.judge.Goals as goal

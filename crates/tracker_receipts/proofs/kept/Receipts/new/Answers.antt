@@ -3,8 +3,8 @@ use Rattle.std.specs.FinMap.{from_entries}
 use Rattle.std.specs.List.Sorted.{IsStrictlySortedBy}
 use Rattle.std.specs.Map.{keys_of}
 use Rattle.plan_basics.specs.Keys.{Name, name_cmp}
-use Rattle.plan_records.specs.Receipts.{AreReceipts}
-use Rattle.plan_records.specs.Step.{Receipt}
+use Rattle.plan_laws.specs.plan_records.specs.Receipts.{AreReceipts}
+use Rattle.plan_laws.specs.plan_records.specs.Step.{Receipt}
 use Rattle.tracker_receipts.proofs.Keeping.{none_legal}
 use Rattle.tracker_receipts.proofs.kept.Receipts.new.Goals as goal
 

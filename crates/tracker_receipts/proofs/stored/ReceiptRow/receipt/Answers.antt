@@ -1,7 +1,7 @@
 use Rattle.std.proofs.Common.{◌≡◌, ◌∙◌, ◌<◌, FitsSigned, List, ℕ, ap, arith, length, of_z, rules, subst, sym, to_z, w64}
 use Rattle.std.proofs.lemmas.Int.{ints}
 use Rattle.plan_basics.specs.declared.limits.TheConstants.{LONGEST_REQUEST_TEXT}
-use Rattle.plan_records.specs.Step.{Receipt}
+use Rattle.plan_laws.specs.plan_records.specs.Step.{Receipt}
 use Rattle.tracker_receipts.specs.Replies.{Joins}
 use Rattle.tracker_receipts.specs.Stored.{IsRequestText, IsRowOf}
 use Rattle.tracker_receipts.proofs.Listing.{columns_are, long_text, no_keys, no_number}

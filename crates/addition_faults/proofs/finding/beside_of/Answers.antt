@@ -1,0 +1,12 @@
+use Rattle.std.proofs.Common.{◌≡◌, subst, arith, length}
+use Rattle.addition_faults.specs.AdditionFaults.{AreToldBelow, IsBesideAt}
+use Rattle.addition_faults.proofs.Telling.{told_more}
+use Rattle.addition_faults.proofs.finding.beside_of.Goals as goal
+
+pub loop-place-preserved : goal.loop-place-preserved
+loop-place-preserved c = told_more (IsBesideAt c.args.said.now) c.loop-place.place c.loop-place.faults.items c.tell_beside.new.faults.items c.loop-place.invariant c.in_ok-tell_beside.ensures
+
+pub returns : goal.returns
+returns c =
+    let all : c.loop-place.place ≡ length c.args.said.now = omega arith in
+    subst (λ n. AreToldBelow (IsBesideAt c.args.said.now) n c.loop-place.faults.items) all c.loop-place.invariant

@@ -1,0 +1,6 @@
+use Rattle.addition_faults.specs.AdditionFaults.{AreToldBelow, IsBesideAt}
+use Rattle.addition_faults.proofs.finding.beside_of.Given as goal
+
+-- those of the places so far
+abbrev pub invariant-loop-place : goal.invariant-loop-place
+invariant-loop-place l = AreToldBelow (IsBesideAt l.said) l.place l.faults.items

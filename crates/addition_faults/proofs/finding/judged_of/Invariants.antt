@@ -1,0 +1,6 @@
+use Rattle.addition_faults.specs.AdditionFaults.{AreToldBelow, IsToldAt}
+use Rattle.addition_faults.proofs.finding.judged_of.Given as goal
+
+-- those of the places so far
+abbrev pub invariant-loop-number : goal.invariant-loop-number
+invariant-loop-number l = AreToldBelow (IsToldAt l.said l.found) l.number l.faults.items

@@ -1,0 +1,2 @@
+pub mod AdditionFaults
+pub mod AdditionTexts

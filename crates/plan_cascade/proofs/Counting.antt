@@ -1,0 +1,145 @@
+-- How many predecessors aren't satisfied, and what one node's flag changes of it.
+use Rattle.std.proofs.Common.{◌≡◌, ◌≢◌, inl, inr, refl, sym, ap, subst, ◌∙◌, true≢false, arith, ℕ, zero, suc, ◌+◌, ◌<◌, ◌≤◌, true, false, cond, List, [], ◌∷◌, ◌++◌, length, get_or, set, Contains, get_or-set_same, get_or-set_other}
+use Rattle.std.proofs.lemmas.Bool.{cases_eq, cases_Bool}
+use Rattle.std.specs.FinSet.{contains}
+use Rattle.operation_graph.specs.Adjacency.{count_of}
+use Rattle.operation_graph.specs.Graphs.{Digraph, HasEdge, AreExactly, AreDifferent}
+use Rattle.operation_graph.proofs.Counts.{count_head, count_other, contains_counted, counted_contains}
+use Rattle.plan_cascade.specs.declared.kept.Kept.{Kept}
+use Rattle.plan_cascade.specs.Counters.{kept_at, is_satisfied_at, edge_count, unsatisfied_below, unsatisfied_count, leading_count, nothing_kept}
+
+-- ---- what is kept after a write
+
+pub kept_there : (kept : List Kept) (s : ℕ) (v : Kept) (n : ℕ) → s < length kept → n ≡ s → kept_at (set kept s v) n ≡ v
+kept_there kept s v n lt same = ap (λ m. get_or (set kept s v) m nothing_kept) same ∙ get_or-set_same kept s v nothing_kept lt
+
+pub kept_else : (kept : List Kept) (s : ℕ) (v : Kept) (n : ℕ) → n ≢ s → kept_at (set kept s v) n ≡ kept_at kept n
+kept_else kept s v n other = get_or-set_other kept s n v nothing_kept other
+
+-- ---- edges
+
+pub edge_is_one : (g : Digraph) (p n : ℕ) → HasEdge g p n → edge_count g p n ≡ 1
+edge_is_one g p n e = ap (λ b. cond {A = ℕ} b 1 0) e
+
+pub no_edge_is_none : (g : Digraph) (p n : ℕ) → contains g.edges (p, n) ≡ false → edge_count g p n ≡ 0
+no_edge_is_none g p n e = ap (λ b. cond {A = ℕ} b 1 0) e
+
+pub one_is_edge : (g : Digraph) (p n : ℕ) → 0 < edge_count g p n → HasEdge g p n
+one_is_edge g p n some = elim (cases_Bool (contains g.edges (p, n))) [
+  | inl there ↦ there
+  | inr absent ↦ absurd (omega (arith, some, no_edge_is_none g p n absent))
+]
+
+-- ---- flags
+
+-- how many aren't satisfied goes by the flags alone
+pub unset_same : (g : Digraph) (a b : List Kept) (m n : ℕ) → ((p : ℕ) → p < m → is_satisfied_at a p ≡ is_satisfied_at b p) → unsatisfied_below g a m n ≡ unsatisfied_below g b m n
+unset_same g a b zero n same = refl
+unset_same g a b (suc p) n same =
+    let head : cond {A = ℕ} (is_satisfied_at a p) 0 (edge_count g p n) ≡ cond {A = ℕ} (is_satisfied_at b p) 0 (edge_count g p n) = ap (λ f. cond {A = ℕ} f 0 (edge_count g p n)) (same p (omega arith)) in
+    omega (arith, head, unset_same g a b p n (λ q lt. same q (omega (arith, lt))))
+
+-- b has s satisfied, a hasn't, and else they agree
+pub unset_less : (g : Digraph) (a b : List Kept) (s m n : ℕ) → s < m → is_satisfied_at a s ≡ false → is_satisfied_at b s ≡ true → ((p : ℕ) → p ≢ s → is_satisfied_at a p ≡ is_satisfied_at b p)
+    → unsatisfied_below g a m n ≡ unsatisfied_below g b m n + edge_count g s n
+unset_less g a b s zero n lt off on others = absurd (omega (arith, lt))
+unset_less g a b s (suc p) n lt off on others = elim (cases_eq p s) [
+  | inl same ↦
+      let x : cond {A = ℕ} (is_satisfied_at a p) 0 (edge_count g p n) ≡ edge_count g s n =
+      ap (λ q. cond {A = ℕ} (is_satisfied_at a q) 0 (edge_count g q n)) same ∙ ap (λ f. cond {A = ℕ} f 0 (edge_count g s n)) off in
+      let y : cond {A = ℕ} (is_satisfied_at b p) 0 (edge_count g p n) ≡ 0 =
+      ap (λ q. cond {A = ℕ} (is_satisfied_at b q) 0 (edge_count g q n)) same ∙ ap (λ f. cond {A = ℕ} f 0 (edge_count g s n)) on in
+      omega (arith, x, y, unset_same g a b p n (λ q below. others q (λ e. omega (arith, below, e, same))))
+  | inr other ↦
+      let x : cond {A = ℕ} (is_satisfied_at a p) 0 (edge_count g p n) ≡ cond {A = ℕ} (is_satisfied_at b p) 0 (edge_count g p n) = ap (λ f. cond {A = ℕ} f 0 (edge_count g p n)) (others p other) in
+      omega (arith, x, unset_less g a b s p n (omega (arith, lt, other)) off on others)
+]
+
+-- none is unset just where each predecessor is satisfied
+pub set_if_none : (g : Digraph) (kept : List Kept) (m n p : ℕ) → unsatisfied_below g kept m n ≡ 0 → p < m → HasEdge g p n → is_satisfied_at kept p ≡ true
+set_if_none g kept zero n p none lt e = absurd (omega (arith, lt))
+set_if_none g kept (suc q) n p none lt e = elim (cases_eq p q) [
+  | inl same ↦ elim (cases_Bool (is_satisfied_at kept p)) [
+    | inl there ↦ there
+    | inr absent ↦
+        let x : cond {A = ℕ} (is_satisfied_at kept q) 0 (edge_count g q n) ≡ 1 =
+        ap (λ r. cond {A = ℕ} (is_satisfied_at kept r) 0 (edge_count g r n)) (sym same) ∙ ap (λ f. cond {A = ℕ} f 0 (edge_count g p n)) absent ∙ edge_is_one g p n e in
+        absurd (omega (arith, none, x))
+  ]
+  | inr other ↦ set_if_none g kept q n p (omega (arith, none)) (omega (arith, lt, other)) e
+]
+
+pub none_if_set : (g : Digraph) (kept : List Kept) (m n : ℕ) → ((p : ℕ) → p < m → HasEdge g p n → is_satisfied_at kept p ≡ true) → unsatisfied_below g kept m n ≡ 0
+none_if_set g kept zero n all = refl
+none_if_set g kept (suc p) n all = elim (cases_Bool (contains g.edges (p, n))) [
+  | inl there ↦
+      let x : cond {A = ℕ} (is_satisfied_at kept p) 0 (edge_count g p n) ≡ 0 = ap (λ f. cond {A = ℕ} f 0 (edge_count g p n)) (all p (omega arith) there) in
+      omega (arith, x, none_if_set g kept p n (λ q lt. all q (omega (arith, lt))))
+  | inr absent ↦
+      let x : cond {A = ℕ} (is_satisfied_at kept p) 0 (edge_count g p n) ≤ 0 = elim (cases_Bool (is_satisfied_at kept p)) [
+        | inl on ↦ omega (arith, ap (λ f. cond {A = ℕ} f 0 (edge_count g p n)) on)
+        | inr off ↦ omega (arith, ap (λ f. cond {A = ℕ} f 0 (edge_count g p n)) off, no_edge_is_none g p n absent)
+      ] in
+      omega (arith, x, none_if_set g kept p n (λ q lt. all q (omega (arith, lt))))
+]
+
+one_at_most : (g : Digraph) (p n : ℕ) → edge_count g p n ≤ 1
+one_at_most g p n = elim (cases_Bool (contains g.edges (p, n))) [
+  | inl there ↦ omega (arith, edge_is_one g p n there)
+  | inr absent ↦ omega (arith, no_edge_is_none g p n absent)
+]
+
+-- they are no more than the nodes
+pub unset_at_most : (g : Digraph) (kept : List Kept) (m n : ℕ) → unsatisfied_below g kept m n ≤ m
+unset_at_most g kept zero n = omega arith
+unset_at_most g kept (suc p) n = elim (cases_Bool (is_satisfied_at kept p)) [
+  | inl on ↦ omega (arith, ap (λ f. cond {A = ℕ} f 0 (edge_count g p n)) on, unset_at_most g kept p n)
+  | inr off ↦ omega (arith, ap (λ f. cond {A = ℕ} f 0 (edge_count g p n)) off, one_at_most g p n, unset_at_most g kept p n)
+]
+
+-- ---- the nodes at work, and the successors of one
+
+pub owed_push : (g : Digraph) (work : List ℕ) (p n : ℕ) → leading_count g (work ++ p ∷ []) n ≡ leading_count g work n + edge_count g p n
+owed_push g [] p n = omega arith
+owed_push g (q ∷ work) p n = omega (arith, owed_push g work p n)
+
+different_rest : (x : ℕ) (xs : List ℕ) → AreDifferent (x ∷ xs) → AreDifferent xs
+different_rest x xs h i j d lt within = h (suc i) (suc j) d (omega (arith, lt)) (omega (arith, within))
+
+different_head : (x : ℕ) (xs : List ℕ) → AreDifferent (x ∷ xs) → Contains xs x → ⊥
+different_head x xs h (j, lt, is) = h 0 (suc j) x (omega arith) (omega (arith, lt)) (sym is)
+
+pub once_if_different : (xs : List ℕ) → AreDifferent xs → (n : ℕ) → count_of n xs ≤ 1
+once_if_different [] h n = omega arith
+once_if_different (x ∷ xs) h n = elim (cases_eq x n) [
+  | inl same ↦ elim (cases_eq (count_of n xs) 0) [
+    | inl none ↦ omega (arith, none, count_head x n xs same)
+    | inr some ↦ absurd (different_head x xs h (subst (Contains xs) (sym same) (counted_contains n xs (omega (arith, some)))))
+  ]
+  | inr other ↦ omega (arith, count_other x n xs other, once_if_different xs (different_rest x xs h) n)
+]
+
+-- the list of a node's successors has each of them once
+pub listed_is_one : (g : Digraph) (p : ℕ) (xs : List ℕ) → AreExactly (HasEdge g p) xs → (n : ℕ) → count_of n xs ≡ edge_count g p n
+listed_is_one g p xs exact n = elim (cases_Bool (contains g.edges (p, n))) [
+  | inl there ↦ omega (arith, edge_is_one g p n there, contains_counted n xs ((exact.1 n).1 there), once_if_different xs exact.0 n)
+  | inr absent ↦ elim (cases_eq (count_of n xs) 0) [
+    | inl none ↦ omega (arith, none, no_edge_is_none g p n absent)
+    | inr some ↦ absurd (true≢false (sym ((exact.1 n).0 (counted_contains n xs (omega (arith, some)))) ∙ absent))
+  ]
+]
+
+-- ---- the measure
+
+pub unsatisfied_count_less : (kept : List Kept) (s : ℕ) (v : Kept) → s < length kept → is_satisfied_at kept s ≡ false → v.satisfied ≡ true → unsatisfied_count (set kept s v) + 1 ≡ unsatisfied_count kept
+unsatisfied_count_less [] s v lt off on = absurd (omega (arith, lt))
+unsatisfied_count_less (k ∷ kept) zero v lt off on =
+    let x : cond {A = ℕ} k.satisfied 0 1 ≡ 1 = ap (λ f. cond {A = ℕ} f 0 1) off in
+    let y : cond {A = ℕ} v.satisfied 0 1 ≡ 0 = ap (λ f. cond {A = ℕ} f 0 1) on in
+    omega (arith, x, y)
+unsatisfied_count_less (k ∷ kept) (suc s) v lt off on = omega (arith, unsatisfied_count_less kept s v (omega (arith, lt)) off on)
+
+pub unsatisfied_count_same : (kept : List Kept) (s : ℕ) (v : Kept) → v.satisfied ≡ is_satisfied_at kept s → unsatisfied_count (set kept s v) ≡ unsatisfied_count kept
+unsatisfied_count_same [] s v same = refl
+unsatisfied_count_same (k ∷ kept) zero v same = ap (λ f. cond {A = ℕ} f 0 1 + unsatisfied_count kept) same
+unsatisfied_count_same (k ∷ kept) (suc s) v same = ap (λ m. cond {A = ℕ} k.satisfied 0 1 + m) (unsatisfied_count_same kept s v same)

@@ -1,0 +1,5 @@
+pub mod Journals
+pub mod Counting
+pub mod Cascades
+pub mod Clearings
+pub mod OneEdge

@@ -1,0 +1,95 @@
+// What a rerun takes back.
+ghost use Rattle.std.specs.Prelude.{◌≡◌, ◌⊎◌, ◌+◌, ◌<◌, ◌≤◌, ℕ, [], ◌∷◌, List, All, Contains, length, OnOk};
+ghost use Rattle.operation_graph.specs.Graphs.{Digraph, IsGraph};
+ghost use Rattle.plan_cascade.specs.Counters.{AreRight, waiting_at};
+ghost use Rattle.plan_cascade.specs.Changes.{IsClearing, IsRerun};
+ghost use Rattle.plan_cascade.specs.declared.kept.Rule.{Rule as RuleValue};
+ghost use Rattle.plan_cascade.specs.Journal.{IsJournaled};
+
+use super::journal::write;
+use super::kept::Kept;
+use super::rules::Rules;
+use super::settling::settle;
+use operation_graph::Graph;
+use std::alloc::{AllocError, Global};
+
+/// One predecessor more to wait for.
+fn raise(kept: &mut [Kept], journal: &mut Vec<(usize, Kept)>, node: usize) -> Result<(), AllocError>
+    requires node { node < length kept.old }
+    requires below { waiting_at kept.old node < length kept.old }
+    ensures step { OnOk result ((g : Digraph) (start : List Kept) (gone rest : List ℕ) → IsClearing g start gone kept.old (node ∷ rest) → IsClearing g start gone kept.new rest) }
+    ensures journaled { IsJournaled kept.old journal.old.items kept.new journal.new.items }
+{
+    let old = kept[node];
+    let new = Kept {
+        satisfied: old.satisfied,
+        waiting: old.waiting + 1,
+    };
+    write(kept, journal, node, new)?;
+    Ok(())
+}
+
+/// One predecessor more to wait for, for each of these nodes.
+fn raise_all(
+    kept: &mut [Kept],
+    journal: &mut Vec<(usize, Kept)>,
+    nodes: &[usize],
+) -> Result<(), AllocError>
+    requires cleared { (g : Digraph) × IsGraph g × (start : List Kept) × (gone : List ℕ) × IsClearing g start gone kept.old nodes.now }
+    ensures step { OnOk result ((g : Digraph) (start : List Kept) (gone : List ℕ) → IsGraph g → IsClearing g start gone kept.old nodes.now → IsClearing g start gone kept.new []) }
+    ensures journaled { IsJournaled kept.old journal.old.items kept.new journal.new.items }
+{
+    for node in nodes {
+        raise(kept, journal, *node)?;
+    }
+    Ok(())
+}
+
+/// A node isn't satisfied any more, where it was, and its successors have one more to wait for.
+fn clear(
+    graph: &Graph,
+    kept: &mut [Kept],
+    journal: &mut Vec<(usize, Kept)>,
+    node: usize,
+) -> Result<(), AllocError>
+    requires node { node < graph.now.nodes }
+    requires cleared { (start : List Kept) × (gone : List ℕ) × IsClearing graph.now start gone kept.old [] }
+    ensures step { OnOk result ((start : List Kept) (gone : List ℕ) → IsClearing graph.now start gone kept.old [] → IsClearing graph.now start (node ∷ gone) kept.new []) }
+    ensures journaled { IsJournaled kept.old journal.old.items kept.new journal.new.items }
+{
+    let old = kept[node];
+    if old.satisfied {
+        let new = Kept {
+            satisfied: false,
+            waiting: old.waiting,
+        };
+        write(kept, journal, node, new)?;
+        raise_all(kept, journal, graph.succs(node))?;
+    }
+    Ok(())
+}
+
+/// After a rerun of these nodes, from each of which all that follows is among them too, or is satisfied whatever precedes it: what
+/// is kept was right by the rules before, and is right by the rules as they are now. A node that had passed by itself is
+/// satisfied again only where all its predecessors are.
+///
+/// Refused where a growth was refused. Then as on success the journal leads back to what stood before.
+pub fn rerun<R: Rules>(
+    alloc: Global,
+    graph: &Graph,
+    rules: &mut R,
+    kept: &mut [Kept],
+    journal: &mut Vec<(usize, Kept)>,
+    reached: &[usize],
+) -> Result<(), AllocError>
+    requires graph { IsGraph graph.now }
+    requires rerun { (before : List RuleValue) × AreRight graph.now before kept.old × IsRerun graph.now before reached.now (R.listed rules.old) }
+    ensures right { OnOk result (AreRight graph.now (R.listed rules.old) kept.new) }
+    ensures rules { R.listed rules.new ≡ R.listed rules.old }
+    ensures journaled { IsJournaled kept.old journal.old.items kept.new journal.new.items }
+{
+    for node in reached {
+        clear(graph, kept, journal, *node)?;
+    }
+    settle(alloc, graph, rules, kept, journal, reached)
+}

@@ -1,0 +1,17 @@
+//! Which nodes of a graph are satisfied, and how many predecessors each waits for: both kept through changes, by the cascades
+//! that follow from them.
+#![tactic(auto)]
+
+mod clearing;
+mod journal;
+mod kept;
+mod pairing;
+mod rules;
+mod settling;
+
+pub use clearing::rerun;
+pub use journal::{roll_back, take_back, write};
+pub use kept::{Kept, Rule};
+pub use pairing::pair;
+pub use rules::Rules;
+pub use settling::{settle, settle_up};

@@ -1,0 +1,24 @@
+// The rules of nodes, asked for one at a time.
+ghost use Rattle.std.specs.Prelude.{◌≡◌, ◌+◌, ◌<◌, ◌≤◌, ℕ, List, length};
+ghost use Rattle.plan_cascade.specs.declared.kept.Rule.{Rule as RuleValue};
+ghost use Rattle.plan_cascade.specs.Counters.{rule_at};
+
+use super::kept::Rule;
+
+/// What says when each node is satisfied, as a plan's records do. A caller that counts how many records it looks at counts them
+/// here.
+pub trait Rules {
+    /// The rule of each node, by its number.
+    ghost listed: { Self → List RuleValue };
+
+    /// How many looks were taken.
+    ghost looks: { Self → ℕ };
+
+    /// The rule of a node. It takes one look at most.
+    fn rule_of(&mut self, node: usize) -> Rule
+        requires node { node < length (listed self.old) }
+        ensures rule { result ≡ rule_at (listed self.old) node }
+        ensures listed { listed self.new ≡ listed self.old }
+        ensures fewest { looks self.old ≤ looks self.new }
+        ensures most { looks self.new ≤ looks self.old + 1 };
+}

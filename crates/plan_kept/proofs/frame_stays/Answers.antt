@@ -1,0 +1,5 @@
+use Rattle.plan_kept.proofs.Frame.{frame_stays, moves_follow, operations_stay}
+use Rattle.plan_kept.proofs.frame_stays.Goals as goal
+
+pub returns : goal.returns
+returns c = record { frame = frame_stays; follow = moves_follow; nowhere = operations_stay }

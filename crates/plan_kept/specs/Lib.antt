@@ -1,0 +1,12 @@
+pub use Rattle.plan_checks.specs.operation_graph
+pub use Rattle.plan_checks
+pub use Rattle.plan_checks.specs.plan_choice
+pub use Rattle.plan_checks.specs.plan_drafts
+pub use Rattle.plan_checks.specs.plan_laws
+pub use Rattle.plan_checks.specs.plan_model
+pub use Rattle.plan_checks.specs.plan_moves
+pub use Rattle.plan_checks.specs.plan_state
+pub use Rattle.plan_checks.specs.plan_waiting
+pub use Rattle.plan_checks.specs.workstations
+pub mod Edits
+pub mod Laws

@@ -1,0 +1,3 @@
+pub use Rattle.plan_model
+pub use Rattle.plan_model.specs.workstations
+pub mod Moves

@@ -1,0 +1,9 @@
+pub mod Entering
+pub mod Exchanged
+pub mod Fewness
+pub mod Keeping
+pub mod Moved
+pub mod Numbers
+pub mod Read
+pub mod Restated
+pub mod Restood

@@ -1,0 +1,3 @@
+pub mod Restanding
+pub mod ByStatuses
+pub mod Before

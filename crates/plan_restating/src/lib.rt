@@ -1,0 +1,11 @@
+//! What is known of a plan's operations is brought in line with a change of some marks and flags, at the places that it touched:
+//! standings, statuses, the numbers of each occurrence's operations, and the ready list.
+#![tactic(auto)]
+
+mod relisting;
+mod restanding;
+mod restating;
+mod retallying;
+
+pub use restanding::restand;
+pub use restating::restate;

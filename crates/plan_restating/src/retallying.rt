@@ -1,0 +1,61 @@
+// The numbers of an occurrence's operations, once one of them has another status.
+ghost use Rattle.std.specs.Prelude.{◌≡◌, ◌<◌, List, Some, length, slice_get, slice_set};
+ghost use Rattle.std.specs.FinMap.{entries};
+ghost use Rattle.plan_basics.specs.declared.limits.TheConstants.{MOST_OPERATIONS};
+ghost use Rattle.status_rules.specs.declared.Status.{Status as StatusValue};
+ghost use Rattle.plan_choice.specs.plan_status.specs.OneMore.{AreAtMost, CountsOneMore};
+ghost use Rattle.plan_restating.specs.ByStatuses.{AreTalliesBy, CountsOne};
+
+use plan_choice::SoundContents;
+use status_rules::{Counts, Status};
+
+// One operation of this status is no longer counted.
+fn count_out(counts: &mut Counts, status: Status)
+    requires { CountsOne status counts.old }
+    ensures { CountsOneMore status counts.new counts.old }
+{
+    counts.all -= 1;
+    match status {
+        Status::Deleted => counts.deleted -= 1,
+        Status::Error => counts.error -= 1,
+        Status::Undecided => counts.undecided -= 1,
+        Status::Complete => counts.complete -= 1,
+        Status::Started | Status::Interrupted => counts.started -= 1,
+        Status::Arriving | Status::ReadyAfterNonreporting | Status::Ready | Status::Waiting => {}
+    }
+}
+
+// One operation of this status is counted.
+fn count_in(counts: &mut Counts, status: Status)
+    requires { AreAtMost MOST_OPERATIONS counts.old }
+    ensures { CountsOneMore status counts.old counts.new }
+{
+    counts.all += 1;
+    match status {
+        Status::Deleted => counts.deleted += 1,
+        Status::Error => counts.error += 1,
+        Status::Undecided => counts.undecided += 1,
+        Status::Complete => counts.complete += 1,
+        Status::Started | Status::Interrupted => counts.started += 1,
+        Status::Arriving | Status::ReadyAfterNonreporting | Status::Ready | Status::Waiting => {}
+    }
+}
+
+/// The operation at this place has another status: in its occurrence's numbers that of the old one falls, and that of the new
+/// one rises.
+pub fn retally(
+    contents: &SoundContents,
+    tallies: &mut [Counts],
+    place: usize,
+    old: Status,
+    new: Status,
+)
+    requires within { place < length (entries contents.now.operations) }
+    requires counted { (statuses : List StatusValue) × (slice_get statuses place ≡ Some old) × AreTalliesBy contents.now statuses tallies.old }
+    ensures { (statuses : List StatusValue) → slice_get statuses place ≡ Some old → AreTalliesBy contents.now statuses tallies.old → AreTalliesBy contents.now (slice_set statuses place new) tallies.new }
+{
+    let key = &contents.operations()[place].0;
+    let counts = &mut tallies[contents.occurrence_place_of(key)];
+    count_out(counts, old);
+    count_in(counts, new);
+}

@@ -1,0 +1,101 @@
+-- The tables of which no row differs where only marks and flags of operations do.
+use Rattle.std.proofs.Common.{◌≡◌, ◌↔◌, refl, sym, ap, subst, ◌∙◌, ℕ, ◌+◌, List, [], ◌∷◌, map, Contains, Option, Some}
+use Rattle.std.specs.FinMap.{entries, get}
+use Rattle.std.specs.FinSet as set
+use Rattle.std.proofs.lemmas.List.{append-nil}
+use Rattle.plan_basics.proofs.Members.{contains_none}
+use Rattle.plan_basics.specs.Keys.{Name}
+use Rattle.plan_basics.specs.declared.Attr.{Attr}
+use Rattle.plan_state.specs.plan_drafts.specs.declared.RowKey.{RowKey}
+use Rattle.plan_model.specs.Contents.{Pairs, Workstations}
+use Rattle.plan_model.specs.Plan.{Plan}
+use Rattle.plan_state.specs.plan_moves.specs.Moves.{reporting}
+use Rattle.plan_state.specs.plan_records.specs.Rows.{key_of, row_cmp}
+use Rattle.plan_state.specs.plan_records.specs.declared.Changes.{Changes}
+use Rattle.plan_state.specs.plan_records.specs.declared.PlanRow.{PlanRow}
+use Rattle.plan_state.specs.plan_records.specs.declared.PlanRow.TheVariants as row
+use Rattle.plan_rows.proofs.MovedRows.{needs_are, needs_were}
+use Rattle.plan_rows.proofs.NoRows.{contents_of_plan, none_ascend}
+use Rattle.plan_rows.proofs.OneMore.{one_more_table}
+use Rattle.plan_rows.proofs.TableRows.{are_resources, are_workstations}
+use Rattle.plan_rows.specs.Rows.{workstation_row, resource_row}
+use Rattle.plan_rows.specs.Shown.{contents_shown, plan_shown}
+use Rattle.plan_rows.specs.Tables.{AreChangesBelow, AreRowsOf, IsRowOf}
+use Rattle.plan_rows.specs.Touched.{AreMovedAmong}
+use Rattle.plan_rows.specs.declared.shown.Shown.{Shown}
+use Rattle.row_differences.specs.Changes.{AreRowChanges}
+use Rattle.workstations.specs.Timetables.{NamedWorkstation}
+use Rattle.workstations.specs.Workstations.{Workstation}
+
+module _ (n : ℕ) (P Q : Plan) where
+  -- what changes in a table of which each row stays
+  pub table_stays : ((r : PlanRow) → IsRowOf n P r ↔ IsRowOf n Q r) → (c : Changes) → AreChangesBelow n P Q c → AreChangesBelow (n + 1) P Q c
+  table_stays same c so_far = one_more_table n P Q c c [] [] (sym (append-nil c.rows.items)) (sym (append-nil c.gone.items)) so_far none
+    where
+      none : AreRowChanges row_cmp key_of (IsRowOf n P) (IsRowOf n Q) [] []
+      none = record {
+        rows_ascend = none_ascend row_cmp;
+        has_rows = λ r. (λ has. absurd (contains_none r has), λ h. absurd (h.1 ((same r).1 h.0)));
+        gone_ascend = none_ascend row_cmp;
+        has_gone = λ k. (λ has. absurd (contains_none k has), λ h. let ((r, was, e), not) = h in absurd (not (r, (same r).0 was, e)));
+      }
+
+  -- tables of the same rows
+  same_rows : {K : Type 0} {name : K → RowKey} (keys ks : List K) (olds news : List PlanRow) → AreRowsOf name n P keys olds → AreRowsOf name n Q ks news → news ≡ olds → (r : PlanRow) → IsRowOf n P r ↔ IsRowOf n Q r
+  same_rows keys ks olds news was is same r = (
+    λ h. (is.all r).0 (subst (λ rows. Contains rows r) (sym same) ((was.all r).1 h)),
+    λ h. (was.all r).0 (subst (λ rows. Contains rows r) same ((is.all r).1 h)),
+  )
+
+rows_reported : (ws : List NamedWorkstation) → map workstation_row ws ≡ map (λ (x : Name × Attr). row.Workstation x.0 x.1) (reporting ws)
+rows_reported [] = refl
+rows_reported (w ∷ ws) = λ i. row.Workstation w.0 w.1.attribute ∷ rows_reported ws i
+
+intervals_kept : (P Q : Plan) → P.contents.workstations ≡ Q.contents.workstations → (r : PlanRow) → IsRowOf 2 P r → IsRowOf 2 Q r
+intervals_kept P Q same (row.Interval w i) (is, e) = (subst (λ (all : Workstations). (ws : Workstation) × (get all w ≡ Some ws) × (get ws.intervals i.from ≡ Some i)) same is, e)
+intervals_kept P Q same r (is, e) = absurd (cc)
+
+dependencies_kept : (P Q : Plan) → P.contents.pairs ≡ Q.contents.pairs → (r : PlanRow) → IsRowOf 6 P r → IsRowOf 6 Q r
+dependencies_kept P Q same (row.Dependency p s) (is, e) = (ap (λ (pairs : Pairs). set.contains pairs (p, s)) (sym same) ∙ is, e)
+dependencies_kept P Q same r (is, e) = absurd (cc)
+
+module _ (P Q : Plan) (touched : List ℕ) (h : AreMovedAmong P.contents Q.contents touched) where
+  needs_stay_after : (r : PlanRow) → IsRowOf 7 P r → IsRowOf 7 Q r
+  needs_stay_after (row.Need o n) ((op, at, has), e) = let (now, there, same) = needs_are P.contents Q.contents touched h o op at in ((now, there, ap (λ needs. get needs n.name) same ∙ has), e)
+  needs_stay_after r (is, e) = absurd (cc)
+
+  needs_stay_before : (r : PlanRow) → IsRowOf 7 Q r → IsRowOf 7 P r
+  needs_stay_before (row.Need o n) ((op, at, has), e) = let (was, there, same) = needs_were P.contents Q.contents touched h o op at in ((was, there, ap (λ needs. get needs n.name) (sym same) ∙ has), e)
+  needs_stay_before r (is, e) = absurd (cc)
+
+module _ (clock now : ℕ) (before after : Option Shown) (c : Changes) where
+  abbrev P : Plan
+  P = plan_shown clock before
+
+  abbrev Q : Plan
+  Q = plan_shown now after
+
+  pub intervals_stay : (contents_shown after).workstations ≡ (contents_shown before).workstations → AreChangesBelow 2 P Q c → AreChangesBelow 3 P Q c
+  intervals_stay e so_far =
+      let same : Q.contents.workstations ≡ P.contents.workstations = ap (λ C. C.workstations) (sym (contents_of_plan now after)) ∙ (e ∙ ap (λ C. C.workstations) (contents_of_plan clock before)) in
+      table_stays 2 P Q (λ r. (intervals_kept P Q (sym same) r, intervals_kept Q P same r)) c so_far
+
+  pub resources_stay : (contents_shown after).resources ≡ (contents_shown before).resources → AreChangesBelow 3 P Q c → AreChangesBelow 4 P Q c
+  resources_stay e so_far =
+      let same : Q.contents.resources ≡ P.contents.resources = ap (λ C. C.resources) (sym (contents_of_plan now after)) ∙ (e ∙ ap (λ C. C.resources) (contents_of_plan clock before)) in
+      table_stays 3 P Q (same_rows 3 P Q _ _ _ _ (are_resources P) (are_resources Q) (ap (λ resources. map resource_row (entries resources)) same)) c so_far
+
+  module _ (touched : List ℕ) (h : AreMovedAmong (contents_shown before) (contents_shown after) touched) where
+    moved : AreMovedAmong P.contents Q.contents touched
+    moved = subst (λ C. AreMovedAmong P.contents C touched) (contents_of_plan now after) (subst (λ C. AreMovedAmong C (contents_shown after) touched) (contents_of_plan clock before) h)
+
+    pub workstations_stay : AreChangesBelow 1 P Q c → AreChangesBelow 2 P Q c
+    workstations_stay so_far =
+        let same = rows_reported (entries Q.contents.workstations) ∙ (ap (map (λ (x : Name × Attr). row.Workstation x.0 x.1)) moved.moved.workstations ∙ sym (rows_reported (entries P.contents.workstations))) in
+        table_stays 1 P Q (same_rows 1 P Q _ _ _ _ (are_workstations P) (are_workstations Q) same) c so_far
+
+    pub dependencies_stay : AreChangesBelow 6 P Q c → AreChangesBelow 7 P Q c
+    dependencies_stay so_far = table_stays 6 P Q (λ r. (dependencies_kept P Q (sym moved.moved.pairs) r, dependencies_kept Q P moved.moved.pairs r)) c so_far
+
+    pub needs_stay : AreChangesBelow 7 P Q c → AreChangesBelow 8 P Q c
+    needs_stay so_far = table_stays 7 P Q (λ r. (needs_stay_after P Q touched moved r, needs_stay_before P Q touched moved r)) c so_far

@@ -1,0 +1,66 @@
+-- What may differ from one plan that is shown to the next where some of its operations were touched, and no others.
+use Rattle.std.specs.Prelude.{◌≡◌, ◌≢◌, ◌↔◌, ◌<◌, ℕ, List, [], length, slice_get, Contains, Option, Some, None}
+use Rattle.std.specs.FinMap.{entries}
+use Rattle.std.specs.List.Sorted.{IsStrictlySortedBy}
+use Rattle.std.specs.Ordering.{nat_cmp}
+use Rattle.plan_basics.specs.declared.keys.OpKey.{OpKey}
+use Rattle.plan_model.specs.Contents.{Contents, Operation}
+use Rattle.plan_model.specs.declared.Occurrence.{Occurrence}
+use Rattle.plan_state.specs.plan_moves.specs.Moves.{IsMovedAt}
+use Rattle.plan_rows.specs.Shown.{contents_shown, Known, known_of}
+use Rattle.plan_rows.specs.declared.shown.Shown.{Shown}
+use Rattle.plan_rows.specs.declared.touched.Beside.{Beside}
+use Rattle.plan_rows.specs.declared.touched.Beside.TheVariants as beside
+use Rattle.status_rules.specs.declared.Counts.{Counts}
+
+-- what is known of each operation that is shown
+abbrev pub known_shown : Option Shown → List Known
+known_shown None = []
+known_shown (Some s) = known_of s
+
+-- the numbers of each occurrence that is shown
+abbrev pub tallies_shown : Option Shown → List Counts
+tallies_shown None = []
+tallies_shown (Some s) = s.tallies.now
+
+-- the operation at i belongs to the occurrence at p
+pub record BelongsAt (P : Contents) (i p : ℕ) : Type 0 where
+  pub o : OpKey
+  pub op : Operation
+  pub terms : Occurrence
+  pub operation : slice_get (entries P.operations) i ≡ Some (o, op)
+  pub occurrence : slice_get (entries P.occurrences) p ≡ Some (o.occurrence, terms)
+
+-- one of the operations at these places belongs to the occurrence at p
+abbrev pub HasOneOf : Contents → List ℕ → ℕ → Type 0
+HasOneOf P touched p = (i : ℕ) × Contains touched i × BelongsAt P i p
+
+-- these are the occurrences to which the operations at these places belong, each once, in order
+pub record AreOccurrencesOf (P : Contents) (touched occurrences : List ℕ) : Type 0 where
+  pub ascend : IsStrictlySortedBy nat_cmp occurrences
+  pub all : (p : ℕ) → Contains occurrences p ↔ HasOneOf P touched p
+
+-- no marks and flags of other operations than those at these places differ
+pub record AreMovedAmong (P Q : Contents) (touched : List ℕ) : Type 0 where
+  pub places : List ℕ
+  pub moved : IsMovedAt P Q places
+  pub among : (i : ℕ) → Contains places i → Contains touched i
+
+-- no more was touched than the operations at these places, and what follows from them for their occurrences
+pub record AreTouched (before after : Option Shown) (touched : List ℕ) : Type 0 where
+  pub moved : AreMovedAmong (contents_shown before) (contents_shown after) touched
+  pub ascend : IsStrictlySortedBy nat_cmp touched
+  pub within : (i : ℕ) → Contains touched i → i < length (entries (contents_shown before).operations)
+  pub known : (i : ℕ) → ¬ Contains touched i → slice_get (known_shown after) i ≡ slice_get (known_shown before) i
+  pub tallies : (i : ℕ) → ¬ HasOneOf (contents_shown before) touched i → slice_get (tallies_shown after) i ≡ slice_get (tallies_shown before) i
+
+-- what else of the contents stays
+abbrev pub StaysBeside : Beside → Contents → Contents → Type 0
+StaysBeside beside.Nothing P Q = (Q.workstations ≡ P.workstations) × (Q.resources ≡ P.resources)
+StaysBeside beside.Resources P Q = Q.workstations ≡ P.workstations
+StaysBeside beside.Workstations P Q = Q.resources ≡ P.resources
+
+-- of these places those at which the rows before and after differ, in order
+pub record AreDifferentAmong {X : Type 0} (olds news : List X) (places different : List ℕ) : Type 0 where
+  pub ascend : IsStrictlySortedBy nat_cmp different
+  pub has : (i : ℕ) → Contains different i ↔ (Contains places i × (slice_get olds i ≢ slice_get news i))

@@ -1,0 +1,4 @@
+pub mod KnownAlike
+pub mod Alike
+pub mod Parts
+pub mod NamedFigures

@@ -1,0 +1,11 @@
+pub use Rattle.plan_kept.specs.operation_graph
+pub use Rattle.plan_kept.specs.plan_checks
+pub use Rattle.plan_kept.specs.plan_choice
+pub use Rattle.plan_kept.specs.plan_drafts
+pub use Rattle.plan_kept
+pub use Rattle.plan_kept.specs.plan_laws
+pub use Rattle.plan_kept.specs.plan_model
+pub use Rattle.plan_rows
+pub use Rattle.plan_kept.specs.plan_state
+pub mod Edits
+pub mod Touched
