@@ -16,7 +16,7 @@ use Rattle.plan_drafts.specs.declared.RowKey.TheVariants as key
 use Rattle.plan_drafts.specs.Records.{Denotes}
 use Rattle.record_faults.specs.Shapes.{IsShapeFault}
 use Rattle.record_faults.specs.Sayings.{Sayings, AreSayings, SaysAt, given, owned, IsGiven, IsFirst, IsNowhere}
-use Rattle.record_faults.specs.Circles.{IsCircle}
+use Rattle.record_faults.specs.Circles.{IsCircle, NoCircle}
 use Rattle.record_faults.specs.Groups.{grouped, most_of, count_of}
 use Rattle.record_faults.specs.declared.groups.Group.{Group}
 use Rattle.record_faults.specs.declared.groups.Group.TheVariants as group
@@ -118,6 +118,10 @@ IsOfAll records said place f = ((i : ℕ) (g : Fault) → ¬ IsFaultAt records s
 -- a dependency of these records closes the path over these operations
 abbrev pub IsCircleOf : List Fields → ℕ → OpKey → List OpKey → Type 0
 IsCircleOf records place first way = (said : Sayings) × AreSayings records said × IsCircle (given said) place first way
+
+-- no path of the dependencies of these records returns
+abbrev pub NoCircleIn : List Fields → Type 0
+NoCircleIn records = (said : Sayings) × AreSayings records said × NoCircle (given said)
 
 -- a fault of the record at the place
 abbrev pub IsFaultOfRecord : List Fields → ℕ → Fault → Type 0

@@ -1,7 +1,7 @@
 // What is found in a list of records.
-ghost use Rattle.std.specs.Prelude.{◌≡◌, ◌↔◌, ◌≤◌, ℕ, [], All, Contains, IfOk, IfSome};
+ghost use Rattle.std.specs.Prelude.{◌≡◌, ◌↔◌, ◌≤◌, ℕ, [], All, Contains, IfOk, MatchOption};
 ghost use Rattle.std.specs.List.{AllPairs};
-ghost use Rattle.record_faults.specs.Faults.{IsFaultAt, IsReturning, IsFaultOfRecord, IsFault, IsCircleOf, DenoteSome};
+ghost use Rattle.record_faults.specs.Faults.{IsFaultAt, IsReturning, IsFaultOfRecord, IsFault, IsCircleOf, NoCircleIn, DenoteSome};
 ghost use Rattle.record_faults.specs.Readings.{IsReadingOf};
 ghost use Rattle.record_faults.specs.Sayings.{texts_of};
 ghost use Rattle.record_faults.specs.declared.faults.Fault.{Fault};
@@ -59,13 +59,14 @@ pub fn faults_of(alloc: Global, records: &[Fields]) -> Result<Vec<RecordFault>, 
     Ok(faults)
 }
 
-/// A path of dependencies of these records that returns, where one does: the place of a record that says a dependency
-/// and closes the path, and the operations on it. It fails for want of memory only.
+/// A path of dependencies of these records that returns, or none where none does: the place of a record that says a
+/// dependency and closes the path, and the operations on it. It fails for want of memory only.
 pub fn circle_of_records(alloc: Global, records: &[Fields]) -> Result<Option<Circle>, AllocError>
-    ensures { IfOk result (λ found. IfSome found (λ c. IsCircleOf (texts_of records.now) c.place c.first c.way.items)) }
+    ensures { IfOk result (λ found. MatchOption found (NoCircleIn (texts_of records.now)) (λ c. IsCircleOf (texts_of records.now) c.place c.first c.way.items)) }
 {
     let said = sayings(alloc, records)?;
     let keys = keys_given(alloc, &said)?;
     let index = index_of(alloc, &keys)?;
-    circle_of(alloc, &keys, &index)
+    let found = circle_of(alloc, &keys, &index)?;
+    Ok(found)
 }

@@ -1,10 +1,14 @@
 // The faults of a text.
-ghost use Rattle.std.specs.Prelude.{◌≡◌, ◌↔◌, ◌≤◌, [], IfOk, IfSome};
+ghost use Rattle.std.specs.Prelude.{◌≡◌, ◌↔◌, ◌≤◌, [], true, All, Contains, IfOk, IfSome, IsSome};
+ghost use Rattle.record_faults.specs.Faults.{IsFault, IsCircleOf, DenoteSome};
+ghost use Rattle.record_faults.specs.Sayings.{texts_of};
+ghost use Rattle.record_faults.specs.declared.faults.Fault.TheVariants as variant;
+ghost use Rattle.record_faults.specs.declared.faults.RecordFault.{RecordFault};
 ghost use Rattle.std.specs.List.{AllPairs};
 ghost use Rattle.text_records.specs.Lines.{BeginOn};
 ghost use Rattle.text_faults.specs.TextFaults.{AreFaultsOfText, ReturnsIn, TextDenotesSome};
 
-use record_faults::{Circle, Fault, RecordFault, circle_of_records, faults_of};
+use record_faults::{Circle, Fault, Fields, RecordFault, circle_of_records, faults_of};
 use std::alloc::{AllocError, Global};
 use text_records::{TextRecords, records_of_text};
 
@@ -20,8 +24,28 @@ pub struct TextFaults {
 }
 
 // Whether a path that returns is among the faults.
-fn has_return(faults: &[RecordFault]) -> bool {
+fn has_return(faults: &[RecordFault]) -> bool
+    ensures { (f : RecordFault) → Contains faults.now f → f.fault ≡ variant.Returns → result ≡ true }
+{
     faults.iter().any(|fault| fault.fault == Fault::Returns)
+}
+
+// A path that returns, where one is among the faults of the records.
+fn circle_told(
+    alloc: Global,
+    records: &[Fields],
+    faults: &[RecordFault],
+) -> Result<Option<Circle>, AllocError>
+    requires faults { All (λ f. IsFault (texts_of records.now) f.place f.fault) faults.now }
+    requires none { (faults.now ≡ []) ↔ DenoteSome (texts_of records.now) }
+    ensures told { IfOk result (λ circle. (f : RecordFault) → Contains faults.now f → f.fault ≡ variant.Returns → IsSome circle) }
+    ensures circle { IfOk result (λ circle. IfSome circle (λ c. IsCircleOf (texts_of records.now) c.place c.first c.way.items)) }
+{
+    if !has_return(faults) {
+        return Ok(None);
+    }
+    let circle = circle_of_records(alloc, records)?;
+    Ok(circle)
 }
 
 /// The faults of a plan's text, in the order of its records; there is none exactly where the text denotes a plan. A byte
@@ -31,14 +55,12 @@ pub fn faults_of_text(alloc: Global, text: &[u8]) -> Result<TextFaults, AllocErr
     ensures none { IfOk result (λ t. (t.faults.items ≡ []) ↔ TextDenotesSome text.now) }
     ensures in_order { IfOk result (λ t. AllPairs (λ a b. a.place ≤ b.place) t.faults.items) }
     ensures lines { IfOk result (λ t. BeginOn text.now t.lines.items) }
+    ensures told { IfOk result (λ t. (f : RecordFault) → Contains t.faults.items f → f.fault ≡ variant.Returns → IsSome t.circle) }
     ensures circle { IfOk result (λ t. IfSome t.circle (λ c. ReturnsIn text.now c.place c.first c.way.items)) }
 {
     let TextRecords { records, lines } = records_of_text(alloc, text)?;
     let faults = faults_of(alloc, &records)?;
-    let mut circle = None;
-    if has_return(&faults) {
-        circle = circle_of_records(alloc, &records)?;
-    }
+    let circle = circle_told(alloc, &records, &faults)?;
     Ok(TextFaults {
         faults,
         lines,
