@@ -99,22 +99,10 @@ def measured(given, folder):
         whole += [int(line) for line in told_by([given.calls, "whole", name, *keys], folder)]
     if [line[3] for line in parts] != [len(rows) for rows in changes] * given.runs:
         raise Unmeasured("the rows that were written aren't those that changed")
-    return parts, whole, library, rates_in_memory(given, folder, keys)
+    return parts, whole, library
 
 
-def rates_in_memory(given, folder, keys):
-    """Requests a second that `Plan::run` accepts in memory: ends of operations, and additions of occurrences."""
-    with sqlite3.connect(folder / copy_database(folder, "night.db", "memory.db")) as database:
-        workstation = database.execute("SELECT min(name) FROM workstation").fetchone()[0]
-    names = [f"ADDED{number}" for number in range(given.requests)]
-    rates = []
-    for words in (["ends", "memory.db", *keys], ["additions", "memory.db", workstation, *names]):
-        taken = [int(told_by([given.calls, *words], folder)[0]) for _ in range(given.runs)]
-        rates.append(given.requests * 1e6 / median(taken))
-    return rates
-
-
-def tell(parts, whole, library, rates):
+def tell(parts, whole, library):
     """Prints the figures in milliseconds; whether the target is kept."""
     prepare, write, apply, rows = (median(line[part] for line in parts) for part in range(4))
     peer = median(library) * 1e6
@@ -123,9 +111,7 @@ def tell(parts, whole, library, rates):
     print(f"write     {write / 1e3:9.3f} ms median: the store's part")
     print(f"apply     {apply / 1e3:9.3f} ms median")
     print(f"call      {median(whole) / 1e3:9.3f} ms median: the whole, at the desk")
-    print(f"library   {peer / 1e3:9.3f} ms median, for the same rows in one transaction")
-    print(f"ends      {rates[0]:9.1f} a second by Plan::run in memory")
-    print(f"additions {rates[1]:9.1f} a second by Plan::run in memory, each worked out afresh\n")
+    print(f"library   {peer / 1e3:9.3f} ms median, for the same rows in one transaction\n")
     is_kept = write <= MOST_TIMES_THE_LIBRARY * peer
     print(f"  {'kept  ' if is_kept else 'MISSED'} {write / peer:9.2f} of at most {MOST_TIMES_THE_LIBRARY:6.1f}  times the library, for the store's part")
     return is_kept

@@ -1,5 +1,5 @@
 // Loads into databases: what stands at the path before, and what is answered.
-use crate::runs::{DAY, own_folder, plays_so};
+use crate::runs::{DAY, own_folder, play};
 use std::fs;
 use std::test::Fail;
 
@@ -88,7 +88,7 @@ fn play_loads(rt: &HostRuntime, name: &str, loads: &'static str) -> Result<(), F
     for (file, text) in [("day.csv", DAY), ("none.csv", ""), ("empty.db", "")] {
         fs::write(rt, folder.join(rt.alloc(), file)?.as_path(), text)?;
     }
-    plays_so(rt, &folder, loads)?;
+    play(rt, &folder, loads)?;
     fs::remove_dir_all(rt, folder.as_path())?;
     Ok(())
 }

@@ -2,12 +2,12 @@
 #![tactic(auto)]
 
 #[cfg(test)]
+mod commands;
+#[cfg(test)]
 mod loads;
 #[cfg(test)]
 mod runs;
 #[cfg(test)]
 mod serving;
-#[cfg(test)]
-mod sessions;
 
 fn main() {}

@@ -1,98 +1,24 @@
 // Runs of the desk: what goes to both streams, and the exit status.
-use desk_commands::desk_run;
-use plan_basics::Watched;
-use sqlite::Connection;
+use sessions::{ends_without_output, ends_without_streams, plays_so, told_by};
 use std::alloc::{AllocError, Global};
-use std::fmt::Write as Format;
-use std::io::Write;
 use std::path::PathBuf;
 use std::test::Fail;
-use std::{env, fs, io, process};
+use std::{env, fs, process};
 
-/// The words of a run in a folder, parted by single blanks. `@` stands before a file of the folder, and `''` is the
-/// empty word.
-fn words_in(rt: &HostRuntime, folder: &PathBuf, line: &str) -> Result<Vec<String>, Fail> {
-    let mut words = Vec::new(rt.alloc());
-    words.push(String::from_str(rt.alloc(), "plandesk")?)?;
-    for word in line.split(' ') {
-        match word.strip_prefix("@") {
-            Some(name) => {
-                let path = folder.join(rt.alloc(), name)?;
-                words.push(String::from_str(rt.alloc(), path.as_str())?)?;
-            }
-            None if word == "''" => words.push(String::new(rt.alloc()))?,
-            None => words.push(String::from_str(rt.alloc(), word)?)?,
-        }
+/// Plays a session in a folder.
+pub fn play(rt: &HostRuntime, folder: &PathBuf, session: &'static str) -> Result<(), Fail> {
+    match plays_so(rt, folder, session) {
+        Ok(()) => Ok(()),
+        Err(line) => Err(Fail::new(line)),
     }
-    Ok(words)
 }
 
-/// What comes of a run with the words of a line: what it shows, each line of its faults behind `!`, and its status
-/// behind `=`, unless that is 0.
-pub fn told_by(rt: &HostRuntime, folder: &PathBuf, line: &str) -> Result<String, Fail> {
-    let words = words_in(rt, folder, line)?;
-    let mut out: Vec<u8> = Vec::new(rt.alloc());
-    let mut err: Vec<u8> = Vec::new(rt.alloc());
-    let status = desk_run(
-        rt,
-        words.as_slice(),
-        &mut Watched::new(&mut out),
-        &mut Watched::new(&mut err),
-    );
-    let mut told = String::from_utf8(out)?;
-    for fault in str::from_utf8(err.as_slice())?.lines() {
-        write!(told, "!{fault}\n")?;
+/// What comes of a run with the words of a line.
+pub fn told(rt: &HostRuntime, folder: &PathBuf, line: &str) -> Result<String, Fail> {
+    match told_by(rt, folder, line) {
+        Some(told) => Ok(told),
+        None => Err(Fail::new("no memory, or no text")),
     }
-    if status != 0 {
-        write!(told, "={status}\n")?;
-    }
-    Ok(told)
-}
-
-/// Has another program change a database of the folder: its name stands before the statements.
-fn change(rt: &HostRuntime, folder: &PathBuf, change: &str) -> Result<(), Fail> {
-    let Some((name, statements)) = change.split_once(' ') else {
-        return Err(Fail::new("no statements stand behind the database's name"));
-    };
-    let path = folder.join(rt.alloc(), name)?;
-    let mut conn = Connection::open(rt, path.as_str())?;
-    conn.execute_batch(statements)?;
-    conn.close()?;
-    Ok(())
-}
-
-/// Plays a session in a folder, and holds what comes of it to what the session tells: `$` stands before the words of a
-/// run, `%` before a change by another program, `#` before what the next run shows.
-pub fn plays_so(rt: &HostRuntime, folder: &PathBuf, session: &'static str) -> Result<(), Fail> {
-    let mut told = String::new(rt.alloc());
-    for line in session.lines() {
-        match line.split_once(' ') {
-            Some(("$", words)) => {
-                let by_run = told_by(rt, folder, words)?;
-                write!(told, "{line}\n{by_run}")?;
-            }
-            Some(("%", statements)) => {
-                change(rt, folder, statements)?;
-                write!(told, "{line}\n")?;
-            }
-            Some(("#", _)) => write!(told, "{line}\n")?,
-            _ => {}
-        }
-    }
-    is_told(told.as_str(), session)
-}
-
-/// Holds what was told to what is wanted; the first line that differs is named.
-fn is_told(told: &str, wanted: &'static str) -> Result<(), Fail> {
-    for (line, wanted) in told.lines().zip(wanted.lines()) {
-        if line != wanted {
-            return Err(Fail::new(wanted));
-        }
-    }
-    if told != wanted {
-        return Err(Fail::new("more is told, or less"));
-    }
-    Ok(())
 }
 
 /// A folder of this test's own. It is removed by `fs::remove_dir_all` where the test passes.
@@ -258,8 +184,8 @@ fn text_of(alloc: Global, lines: &[&[u8]], end: &[u8]) -> Result<Vec<u8>, AllocE
 /// is refused as no plan.
 fn is_answered(rt: &HostRuntime, folder: &PathBuf, row: &Row) -> Result<bool, Fail> {
     let check = format!(in rt.alloc(); "check --plan @plan.csv --at {}", row.at)?;
-    let checked = told_by(rt, folder, check.as_str())?;
-    let validated = told_by(rt, folder, "validate --plan @plan.csv")?;
+    let checked = told(rt, folder, check.as_str())?;
+    let validated = told(rt, folder, "validate --plan @plan.csv")?;
     let is_faultless = validated.as_str() == "no faults\n";
     Ok(checked.as_str() == row.answer && is_faultless == (row.answer != BAD_PLAN))
 }
@@ -279,54 +205,22 @@ fn texts_and_their_answers(rt: HostRuntime) -> Result<(), Fail> {
     Ok(())
 }
 
-/// A stream that fails: at each write, or only where it is to pass on what it took.
-#[derive(Drop)]
-struct Failing {
-    takes: bool,
-}
-
-impl Write for Failing {
-    fn write(&mut self, buf: &[u8]) -> io::Result<usize> {
-        if self.takes {
-            Ok(buf.len())
-        } else {
-            Err(io::Error::from(io::ErrorKind::BrokenPipe))
-        }
-    }
-
-    fn flush(&mut self) -> io::Result<()> {
-        Err(io::Error::from(io::ErrorKind::BrokenPipe))
-    }
-}
+const CHECKED: &str = "check --plan @plan.csv --at 2024-03-01T22:00";
 
 #[test]
 fn faults_of_the_streams(rt: HostRuntime) -> Result<(), Fail> {
     let folder = own_folder(&rt, "streams")?;
-    let plan = folder.join(rt.alloc(), "plan.csv")?;
-    fs::write(&rt, plan.as_path(), "")?;
-    let words = words_in(&rt, &folder, "check --plan @plan.csv --at 2024-03-01T22:00")?;
+    fs::write(&rt, folder.join(rt.alloc(), "plan.csv")?.as_path(), "")?;
     for takes in [false, true] {
-        let mut err: Vec<u8> = Vec::new(rt.alloc());
-        let status = desk_run(
-            &rt,
-            words.as_slice(),
-            &mut Watched::new(Failing { takes }),
-            &mut Watched::new(&mut err),
-        );
+        let Some((err, status)) = ends_without_output(&rt, &folder, CHECKED, takes) else {
+            return Err(Fail::new("no memory"));
+        };
         assert!(rt;
             err.as_slice() == b"fault file\n".as_slice() && status == 3,
             "{takes}"
         );
     }
-    let mut none = Vec::new(rt.alloc());
-    none.push(String::from_str(rt.alloc(), "plandesk")?)?;
-    let status = desk_run(
-        &rt,
-        none.as_slice(),
-        &mut Watched::new(Failing { takes: false }),
-        &mut Watched::new(Failing { takes: false }),
-    );
-    assert_eq!(rt; status, 3);
+    assert_eq!(rt; ends_without_streams(&rt), Some(3));
     fs::remove_dir_all(&rt, folder.as_path())?;
     Ok(())
 }

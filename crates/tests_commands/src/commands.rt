@@ -1,5 +1,5 @@
 // Sessions: runs of the program one after another over the files of a folder, and what each answers.
-use crate::runs::{own_folder, plays_so, told_by};
+use crate::runs::{own_folder, play, told};
 use std::path::PathBuf;
 use std::test::Fail;
 use std::{env, fs};
@@ -289,11 +289,11 @@ fn session_folder(rt: &HostRuntime, name: &str) -> Result<PathBuf, Fail> {
 #[test]
 fn sessions(rt: HostRuntime) -> Result<(), Fail> {
     let folder = session_folder(&rt, "sessions")?;
-    plays_so(&rt, &folder, SESSION)?;
-    plays_so(&rt, &folder, WHYS)?;
-    plays_so(&rt, &folder, PLAYS)?;
-    plays_so(&rt, &folder, JUDGED)?;
-    plays_so(&rt, &folder, ORDER)?;
+    play(&rt, &folder, SESSION)?;
+    play(&rt, &folder, WHYS)?;
+    play(&rt, &folder, PLAYS)?;
+    play(&rt, &folder, JUDGED)?;
+    play(&rt, &folder, ORDER)?;
     fs::remove_dir_all(&rt, folder.as_path())?;
     Ok(())
 }
@@ -301,7 +301,7 @@ fn sessions(rt: HostRuntime) -> Result<(), Fail> {
 #[test]
 fn samples_of_reports(rt: HostRuntime) -> Result<(), Fail> {
     let folder = session_folder(&rt, "samples")?;
-    plays_so(&rt, &folder, SAMPLES)?;
+    play(&rt, &folder, SAMPLES)?;
     fs::remove_dir_all(&rt, folder.as_path())?;
     Ok(())
 }
@@ -309,7 +309,7 @@ fn samples_of_reports(rt: HostRuntime) -> Result<(), Fail> {
 #[test]
 fn faults_are_told(rt: HostRuntime) -> Result<(), Fail> {
     let folder = session_folder(&rt, "faults")?;
-    plays_so(&rt, &folder, FAULTS)?;
+    play(&rt, &folder, FAULTS)?;
     assert!(rt; fs::metadata(&rt, folder.join(rt.alloc(), "absent")?.as_path()).is_err());
     fs::remove_dir_all(&rt, folder.as_path())?;
     Ok(())
@@ -368,7 +368,7 @@ $ serve --port 8080 --requests 1 --db @
 #[test]
 fn databases_without_a_desk(rt: HostRuntime) -> Result<(), Fail> {
     let folder = session_folder(&rt, "no_desks")?;
-    plays_so(&rt, &folder, NO_DESKS)?;
+    play(&rt, &folder, NO_DESKS)?;
     assert!(rt; fs::metadata(&rt, folder.join(rt.alloc(), "absent.db")?.as_path()).is_err());
     fs::remove_dir_all(&rt, folder.as_path())?;
     Ok(())
@@ -397,7 +397,7 @@ const HELPS: [(&str, &str); 9] = [
 fn each_command_tells_its_help(rt: HostRuntime) -> Result<(), Fail> {
     let folder = env::temp_dir(&rt)?;
     for (words, example) in HELPS {
-        let help = told_by(&rt, &folder, words)?;
+        let help = told(&rt, &folder, words)?;
         let is_fault = help
             .as_str()
             .lines()
