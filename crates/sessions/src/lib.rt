@@ -1,5 +1,6 @@
-//! Sessions: runs of the program's commands over the files of a folder, and connections to a desk, with what comes of them.
-//! For tests alone; a test that plays one names neither the commands nor a desk, whose contracts take the prover long.
+//! Sessions: runs of the program's commands over the files of a folder, and connections to a desk, with what comes of
+//! them. For tests alone; a test that plays one names neither the commands nor a desk, whose contracts take the prover
+//! long.
 #![tactic(auto)]
 
 mod connections;

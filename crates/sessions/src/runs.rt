@@ -85,8 +85,8 @@ fn play_line(rt: &HostRuntime, folder: &PathBuf, line: &str, told: &mut String) 
 }
 
 /// Plays a session in a folder, and holds what comes of it to what the session tells: `$` stands before the words of a
-/// run, `%` before a change by another program, `#` before what the next run shows. An error is the first line that isn't
-/// told so.
+/// run, `%` before a change by another program, `#` before what the next run shows. An error is the first line that
+/// isn't told so.
 pub fn plays_so(
     rt: &HostRuntime,
     folder: &PathBuf,

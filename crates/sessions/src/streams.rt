@@ -26,8 +26,8 @@ impl Write for Failing {
     }
 }
 
-/// What a run with the words of a line tells of its faults, and its status, where what it shows fails: at each write, or
-/// only where it is passed on. None where memory lacks.
+/// What a run with the words of a line tells of its faults, and its status, where what it shows fails: at each write,
+/// or only where it is passed on. None where memory lacks.
 pub fn ends_without_output(
     rt: &HostRuntime,
     folder: &PathBuf,
