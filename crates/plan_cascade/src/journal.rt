@@ -70,6 +70,7 @@ fn put(kept: &mut [Kept], node: usize, old: Kept)
 pub fn take_back(kept: &mut [Kept], journal: &mut Vec<(usize, Kept)>)
     requires within { AreWithin (length kept.old) journal.old.items }
     ensures back { kept.new ≡ undone journal.old.items kept.old }
+    ensures empty { journal.new.items ≡ [] }
     ensures size { length kept.new ≡ length kept.old }
 {
     while let Some((node, old)) = journal.pop() {

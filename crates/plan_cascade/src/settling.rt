@@ -75,6 +75,7 @@ fn passes_now<R: Rules>(rules: &mut R, node: usize, satisfied: bool, waiting: us
     requires node { node < length (R.listed rules.old) }
     ensures passes { Decides result ((satisfied ≡ false) × (waiting ≡ 0) × IsPassing (R.listed rules.old) node) }
     ensures rules { R.listed rules.new ≡ R.listed rules.old }
+    ensures looks { (satisfied ≡ true) ⊎ (0 < waiting) → R.looks rules.new ≡ R.looks rules.old }
 {
     if satisfied || waiting > 0 {
         return false;

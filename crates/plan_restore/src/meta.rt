@@ -30,8 +30,8 @@ fn meta_in(row: &PlanRow) -> Option<(bool, Moment)>
     }
 }
 
-/// Whether a plan is loaded, and its clock, as the first row among these says it that is of the plan itself and has the
-/// version 1; `None` where none is.
+/// Whether a plan is loaded, and its clock, by the row of the plan itself among its rows. Of rows of no plan it says nothing but
+/// a legal clock.
 pub fn meta_of_rows(rows: &[PlanRow]) -> Option<(bool, Moment)>
     ensures legal { IfSome result (λ found. IsMoment found.1) }
     ensures complete { (P : Plan) → AreRows P rows.now → result ≡ Some (P.loaded, P.clock) }

@@ -41,7 +41,7 @@ impl<'a, 'b, K: Ord, X: PartialEq> TwoTables for KeyedRows<'a, 'b, K, X> {
     }
 }
 
-/// Adds what is made at each of these indices, in order. At an error a front of it is added.
+/// Adds what is made at each of these indices, in order. At an error a part of it may be added.
 pub fn push_made<Row: Drop, F: Fn(usize) -> Row>(
     rows: &mut Vec<Row>,
     places: &[usize],

@@ -25,7 +25,8 @@ pub struct TextFaults {
 
 // Whether a path that returns is among the faults.
 fn has_return(faults: &[RecordFault]) -> bool
-    ensures { (f : RecordFault) → Contains faults.now f → f.fault ≡ variant.Returns → result ≡ true }
+    ensures seen { (f : RecordFault) → Contains faults.now f → f.fault ≡ variant.Returns → result ≡ true }
+    ensures there { result ≡ true → (f : RecordFault) × Contains faults.now f × (f.fault ≡ variant.Returns) }
 {
     faults.iter().any(|fault| fault.fault == Fault::Returns)
 }
@@ -39,6 +40,7 @@ fn circle_told(
     requires faults { All (λ f. IsFault (texts_of records.now) f.place f.fault) faults.now }
     requires none { (faults.now ≡ []) ↔ DenoteSome (texts_of records.now) }
     ensures told { IfOk result (λ circle. (f : RecordFault) → Contains faults.now f → f.fault ≡ variant.Returns → IsSome circle) }
+    ensures alone { IfOk result (λ circle. IsSome circle → (f : RecordFault) × Contains faults.now f × (f.fault ≡ variant.Returns)) }
     ensures circle { IfOk result (λ circle. IfSome circle (λ c. IsCircleOf (texts_of records.now) c.place c.first c.way.items)) }
 {
     if !has_return(faults) {
@@ -56,6 +58,7 @@ pub fn faults_of_text(alloc: Global, text: &[u8]) -> Result<TextFaults, AllocErr
     ensures in_order { IfOk result (λ t. AllPairs (λ a b. a.place ≤ b.place) t.faults.items) }
     ensures lines { IfOk result (λ t. BeginOn text.now t.lines.items) }
     ensures told { IfOk result (λ t. (f : RecordFault) → Contains t.faults.items f → f.fault ≡ variant.Returns → IsSome t.circle) }
+    ensures alone { IfOk result (λ t. IsSome t.circle → (f : RecordFault) × Contains t.faults.items f × (f.fault ≡ variant.Returns)) }
     ensures circle { IfOk result (λ t. IfSome t.circle (λ c. ReturnsIn text.now c.place c.first c.way.items)) }
 {
     let TextRecords { records, lines } = records_of_text(alloc, text)?;
