@@ -11,7 +11,6 @@ use Rattle.plan_records.specs.Run.{Answers, State, Usable, empty_state, plain}
 use Rattle.plan_loads.specs.plan_tables.specs.Desk.{usability}
 use Rattle.desk_commands.specs.Statuses.{IsOfSurroundings}
 use Rattle.desk_commands.specs.Answers.{IsShown}
-use Rattle.desk_commands.specs.Asked.{IsNoRequest}
 use Rattle.desk_commands.specs.Turns.{IsFirstLine, IsLinePlayed, IsLoadRefusal, IsLoaded, IsPlanPlayed, IsPlayed, Plays, PlaysLine, breaks_off, goes_on, joined, no_more, number_line}
 use Rattle.desk_commands.specs.declared.endings.Ending.{Ending}
 use Rattle.desk_commands.specs.declared.endings.Ending.TheVariants as ending

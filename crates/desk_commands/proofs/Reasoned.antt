@@ -1,5 +1,5 @@
 -- What is shown of why an operation doesn't go on.
-use Rattle.std.proofs.Common.{◌≡◌, inl, inr, subst, ℕ, ℤ, pos, Bool, true, List, Option, Some, Result, Ok, Err, IfOk, OnOk}
+use Rattle.std.proofs.Common.{◌≡◌, inl, inr, subst, ℕ, ℤ, pos, Bool, true, List, Option, Some, Result, Err, IfOk, OnOk}
 use Rattle.std.proofs.lemmas.Result.{IfOk-weaker}
 use Rattle.plan_basics.specs.KeyTexts.{IsOperationText}
 use Rattle.plan_basics.specs.declared.Refusal.{Refusal}

@@ -1,5 +1,5 @@
 -- What is shown of a request and of a report that were asked for.
-use Rattle.std.proofs.Common.{◌≡◌, ◌⊎◌, refl, inl, inr, ℕ, Bool, List, Option, Result, Ok, Err, IfOk, IfErr}
+use Rattle.std.proofs.Common.{◌≡◌, ◌⊎◌, refl, inl, inr, ℕ, Bool, List, Option, Result, Err, IfOk, IfErr}
 use Rattle.std.proofs.lemmas.Result.{IfErr-weaker, IfOk-weaker}
 use Rattle.plan_basics.specs.declared.Refusal.{Refusal}
 use Rattle.plan_loads.specs.plan_model.specs.Plan.{Plan}

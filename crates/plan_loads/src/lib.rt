@@ -5,4 +5,4 @@
 mod database;
 
 pub use database::load_into;
-pub use plan_tables::Desk;
+pub use plan_tables::{Desk, Plan};

@@ -1,4 +1,4 @@
-use Rattle.std.proofs.Common.{◌≡◌, ◌+◌, rules, subst, sym, Err}
+use Rattle.std.proofs.Common.{◌≡◌, rules, subst, sym, Err}
 use Rattle.plan_basics.specs.Watched.{inner_of}
 use Rattle.plan_loads.specs.plan_tables.specs.Desk.{state_of, usability}
 use Rattle.desk_commands.specs.Turns.{IsPlayed}

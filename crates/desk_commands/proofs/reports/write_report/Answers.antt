@@ -1,4 +1,3 @@
-use Rattle.plan_basics.specs.declared.Refusal.{Refusal}
 use Rattle.desk_commands.proofs.reports.write_report.Goals as goal
 
 pub returns-in-Ready-clause-refused : goal.returns-in-Ready-clause-refused
