@@ -6,3 +6,4 @@ pub mod Told
 pub mod Ended
 pub mod Reasoned
 pub mod Judging
+pub mod Minutes

@@ -19,7 +19,7 @@ use Rattle.desk_commands.specs.declared.endings.Fault.{Fault}
 -- the answer at a database is that of a desk
 load_answer : (before after : StoreState) (at : ℤ) (found : Option Contents) (a : Answer) → IsAnswerToLoad before after at found a → IsLoadAnswer at found a
 load_answer before after at found (accepted named) (s, t, from, step, holds) = inl (s, t, step)
-load_answer before after at found (refused r) (inl opening, stays) = inr (r, opening, refl)
+load_answer before after at found (refused r) (inl opening, stays) = inr (r, opening.0, refl)
 load_answer before after at found (refused r) (inr (s, from, step), stays) = inl (s, s, step)
 
 -- it was shown

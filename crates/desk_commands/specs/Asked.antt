@@ -32,3 +32,7 @@ AsksReport word ws (kind.Ready w) = (word ≡ codes "ready") × IsName 4 w × (w
 AsksReport word ws kind.Occurrences = word ≡ codes "occurrences"
 AsksReport word ws kind.Errors = word ≡ codes "errors"
 AsksReport word ws kind.Late = word ≡ codes "late"
+
+-- the words ask for no report
+abbrev pub AsksNoReport : List ℕ → Option (List ℕ) → Type 0
+AsksNoReport word ws = (k : Kind) → ¬ AsksReport word ws k

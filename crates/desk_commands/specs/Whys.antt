@@ -1,6 +1,7 @@
 -- What the program shows of why an operation doesn't go on.
 use Rattle.std.specs.Prelude.{◌≡◌, ◌⊎◌, Bool, true, ℕ, ℤ, pos, List, Option, Some, None}
 use Rattle.plan_basics.specs.KeyTexts.{IsOperationText}
+use Rattle.plan_basics.specs.Keys.{IsOperationKey}
 use Rattle.plan_basics.specs.Minutes.{IsMinuteText, IsMoment}
 use Rattle.plan_basics.specs.declared.Refusal.{Refusal}
 use Rattle.plan_basics.specs.declared.Refusal.TheVariants as refusal
@@ -44,6 +45,22 @@ abbrev pub IsMinuteGiven : Option (List ℕ) → Option ℤ → Type 0
 IsMinuteGiven (Some text) (Some z) = IsMinuteText text z
 IsMinuteGiven None None = Unit {0}
 IsMinuteGiven text z = ⊥
+
+-- the text is no moment
+abbrev pub IsNoMinute : List ℕ → Type 0
+IsNoMinute text = (z : ℤ) → ¬ IsMinuteText text z
+
+-- what the words give is no moment, and not nothing either
+abbrev pub IsNoMinuteGiven : Option (List ℕ) → Type 0
+IsNoMinuteGiven given = (z : Option ℤ) → ¬ IsMinuteGiven given z
+
+-- the text is no key of an operation
+abbrev pub IsNoOperationText : List ℕ → Type 0
+IsNoOperationText text = (o : OpKey) → IsOperationKey o → ¬ IsOperationText text o
+
+-- the words don't say at which desk: neither a database nor a plan, or a plan without its moment
+abbrev pub IsNoDeskGiven : Option (List ℕ) → Option (List ℕ) → Option (List ℕ) → Type 0
+IsNoDeskGiven db plan at = (db ≡ None) × ((plan ≡ None) ⊎ (at ≡ None))
 
 -- it was shown of the operation that the text names, at a desk that was there or at one of a plan's text
 abbrev pub IsWhyAsked : List ℕ → Option (List ℕ) → Option (List ℕ) → Option (List ℕ) → Ending → Type 0

@@ -1,15 +1,12 @@
 // What the words give: a moment, a request, the kind of a report. Each is judged before any file is touched.
-ghost use Rattle.std.specs.Prelude.{◌≡◌, ◌↔◌, ◌⊎◌, ℤ, IsOk, IfOk, IfErr, codes};
+ghost use Rattle.std.specs.Prelude.{◌≡◌, ◌⊎◌, IfOk, IfErr, codes};
 ghost use Rattle.clap.specs.Matches.{first_value, found_of};
 ghost use Rattle.plan_basics.specs.KeyTexts.{IsOperationText};
-ghost use Rattle.plan_basics.specs.Keys.{IsOperationKey};
 ghost use Rattle.plan_basics.specs.Minutes.{IsMinuteText};
-ghost use Rattle.plan_basics.specs.declared.keys.OpKey.{OpKey as Key};
-ghost use Rattle.desk_commands.specs.Asked.{AsksReport, IsNoRequest};
-ghost use Rattle.desk_commands.specs.Whys.{IsMinuteGiven};
+ghost use Rattle.desk_commands.specs.Asked.{AsksNoReport, AsksReport, IsNoRequest};
+ghost use Rattle.desk_commands.specs.Whys.{IsMinuteGiven, IsNoMinute, IsNoMinuteGiven, IsNoOperationText};
 ghost use Rattle.desk_commands.specs.Words.{text_given};
 ghost use Rattle.desk_commands.specs.declared.endings.Fault.{Fault};
-ghost use Rattle.desk_commands.specs.declared.given.Kind.{Kind as Asked};
 ghost use Rattle.request_texts.specs.Requests.{ReadsAsRequest};
 
 use crate::endings::Fault;
@@ -33,11 +30,10 @@ pub enum Kind {
     Late,
 }
 
-/// The moment that the words give.
+/// The moment that the words give. `Moment` where the text is none.
 pub fn moment_of(given: &ArgMatches) -> Result<i64, Fault>
     ensures minute { IfOk result (IsMinuteText (text_given (found_of given.now) (codes "at"))) }
-    ensures exact { IsOk result ↔ ((z : ℤ) × IsMinuteText (text_given (found_of given.now) (codes "at")) z) }
-    ensures fault { IfErr result (λ fault. fault ≡ Fault.Moment) }
+    ensures fault { IfErr result (λ fault. (fault ≡ Fault.Moment) × IsNoMinute (text_given (found_of given.now) (codes "at"))) }
 {
     match minute_of_text(value_of(given, "at").as_bytes()) {
         Some(at) => Ok(at),
@@ -45,10 +41,10 @@ pub fn moment_of(given: &ArgMatches) -> Result<i64, Fault>
     }
 }
 
-/// The moment that the words give, if they give one.
+/// The moment that the words give, if they give one. `Moment` where what they give is none.
 pub fn moment_if_given(given: &ArgMatches) -> Result<Option<i64>, Fault>
     ensures minute { IfOk result (IsMinuteGiven (first_value (found_of given.now) (codes "at"))) }
-    ensures fault { IfErr result (λ fault. fault ≡ Fault.Moment) }
+    ensures fault { IfErr result (λ fault. (fault ≡ Fault.Moment) × IsNoMinuteGiven (first_value (found_of given.now) (codes "at"))) }
 {
     let Some(text) = given.get_str("at") else {
         return Ok(None);
@@ -62,7 +58,7 @@ pub fn moment_if_given(given: &ArgMatches) -> Result<Option<i64>, Fault>
 /// The operation that the words name. `Words` where the text is no key of an operation.
 pub fn operation_of(given: &ArgMatches) -> Result<OpKey, Fault>
     ensures key { IfOk result (IsOperationText (text_given (found_of given.now) (codes "op"))) }
-    ensures fault { IfErr result (λ fault. (fault ≡ Fault.Words) × ((key : Key) → IsOperationKey key → ¬ IsOperationText (text_given (found_of given.now) (codes "op")) key)) }
+    ensures fault { IfErr result (λ fault. (fault ≡ Fault.Words) × IsNoOperationText (text_given (found_of given.now) (codes "op"))) }
 {
     match OpKey::from_text(value_of(given, "op").as_bytes()) {
         Some(key) => Ok(key),
@@ -70,7 +66,7 @@ pub fn operation_of(given: &ArgMatches) -> Result<OpKey, Fault>
     }
 }
 
-/// The request of an operator that a text says.
+/// The request of an operator that a text says. `Request` where it says none.
 pub fn request_of(alloc: Global, text: &[u8]) -> Result<Request, Fault>
     ensures request { IfOk result (ReadsAsRequest text.now) }
     ensures fault { IfErr result (λ fault. (fault ≡ Fault.Memory) ⊎ ((fault ≡ Fault.Request) × IsNoRequest text.now)) }
@@ -85,7 +81,7 @@ pub fn request_of(alloc: Global, text: &[u8]) -> Result<Request, Fault>
 // What is ready on the workstation that the words name.
 fn ready_kind(given: &ArgMatches) -> Result<Kind, Fault>
     ensures kind { IfOk result (AsksReport (codes "ready") (first_value (found_of given.now) (codes "ws"))) }
-    ensures fault { IfErr result (λ fault. (fault ≡ Fault.Words) × ((kind : Asked) → ¬ AsksReport (codes "ready") (first_value (found_of given.now) (codes "ws")) kind)) }
+    ensures fault { IfErr result (λ fault. (fault ≡ Fault.Words) × AsksNoReport (codes "ready") (first_value (found_of given.now) (codes "ws"))) }
 {
     let Some(name) = given.get_str("ws") else {
         return Err(Fault::Words);
@@ -99,7 +95,7 @@ fn ready_kind(given: &ArgMatches) -> Result<Kind, Fault>
 /// The report that the words ask for. `Words` where that of what is ready lacks the name of a workstation.
 pub fn kind_of(given: &ArgMatches) -> Result<Kind, Fault>
     ensures kind { IfOk result (AsksReport (text_given (found_of given.now) (codes "kind")) (first_value (found_of given.now) (codes "ws"))) }
-    ensures fault { IfErr result (λ fault. (fault ≡ Fault.Words) × ((kind : Asked) → ¬ AsksReport (text_given (found_of given.now) (codes "kind")) (first_value (found_of given.now) (codes "ws")) kind)) }
+    ensures fault { IfErr result (λ fault. (fault ≡ Fault.Words) × AsksNoReport (text_given (found_of given.now) (codes "kind")) (first_value (found_of given.now) (codes "ws"))) }
 {
     match value_of(given, "kind") {
         "ready" => ready_kind(given),

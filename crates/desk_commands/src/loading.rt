@@ -5,6 +5,7 @@ ghost use Rattle.plan_basics.specs.Watched.{inner_of};
 ghost use Rattle.plan_records.specs.Answer.{answer_of};
 ghost use Rattle.desk_commands.specs.Loads.{IsCheckAnswer, IsCheckShown, IsLoadShown};
 ghost use Rattle.desk_commands.specs.Statuses.{IsOfSurroundings};
+ghost use Rattle.desk_commands.specs.Whys.{IsNoMinute};
 ghost use Rattle.desk_commands.specs.Words.{text_given};
 ghost use Rattle.desk_commands.specs.declared.endings.Fault.{Fault};
 
@@ -47,7 +48,7 @@ pub fn check<W: Write>(
     out: &mut Watched<W>,
 ) -> Result<Ending, Fault>
     ensures shown { IfOk result (IsCheckShown (text_given (found_of given.now) (codes "at")) (W.contents (inner_of out.old)) (W.contents (inner_of out.new))) }
-    ensures fault { IfErr result (λ fault. (fault ≡ Fault.Moment) ⊎ IsOfSurroundings fault) }
+    ensures fault { IfErr result (λ fault. ((fault ≡ Fault.Moment) × IsNoMinute (text_given (found_of given.now) (codes "at"))) ⊎ IsOfSurroundings fault) }
 {
     let at = moment_of(given)?;
     let draft = plan_of(rt.alloc(), fs::open(rt, value_of(given, "plan"))?)?;
@@ -62,7 +63,7 @@ pub fn load<W: Write>(
     out: &mut Watched<W>,
 ) -> Result<Ending, Fault>
     ensures shown { IfOk result (IsLoadShown (text_given (found_of given.now) (codes "at")) (W.contents (inner_of out.old)) (W.contents (inner_of out.new))) }
-    ensures fault { IfErr result (λ fault. (fault ≡ Fault.Moment) ⊎ IsOfSurroundings fault) }
+    ensures fault { IfErr result (λ fault. ((fault ≡ Fault.Moment) × IsNoMinute (text_given (found_of given.now) (codes "at"))) ⊎ IsOfSurroundings fault) }
 {
     let at = moment_of(given)?;
     let draft = plan_of(rt.alloc(), fs::open(rt, value_of(given, "plan"))?)?;

@@ -3,7 +3,7 @@ ghost use Rattle.std.specs.Prelude.{◌≡◌, ◌⊎◌, IfOk, IfErr, codes};
 ghost use Rattle.clap.specs.Matches.{first_value, found_of};
 ghost use Rattle.plan_basics.specs.Watched.{inner_of};
 ghost use Rattle.desk_commands.specs.Statuses.{IsOfSurroundings};
-ghost use Rattle.desk_commands.specs.Whys.{IsWhyAsked, IsWhyOfDesk, IsWhyPlanned, IsWhyShown, minute_asked};
+ghost use Rattle.desk_commands.specs.Whys.{IsNoDeskGiven, IsNoMinuteGiven, IsNoOperationText, IsWhyAsked, IsWhyOfDesk, IsWhyPlanned, IsWhyShown, minute_asked};
 ghost use Rattle.desk_commands.specs.Words.{text_given};
 ghost use Rattle.desk_commands.specs.declared.endings.Fault.{Fault};
 
@@ -92,14 +92,14 @@ fn why_stored<W: Write>(
 }
 
 /// `why`: the words are judged before the files. A plan's text is loaded at the moment that is given; the database of a
-/// desk is closed at the end.
+/// desk is closed at the end. `Words` where the words name no operation, or don't say at which desk.
 pub fn why<W: Write>(
     rt: &HostRuntime,
     given: &ArgMatches,
     out: &mut Watched<W>,
 ) -> Result<Ending, Fault>
     ensures shown { IfOk result (IsWhyAsked (text_given (found_of given.now) (codes "op")) (first_value (found_of given.now) (codes "at")) (W.contents (inner_of out.old)) (W.contents (inner_of out.new))) }
-    ensures fault { IfErr result (λ fault. (fault ≡ Fault.Words) ⊎ ((fault ≡ Fault.Moment) ⊎ IsOfSurroundings fault)) }
+    ensures fault { IfErr result (λ fault. ((fault ≡ Fault.Words) × (IsNoOperationText (text_given (found_of given.now) (codes "op")) ⊎ IsNoDeskGiven (first_value (found_of given.now) (codes "db")) (first_value (found_of given.now) (codes "plan")) (first_value (found_of given.now) (codes "at")))) ⊎ (((fault ≡ Fault.Moment) × IsNoMinuteGiven (first_value (found_of given.now) (codes "at"))) ⊎ IsOfSurroundings fault)) }
 {
     let key = operation_of(given)?;
     let at = moment_if_given(given)?;

@@ -1,8 +1,9 @@
 // `report`: one of the four reports of the desk of a database's file.
-ghost use Rattle.std.specs.Prelude.{◌≡◌, ◌⊎◌, Err, IfOk, IfErr, OnOk, codes};
+ghost use Rattle.std.specs.Prelude.{◌≡◌, ◌⊎◌, Err, IfOk, IfErr, IsErr, OnOk, codes};
 ghost use Rattle.clap.specs.Matches.{first_value, found_of};
 ghost use Rattle.plan_basics.specs.Watched.{inner_of};
 ghost use Rattle.plan_basics.specs.declared.Refusal.{Refusal};
+ghost use Rattle.desk_commands.specs.Asked.{AsksNoReport};
 ghost use Rattle.desk_commands.specs.Shown.{IsEndOf, IsReport, IsReportAsked, IsReportShown, report_refusal_of};
 ghost use Rattle.desk_commands.specs.Statuses.{IsOfSurroundings};
 ghost use Rattle.desk_commands.specs.Words.{text_given};
@@ -49,7 +50,7 @@ pub fn end_of<W: Write>(
     out: &mut Watched<W>,
 ) -> Result<Ending, Fault>
     ensures shown { IfOk result (IsEndOf written (W.contents (inner_of out.old)) (W.contents (inner_of out.new))) }
-    ensures fault { IfErr result IsOfSurroundings }
+    ensures fault { IfErr result (λ fault. IsErr written × IsOfSurroundings fault) }
 {
     match written {
         Ok(()) => Ok(Ending::Done),
@@ -75,14 +76,15 @@ pub fn show<S: Alter + Drop, W: Write>(
     end_of(written, out)
 }
 
-/// `report`: which report is asked for is judged before the file. At its end the database is closed.
+/// `report`: which report is asked for is judged before the file. At its end the database is closed. `Words` where the
+/// words ask for no report.
 pub fn report<W: Write>(
     rt: &HostRuntime,
     given: &ArgMatches,
     out: &mut Watched<W>,
 ) -> Result<Ending, Fault>
     ensures shown { IfOk result (IsReportAsked (text_given (found_of given.now) (codes "kind")) (first_value (found_of given.now) (codes "ws")) (W.contents (inner_of out.old)) (W.contents (inner_of out.new))) }
-    ensures fault { IfErr result (λ fault. (fault ≡ Fault.Words) ⊎ IsOfSurroundings fault) }
+    ensures fault { IfErr result (λ fault. ((fault ≡ Fault.Words) × AsksNoReport (text_given (found_of given.now) (codes "kind")) (first_value (found_of given.now) (codes "ws"))) ⊎ IsOfSurroundings fault) }
 {
     let kind = kind_of(given)?;
     let desk = match stored_desk(rt, value_of(given, "db"))? {

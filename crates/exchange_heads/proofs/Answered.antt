@@ -1,5 +1,5 @@
 -- What the parts of an answer say of the whole.
-use Rattle.std.proofs.Common.{◌≡◌, ◌∙◌, ap, subst, arith, ℕ, ◌≤◌, ◌++◌, List, Option, Some, None, Result, Ok, Err, IfSome, IfOk, MatchResult, length, take, drop, map, append_assoc, inr}
+use Rattle.std.proofs.Common.{◌≡◌, ◌∙◌, ap, subst, sym, arith, ℕ, ◌≤◌, ◌++◌, List, Option, Some, None, Result, Ok, Err, IfSome, IfOk, IsOkAnd, MatchResult, length, take, drop, map, append_assoc, inr}
 use Rattle.std.specs.Option.{option_map, ok_or}
 use Rattle.std.proofs.lemmas.List.{length-map, length-take}
 use Rattle.httparse.specs.Grammar.{print_request}
@@ -14,7 +14,7 @@ use Rattle.exchange_heads.specs.Heads.{request_at, ShowsHead, IsFront}
 use Rattle.exchange_heads.specs.declared.routes.Route.{Route}
 use Rattle.exchange_heads.specs.declared.statuses.Method.TheVariants as method
 use Rattle.exchange_heads.specs.Routes.{method_of}
-use Rattle.exchange_heads.specs.Tests.{Request, IsRequestIn, Takes, SendsBody, HasGoodLength, HasBody, Fails, ComesTo, Answers}
+use Rattle.exchange_heads.specs.Tests.{Request, IsRequestIn, Takes, SendsBody, HasGoodLength, HasBody, Fails, Asks, ComesTo, Answers}
 
 -- a body that was read, or that was cut short
 pub body_answer : {A : Type 0} (request : Request) (n : ℕ) (found : Option A) (items : A → List ℕ)
@@ -32,27 +32,16 @@ of_line F method target bytes headers spans left m t h =
     let with_both : List ℕ → List ℕ → Request = λ a b. record { method = a; target = b; fields = map (header_bytes bytes) (take spans.headers headers); rest = drop spans.len bytes ++ left } in
     subst (λ (a : List ℕ). F (with_both a (span_bytes bytes spans.path))) m (subst (λ (b : List ℕ). F (with_both method b)) t (h _ _))
 
-module _ (known : Option (List ℕ)) (request : List ℕ → Request) (r : Route) where
-  sends : (left : List ℕ) → method_of r ≡ method.Post → Takes (request left) r → SendsBody (request left)
-  sends left post takes = (r, takes, post)
-
-  -- a request of a route that takes a body, and its body
-  pub sent : (body : List ℕ) → method_of r ≡ method.Post → ((left : List ℕ) → Takes (request left) r)
-      → IfSome known (λ left. SendsBody (request left) → HasBody (request left) body) → IfSome known (λ left. Takes (request left) r × HasBody (request left) body)
-  sent body post takes h = by known h
-    where
-      by : (o : Option (List ℕ)) → IfSome o (λ left. SendsBody (request left) → HasBody (request left) body) → IfSome o (λ left. Takes (request left) r × HasBody (request left) body)
-      by None p = tt
-      by (Some left) p = (takes left, p (sends left post (takes left)))
-
-  -- the same where the body fails a test
-  pub refused : (test : Rejection) → method_of r ≡ method.Post → ((left : List ℕ) → Takes (request left) r)
-      → IfSome known (λ left. SendsBody (request left) → Fails (request left) test) → IfSome known (λ left. Fails (request left) test)
-  refused test post takes h = by known h
-    where
-      by : (o : Option (List ℕ)) → IfSome o (λ left. SendsBody (request left) → Fails (request left) test) → IfSome o (λ left. Fails (request left) test)
-      by None p = tt
-      by (Some left) p = p (sends left post (takes left))
+-- a request of a route that takes a body comes to what is asked with its body, or to the first test that the body fails
+pub sent : {A : Type 0} (known : Option (List ℕ)) (request : List ℕ → Request) (r : Route) (items : A → List ℕ) (ask : A → Asked) (found : Result A Rejection) (answer : Result Asked Rejection)
+    → method_of r ≡ method.Post → ((q : Request) (body : A) → Takes q r × HasBody q (items body) → Asks q (ask body)) → ((left : List ℕ) → Takes (request left) r)
+    → MatchResult found (λ body. IsOkAnd answer (λ asked. asked ≡ ask body)) (λ test. answer ≡ Err test)
+    → IfSome known (λ left. SendsBody (request left) → MatchResult found (λ body. HasBody (request left) (items body)) (Fails (request left)))
+    → IfSome known (λ left. ComesTo (request left) answer)
+sent None request r items ask found answer post asks takes made h = tt
+sent (Some left) request r items ask (Ok body) (Ok asked) post asks takes made h = subst (Asks (request left)) (sym made) (asks (request left) body (takes left, h (r, takes left, post)))
+sent (Some left) request r items ask (Ok body) (Err test) post asks takes made h = absurd made
+sent (Some left) request r items ask (Err test) answer post asks takes made h = subst (ComesTo (request left)) (sym made) (h (r, takes left, post))
 
 -- the request whose head was read is the input's
 in_input : (input left bytes : List ℕ) (headers : List HeaderSpan) (spans : RequestSpans) → length bytes ≤ MOST_HEAD_BYTES → length headers ≤ MOST_FIELDS

@@ -133,14 +133,8 @@ fn answer_of<R: Read>(
         Err(test) => return Ok(Err(test)),
     };
     match route {
-        Route::Report => match body_of(alloc, reader, head)? {
-            Ok(body) => Ok(Ok(Asked::Report(body))),
-            Err(test) => Ok(Err(test)),
-        },
-        Route::Operator => match body_of(alloc, reader, head)? {
-            Ok(body) => Ok(Ok(Asked::Operator(body))),
-            Err(test) => Ok(Err(test)),
-        },
+        Route::Report => Ok(body_of(alloc, reader, head)?.map(Asked::Report)),
+        Route::Operator => Ok(body_of(alloc, reader, head)?.map(Asked::Operator)),
         Route::Ready => Ok(Ok(Asked::Ready(segment_of(alloc, target)?))),
         Route::Occurrences => Ok(Ok(Asked::Occurrences)),
     }

@@ -1,5 +1,6 @@
 -- The refusals of a new request, with room for its receipt or without.
-use Rattle.std.proofs.Common.{refl, ap, arith, ◌<◌, List}
+use Rattle.std.proofs.Common.{◌≡◌, inr, refl, ap, arith, ◌+◌, ◌<◌, List}
+use Rattle.std.specs.FinMap.{get}
 use Rattle.plan_basics.specs.Refusals.{number_of, IsLeastRefusal}
 use Rattle.plan_basics.specs.declared.Refusal.{Refusal}
 use Rattle.plan_basics.specs.declared.Refusal.TheVariants as refusal
@@ -7,7 +8,7 @@ use Rattle.plan_basics.specs.declared.keys.OpKey.{OpKey}
 use Rattle.plan_core.specs.plan_model.specs.Plan.{Plan}
 use Rattle.plan_records.specs.Acceptance.{MayBeAccepted}
 use Rattle.plan_records.specs.Answer.{accepted, refused}
-use Rattle.plan_records.specs.Step.{HasReceiptRoom, Numbered, NumberedMayBeAccepted, Receipts, Step, StepBy}
+use Rattle.plan_records.specs.Step.{HasReceiptRoom, Numbered, NumberedMayBeAccepted, NumberedStep, Receipts, Step, StepBy, last_number}
 
 module _ (P : Plan) (T : Receipts) (n : Numbered) where
   -- ---- with room its own rules decide
@@ -35,3 +36,7 @@ module _ (P : Plan) (T : Receipts) (n : Numbered) where
 
     pub limit_refuses : ((lower : Refusal) → number_of lower < number_of refusal.Limit → MayBeAccepted P n.request lower) → IsLeastRefusal (NumberedMayBeAccepted P T n) refusal.Limit
     limit_refuses below = (λ may. full (may.1 refl), λ lower less. (below lower less, λ limit. absurd (let e = ap number_of limit in omega (arith, less, e))))
+
+  -- ---- a new request that is refused leaves the plan and the receipts as they are
+  pub refused_anew : (r : Refusal) → n.number ≡ last_number (get T n.tracker) + 1 → StepBy (NumberedMayBeAccepted P T n) P n.request (refused r) P → NumberedStep P T n (refused r) P T
+  refused_anew r next step = inr (next, λ chosen is. absurd (cc), step, refl)

@@ -1,12 +1,12 @@
 // What a numbered request is told before anything is written.
-ghost use Rattle.std.specs.Prelude.{◌≡◌, ◌⊎◌, ◌+◌, ◌≤◌, ℕ, IfErr, IfOk};
+ghost use Rattle.std.specs.Prelude.{◌≡◌, ◌⊎◌, ◌≤◌, ℕ, IfErr, IfOk};
 ghost use Rattle.std.specs.FinMap.{get};
 ghost use Rattle.plan_basics.specs.Refusals.{IsLeastRefusal};
 ghost use Rattle.plan_basics.specs.declared.limits.TheConstants.{GREATEST_REQUEST_NUMBER};
 ghost use Rattle.plan_core.specs.Provided.{StartsAreProvided};
 ghost use Rattle.plan_core.specs.plan_model.specs.Plan.{IsSoundPlan};
 ghost use Rattle.plan_records.specs.Answer.{accepted, refused};
-ghost use Rattle.plan_records.specs.Step.{AnswersAgain, HasReceiptRoom, IsNumbered, Numbered, NumberedMayBeAccepted, NumberedStep as NumberedStepOf, Receipts as LastReceipts, StepBy, last_number};
+ghost use Rattle.plan_records.specs.Step.{AnswersAgain, HasReceiptRoom, IsNumbered, Numbered, NumberedMayBeAccepted, NumberedStep as NumberedStepOf, Receipts as LastReceipts};
 ghost use Rattle.plan_records.specs.declared.Request.{Request};
 ghost use Rattle.tracker_receipts.specs.Judging.{numbered_by};
 ghost use Rattle.tracker_receipts.specs.Stored.{columns_of};
@@ -41,43 +41,22 @@ pub fn prepare_numbered(
     ensures refused { IfErr result (λ r. (r ≡ Refusal.Memory) ⊎ NumberedStepOf plan.old.plan receipts.now (numbered_by tracker.now number text.now request.now) (refused r) plan.old.plan receipts.now) }
 {
     match receipts.judge(tracker, number, text) {
-        Judged::New => {
-            let step = prepare_new(alloc, plan, receipts, tracker, number, text, request)?;
-            Ok(Outcome::New(step))
-        }
-        Judged::Again(named) => Ok(Outcome::Again(Vec::from_slice(alloc, named)?)),
-        Judged::Refused(refusal) => Err(refusal),
+        Judged::New => {}
+        Judged::Again(named) => return Ok(Outcome::Again(Vec::from_slice(alloc, named)?)),
+        Judged::Refused(refusal) => return Err(refusal),
     }
-}
-
-// What a tracker's next request leads to, if it isn't refused.
-fn prepare_new(
-    alloc: Global,
-    plan: &mut Plan,
-    receipts: &Receipts,
-    tracker: &TrackerName,
-    number: u64,
-    text: &[u8],
-    request: &Request,
-) -> Result<NumberedStep, Refusal>
-    requires { number ≡ last_number (get receipts.now tracker.now) + 1 }
-    ensures unchanged { plan.new ≡ plan.old }
-    ensures step { IfOk result (IsNumberedStepFor plan.old receipts.now (numbered_by tracker.now number text.now request.now)) }
-    ensures starts { IfOk result (λ p. StartsAreProvided plan.old.plan request.now (accepted p.prepared.named) p.prepared.plan) }
-    ensures refused { IfErr result (λ r. (r ≡ Refusal.Memory) ⊎ StepBy (NumberedMayBeAccepted plan.old.plan receipts.now (numbered_by tracker.now number text.now request.now)) plan.old.plan request.now (refused r) plan.old.plan) }
-{
     look_at(plan, tracker, text);
     if !receipts.has_room(tracker, number, text) {
         return Err(refused_without_room(plan, request));
     }
     let prepared = plan.prepare(request)?;
     let (receipt, row) = kept(alloc, tracker, number, text, prepared.named())?;
-    Ok(NumberedStep {
+    Ok(Outcome::New(NumberedStep {
         tracker: *tracker,
         prepared,
         receipt,
         row,
-    })
+    }))
 }
 
 // The plan, the tracker's name and the text are looked at for the proof alone, which learns that they are sound and

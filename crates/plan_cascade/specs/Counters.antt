@@ -1,5 +1,5 @@
 -- What is kept of a graph's nodes: which are satisfied, and how many predecessors of each aren't.
-use Rattle.std.specs.Prelude.{◌≡◌, ◌⊎◌, ◌↔◌, ℕ, zero, suc, ◌+◌, ◌<◌, Bool, true, false, List, [], ◌∷◌, length, slice_index_or, Contains, if◌then◌else◌}
+use Rattle.std.specs.Prelude.{◌≡◌, ◌⊎◌, ◌↔◌, ℕ, zero, suc, ◌+◌, ◌<◌, Bool, true, false, List, [], ◌∷◌, length, slice_index_or, slice_set, Contains, if◌then◌else◌}
 use Rattle.std.specs.FinSet.{contains}
 use Rattle.operation_graph.specs.Adjacency.{count_of}
 use Rattle.operation_graph.specs.Graphs.{Digraph, HasEdge}
@@ -42,6 +42,10 @@ is_satisfied_at kept n = (kept_at kept n).satisfied
 -- how many predecessors a node is kept to wait for
 abbrev pub waiting_at : List Kept → ℕ → ℕ
 waiting_at kept n = (kept_at kept n).waiting
+
+-- what is kept, once a node waits for one predecessor more
+abbrev pub with_one_more : List Kept → ℕ → List Kept
+with_one_more kept n = slice_set kept n (record (kept_at kept n) { waiting = waiting_at kept n + 1 })
 
 -- one where an edge leads from p to n, else nothing
 abbrev pub edge_count : Digraph → ℕ → ℕ → ℕ

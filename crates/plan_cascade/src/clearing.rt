@@ -1,7 +1,7 @@
 // What a rerun takes back.
 ghost use Rattle.std.specs.Prelude.{◌≡◌, ◌⊎◌, ◌+◌, ◌<◌, ◌≤◌, ℕ, [], ◌∷◌, List, All, Contains, length, OnOk};
 ghost use Rattle.operation_graph.specs.Graphs.{Digraph, IsGraph};
-ghost use Rattle.plan_cascade.specs.Counters.{AreRight, waiting_at};
+ghost use Rattle.plan_cascade.specs.Counters.{AreRight, waiting_at, with_one_more};
 ghost use Rattle.plan_cascade.specs.Changes.{IsClearing, IsRerun};
 ghost use Rattle.plan_cascade.specs.declared.kept.Rule.{Rule as RuleValue};
 ghost use Rattle.plan_cascade.specs.Journal.{IsJournaled};
@@ -14,35 +14,22 @@ use operation_graph::Graph;
 use std::alloc::{AllocError, Global};
 
 /// One predecessor more to wait for.
-fn raise(kept: &mut [Kept], journal: &mut Vec<(usize, Kept)>, node: usize) -> Result<(), AllocError>
+pub fn raise(
+    kept: &mut [Kept],
+    journal: &mut Vec<(usize, Kept)>,
+    node: usize,
+) -> Result<(), AllocError>
     requires node { node < length kept.old }
     requires below { waiting_at kept.old node < length kept.old }
-    ensures step { OnOk result ((g : Digraph) (start : List Kept) (gone rest : List ℕ) → IsClearing g start gone kept.old (node ∷ rest) → IsClearing g start gone kept.new rest) }
+    ensures kept { OnOk result (kept.new ≡ with_one_more kept.old node) }
     ensures journaled { IsJournaled kept.old journal.old.items kept.new journal.new.items }
 {
     let old = kept[node];
     let new = Kept {
-        satisfied: old.satisfied,
         waiting: old.waiting + 1,
+        ..old
     };
-    write(kept, journal, node, new)?;
-    Ok(())
-}
-
-/// One predecessor more to wait for, for each of these nodes.
-fn raise_all(
-    kept: &mut [Kept],
-    journal: &mut Vec<(usize, Kept)>,
-    nodes: &[usize],
-) -> Result<(), AllocError>
-    requires cleared { (g : Digraph) × IsGraph g × (start : List Kept) × (gone : List ℕ) × IsClearing g start gone kept.old nodes.now }
-    ensures step { OnOk result ((g : Digraph) (start : List Kept) (gone : List ℕ) → IsGraph g → IsClearing g start gone kept.old nodes.now → IsClearing g start gone kept.new []) }
-    ensures journaled { IsJournaled kept.old journal.old.items kept.new journal.new.items }
-{
-    for node in nodes {
-        raise(kept, journal, *node)?;
-    }
-    Ok(())
+    write(kept, journal, node, new)
 }
 
 /// A node isn't satisfied any more, where it was, and its successors have one more to wait for.
@@ -61,10 +48,12 @@ fn clear(
     if old.satisfied {
         let new = Kept {
             satisfied: false,
-            waiting: old.waiting,
+            ..old
         };
         write(kept, journal, node, new)?;
-        raise_all(kept, journal, graph.succs(node))?;
+        for succ in graph.succs(node) {
+            raise(kept, journal, *succ)?;
+        }
     }
     Ok(())
 }

@@ -5,7 +5,7 @@ ghost use Rattle.plan_cascade.specs.Counters.{AreRight, is_satisfied_at, waiting
 ghost use Rattle.plan_cascade.specs.Journal.{IsJournaled};
 ghost use Rattle.plan_cascade.specs.declared.kept.Rule.{Rule};
 
-use super::journal::write;
+use super::clearing::raise;
 use super::kept::Kept;
 use std::alloc::AllocError;
 
@@ -25,12 +25,7 @@ pub fn pair(
     ensures journaled { IsJournaled kept.old journal.old.items kept.new journal.new.items }
 {
     if !kept[before].satisfied {
-        let old = kept[after];
-        let new = Kept {
-            satisfied: old.satisfied,
-            waiting: old.waiting + 1,
-        };
-        write(kept, journal, after, new)?;
+        raise(kept, journal, after)?;
     }
     Ok(())
 }

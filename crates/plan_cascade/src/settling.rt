@@ -41,30 +41,10 @@ fn take_up<R: Rules>(
     if is_due(rule, old.waiting) {
         let new = Kept {
             satisfied: true,
-            waiting: old.waiting,
+            ..old
         };
         write(kept, journal, node, new)?;
         work.push(node)?;
-    }
-    Ok(())
-}
-
-/// Takes up each of these nodes, which were changed.
-fn take_up_all<R: Rules>(
-    rules: &mut R,
-    kept: &mut [Kept],
-    journal: &mut Vec<(usize, Kept)>,
-    work: &mut Vec<usize>,
-    nodes: &[usize],
-) -> Result<(), AllocError>
-    requires nodes { All (λ n. n < length kept.old) nodes.now }
-    requires rules { length (R.listed rules.old) ≡ length kept.old }
-    ensures step { OnOk result ((g : Digraph) → IsGraph g → IsCascade g (R.listed rules.old) nodes.now kept.old work.old.items [] → IsCascade g (R.listed rules.old) [] kept.new work.new.items []) }
-    ensures rules { R.listed rules.new ≡ R.listed rules.old }
-    ensures journaled { IsJournaled kept.old journal.old.items kept.new journal.new.items }
-{
-    for node in nodes {
-        take_up(rules, kept, journal, work, *node)?;
     }
     Ok(())
 }
@@ -102,20 +82,15 @@ fn lower<R: Rules>(
 {
     let old = kept[node];
     let waiting = old.waiting - 1;
-    if passes_now(rules, node, old.satisfied, waiting) {
-        let new = Kept {
-            satisfied: true,
-            waiting,
-        };
-        write(kept, journal, node, new)?;
-        work.push(node)?;
-        return Ok(());
-    }
+    let passes = passes_now(rules, node, old.satisfied, waiting);
     let new = Kept {
-        satisfied: old.satisfied,
+        satisfied: old.satisfied || passes,
         waiting,
     };
     write(kept, journal, node, new)?;
+    if passes {
+        work.push(node)?;
+    }
     Ok(())
 }
 
@@ -181,7 +156,9 @@ pub fn settle<R: Rules>(
     ensures journaled { IsJournaled kept.old journal.old.items kept.new journal.new.items }
 {
     let mut work = Vec::new(alloc);
-    take_up_all(rules, kept, journal, &mut work, changed)?;
+    for node in changed {
+        take_up(rules, kept, journal, &mut work, *node)?;
+    }
     spread(graph, rules, kept, journal, &mut work)
 }
 

@@ -18,8 +18,7 @@ use Rattle.plan_status.specs.plan_drafts.specs.Places.{AreStatuses}
 use Rattle.plan_status.proofs.LoadedRows.{row_of}
 use Rattle.plan_status.specs.plan_laws.proofs.Classes.{ready_by, ready_told}
 use Rattle.plan_status.specs.plan_laws.proofs.Standing.{one_status}
-use Rattle.plan_choice.specs.Choices.{AreLatestStarts}
-use Rattle.plan_choice.specs.ReadyItems.{AreAllReady, IsReadyEntry}
+use Rattle.plan_choice.specs.ReadyItems.{AreAllReady, IsEntryIn}
 use Rattle.plan_choice.proofs.ReadyLists.{AreReadyBelow, ready_more, ready_pass, ready_rows}
 
 -- what is ready is in the plan
@@ -30,17 +29,16 @@ ready_in_plan P o (inr (inr h)) = (h.0, h.1)
 
 -- ---- row by row
 
--- with its latest start, what is ready has this entry
-pub is_entry : (P : Contents) (o : OpKey) (op : Operation) (v : ℤ) → get P.operations o ≡ Some op → {q : OpKey} {latest : ℤ} {duration priority : ℕ} {ws : Name} {attr : Attr}
+-- with its latest start an operation has this entry
+pub has_entry : (P : Contents) (o : OpKey) (op : Operation) (v : ℤ) → get P.operations o ≡ Some op → {q : OpKey} {latest : ℤ} {duration priority : ℕ} {ws : Name} {attr : Attr}
     → q ≡ o → latest ≡ v → duration ≡ op.duration → (t : Occurrence) × (get P.occurrences o.occurrence ≡ Some t) × (priority ≡ t.priority)
     → ws ≡ op.workstation → HasAttribute P op.workstation attr
-    → IsReady P o → IsLatestStart P o v → IsReadyEntry P (record { key = record { latest = latest; priority = priority; duration = duration; op = q }; ws = ws; attr = attr })
-is_entry P o op v found {q} {latest} {duration} {priority} {ws} {attr} is_op is_latest is_duration terms is_ws reports ready start = (
+    → IsLatestStart P o v → IsEntryIn P (record { key = record { latest = latest; priority = priority; duration = duration; op = q }; ws = ws; attr = attr })
+has_entry P o op v found {q} {latest} {duration} {priority} {ws} {attr} is_op is_latest is_duration terms is_ws reports start = (
   (
-    subst (λ z. IsReady P z) (sym is_op) ready,
     subst (λ z. IsLatestStart P z latest) (sym is_op) (subst (IsLatestStart P o) (sym is_latest) start),
     (op, ap (get P.operations) is_op ∙ found, is_duration),
-    (terms.0, ap (λ z. get P.occurrences z.occurrence) is_op ∙ terms.1, terms.2),
+    (terms.0, ap (λ (z : OpKey). get P.occurrences z.occurrence) is_op ∙ terms.1, terms.2),
   ),
   (op, ap (get P.operations) is_op ∙ found, (is_ws, reports)),
 )
@@ -60,10 +58,9 @@ module _ (c : Contents) (h : IsValid c) where
     next_passed out = ready_pass P (entries c.operations) (entries_in_order operation_cmp c.operations) n listed so_far o op at (λ ready. true≢false (sym (ready_told P o s (λ t k. one_status P h.acyclic o t s k has_status) ready) ∙ out))
 
     -- what has one of the three is
-    pub next_ready : (latest : List ℤ) → AreLatestStarts P latest → (v : ℤ) → slice_get latest n ≡ Some v → is_ready s ≡ true
-        → (x : ReadyEntry) → x.key.op ≡ o → (IsReady P o → IsLatestStart P o v → IsReadyEntry P x) → AreReadyBelow P (entries c.operations) (n + 1) (listed ++ x ∷ [])
-    next_ready latest are_latest v start among x is_op entry =
-        ready_more P (entries c.operations) (entries_in_order operation_cmp c.operations) n listed so_far o op at x is_op (entry (ready_by P o s has_status among) (are_latest.each n o op v at start))
+    pub next_ready : is_ready s ≡ true → (x : ReadyEntry) → x.key.op ≡ o → IsEntryIn P x → AreReadyBelow P (entries c.operations) (n + 1) (listed ++ x ∷ [])
+    next_ready among x is_op entry =
+        ready_more P (entries c.operations) (entries_in_order operation_cmp c.operations) n listed so_far o op at x is_op ((subst (IsReady P) (sym is_op) (ready_by P o s has_status among), entry.0.0, entry.0.1, entry.0.2), entry.1)
 
   -- past the last row
   pub ready_all : (n : ℕ) (listed : List ReadyEntry) → length (entries c.operations) ≤ n → AreReadyBelow P (entries c.operations) n listed → AreAllReady P listed

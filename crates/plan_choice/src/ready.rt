@@ -1,14 +1,14 @@
 // The ready list.
-ghost use Rattle.std.specs.Prelude.{◌≡◌, Some, IfOk, IfErr};
-ghost use Rattle.std.specs.FinMap.{get};
+ghost use Rattle.std.specs.Prelude.{◌≡◌, ◌<◌, Some, length, slice_get, IfOk, IfErr};
+ghost use Rattle.std.specs.FinMap.{entries, get};
 ghost use Rattle.plan_status.specs.plan_model.specs.declared.Occurrence.{Occurrence};
 ghost use Rattle.plan_basics.specs.declared.Refusal.{Refusal};
+ghost use Rattle.plan_basics.specs.declared.keys.OpKey.{OpKey as OpKeyValue};
 ghost use Rattle.plan_status.specs.plan_drafts.specs.Places.{AreStatuses};
 ghost use Rattle.plan_status.specs.plan_model.specs.Starts.{IsLatestStart};
-ghost use Rattle.plan_status.specs.plan_model.specs.Status.{IsReady};
 ghost use Rattle.plan_status.specs.plan_model.specs.Contents.{Operation};
 ghost use Rattle.plan_choice.specs.Choices.{AreLatestStarts, AreReadyEntries};
-ghost use Rattle.plan_choice.specs.ReadyItems.{AreAllReady, IsReadyEntry};
+ghost use Rattle.plan_choice.specs.ReadyItems.{AreAllReady, IsEntryIn};
 
 use latest_start::Latest;
 use plan_basics::{OpKey, Refusal};
@@ -25,11 +25,11 @@ fn priority_of(contents: &SoundContents, key: &OpKey) -> u8
     contents.occurrence(&key.occurrence).unwrap().priority
 }
 
-// The entry of an operation with its latest start.
-fn ready_entry(contents: &SoundContents, row: &(OpKey, OperationRecord), latest: i64) -> ReadyEntry
+// The entry of an operation with its latest start, whether or not it is ready.
+fn entry_with(contents: &SoundContents, row: &(OpKey, OperationRecord), latest: i64) -> ReadyEntry
     requires { get contents.now.operations row.now.0 ≡ Some row.now.1 }
     ensures op { result.key.op ≡ row.now.0 }
-    ensures entry { IsReady contents.now row.now.0 → IsLatestStart contents.now row.now.0 latest → IsReadyEntry contents.now result }
+    ensures entry { IsLatestStart contents.now row.now.0 latest → IsEntryIn contents.now result }
 {
     ReadyEntry {
         key: ReadyKey {
@@ -41,6 +41,16 @@ fn ready_entry(contents: &SoundContents, row: &(OpKey, OperationRecord), latest:
         ws: row.1.workstation,
         attr: attribute_of(contents.valid(), &row.1),
     }
+}
+
+/// The entry of the operation at a place, whether or not it is ready.
+pub fn entry_at(contents: &SoundContents, latest: &Latest, place: usize) -> ReadyEntry
+    requires within { place < length (entries contents.now.operations) }
+    requires latest { AreLatestStarts contents.now latest.now.starts }
+    ensures op { (o : OpKeyValue) (op : Operation) → slice_get (entries contents.now.operations) place ≡ Some (o, op) → result.key.op ≡ o }
+    ensures entry { IsEntryIn contents.now result }
+{
+    entry_with(contents, &contents.operations()[place], latest.of(place))
 }
 
 // The entries of what is ready, in key order.
@@ -58,7 +68,7 @@ fn ready_entries(
     let mut entries = Vec::new(alloc);
     for i in 0..rows.len() {
         if statuses[i].is_ready() {
-            entries.push(ready_entry(contents, &rows[i], latest.of(i)))?;
+            entries.push(entry_at(contents, latest, i))?;
         }
     }
     Ok(entries)

@@ -1,6 +1,5 @@
 -- The eight tables of a plan: which rows have columns in each, and which of them have one key.
-use Rattle.std.proofs.Common.{◌≡◌, ◌↔◌, refl, sym, ◌∙◌, ap, ap₂, subst, ℕ, Bool, pos, [], ◌∷◌, take, Option, Some, None, is_some, ◌==◌}
-use Rattle.std.proofs.lemmas.Option.{none-some, same_Some}
+use Rattle.std.proofs.Common.{◌≡◌, ◌↔◌, refl, sym, ap, ap₂, subst, ℕ, Bool, pos, [], ◌∷◌, take, Option, Some, None, inl, inr}
 use Rattle.plan_basics.specs.Intervals.{OpenInterval}
 use Rattle.plan_basics.specs.Keys.{Name}
 use Rattle.plan_basics.specs.declared.Attr.{Attr}
@@ -9,7 +8,6 @@ use Rattle.plan_basics.specs.declared.keys.OpKey.{OpKey}
 use Rattle.tracker_receipts.specs.special_resources.specs.declared.Need.{Need}
 use Rattle.tracker_receipts.specs.status_rules.specs.declared.OccStatus.{OccStatus}
 use Rattle.tracker_receipts.specs.plan_drafts.specs.declared.RowKey.TheVariants as key
-use Rattle.tracker_receipts.specs.plan_records.specs.Rows.{key_of, table_of}
 use Rattle.tracker_receipts.specs.plan_records.specs.declared.OperationRow.{OperationRow}
 use Rattle.tracker_receipts.specs.plan_records.specs.declared.PlanRow.{PlanRow}
 use Rattle.tracker_receipts.specs.plan_records.specs.declared.PlanRow.TheVariants as row
@@ -17,7 +15,7 @@ use Rattle.sqlite.specs.Order.{Row}
 use Rattle.sqlite.specs.declared.types.Value.TheVariants.{Int, Text}
 use Rattle.plan_schema.specs.Stored.{StoredMeta, StoredWorkstation, StoredInterval, StoredResource, StoredOccurrence, StoredOperation, StoredDependency, StoredNeed, workstation_row, interval_row, resource_row, occurrence_row, operation_row, dependency_row, need_row}
 use Rattle.plan_columns.specs.Columns.{meta_columns, workstation_columns, interval_columns, resource_columns, occurrence_columns, operation_columns, dependency_columns, need_columns}
-use Rattle.plan_columns.proofs.OneTable.{IsTable}
+use Rattle.plan_columns.proofs.OneTable.{IsTable, row_with}
 
 -- ---- the columns of a row, where it is of the table
 
@@ -53,78 +51,11 @@ abbrev pub need_of : PlanRow → Option StoredNeed
 need_of (row.Need o n) = Some (need_columns o n)
 need_of _ = None
 
--- ---- which row it is that has such columns
-
-pub meta_is : (r : PlanRow) (x : StoredMeta) → meta_of r ≡ Some x → (version : ℕ) × (loaded : Bool) × (clock : ℕ) × (r ≡ row.Meta version loaded clock) × (x ≡ meta_columns version loaded clock)
-meta_is (row.Meta version loaded clock) x e = (version, loaded, clock, refl, sym (same_Some _ x e))
-meta_is r x e = absurd (none-some x e)
-
-pub workstation_is : (r : PlanRow) (x : StoredWorkstation) → workstation_of r ≡ Some x → (name : Name) × (a : Attr) × (r ≡ row.Workstation name a) × (x ≡ workstation_columns name a)
-workstation_is (row.Workstation name a) x e = (name, a, refl, sym (same_Some _ x e))
-workstation_is r x e = absurd (none-some x e)
-
-pub interval_is : (r : PlanRow) (x : StoredInterval) → interval_of r ≡ Some x → (w : Name) × (i : OpenInterval) × (r ≡ row.Interval w i) × (x ≡ interval_columns w i)
-interval_is (row.Interval w i) x e = (w, i, refl, sym (same_Some _ x e))
-interval_is r x e = absurd (none-some x e)
-
-pub resource_is : (r : PlanRow) (x : StoredResource) → resource_of r ≡ Some x → (name : Name) × (available : Bool) × (r ≡ row.Resource name available) × (x ≡ resource_columns name available)
-resource_is (row.Resource name available) x e = (name, available, refl, sym (same_Some _ x e))
-resource_is r x e = absurd (none-some x e)
-
-pub occurrence_is : (r : PlanRow) (x : StoredOccurrence) → occurrence_of r ≡ Some x → (c : OccKey) × (priority : ℕ) × (deadline : ℕ) × (status : OccStatus) × (r ≡ row.Occurrence c priority deadline status) × (x ≡ occurrence_columns c priority deadline status)
-occurrence_is (row.Occurrence c priority deadline status) x e = (c, priority, deadline, status, refl, sym (same_Some _ x e))
-occurrence_is r x e = absurd (none-some x e)
-
-pub operation_is : (r : PlanRow) (x : StoredOperation) → operation_of r ≡ Some x → (o : OperationRow) × (r ≡ row.Operation o) × (x ≡ operation_columns o)
-operation_is (row.Operation o) x e = (o, refl, sym (same_Some _ x e))
-operation_is r x e = absurd (none-some x e)
-
-pub dependency_is : (r : PlanRow) (x : StoredDependency) → dependency_of r ≡ Some x → (p : OpKey) × (s : OpKey) × (r ≡ row.Dependency p s) × (x ≡ dependency_columns p s)
-dependency_is (row.Dependency p s) x e = (p, s, refl, sym (same_Some _ x e))
-dependency_is r x e = absurd (none-some x e)
-
-pub need_is : (r : PlanRow) (x : StoredNeed) → need_of r ≡ Some x → (o : OpKey) × (n : Need) × (r ≡ row.Need o n) × (x ≡ need_columns o n)
-need_is (row.Need o n) x e = (o, n, refl, sym (same_Some _ x e))
-need_is r x e = absurd (none-some x e)
-
--- ---- rows with columns in a table, as the tables' definition names them
-
-pub meta_rows : (IsIn : PlanRow → Type 0) (x : StoredMeta) → ((version : ℕ) × (loaded : Bool) × (clock : ℕ) × IsIn (row.Meta version loaded clock) × (x ≡ meta_columns version loaded clock)) ↔ ((r : PlanRow) × IsIn r × (meta_of r ≡ Some x))
-meta_rows IsIn x = (λ it. (row.Meta it.0 it.1 it.2, it.3, ap Some (sym it.4)), λ it. let is = meta_is it.0 x it.2 in (is.0, is.1, is.2, subst IsIn is.3 it.1, is.4))
-
-pub workstation_rows : (IsIn : PlanRow → Type 0) (x : StoredWorkstation) → ((name : Name) × (a : Attr) × IsIn (row.Workstation name a) × (x ≡ workstation_columns name a)) ↔ ((r : PlanRow) × IsIn r × (workstation_of r ≡ Some x))
-workstation_rows IsIn x = (λ it. (row.Workstation it.0 it.1, it.2, ap Some (sym it.3)), λ it. let is = workstation_is it.0 x it.2 in (is.0, is.1, subst IsIn is.2 it.1, is.3))
-
-pub interval_rows : (IsIn : PlanRow → Type 0) (x : StoredInterval) → ((w : Name) × (i : OpenInterval) × IsIn (row.Interval w i) × (x ≡ interval_columns w i)) ↔ ((r : PlanRow) × IsIn r × (interval_of r ≡ Some x))
-interval_rows IsIn x = (λ it. (row.Interval it.0 it.1, it.2, ap Some (sym it.3)), λ it. let is = interval_is it.0 x it.2 in (is.0, is.1, subst IsIn is.2 it.1, is.3))
-
-pub resource_rows : (IsIn : PlanRow → Type 0) (x : StoredResource) → ((name : Name) × (available : Bool) × IsIn (row.Resource name available) × (x ≡ resource_columns name available)) ↔ ((r : PlanRow) × IsIn r × (resource_of r ≡ Some x))
-resource_rows IsIn x = (λ it. (row.Resource it.0 it.1, it.2, ap Some (sym it.3)), λ it. let is = resource_is it.0 x it.2 in (is.0, is.1, subst IsIn is.2 it.1, is.3))
-
-pub occurrence_rows : (IsIn : PlanRow → Type 0) (x : StoredOccurrence) → ((c : OccKey) × (priority : ℕ) × (deadline : ℕ) × (status : OccStatus) × IsIn (row.Occurrence c priority deadline status) × (x ≡ occurrence_columns c priority deadline status)) ↔ ((r : PlanRow) × IsIn r × (occurrence_of r ≡ Some x))
-occurrence_rows IsIn x = (λ it. (row.Occurrence it.0 it.1 it.2 it.3, it.4, ap Some (sym it.5)), λ it. let is = occurrence_is it.0 x it.2 in (is.0, is.1, is.2, is.3, subst IsIn is.4 it.1, is.5))
-
-pub operation_rows : (IsIn : PlanRow → Type 0) (x : StoredOperation) → ((r : OperationRow) × IsIn (row.Operation r) × (x ≡ operation_columns r)) ↔ ((r : PlanRow) × IsIn r × (operation_of r ≡ Some x))
-operation_rows IsIn x = (λ it. (row.Operation it.0, it.1, ap Some (sym it.2)), λ it. let is = operation_is it.0 x it.2 in (is.0, subst IsIn is.1 it.1, is.2))
-
-pub dependency_rows : (IsIn : PlanRow → Type 0) (x : StoredDependency) → ((p : OpKey) × (s : OpKey) × IsIn (row.Dependency p s) × (x ≡ dependency_columns p s)) ↔ ((r : PlanRow) × IsIn r × (dependency_of r ≡ Some x))
-dependency_rows IsIn x = (λ it. (row.Dependency it.0 it.1, it.2, ap Some (sym it.3)), λ it. let is = dependency_is it.0 x it.2 in (is.0, is.1, subst IsIn is.2 it.1, is.3))
-
-pub need_rows : (IsIn : PlanRow → Type 0) (x : StoredNeed) → ((o : OpKey) × (n : Need) × IsIn (row.Need o n) × (x ≡ need_columns o n)) ↔ ((r : PlanRow) × IsIn r × (need_of r ≡ Some x))
-need_rows IsIn x = (λ it. (row.Need it.0 it.1, it.2, ap Some (sym it.3)), λ it. let is = need_is it.0 x it.2 in (is.0, is.1, subst IsIn is.2 it.1, is.3))
-
 -- ---- rows of one key
 
 -- two values of a table begin with one key
 abbrev pub BeginAlike : {X : Type 0} → ℕ → (X → Row) → X → X → Type 0
 BeginAlike key row x y = take key (row x) ≡ take key (row y)
-
--- the keys of two rows, and of their columns, by what the rows are
-keys_by : {X : Type 0} (Alike : X → X → Type 0) {r s r' s' : PlanRow} {x y x' y' : X} → r ≡ r' → s ≡ s' → x ≡ x' → y ≡ y' → (key_of r' ≡ key_of s') ↔ Alike x' y' → (key_of r ≡ key_of s) ↔ Alike x y
-keys_by Alike p q u v h = (
-  λ same. subst (λ z. z) (λ i. Alike (sym u i) (sym v i)) (h.0 (sym (ap key_of p) ∙ same ∙ ap key_of q)),
-  λ same. ap key_of p ∙ h.1 (subst (λ z. z) (λ i. Alike (u i) (v i)) same) ∙ sym (ap key_of q),
-)
 
 -- an operation's key by its first columns
 same_operation : (o p : OpKey) → o.occurrence.app ≡ p.occurrence.app → o.occurrence.arrival ≡ p.occurrence.arrival → o.number ≡ p.number → o ≡ p
@@ -181,82 +112,52 @@ need_keys o p v w = (
 abbrev pub HaveOneId : StoredMeta → StoredMeta → Type 0
 HaveOneId x y = x.id ≡ y.id
 
-pub meta_table : IsTable 0 meta_of HaveOneId
-meta_table = record {
-  place = λ r. place r;
-  keys = λ r s x y e f. let a = meta_is r x e in let b = meta_is s y f in keys_by HaveOneId a.3 b.3 a.4 b.4 (λ _. refl, λ _. refl);
-}
-  where
-    place : (r : PlanRow) → is_some (meta_of r) ≡ (table_of (key_of r) == 0)
-    place (row.Meta version loaded clock) = refl
-    place _ = refl
+pub meta_table : IsTable 0 meta_of (λ (p : ℕ × Bool × ℕ). row.Meta p.0 p.1 p.2) (λ p. meta_columns p.0 p.1 p.2) HaveOneId
+meta_table = record { told = elim [ row.Meta version loaded clock ↦ inl ((version, loaded, clock), refl, refl, refl) | _ ↦ inr (refl, refl) ]; keys = λ p q. (λ _. refl, λ _. refl) }
 
-pub workstation_table : IsTable 1 workstation_of (BeginAlike 1 workstation_row)
-workstation_table = record {
-  place = λ r. place r;
-  keys = λ r s x y e f. let a = workstation_is r x e in let b = workstation_is s y f in keys_by (BeginAlike 1 workstation_row) a.2 b.2 a.3 b.3 (workstation_keys a.0 b.0);
-}
-  where
-    place : (r : PlanRow) → is_some (workstation_of r) ≡ (table_of (key_of r) == 1)
-    place (row.Workstation name a) = refl
-    place _ = refl
+pub workstation_table : IsTable 1 workstation_of (λ (p : Name × Attr). row.Workstation p.0 p.1) (λ p. workstation_columns p.0 p.1) (BeginAlike 1 workstation_row)
+workstation_table = record { told = elim [ row.Workstation name a ↦ inl ((name, a), refl, refl, refl) | _ ↦ inr (refl, refl) ]; keys = λ p q. workstation_keys p.0 q.0 }
 
-pub interval_table : IsTable 2 interval_of (BeginAlike 2 interval_row)
-interval_table = record {
-  place = λ r. place r;
-  keys = λ r s x y e f. let a = interval_is r x e in let b = interval_is s y f in keys_by (BeginAlike 2 interval_row) a.2 b.2 a.3 b.3 (interval_keys a.0 b.0 a.1.from b.1.from);
-}
-  where
-    place : (r : PlanRow) → is_some (interval_of r) ≡ (table_of (key_of r) == 2)
-    place (row.Interval w i) = refl
-    place _ = refl
+pub interval_table : IsTable 2 interval_of (λ (p : Name × OpenInterval). row.Interval p.0 p.1) (λ p. interval_columns p.0 p.1) (BeginAlike 2 interval_row)
+interval_table = record { told = elim [ row.Interval w i ↦ inl ((w, i), refl, refl, refl) | _ ↦ inr (refl, refl) ]; keys = λ p q. interval_keys p.0 q.0 p.1.from q.1.from }
 
-pub resource_table : IsTable 3 resource_of (BeginAlike 1 resource_row)
-resource_table = record {
-  place = λ r. place r;
-  keys = λ r s x y e f. let a = resource_is r x e in let b = resource_is s y f in keys_by (BeginAlike 1 resource_row) a.2 b.2 a.3 b.3 (resource_keys a.0 b.0);
-}
-  where
-    place : (r : PlanRow) → is_some (resource_of r) ≡ (table_of (key_of r) == 3)
-    place (row.Resource name available) = refl
-    place _ = refl
+pub resource_table : IsTable 3 resource_of (λ (p : Name × Bool). row.Resource p.0 p.1) (λ p. resource_columns p.0 p.1) (BeginAlike 1 resource_row)
+resource_table = record { told = elim [ row.Resource name available ↦ inl ((name, available), refl, refl, refl) | _ ↦ inr (refl, refl) ]; keys = λ p q. resource_keys p.0 q.0 }
 
-pub occurrence_table : IsTable 4 occurrence_of (BeginAlike 2 occurrence_row)
-occurrence_table = record {
-  place = λ r. place r;
-  keys = λ r s x y e f. let a = occurrence_is r x e in let b = occurrence_is s y f in keys_by (BeginAlike 2 occurrence_row) a.4 b.4 a.5 b.5 (occurrence_keys a.0 b.0);
-}
-  where
-    place : (r : PlanRow) → is_some (occurrence_of r) ≡ (table_of (key_of r) == 4)
-    place (row.Occurrence c priority deadline status) = refl
-    place _ = refl
+pub occurrence_table : IsTable 4 occurrence_of (λ (p : OccKey × ℕ × ℕ × OccStatus). row.Occurrence p.0 p.1 p.2 p.3) (λ p. occurrence_columns p.0 p.1 p.2 p.3) (BeginAlike 2 occurrence_row)
+occurrence_table = record { told = elim [ row.Occurrence c priority deadline status ↦ inl ((c, priority, deadline, status), refl, refl, refl) | _ ↦ inr (refl, refl) ]; keys = λ p q. occurrence_keys p.0 q.0 }
 
-pub operation_table : IsTable 5 operation_of (BeginAlike 3 operation_row)
-operation_table = record {
-  place = λ r. place r;
-  keys = λ r s x y e f. let a = operation_is r x e in let b = operation_is s y f in keys_by (BeginAlike 3 operation_row) a.1 b.1 a.2 b.2 (operation_keys a.0.op b.0.op);
-}
-  where
-    place : (r : PlanRow) → is_some (operation_of r) ≡ (table_of (key_of r) == 5)
-    place (row.Operation o) = refl
-    place _ = refl
+pub operation_table : IsTable 5 operation_of row.Operation operation_columns (BeginAlike 3 operation_row)
+operation_table = record { told = elim [ row.Operation o ↦ inl (o, refl, refl, refl) | _ ↦ inr (refl, refl) ]; keys = λ p q. operation_keys p.op q.op }
 
-pub dependency_table : IsTable 6 dependency_of (BeginAlike 6 dependency_row)
-dependency_table = record {
-  place = λ r. place r;
-  keys = λ r s x y e f. let a = dependency_is r x e in let b = dependency_is s y f in keys_by (BeginAlike 6 dependency_row) a.2 b.2 a.3 b.3 (dependency_keys a.0 a.1 b.0 b.1);
-}
-  where
-    place : (r : PlanRow) → is_some (dependency_of r) ≡ (table_of (key_of r) == 6)
-    place (row.Dependency p s) = refl
-    place _ = refl
+pub dependency_table : IsTable 6 dependency_of (λ (p : OpKey × OpKey). row.Dependency p.0 p.1) (λ p. dependency_columns p.0 p.1) (BeginAlike 6 dependency_row)
+dependency_table = record { told = elim [ row.Dependency p s ↦ inl ((p, s), refl, refl, refl) | _ ↦ inr (refl, refl) ]; keys = λ p q. dependency_keys p.0 p.1 q.0 q.1 }
 
-pub need_table : IsTable 7 need_of (BeginAlike 4 need_row)
-need_table = record {
-  place = λ r. place r;
-  keys = λ r s x y e f. let a = need_is r x e in let b = need_is s y f in keys_by (BeginAlike 4 need_row) a.2 b.2 a.3 b.3 (need_keys a.0 b.0 a.1.name b.1.name);
-}
-  where
-    place : (r : PlanRow) → is_some (need_of r) ≡ (table_of (key_of r) == 7)
-    place (row.Need o n) = refl
-    place _ = refl
+pub need_table : IsTable 7 need_of (λ (p : OpKey × Need). row.Need p.0 p.1) (λ p. need_columns p.0 p.1) (BeginAlike 4 need_row)
+need_table = record { told = elim [ row.Need o n ↦ inl ((o, n), refl, refl, refl) | _ ↦ inr (refl, refl) ]; keys = λ p q. need_keys p.0 q.0 p.1.name q.1.name }
+
+-- ---- rows with columns in a table, as the tables' definition names them
+
+pub meta_rows : (IsIn : PlanRow → Type 0) (x : StoredMeta) → ((version : ℕ) × (loaded : Bool) × (clock : ℕ) × IsIn (row.Meta version loaded clock) × (x ≡ meta_columns version loaded clock)) ↔ ((r : PlanRow) × IsIn r × (meta_of r ≡ Some x))
+meta_rows IsIn x = (λ it. (row.Meta it.0 it.1 it.2, it.3, ap Some (sym it.4)), λ it. let is = row_with meta_table it.0 x it.2 in (is.0.0, is.0.1, is.0.2, subst IsIn is.1 it.1, is.2))
+
+pub workstation_rows : (IsIn : PlanRow → Type 0) (x : StoredWorkstation) → ((name : Name) × (a : Attr) × IsIn (row.Workstation name a) × (x ≡ workstation_columns name a)) ↔ ((r : PlanRow) × IsIn r × (workstation_of r ≡ Some x))
+workstation_rows IsIn x = (λ it. (row.Workstation it.0 it.1, it.2, ap Some (sym it.3)), λ it. let is = row_with workstation_table it.0 x it.2 in (is.0.0, is.0.1, subst IsIn is.1 it.1, is.2))
+
+pub interval_rows : (IsIn : PlanRow → Type 0) (x : StoredInterval) → ((w : Name) × (i : OpenInterval) × IsIn (row.Interval w i) × (x ≡ interval_columns w i)) ↔ ((r : PlanRow) × IsIn r × (interval_of r ≡ Some x))
+interval_rows IsIn x = (λ it. (row.Interval it.0 it.1, it.2, ap Some (sym it.3)), λ it. let is = row_with interval_table it.0 x it.2 in (is.0.0, is.0.1, subst IsIn is.1 it.1, is.2))
+
+pub resource_rows : (IsIn : PlanRow → Type 0) (x : StoredResource) → ((name : Name) × (available : Bool) × IsIn (row.Resource name available) × (x ≡ resource_columns name available)) ↔ ((r : PlanRow) × IsIn r × (resource_of r ≡ Some x))
+resource_rows IsIn x = (λ it. (row.Resource it.0 it.1, it.2, ap Some (sym it.3)), λ it. let is = row_with resource_table it.0 x it.2 in (is.0.0, is.0.1, subst IsIn is.1 it.1, is.2))
+
+pub occurrence_rows : (IsIn : PlanRow → Type 0) (x : StoredOccurrence) → ((c : OccKey) × (priority : ℕ) × (deadline : ℕ) × (status : OccStatus) × IsIn (row.Occurrence c priority deadline status) × (x ≡ occurrence_columns c priority deadline status)) ↔ ((r : PlanRow) × IsIn r × (occurrence_of r ≡ Some x))
+occurrence_rows IsIn x = (λ it. (row.Occurrence it.0 it.1 it.2 it.3, it.4, ap Some (sym it.5)), λ it. let is = row_with occurrence_table it.0 x it.2 in (is.0.0, is.0.1, is.0.2, is.0.3, subst IsIn is.1 it.1, is.2))
+
+pub operation_rows : (IsIn : PlanRow → Type 0) (x : StoredOperation) → ((r : OperationRow) × IsIn (row.Operation r) × (x ≡ operation_columns r)) ↔ ((r : PlanRow) × IsIn r × (operation_of r ≡ Some x))
+operation_rows IsIn x = (λ it. (row.Operation it.0, it.1, ap Some (sym it.2)), λ it. let is = row_with operation_table it.0 x it.2 in (is.0, subst IsIn is.1 it.1, is.2))
+
+pub dependency_rows : (IsIn : PlanRow → Type 0) (x : StoredDependency) → ((p : OpKey) × (s : OpKey) × IsIn (row.Dependency p s) × (x ≡ dependency_columns p s)) ↔ ((r : PlanRow) × IsIn r × (dependency_of r ≡ Some x))
+dependency_rows IsIn x = (λ it. (row.Dependency it.0 it.1, it.2, ap Some (sym it.3)), λ it. let is = row_with dependency_table it.0 x it.2 in (is.0.0, is.0.1, subst IsIn is.1 it.1, is.2))
+
+pub need_rows : (IsIn : PlanRow → Type 0) (x : StoredNeed) → ((o : OpKey) × (n : Need) × IsIn (row.Need o n) × (x ≡ need_columns o n)) ↔ ((r : PlanRow) × IsIn r × (need_of r ≡ Some x))
+need_rows IsIn x = (λ it. (row.Need it.0 it.1, it.2, ap Some (sym it.3)), λ it. let is = row_with need_table it.0 x it.2 in (is.0.0, is.0.1, subst IsIn is.1 it.1, is.2))

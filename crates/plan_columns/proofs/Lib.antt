@@ -1,6 +1,6 @@
 pub mod OneTable
 pub mod EachTable
-mod RowPut
+pub mod RowPut
 pub mod RowsWritten
 pub mod SameColumns
 pub mod Start

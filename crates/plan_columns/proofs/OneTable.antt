@@ -1,5 +1,5 @@
 -- One table that holds the columns of some of a plan's rows: what putting in a row makes of it.
-use Rattle.std.proofs.Common.{◌≡◌, ◌≢◌, ◌⊎◌, ◌↔◌, inl, inr, refl, sym, ◌∙◌, ap, ℕ, false, true≢false, List, Option, Some, None, is_some, ◌==◌}
+use Rattle.std.proofs.Common.{◌≡◌, ◌≢◌, ◌⊎◌, ◌↔◌, inl, inr, refl, sym, ◌∙◌, ap, subst₂, ℕ, true, false, true≢false, List, Option, Some, None, ◌==◌}
 use Rattle.std.proofs.lemmas.Option.{none-some, same_Some}
 use Rattle.sqlite_rules.specs.Lists.{Has}
 use Rattle.tracker_receipts.specs.plan_drafts.specs.declared.RowKey.{RowKey}
@@ -10,10 +10,10 @@ use Rattle.tracker_receipts.specs.plan_records.specs.declared.PlanRow.{PlanRow}
 abbrev pub HoldsOf : {X : Type 0} → (PlanRow → Option X) → (PlanRow → Type 0) → List X → Type 0
 HoldsOf {X} of IsIn xs = (x : X) → Has xs x ↔ ((r : PlanRow) × IsIn r × (of r ≡ Some x))
 
--- rows have columns where they are of this table, and one key where these are alike
-pub record IsTable {X : Type 0} (table : ℕ) (of : PlanRow → Option X) (Alike : X → X → Type 0) : Type 0 where
-  pub place : (r : PlanRow) → is_some (of r) ≡ (table_of (key_of r) == table)
-  pub keys : (r s : PlanRow) (x y : X) → of r ≡ Some x → of s ≡ Some y → (key_of r ≡ key_of s) ↔ Alike x y
+-- a row is of this table and has columns, or it is of another and has none; rows of one key have columns that are alike
+pub record IsTable {A X : Type 0} (table : ℕ) (of : PlanRow → Option X) (made : A → PlanRow) (columns : A → X) (Alike : X → X → Type 0) : Type 0 where
+  pub told : (r : PlanRow) → ((a : A) × (r ≡ made a) × (of r ≡ Some (columns a)) × ((table_of (key_of r) == table) ≡ true)) ⊎ ((of r ≡ None) × ((table_of (key_of r) == table) ≡ false))
+  pub keys : (a b : A) → (key_of (made a) ≡ key_of (made b)) ↔ Alike (columns a) (columns b)
 
 -- putting in a value keeps those of other keys
 abbrev pub PutsByKey : {X : Type 0} → (X → X → Type 0) → (X → List X → List X) → Type 0
@@ -24,10 +24,32 @@ abbrev pub put_of : {X : Type 0} → (X → List X → List X) → Option X → 
 put_of put None xs = xs
 put_of put (Some x) xs = put x xs
 
-module _ {X : Type 0} (table : ℕ) (of : PlanRow → Option X) (Alike : X → X → Type 0) (is : IsTable table of Alike) where
+module _ {A X : Type 0} {table : ℕ} {of : PlanRow → Option X} {made : A → PlanRow} {columns : A → X} {Alike : X → X → Type 0} (is : IsTable table of made columns Alike) where
+  -- which row it is that has such columns
+  pub row_with : (r : PlanRow) (x : X) → of r ≡ Some x → (a : A) × (r ≡ made a) × (x ≡ columns a) × ((table_of (key_of r) == table) ≡ true)
+  row_with r x has = elim (is.told r) [
+    | inl (a, own, said, here) ↦ (a, own, same_Some x (columns a) (sym has ∙ said), here)
+    | inr (none, other) ↦ absurd (none-some x (sym none ∙ has))
+  ]
+
+  keys_alike : (r s : PlanRow) (x y : X) → of r ≡ Some x → of s ≡ Some y → (key_of r ≡ key_of s) ↔ Alike x y
+  keys_alike r s x y e f =
+      let a = row_with r x e in
+      let b = row_with s y f in
+      let keys = is.keys a.0 b.0 in (
+        λ same. subst₂ Alike (sym a.2) (sym b.2) (keys.0 (sym (ap key_of a.1) ∙ same ∙ ap key_of b.1)),
+        λ same. ap key_of a.1 ∙ keys.1 (subst₂ Alike a.2 b.2 same) ∙ sym (ap key_of b.1),
+      )
+
   -- a row of this table has no key of another
-  pub apart : (s : PlanRow) (y : X) (k : RowKey) → of s ≡ Some y → (table_of k == table) ≡ false → key_of s ≢ k
-  apart s y k has other same = true≢false (sym (ap is_some has) ∙ is.place s ∙ ap (λ l. table_of l == table) same ∙ other)
+  apart : (s : PlanRow) (y : X) (k : RowKey) → of s ≡ Some y → (table_of k == table) ≡ false → key_of s ≢ k
+  apart s y k has other same = true≢false (sym (row_with s y has).3 ∙ ap (λ l. table_of l == table) same ∙ other)
+
+  elsewhere : (r : PlanRow) → of r ≡ None → (table_of (key_of r) == table) ≡ false
+  elsewhere r none = elim (is.told r) [
+    | inl it ↦ absurd (none-some (columns it.0) (sym none ∙ it.2))
+    | inr other ↦ other.1
+  ]
 
   -- what is of other keys is all that was there
   pub holds_besides : (IsIn : PlanRow → Type 0) (k : RowKey) (xs : List X) → (table_of k == table) ≡ false → HoldsOf of IsIn xs → HoldsOf of (λ s. IsIn s × (key_of s ≢ k)) xs
@@ -41,17 +63,17 @@ module _ {X : Type 0} (table : ℕ) (of : PlanRow → Option X) (Alike : X → X
     put_here IsIn r c xs has h x = (
       λ there. elim ((puts c xs x).0 there) [
         | inl own ↦ (r, inl refl, has ∙ ap Some (sym own))
-        | inr old ↦ let it = (h x).0 old.0 in (it.0, inr (it.1, λ same. old.1 ((is.keys it.0 r x c it.2 has).0 same)), it.2)
+        | inr old ↦ let it = (h x).0 old.0 in (it.0, inr (it.1, λ same. old.1 ((keys_alike it.0 r x c it.2 has).0 same)), it.2)
       ],
       λ it. (puts c xs x).1 (elim it.1 [
         | inl own ↦ inl (same_Some x c (sym it.2 ∙ ap of own ∙ has))
-        | inr old ↦ inr ((h x).1 (it.0, old.0, it.2), λ alike. old.1 ((is.keys it.0 r x c it.2 has).1 alike))
+        | inr old ↦ inr ((h x).1 (it.0, old.0, it.2), λ alike. old.1 ((keys_alike it.0 r x c it.2 has).1 alike))
       ]),
     )
 
     put_elsewhere : (IsIn : PlanRow → Type 0) (r : PlanRow) (xs : List X) → of r ≡ None → HoldsOf of IsIn xs → HoldsOf of (λ s. (s ≡ r) ⊎ (IsIn s × (key_of s ≢ key_of r))) xs
     put_elsewhere IsIn r xs none h x = (
-      λ there. let it = (h x).0 there in (it.0, inr (it.1, apart it.0 x (key_of r) it.2 (sym (is.place r) ∙ ap is_some none)), it.2),
+      λ there. let it = (h x).0 there in (it.0, inr (it.1, apart it.0 x (key_of r) it.2 (elsewhere r none)), it.2),
       λ it. elim it.1 [
         | inl own ↦ absurd (none-some x (sym none ∙ sym (ap of own) ∙ it.2))
         | inr old ↦ (h x).1 (it.0, old.0, it.2)

@@ -20,8 +20,8 @@ use Rattle.tracker_receipts.specs.plan_records.specs.declared.PlanRow.{PlanRow}
 use Rattle.tracker_receipts.specs.plan_records.specs.declared.PlanRow.TheVariants as row
 use Rattle.plan_schema.specs.Stored.{Held, StoredMeta, StoredInterval, meta_row, workstation_row, interval_row, resource_row, occurrence_row, operation_row, dependency_row, need_row}
 use Rattle.plan_columns.specs.Tables.{HoldRows, with_row, without_row}
-use Rattle.plan_columns.proofs.EachTable.{BeginAlike, HaveOneId, dependency_of, dependency_rows, dependency_table, interval_keys, interval_of, interval_is, interval_rows, interval_table, meta_of, meta_rows, meta_table, need_of, need_rows, need_table, occurrence_of, occurrence_rows, occurrence_table, operation_of, operation_rows, operation_table, resource_of, resource_rows, resource_table, workstation_of, workstation_rows, workstation_table}
-use Rattle.plan_columns.proofs.OneTable.{HoldsOf, PutsByKey, holds_alike, holds_besides, holds_put_of, put_of}
+use Rattle.plan_columns.proofs.EachTable.{BeginAlike, HaveOneId, dependency_of, dependency_rows, dependency_table, interval_keys, interval_of, interval_rows, interval_table, meta_of, meta_rows, meta_table, need_of, need_rows, need_table, occurrence_of, occurrence_rows, occurrence_table, operation_of, operation_rows, operation_table, resource_of, resource_rows, resource_table, workstation_of, workstation_rows, workstation_table}
+use Rattle.plan_columns.proofs.OneTable.{HoldsOf, PutsByKey, holds_alike, holds_besides, holds_put_of, put_of, row_with}
 
 -- ---- all tables as one table each
 
@@ -141,14 +141,14 @@ pub row_put : (IsIn : PlanRow → Type 0) (r : PlanRow) (held : Held) → HoldRo
 row_put IsIn r held h =
     let each = each_of h in
     subst (HoldRows (WithRow r IsIn)) (sym (with_row_is r held)) (of_each (record {
-      metas = holds_put_of 0 meta_of HaveOneId meta_table (with_value_at (λ z. z.id) meta_row) puts_by_id IsIn r held.metas each.metas;
-      workstations = holds_put_of 1 workstation_of (BeginAlike 1 workstation_row) workstation_table (with_value 1 workstation_row) (puts_by_key 1 workstation_row (λ x. (tt, tt))) IsIn r held.workstations each.workstations;
-      intervals = holds_put_of 2 interval_of (BeginAlike 2 interval_row) interval_table (with_value 2 interval_row) (puts_by_key 2 interval_row (λ x. (tt, (tt, tt)))) IsIn r held.intervals each.intervals;
-      resources = holds_put_of 3 resource_of (BeginAlike 1 resource_row) resource_table (with_value 1 resource_row) (puts_by_key 1 resource_row (λ x. (tt, tt))) IsIn r held.resources each.resources;
-      occurrences = holds_put_of 4 occurrence_of (BeginAlike 2 occurrence_row) occurrence_table (with_value 2 occurrence_row) (puts_by_key 2 occurrence_row (λ x. (tt, (tt, tt)))) IsIn r held.occurrences each.occurrences;
-      operations = holds_put_of 5 operation_of (BeginAlike 3 operation_row) operation_table (with_value 3 operation_row) (puts_by_key 3 operation_row (λ x. (tt, (tt, (tt, tt))))) IsIn r held.operations each.operations;
-      dependencies = holds_put_of 6 dependency_of (BeginAlike 6 dependency_row) dependency_table (with_value 6 dependency_row) (puts_by_key 6 dependency_row (λ x. (tt, (tt, (tt, (tt, (tt, (tt, tt)))))))) IsIn r held.dependencies each.dependencies;
-      needs = holds_put_of 7 need_of (BeginAlike 4 need_row) need_table (with_value 4 need_row) (puts_by_key 4 need_row (λ x. (tt, (tt, (tt, (tt, tt)))))) IsIn r held.needs each.needs;
+      metas = holds_put_of meta_table (with_value_at (λ z. z.id) meta_row) puts_by_id IsIn r held.metas each.metas;
+      workstations = holds_put_of workstation_table (with_value 1 workstation_row) (puts_by_key 1 workstation_row (λ x. (tt, tt))) IsIn r held.workstations each.workstations;
+      intervals = holds_put_of interval_table (with_value 2 interval_row) (puts_by_key 2 interval_row (λ x. (tt, (tt, tt)))) IsIn r held.intervals each.intervals;
+      resources = holds_put_of resource_table (with_value 1 resource_row) (puts_by_key 1 resource_row (λ x. (tt, tt))) IsIn r held.resources each.resources;
+      occurrences = holds_put_of occurrence_table (with_value 2 occurrence_row) (puts_by_key 2 occurrence_row (λ x. (tt, (tt, tt)))) IsIn r held.occurrences each.occurrences;
+      operations = holds_put_of operation_table (with_value 3 operation_row) (puts_by_key 3 operation_row (λ x. (tt, (tt, (tt, tt))))) IsIn r held.operations each.operations;
+      dependencies = holds_put_of dependency_table (with_value 6 dependency_row) (puts_by_key 6 dependency_row (λ x. (tt, (tt, (tt, (tt, (tt, (tt, tt)))))))) IsIn r held.dependencies each.dependencies;
+      needs = holds_put_of need_table (with_value 4 need_row) (puts_by_key 4 need_row (λ x. (tt, (tt, (tt, (tt, tt)))))) IsIn r held.needs each.needs;
     }))
 
 -- the receipts stay
@@ -165,11 +165,11 @@ interval_gone : (IsIn : PlanRow → Type 0) (w : Name) (m : ℕ) (xs : List Stor
 interval_gone IsIn w m xs h x =
     let left = without_key_has 2 interval_row (Text w ∷ Int (pos m) ∷ []) xs x (tt, (tt, tt)) (tt, (tt, tt)) in
     let keys = λ (r : PlanRow) (has : interval_of r ≡ Some x).
-    let is = interval_is r x has in
-    let both = interval_keys is.0 w is.1.from m in
+    let is = row_with interval_table r x has in
+    let both = interval_keys is.0.0 w is.0.1.from m in
     let pair : (key_of r ≡ key.Interval w m) ↔ (take 2 (interval_row x) ≡ Text w ∷ Int (pos m) ∷ []) = (
-      λ same. ap (λ y. take 2 (interval_row y)) is.3 ∙ both.0 (sym (ap key_of is.2) ∙ same),
-      λ same. ap key_of is.2 ∙ both.1 (sym (ap (λ y. take 2 (interval_row y)) is.3) ∙ same),
+      λ same. ap (λ y. take 2 (interval_row y)) is.2 ∙ both.0 (sym (ap key_of is.1) ∙ same),
+      λ same. ap key_of is.1 ∙ both.1 (sym (ap (λ y. take 2 (interval_row y)) is.2) ∙ same),
     ) in
     pair in (
       λ there. let kept = left.0 there in let it = (h x).0 kept.0 in (it.0, (it.1, λ same. kept.1 ((keys it.0 it.2).0 same)), it.2),
@@ -181,14 +181,14 @@ interval_taken IsIn w m held h =
     let each = each_of h in
     let k = key.Interval w m in
     of_each (record {
-      metas = holds_besides 0 meta_of HaveOneId meta_table IsIn k held.metas refl each.metas;
-      workstations = holds_besides 1 workstation_of (BeginAlike 1 workstation_row) workstation_table IsIn k held.workstations refl each.workstations;
+      metas = holds_besides meta_table IsIn k held.metas refl each.metas;
+      workstations = holds_besides workstation_table IsIn k held.workstations refl each.workstations;
       intervals = interval_gone IsIn w m held.intervals each.intervals;
-      resources = holds_besides 3 resource_of (BeginAlike 1 resource_row) resource_table IsIn k held.resources refl each.resources;
-      occurrences = holds_besides 4 occurrence_of (BeginAlike 2 occurrence_row) occurrence_table IsIn k held.occurrences refl each.occurrences;
-      operations = holds_besides 5 operation_of (BeginAlike 3 operation_row) operation_table IsIn k held.operations refl each.operations;
-      dependencies = holds_besides 6 dependency_of (BeginAlike 6 dependency_row) dependency_table IsIn k held.dependencies refl each.dependencies;
-      needs = holds_besides 7 need_of (BeginAlike 4 need_row) need_table IsIn k held.needs refl each.needs;
+      resources = holds_besides resource_table IsIn k held.resources refl each.resources;
+      occurrences = holds_besides occurrence_table IsIn k held.occurrences refl each.occurrences;
+      operations = holds_besides operation_table IsIn k held.operations refl each.operations;
+      dependencies = holds_besides dependency_table IsIn k held.dependencies refl each.dependencies;
+      needs = holds_besides need_table IsIn k held.needs refl each.needs;
     })
 
 -- the receipts stay

@@ -1,5 +1,5 @@
 -- The plan at the desk of a database, and what a load there is answered.
-use Rattle.std.proofs.Common.{◌≡◌, ◌⊎◌, ◌↔◌, inl, inr, refl, sym, ap, ◌∙◌, subst, arith, ℤ, Bool, true, false, not, IsTrue, Option, is_some, [], length}
+use Rattle.std.proofs.Common.{◌≡◌, ◌≢◌, ◌⊎◌, ◌↔◌, inl, inr, refl, sym, ap, ◌∙◌, subst, arith, ℤ, Bool, true, false, not, IsTrue, Option, Result, Ok, Err, IfErr, is_some, [], length}
 use Rattle.std.proofs.lemmas.Bool.{true≢false, false≢true}
 use Rattle.std.specs.List.{list_any}
 use Rattle.sqlite.specs.Effect.{Database}
@@ -15,9 +15,9 @@ use Rattle.plan_records.specs.Run.{Answers, CallStep, State, empty_state, plain,
 use Rattle.plan_records.specs.Step.{Step}
 use Rattle.plan_records.specs.declared.Request.{Request}
 use Rattle.plan_tables.specs.plan_schema.specs.Schema.{schema_9}
-use Rattle.plan_tables.specs.Desk.{HasTables, HoldsState, IsClean, usability}
+use Rattle.plan_tables.specs.Desk.{HasTables, HoldsNoState, HoldsState, IsClean, usability}
 use Rattle.plan_tables.specs.Faults.{IsOpeningRefusal}
-use Rattle.plan_loads.specs.Databases.{HasNoTable, HasSchema, IsAnswerToLoad, IsStateAt, load_request}
+use Rattle.plan_loads.specs.Databases.{HasNoTable, HasSchema, IsAnswerToLoad, IsDamaged, IsStateAt, load_request}
 
 -- what is found of a schema that has no table
 pub no_table_found : (found schema : Schema) (b : Bool) → found ≡ schema → found.tables ≡ [] → b ≡ list_any (λ view. is_some view.foreign) found.views → IsTrue (not b) ↔ HasNoTable schema
@@ -45,11 +45,32 @@ module _ (old new : StoreState) where
         subst (HoldsState s) same (holds clean (ap (λ (db : Database). db.schema) same ∙ has.1));
   }
 
--- what isn't a step at a usable desk is want of memory or a fault of the store
-pub refused_step : (s t : State) (q : Request) (v : Bool) (r : Refusal) → Answers s usable (plain q) (refused r) t (usability v) → IsOpeningRefusal r ⊎ CallStep s (plain q) (refused r) s
-refused_step s t q v refusal.Memory h = inl (inr (inl refl))
-refused_step s t q v refusal.Store h = inl (inr (inr refl))
-refused_step s t q v r h = inr (subst (λ X. Step s.plan q (refused r) X) h.0.0.is_after h.0.0, refl)
+  -- a database in which no desk could be made for its tables
+  pub damaged_made : HasNoTable old.now.schema → old.committed.schema ≢ no_schema → IsDamaged old
+  damaged_made none some = (λ has. some has.1, λ has. absurd (nine_are_tables (subst HasNoTable has.0 none)))
+
+  -- one of which none could be opened
+  pub damaged_opened : ¬ HasNoTable old.now.schema → OnlyReads old new → IsClean new → (HasTables new → HoldsNoState new.committed) → IsDamaged old
+  damaged_opened some reads clean none =
+      let same = (reads.kept clean.0).committed clean.1 in (
+        λ has. some (subst HasNoTable (sym has.0) (refl, refl)),
+        λ has. subst HoldsNoState same (none (ap (λ (db : Database). db.schema) same ∙ has.1)),
+      )
+
+-- so it is told where none could be opened
+pub damaged_told : (D C : Type 0) (state_of_it : C → StoreState) (old : StoreState) (r : Result D (Refusal × C)) → ¬ HasNoTable old.now.schema
+    → IfErr r (λ e. OnlyReads old (state_of_it e.1))
+    → IfErr r (λ e. e.0 ≡ refusal.Damaged → IsClean (state_of_it e.1) → HasTables (state_of_it e.1) → HoldsNoState (state_of_it e.1).committed)
+    → IfErr r (λ e. e.0 ≡ refusal.Damaged → IsClean (state_of_it e.1) → IsDamaged old)
+damaged_told D C state_of_it old (Ok d) some reads none = tt
+damaged_told D C state_of_it old (Err e) some reads none = λ is clean. damaged_opened old (state_of_it e.1) some reads clean (none is clean)
+
+-- what isn't a step at a usable desk is want of memory or a fault of the store, and no damage
+pub refused_step : (X : Type 0) (s t : State) (q : Request) (v : Bool) (r : Refusal) → Answers s usable (plain q) (refused r) t (usability v)
+    → (IsOpeningRefusal r × (r ≡ refusal.Damaged → X)) ⊎ CallStep s (plain q) (refused r) s
+refused_step X s t q v refusal.Memory h = inl (inr (inl refl), λ is. absurd (cc))
+refused_step X s t q v refusal.Store h = inl (inr (inr refl), λ is. absurd (cc))
+refused_step X s t q v r h = inr (subst (λ X. Step s.plan q (refused r) X) h.0.0.is_after h.0.0, refl)
 
 -- the desk of a database, `mid`, was asked for a load, which left `new`
 module _ (old mid new : StoreState) (s t : State) (at : ℤ) (draft : Option Contents) (u v : Bool)
@@ -71,7 +92,7 @@ module _ (old mid new : StoreState) (s t : State) (at : ℤ) (draft : Option Con
       → IsAnswerToLoad old new at draft x
   load_of (accepted named) answers holds kept = (s, t, state_kept, answers.0, λ clean has. holds clean (has_tables clean has))
   load_of (refused r) answers holds kept = (
-    elim (refused_step s t (load_request at draft) v r answers) [
+    elim (refused_step (IsClean new → IsDamaged old) s t (load_request at draft) v r answers) [
       | inl why ↦ inl why
       | inr step ↦ inr (s, state_kept, step)
     ],

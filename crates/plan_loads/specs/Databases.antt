@@ -3,12 +3,13 @@ use Rattle.std.specs.Prelude.{◌≡◌, ◌⊎◌, ℤ, false, [], Option, is_s
 use Rattle.std.specs.List.{list_any}
 use Rattle.sqlite.specs.Schema.{Schema}
 use Rattle.sqlite.specs.State.{State as StoreState}
+use Rattle.plan_basics.specs.declared.Refusal.TheVariants as refusal
 use Rattle.plan_tables.specs.table_rows.specs.Tables.{no_schema}
 use Rattle.plan_tables.specs.plan_model.specs.Contents.{Contents}
 use Rattle.plan_records.specs.Answer.{Answer, accepted, refused}
 use Rattle.plan_records.specs.Run.{CallStep, State, empty_state, plain}
 use Rattle.plan_tables.specs.plan_schema.specs.Schema.{schema_9}
-use Rattle.plan_tables.specs.Desk.{HoldsState, IsClean}
+use Rattle.plan_tables.specs.Desk.{HoldsNoState, HoldsState, IsClean}
 use Rattle.plan_tables.specs.Faults.{IsOpeningRefusal}
 use Rattle.plan_records.specs.declared.Request.{Request}
 use Rattle.plan_records.specs.declared.What.TheVariants.{Load}
@@ -26,15 +27,19 @@ pub record IsStateAt (old new : StoreState) (s : State) : Type 0 where
   pub made : HasNoTable old.now.schema → s ≡ empty_state
   pub opened : IsClean new → HasSchema old schema_9 → HoldsState s old.committed
 
+-- what `Damaged` tells of a database: it has tables, and where they are those of a desk, they hold no state of one
+abbrev pub IsDamaged : StoreState → Type 0
+IsDamaged s = ¬ HasSchema s no_schema × (HasSchema s schema_9 → HoldsNoState s.committed)
+
 -- the load of a draft at a minute; of none, for a text that denotes none
 abbrev pub load_request : ℤ → Option Contents → Request
 load_request at draft = record { at = at; what = Load draft }
 
--- the load of a draft at a minute is answered as at the plan of the database's desk, and where it is accepted the tables hold the plan after it; or the tables are no plan's, memory lacks, or the store failed. What is refused leaves a desk's tables as they were
+-- the load of a draft at a minute is answered as at the plan of the database's desk, and where it is accepted the tables hold the plan after it; or the tables are no plan's, which is told of such tables alone, memory lacks, or the store failed. What is refused leaves a desk's tables as they were
 abbrev pub IsAnswerToLoad : StoreState → StoreState → ℤ → Option Contents → Answer → Type 0
 IsAnswerToLoad old new at draft (accepted named) =
     (before : State) × (after : State) × IsStateAt old new before × CallStep before (plain (load_request at draft)) (accepted named) after
     × (IsClean new → HasSchema old schema_9 ⊎ HasSchema old no_schema → HoldsState after new.committed)
 IsAnswerToLoad old new at draft (refused r) =
-    (IsOpeningRefusal r ⊎ ((before : State) × IsStateAt old new before × CallStep before (plain (load_request at draft)) (refused r) before))
+    ((IsOpeningRefusal r × (r ≡ refusal.Damaged → IsClean new → IsDamaged old)) ⊎ ((before : State) × IsStateAt old new before × CallStep before (plain (load_request at draft)) (refused r) before))
     × (IsClean new → HasSchema old schema_9 → new.committed ≡ old.committed)

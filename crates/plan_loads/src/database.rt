@@ -2,9 +2,10 @@
 ghost use Rattle.std.specs.Prelude.{◌≡◌, ◌↔◌, true, false, is_some, IsTrue, IfOk, IfErr};
 ghost use Rattle.std.specs.List.{list_any};
 ghost use Rattle.sqlite.specs.Held.{state};
+ghost use Rattle.plan_basics.specs.declared.Refusal.{Refusal};
 ghost use Rattle.plan_records.specs.Answer.{answer_of};
 ghost use Rattle.plan_records.specs.Run.{empty_state};
-ghost use Rattle.plan_loads.specs.Databases.{HasNoTable, HasSchema, IsAnswerToLoad, IsStateAt};
+ghost use Rattle.plan_loads.specs.Databases.{HasNoTable, HasSchema, IsAnswerToLoad, IsDamaged, IsStateAt};
 ghost use Rattle.plan_tables.specs.plan_schema.specs.Schema.{schema_9};
 ghost use Rattle.plan_tables.specs.Desk.{state_of, HoldsState, IsClean};
 ghost use Rattle.plan_tables.specs.Faults.{IsOpeningRefusal};
@@ -43,6 +44,7 @@ fn desk_of<S: Alter + Drop>(
     ensures made { IfOk result (λ desk. IsClean (state S.Store desk.conn) → HasSchema (state S.Store conn) no_schema → HoldsState empty_state (state S.Store desk.conn).committed) }
     ensures opened { IfOk result (λ desk. IsClean (state S.Store desk.conn) → HasSchema (state S.Store conn) schema_9 → (state S.Store desk.conn).committed ≡ (state S.Store conn).committed) }
     ensures refused { IfErr result (λ e. IsOpeningRefusal e.0) }
+    ensures damaged { IfErr result (λ e. e.0 ≡ Refusal.Damaged → IsClean (state S.Store e.1) → IsDamaged (state S.Store conn)) }
     ensures unchanged { IfErr result (λ e. IsClean (state S.Store e.1) → (state S.Store e.1).committed ≡ (state S.Store conn).committed) }
 {
     if has_no_table(&conn) {
@@ -55,7 +57,8 @@ fn desk_of<S: Alter + Drop>(
 /// Loads the plan of a text, if it denotes one, into the desk of a database at a moment: the desk is made where the
 /// database has no table, else opened. The caller owes that no transaction is open.
 ///
-/// The answer is the desk's, or the refusal of the one that could not be made or opened. The connection is given back.
+/// The answer is the desk's, or the refusal of the one that could not be made or opened: `Damaged` where the database
+/// has tables that aren't a desk's with a plan's rows. The connection is given back.
 pub fn load_into<S: Alter + Drop>(
     alloc: Global,
     conn: Connection<S>,

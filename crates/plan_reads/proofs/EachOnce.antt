@@ -1,5 +1,5 @@
 -- No row of a plan stands twice in its table, and no tracker has two receipts, since the key of a table is unique.
-use Rattle.std.proofs.Common.{◌≡◌, ◌≢◌, ◌&&◌, ℕ, zero, suc, not, true, List, [], ◌∷◌, ◌++◌, drop, get_or, map, take, refl, sym, ap, subst, ◌∙◌, inl, inr, arith}
+use Rattle.std.proofs.Common.{◌≡◌, ◌≢◌, ◌&&◌, ℕ, zero, suc, not, true, List, [], ◌∷◌, ◌++◌, drop, get_or, map, take, refl, sym, ap, subst, ◌∙◌, inl, inr, arith, Option}
 use Rattle.std.specs.List.{range_with_len, AllByRecursion, AllPairs, AllZip}
 use Rattle.std.proofs.lemmas.Bool.{cases_Bool, true≢false}
 use Rattle.std.proofs.lemmas.List.Elements.{Contains-get_or}
@@ -34,6 +34,7 @@ use Rattle.stored_rows.proofs.Decoded.{stored_for}
 use Rattle.tracker_receipts.specs.Stored.{Columns}
 use Rattle.plan_reads.specs.Tables.{all_tables, receipt_rows, rows_of, AllDiffer}
 use Rattle.plan_reads.proofs.PlanTables.{workstation_table, interval_table, resource_table, occurrence_table, operation_table, dependency_table, need_table}
+use Rattle.plan_reads.proofs.TableHeld.{IsTableOf, value_of}
 
 -- ---- two rows of one key are one
 
@@ -83,36 +84,22 @@ module _ (db : Database) (sound : IsDatabase db) (has : db.schema ≡ schema_9) 
   unique : Keeps Unique schema_9 db.trees
   unique = subst (λ s. Keeps Unique s db.trees) has (sound.obeys.rules Unique)
 
+  -- where a key of so many columns and one more is unique
+  single : {X : Type 0} {t : Table} {of : PlanRow → Option X} {row : X → Row} → IsTableOf t of row → (key : ℕ) → ((x : X) → BeginsExactly (suc key) (row x)) → (sql : SqlTable) → Has schema_9.tables sql → HasKeyIndex sql (suc key) → AreNumbered (db.trees sql.tree)
+      → (a b : Row) (r : PlanRow) → Has (db.trees sql.tree) a → Has (db.trees sql.tree) b → IsStoredAs t a r → IsStoredAs t b r → rowid a ≡ rowid b
+  single is key exact sql listed index numbered a b r at_a at_b is_a is_b =
+      let x = value_of is r is_a.0 in
+      twin db.trees sql (suc key) listed index unique numbered a b at_a at_b (alike_of key a b (columns_of r) (subst (BeginsExactly (suc key)) (sym x.2) (exact x.0)) is_a.2 is_b.2)
+
   pub singly : (t : Table) → AreNumbered (rows_of t db.trees) → HoldsSingly t db.trees
-  singly table.Meta numbered a b r at_a at_b is_a is_b = meta_own (db.trees 0) a at_a ∙ ap (λ (l : Row). column l 0) (is_a.2 ∙ sym is_b.2) ∙ sym (meta_own (db.trees 0) b at_b)
-  singly table.Workstation numbered a b r at_a at_b is_a is_b =
-      let x = workstation_table.forth r is_a.0 in
-      let exact : BeginsExactly 1 (columns_of r) = subst (BeginsExactly 1) (sym (workstation_table.back r x.0 x.1).1) (tt, tt) in
-      twin db.trees (placed workstation.name workstation.columns 1 1) 1 (inr (inl refl)) (_, (inl refl), refl, refl, refl) unique numbered a b at_a at_b (alike_of 0 a b (columns_of r) exact is_a.2 is_b.2)
-  singly table.Interval numbered a b r at_a at_b is_a is_b =
-      let x = interval_table.forth r is_a.0 in
-      let exact : BeginsExactly 2 (columns_of r) = subst (BeginsExactly 2) (sym (interval_table.back r x.0 x.1).1) (tt, (tt, tt)) in
-      twin db.trees (placed interval.name interval.columns 2 3) 2 (inr (inr (inl refl))) (_, (inr (inl refl)), refl, refl, refl) unique numbered a b at_a at_b (alike_of 1 a b (columns_of r) exact is_a.2 is_b.2)
-  singly table.Resource numbered a b r at_a at_b is_a is_b =
-      let x = resource_table.forth r is_a.0 in
-      let exact : BeginsExactly 1 (columns_of r) = subst (BeginsExactly 1) (sym (resource_table.back r x.0 x.1).1) (tt, tt) in
-      twin db.trees (placed resource.name resource.columns 1 5) 1 (inr (inr (inr (inl refl)))) (_, (inr (inr (inl refl))), refl, refl, refl) unique numbered a b at_a at_b (alike_of 0 a b (columns_of r) exact is_a.2 is_b.2)
-  singly table.Occurrence numbered a b r at_a at_b is_a is_b =
-      let x = occurrence_table.forth r is_a.0 in
-      let exact : BeginsExactly 2 (columns_of r) = subst (BeginsExactly 2) (sym (occurrence_table.back r x.0 x.1).1) (tt, (tt, tt)) in
-      twin db.trees (placed occurrence.name occurrence.columns 2 7) 2 (inr (inr (inr (inr (inl refl))))) (_, (inr (inr (inr (inl refl)))), refl, refl, refl) unique numbered a b at_a at_b (alike_of 1 a b (columns_of r) exact is_a.2 is_b.2)
-  singly table.Operation numbered a b r at_a at_b is_a is_b =
-      let x = operation_table.forth r is_a.0 in
-      let exact : BeginsExactly 3 (columns_of r) = subst (BeginsExactly 3) (sym (operation_table.back r x.0 x.1).1) (tt, (tt, (tt, tt))) in
-      twin db.trees (placed operation.name operation.columns 3 9) 3 (inr (inr (inr (inr (inr (inl refl)))))) (_, (inr (inr (inr (inr (inl refl))))), refl, refl, refl) unique numbered a b at_a at_b (alike_of 2 a b (columns_of r) exact is_a.2 is_b.2)
-  singly table.Dependency numbered a b r at_a at_b is_a is_b =
-      let x = dependency_table.forth r is_a.0 in
-      let exact : BeginsExactly 6 (columns_of r) = subst (BeginsExactly 6) (sym (dependency_table.back r x.0 x.1).1) (tt, (tt, (tt, (tt, (tt, (tt, tt)))))) in
-      twin db.trees (placed dependency.name dependency.columns 6 11) 6 (inr (inr (inr (inr (inr (inr (inl refl))))))) (_, (inr (inr (inr (inr (inr (inl refl)))))), refl, refl, refl) unique numbered a b at_a at_b (alike_of 5 a b (columns_of r) exact is_a.2 is_b.2)
-  singly table.Need numbered a b r at_a at_b is_a is_b =
-      let x = need_table.forth r is_a.0 in
-      let exact : BeginsExactly 4 (columns_of r) = subst (BeginsExactly 4) (sym (need_table.back r x.0 x.1).1) (tt, (tt, (tt, (tt, tt)))) in
-      twin db.trees (placed need.name need.columns 4 13) 4 (inr (inr (inr (inr (inr (inr (inr (inl refl)))))))) (_, (inr (inr (inr (inr (inr (inr (inl refl))))))), refl, refl, refl) unique numbered a b at_a at_b (alike_of 3 a b (columns_of r) exact is_a.2 is_b.2)
+  singly table.Meta numbered = λ a b r at_a at_b is_a is_b. meta_own (db.trees 0) a at_a ∙ ap (λ (l : Row). column l 0) (is_a.2 ∙ sym is_b.2) ∙ sym (meta_own (db.trees 0) b at_b)
+  singly table.Workstation numbered = single workstation_table 0 (λ x. (tt, tt)) (placed workstation.name workstation.columns 1 1) (inr (inl refl)) (_, (inl refl), refl, refl, refl) numbered
+  singly table.Interval numbered = single interval_table 1 (λ x. (tt, (tt, tt))) (placed interval.name interval.columns 2 3) (inr (inr (inl refl))) (_, (inr (inl refl)), refl, refl, refl) numbered
+  singly table.Resource numbered = single resource_table 0 (λ x. (tt, tt)) (placed resource.name resource.columns 1 5) (inr (inr (inr (inl refl)))) (_, (inr (inr (inl refl))), refl, refl, refl) numbered
+  singly table.Occurrence numbered = single occurrence_table 1 (λ x. (tt, (tt, tt))) (placed occurrence.name occurrence.columns 2 7) (inr (inr (inr (inr (inl refl))))) (_, (inr (inr (inr (inl refl)))), refl, refl, refl) numbered
+  singly table.Operation numbered = single operation_table 2 (λ x. (tt, (tt, (tt, tt)))) (placed operation.name operation.columns 3 9) (inr (inr (inr (inr (inr (inl refl)))))) (_, (inr (inr (inr (inr (inl refl))))), refl, refl, refl) numbered
+  singly table.Dependency numbered = single dependency_table 5 (λ x. (tt, (tt, (tt, (tt, (tt, (tt, tt))))))) (placed dependency.name dependency.columns 6 11) (inr (inr (inr (inr (inr (inr (inl refl))))))) (_, (inr (inr (inr (inr (inr (inl refl)))))), refl, refl, refl) numbered
+  singly table.Need numbered = single need_table 3 (λ x. (tt, (tt, (tt, (tt, tt))))) (placed need.name need.columns 4 13) (inr (inr (inr (inr (inr (inr (inr (inl refl)))))))) (_, (inr (inr (inr (inr (inr (inr (inl refl))))))), refl, refl, refl) numbered
 
   -- two rows of receipts of one tracker have one rowid
   pub receipt_singly : AreNumbered (receipt_rows db.trees) → (a b : Row) (c d : Columns) → Has (receipt_rows db.trees) a → Has (receipt_rows db.trees) b → IsReceiptStoredAs a c → IsReceiptStoredAs b d → c.tracker ≡ d.tracker → rowid a ≡ rowid b

@@ -16,14 +16,6 @@ use Rattle.sqlite_tied.specs.Compute.{everything}
 use Rattle.sqlite_trees.specs.declared.error.StoreError.{StoreError}
 use Rattle.sqlite_trees.specs.declared.error.StoreError.TheVariants.{OutOfMemory, Io, Corrupt, Full, Broken, Unstorable}
 use Rattle.plan_schema.specs.Schema.{schema_9}
-use Rattle.plan_schema.proofs.DependencyTexts as dependencies
-use Rattle.plan_schema.proofs.IntervalTexts as intervals
-use Rattle.plan_schema.proofs.MetaTexts as metas
-use Rattle.plan_schema.proofs.NeedTexts as needs
-use Rattle.plan_schema.proofs.OccurrenceTexts as occurrences
-use Rattle.plan_schema.proofs.OperationTexts as operations
-use Rattle.plan_schema.proofs.ResourceTexts as resources
-use Rattle.plan_schema.proofs.WorkstationTexts as workstations
 use Rattle.stored_rows.specs.declared.Table.{Table}
 use Rattle.stored_rows.specs.declared.Table.TheVariants as table
 use Rattle.plan_reads.specs.Reads.{IsNotOfTables}
@@ -52,14 +44,9 @@ query_is_other limit _ db params e h = subst IsNotOfTables (sym h) tt
 -- ---- the texts
 
 pub each_plain : (t : Table) → IsPlain (understood schema_9 (text_for t))
-each_plain table.Meta = metas.read_plain
-each_plain table.Workstation = workstations.read_plain
-each_plain table.Interval = intervals.read_plain
-each_plain table.Resource = resources.read_plain
-each_plain table.Occurrence = occurrences.read_plain
-each_plain table.Operation = operations.read_plain
-each_plain table.Dependency = dependencies.read_plain
-each_plain table.Need = needs.read_plain
+unfolding understood everything
+each_plain table.Meta = (refl, refl)
+each_plain _ = (refl, refl)
 
 module _ (text : List ℕ) (query : IsQuery text) (plain : IsPlain (understood schema_9 text)) (old new : State) (has : old.now.schema ≡ schema_9) where
   -- none is refused

@@ -14,7 +14,7 @@ use Rattle.sqlite_schema.specs.declared.command.Returning.{Returning}
 use Rattle.sqlite_schema.specs.declared.schema.Schema.{Schema}
 use Rattle.sqlite_syntax.specs.declared.statement.Parsed.{Parsed}
 use Rattle.sqlite_tied.specs.Compute.{everything}
-use Rattle.plan_schema.specs.declared.TheConstants.{READ_META, READ_WORKSTATION, READ_INTERVAL, READ_RESOURCE, READ_OCCURRENCE, READ_OPERATION, READ_DEPENDENCY, READ_NEED, READ_RECEIPT}
+use Rattle.plan_schema.specs.declared.TheConstants.{READ_RECEIPT}
 use Rattle.plan_reads.specs.Tables.{text_for}
 use Rattle.stored_rows.specs.declared.Table.{Table}
 use Rattle.stored_rows.specs.declared.Table.TheVariants as table
@@ -33,51 +33,14 @@ IsQuery text = says_query (first text) ≡ true
 
 -- ---- each text
 
-meta_is_query : IsQuery READ_META.now
-unfolding everything
-meta_is_query = refl
-
-workstation_is_query : IsQuery READ_WORKSTATION.now
-unfolding everything
-workstation_is_query = refl
-
-interval_is_query : IsQuery READ_INTERVAL.now
-unfolding everything
-interval_is_query = refl
-
-resource_is_query : IsQuery READ_RESOURCE.now
-unfolding everything
-resource_is_query = refl
-
-occurrence_is_query : IsQuery READ_OCCURRENCE.now
-unfolding everything
-occurrence_is_query = refl
-
-operation_is_query : IsQuery READ_OPERATION.now
-unfolding everything
-operation_is_query = refl
-
-dependency_is_query : IsQuery READ_DEPENDENCY.now
-unfolding everything
-dependency_is_query = refl
-
-need_is_query : IsQuery READ_NEED.now
-unfolding everything
-need_is_query = refl
-
 pub receipt_is_query : IsQuery READ_RECEIPT.now
 unfolding everything
 receipt_is_query = refl
 
 pub each_is_query : (t : Table) → IsQuery (text_for t)
-each_is_query table.Meta = meta_is_query
-each_is_query table.Workstation = workstation_is_query
-each_is_query table.Interval = interval_is_query
-each_is_query table.Resource = resource_is_query
-each_is_query table.Occurrence = occurrence_is_query
-each_is_query table.Operation = operation_is_query
-each_is_query table.Dependency = dependency_is_query
-each_is_query table.Need = need_is_query
+unfolding everything
+each_is_query table.Meta = refl
+each_is_query _ = refl
 
 -- ---- a query has no RETURNING
 

@@ -1,5 +1,5 @@
 -- One table whose rows are those of some rows of a plan.
-use Rattle.std.proofs.Common.{◌≡◌, ◌↔◌, inl, inr, refl, sym, ap, subst, ◌∙◌, Contains, List, [], ◌∷◌, drop, Option, Some, None}
+use Rattle.std.proofs.Common.{◌≡◌, ◌≢◌, ◌↔◌, inl, inr, refl, sym, ap, subst, ◌∙◌, Contains, List, [], ◌∷◌, drop, Option, Some, None}
 use Rattle.std.specs.List.{filter_map, cons_option}
 use Rattle.sqlite.specs.Order.{Row}
 use Rattle.sqlite.specs.Tree.{Trees}
@@ -34,10 +34,28 @@ picked_has f (z ∷ xs) x y (inr later) e = had_behind (f z) (filter_map f xs) y
 
 -- ---- the rows of one table
 
--- a row of a plan has its columns in this table as a value, where it is of this table
+-- a row with a value is of this table, and has it as its columns; a row with none is of another
+abbrev pub IsTold : {X : Type 0} → Table → (X → Row) → PlanRow → Option X → Type 0
+IsTold t row r None = table_for r ≢ t
+IsTold t row r (Some x) = (table_for r ≡ t) × (columns_of r ≡ row x)
+
+-- so it is of all rows of a plan, with their values in this table
 pub record IsTableOf {X : Type 0} (t : Table) (of : PlanRow → Option X) (row : X → Row) : Type 0 where
-  pub back : (r : PlanRow) (x : X) → of r ≡ Some x → (table_for r ≡ t) × (columns_of r ≡ row x)
-  pub forth : (r : PlanRow) → table_for r ≡ t → (x : X) × (of r ≡ Some x)
+  pub told : (r : PlanRow) → IsTold t row r (of r)
+
+-- each of these rows that is of this table stands in it, and what stands in it is one of them
+abbrev pub StoresOf : Table → Trees → (PlanRow → Type 0) → Type 0
+StoresOf t trees IsIn =
+    ((r : PlanRow) → IsIn r → table_for r ≡ t → (stored : Row) × Has (rows_of t trees) stored × (drop 1 stored ≡ columns_of r))
+    × ((stored : Row) → Has (rows_of t trees) stored → (r : PlanRow) × IsIn r × (table_for r ≡ t) × (drop 1 stored ≡ columns_of r))
+
+-- a row of this table has a value, which is its columns
+pub value_of : {X : Type 0} {t : Table} {of : PlanRow → Option X} {row : X → Row} → IsTableOf t of row → (r : PlanRow) → table_for r ≡ t → (x : X) × (of r ≡ Some x) × (columns_of r ≡ row x)
+value_of {X} {t} {of} {row} is r own = by (of r) refl (is.told r)
+  where
+    by : (o : Option X) → of r ≡ o → IsTold t row r o → (x : X) × (of r ≡ Some x) × (columns_of r ≡ row x)
+    by None e other = absurd (other own)
+    by (Some x) e told = (x, e, told.1)
 
 module _ {X : Type 0} {t : Table} {of : PlanRow → Option X} {row : X → Row} (is : IsTableOf t of row) (trees : Trees) where
   -- a table that was read holds the values of the rows that were read
@@ -48,30 +66,28 @@ module _ {X : Type 0} {t : Table} {of : PlanRow → Option X} {row : X → Row} 
         numbered = table.numbered;
         sound = λ stored there.
             let it = table.every stored there in
-            let x = is.forth it.0 it.2.0 in
-            (x.0, picked_has of rows it.0 x.0 it.1 x.1, it.2.2 ∙ (is.back it.0 x.0 x.1).1);
+            let x = value_of is it.0 it.2.0 in
+            (x.0, picked_has of rows it.0 x.0 it.1 x.1, it.2.2 ∙ x.2);
         complete = λ x there.
             let it = picked_from of rows x there in
-            let own = is.back it.0 x it.2 in
+            let own = subst (IsTold t row it.0) it.2 (is.told it.0) in
             let found = read.only it.0 it.1 in
             (found.0, subst (λ u. Has (rows_of u trees) found.0) own.0 found.1, found.2.2 ∙ own.1);
       }
 
-  module _ (IsIn : PlanRow → Type 0) (xs : List X) (holds : Holds row (rows_of t trees) xs) (hold : (x : X) → Has xs x ↔ ((r : PlanRow) × IsIn r × (of r ≡ Some x))) where
-    -- each row of this table stands in it
-    pub stored_in : (r : PlanRow) → IsIn r → table_for r ≡ t → (stored : Row) × Has (rows_of t trees) stored × (drop 1 stored ≡ columns_of r)
-    stored_in r in_it own =
-        let x = is.forth r own in
+  -- one that holds the values of some rows stores those of them that are of it
+  pub stores_of : (IsIn : PlanRow → Type 0) (xs : List X) → Holds row (rows_of t trees) xs → ((x : X) → Has xs x ↔ ((r : PlanRow) × IsIn r × (of r ≡ Some x))) → StoresOf t trees IsIn
+  stores_of IsIn xs holds hold = (
+    λ r in_it own.
+        let x = value_of is r own in
         let it = holds.complete x.0 ((hold x.0).1 (r, in_it, x.1)) in
-        (it.0, it.1, it.2 ∙ sym (is.back r x.0 x.1).1)
-
-    -- what stands in it is one of the rows
-    pub row_in : (stored : Row) → Has (rows_of t trees) stored → (r : PlanRow) × IsIn r × (table_for r ≡ t) × (drop 1 stored ≡ columns_of r)
-    row_in stored there =
+        (it.0, it.1, it.2 ∙ sym x.2),
+    λ stored there.
         let it = holds.sound stored there in
         let r = (hold it.0).0 it.1 in
-        let own = is.back r.0 it.0 r.2 in
-        (r.0, r.1, own.0, it.2 ∙ sym own.1)
+        let own = subst (IsTold t row r.0) r.2 (is.told r.0) in
+        (r.0, r.1, own.0, it.2 ∙ sym own.1),
+  )
 
 -- the values of the rows of a list are those of the rows that it contains
 pub picked : {X : Type 0} (of : PlanRow → Option X) (rows : List PlanRow) (x : X) → Has (filter_map of rows) x ↔ ((r : PlanRow) × Contains rows r × (of r ≡ Some x))

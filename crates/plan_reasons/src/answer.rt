@@ -1,13 +1,12 @@
 // The whole answer why an operation doesn't go on.
-ghost use Rattle.std.specs.Prelude.{◌≡◌, IfOk, IfErr, OnOk, MatchOption, Some, length, slice_get, true};
-ghost use Rattle.std.specs.FinMap.{entries, get};
+ghost use Rattle.std.specs.Prelude.{◌≡◌, IfOk, IfErr, OnOk, MatchOption, Some};
+ghost use Rattle.std.specs.FinMap.{get};
 ghost use Rattle.plan_basics.specs.declared.Refusal.{Refusal};
 ghost use Rattle.plan_basics.specs.declared.keys.OpKey.{OpKey as OpKeyValue};
-ghost use Rattle.plan_model.specs.Contents.{IsInPlan, Operation};
+ghost use Rattle.plan_model.specs.Contents.{IsInPlan};
 ghost use Rattle.plan_model.specs.Holdings.{given_out};
 ghost use Rattle.plan_reasons.specs.Parts.{GoesOn};
 ghost use Rattle.plan_reasons.specs.Places.{IsAt};
-ghost use Rattle.plan_reasons.specs.Reasons.{needs_start};
 ghost use Rattle.plan_reasons.specs.Whys.{AreReasons, IsWhy};
 ghost use Rattle.plan_core.specs.plan_state.specs.Reports.{IsReported};
 
@@ -61,57 +60,6 @@ fn workstation_of<'a>(contents: &'a SoundContents, operation: &OperationRecord) 
     contents.workstation(&operation.workstation).unwrap()
 }
 
-// Notes what keeps an operation that goes on by a start from it on its workstation.
-fn note_station(
-    alloc: Global,
-    reasons: &mut Vec<Reason>,
-    contents: &SoundContents,
-    key: &OpKey,
-    operation: &OperationRecord,
-    at: Moment,
-) -> Result<(), AllocError>
-    requires in_plan { get contents.now.operations key.now ≡ Some operation.now }
-    requires starts { needs_start contents.now operation.now ≡ true }
-    ensures { OnOk result (GoesOn contents.now key.now operation.now at 3 8 reasons.old.items reasons.new.items) }
-{
-    let taken = taken_at(alloc, contents, operation)?;
-    let workstation = workstation_of(contents, operation);
-    note(reasons, too_early(operation, at))?;
-    note(reasons, closed(workstation, at))?;
-    note(
-        reasons,
-        lacks(workstation, operation, &taken, Supply::Servers, at),
-    )?;
-    note(
-        reasons,
-        lacks(workstation, operation, &taken, Supply::R1, at),
-    )?;
-    note(
-        reasons,
-        lacks(workstation, operation, &taken, Supply::R2, at),
-    )?;
-    Ok(())
-}
-
-// Notes what keeps an operation that goes on by a start from it of special resources. The error is always `Memory`.
-fn note_resources(
-    alloc: Global,
-    reasons: &mut Vec<Reason>,
-    contents: &SoundContents,
-    key: &OpKey,
-    operation: &OperationRecord,
-    at: Moment,
-) -> Result<(), Refusal>
-    requires { needs_start contents.now operation.now ≡ true }
-    ensures noted { OnOk result (GoesOn contents.now key.now operation.now at 8 10 reasons.old.items reasons.new.items) }
-    ensures refused { IfErr result (λ r. r ≡ Refusal.Memory) }
-{
-    note_all(reasons, all_unavailable(alloc, contents, operation)?)?;
-    let holdings = holdings_of(alloc, contents.valid())?;
-    note_all(reasons, all_held(alloc, key, operation, &holdings)?)?;
-    Ok(())
-}
-
 // Notes what keeps an operation from a start, where it goes on by one. The error is always `Memory`.
 fn note_start(
     alloc: Global,
@@ -129,8 +77,25 @@ fn note_start(
         return Ok(());
     }
     let operation = &reported.operation;
-    note_station(alloc, reasons, contents, key, operation, at)?;
-    note_resources(alloc, reasons, contents, key, operation, at)?;
+    let taken = taken_at(alloc, contents, operation)?;
+    let workstation = workstation_of(contents, operation);
+    note(reasons, too_early(operation, at))?;
+    note(reasons, closed(workstation, at))?;
+    note(
+        reasons,
+        lacks(workstation, operation, &taken, Supply::Servers, at),
+    )?;
+    note(
+        reasons,
+        lacks(workstation, operation, &taken, Supply::R1, at),
+    )?;
+    note(
+        reasons,
+        lacks(workstation, operation, &taken, Supply::R2, at),
+    )?;
+    note_all(reasons, all_unavailable(alloc, contents, operation)?)?;
+    let holdings = holdings_of(alloc, contents.valid())?;
+    note_all(reasons, all_held(alloc, key, operation, &holdings)?)?;
     Ok(())
 }
 

@@ -5,7 +5,9 @@ ghost use Rattle.plan_tables.specs.Errors.{AreErrorRows};
 ghost use Rattle.plan_reports.specs.Reports.{IsErrorReport, IsLateReport, IsOccurrenceReport, IsOwed, IsReadyReport, IsWhyReport, ready_refusal_of, refusal_of, why_refusal_of};
 
 use super::late::late_views;
-use super::texts::{errors_text, late_text, occurrences_text, ready_text};
+use super::lines::Field;
+use super::rows::{ErrorRows, LateRows, OccurrenceRows, ReadyRows, moment_text};
+use super::texts::report;
 use plan_basics::{Moment, OpKey, Refusal, WsName};
 use plan_tables::{Desk, ErrorRow, OccView, OpView, Plan};
 use reason_texts::{why, why_text};
@@ -43,7 +45,14 @@ pub(crate) fn ready_made<S: Alter + Drop>(
         return Err(Refusal::UnknownWorkstation);
     };
     let views: Vec<OpView> = ready.collect(alloc)?;
-    Ok(ready_text(alloc, workstation, plan.clock(), &views)?)
+    let at = moment_text(plan.clock());
+    let head = [
+        Field::Word(b"READY"),
+        Field::Word(workstation.as_bytes()),
+        Field::Word(b"AT"),
+        Field::Word(&at),
+    ];
+    Ok(report::<ReadyRows, OpView>(alloc, &head, &views)?)
 }
 
 /// All occurrences. Refused as the desk owes it, or else as `Memory`.
@@ -57,7 +66,13 @@ pub(crate) fn occurrences_made<S: Alter + Drop>(
 {
     let plan = loaded_plan(desk)?;
     let views: Vec<OccView> = plan.occs().collect(alloc)?;
-    Ok(occurrences_text(alloc, plan.clock(), &views)?)
+    let at = moment_text(plan.clock());
+    let head = [
+        Field::Word(b"OCCURRENCES"),
+        Field::Word(b"AT"),
+        Field::Word(&at),
+    ];
+    Ok(report::<OccurrenceRows, OccView>(alloc, &head, &views)?)
 }
 
 // The operations in error. Refused as `Reopen` where the desk is to be opened again, or else as `Memory`.
@@ -87,7 +102,9 @@ pub(crate) fn errors_made<S: Alter + Drop>(
 {
     let plan = loaded_plan(desk)?;
     let rows = error_rows(alloc, desk)?;
-    Ok(errors_text(alloc, plan.clock(), &rows)?)
+    let at = moment_text(plan.clock());
+    let head = [Field::Word(b"ERRORS"), Field::Word(b"AT"), Field::Word(&at)];
+    Ok(report::<ErrorRows, ErrorRow>(alloc, &head, &rows)?)
 }
 
 /// The operations that are late. Refused as the desk owes it, or else as `Memory`.
@@ -98,7 +115,9 @@ pub(crate) fn late_made<S: Alter + Drop>(alloc: Global, desk: &Desk<S>) -> Resul
 {
     let plan = loaded_plan(desk)?;
     let views = late_views(alloc, plan)?;
-    Ok(late_text(alloc, plan.clock(), &views)?)
+    let at = moment_text(plan.clock());
+    let head = [Field::Word(b"LATE"), Field::Word(b"AT"), Field::Word(&at)];
+    Ok(report::<LateRows, OpView>(alloc, &head, &views)?)
 }
 
 /// Why an operation doesn't go on at a moment. Refused as the desk owes it, or else as `Memory`.

@@ -1,5 +1,5 @@
 // The rows of the reports, column by column.
-ghost use Rattle.std.specs.Prelude.{◌≡◌, ◌++◌, OnOk};
+ghost use Rattle.std.specs.Prelude.{◌≡◌, ◌++◌, ℕ, List, OnOk};
 ghost use Rattle.plan_basics.specs.MomentTexts.{moment_text};
 ghost use Rattle.plan_reports.specs.Columns.{error_columns, held_text, late_columns, latest_text, occurrence_columns, ready_columns};
 ghost use Rattle.plan_reports.specs.Lines.{line};
@@ -30,76 +30,102 @@ fn held_text(held: bool) -> [u8; 1]
     if held { *b"H" } else { *b"-" }
 }
 
-/// Puts the row of an operation that is ready behind a text. It fails for want of memory only.
-pub(crate) fn put_ready(text: &mut Vec<u8>, view: &OpView) -> Result<(), AllocError>
-    ensures { OnOk result (text.new.items ≡ text.old.items ++ line (ready_columns view.now)) }
-{
-    let OccKey { app, arrival } = view.key.occurrence;
-    put_line(
-        text,
-        &[
-            Field::Left(16, app.as_bytes()),
-            Field::Left(16, &moment_text(arrival)),
-            right(3, u64::from(view.key.number)),
-            Field::Left(1, &[view.status.letter()]),
-            Field::Left(1, &held_text(view.held)),
-            right(1, u64::from(view.priority)),
-            right(4, u64::from(view.duration)),
-            Field::Left(16, &latest_text(view.latest)),
-        ],
-    )
+/// How the rows of a report are laid out.
+pub(crate) trait Layout<R> {
+    // The columns of a row.
+    ghost columns: { R → List (List ℕ) };
+
+    /// Puts a row behind a text. It fails for want of memory only.
+    fn put(text: &mut Vec<u8>, row: &R) -> Result<(), AllocError>
+        ensures { OnOk result (text.new.items ≡ text.old.items ++ line (columns row.now)) };
 }
 
-/// Puts the row of an occurrence behind a text. It fails for want of memory only.
-pub(crate) fn put_occurrence(text: &mut Vec<u8>, view: &OccView) -> Result<(), AllocError>
-    ensures { OnOk result (text.new.items ≡ text.old.items ++ line (occurrence_columns view.now)) }
-{
-    let OccKey { app, arrival } = view.key;
-    put_line(
-        text,
-        &[
-            Field::Left(16, app.as_bytes()),
-            Field::Left(16, &moment_text(arrival)),
-            right(1, u64::from(view.priority)),
-            Field::Left(1, &[view.status.letter()]),
-            Field::Left(16, &moment_text(view.deadline)),
-            right(5, u64::from(view.operations)),
-            right(5, u64::from(view.complete)),
-        ],
-    )
+/// Operations that are ready.
+pub(crate) struct ReadyRows;
+
+impl Layout<OpView> for ReadyRows {
+    ghost columns = { ready_columns };
+
+    fn put(text: &mut Vec<u8>, view: &OpView) -> Result<(), AllocError> {
+        let OccKey { app, arrival } = view.key.occurrence;
+        put_line(
+            text,
+            &[
+                Field::Left(16, app.as_bytes()),
+                Field::Left(16, &moment_text(arrival)),
+                right(3, u64::from(view.key.number)),
+                Field::Left(1, &[view.status.letter()]),
+                Field::Left(1, &held_text(view.held)),
+                right(1, u64::from(view.priority)),
+                right(4, u64::from(view.duration)),
+                Field::Left(16, &latest_text(view.latest)),
+            ],
+        )
+    }
 }
 
-/// Puts the row of an operation in error behind a text. It fails for want of memory only.
-pub(crate) fn put_error(text: &mut Vec<u8>, row: &ErrorRow) -> Result<(), AllocError>
-    ensures { OnOk result (text.new.items ≡ text.old.items ++ line (error_columns row.now)) }
-{
-    let OccKey { app, arrival } = row.op.occurrence;
-    put_line(
-        text,
-        &[
-            Field::Left(16, app.as_bytes()),
-            Field::Left(16, &moment_text(arrival)),
-            right(3, u64::from(row.op.number)),
-            Field::Left(4, row.ws.as_bytes()),
-            Field::Left(4, row.code.as_bytes()),
-        ],
-    )
+/// Occurrences.
+pub(crate) struct OccurrenceRows;
+
+impl Layout<OccView> for OccurrenceRows {
+    ghost columns = { occurrence_columns };
+
+    fn put(text: &mut Vec<u8>, view: &OccView) -> Result<(), AllocError> {
+        let OccKey { app, arrival } = view.key;
+        put_line(
+            text,
+            &[
+                Field::Left(16, app.as_bytes()),
+                Field::Left(16, &moment_text(arrival)),
+                right(1, u64::from(view.priority)),
+                Field::Left(1, &[view.status.letter()]),
+                Field::Left(16, &moment_text(view.deadline)),
+                right(5, u64::from(view.operations)),
+                right(5, u64::from(view.complete)),
+            ],
+        )
+    }
 }
 
-/// Puts the row of an operation that is late behind a text. It fails for want of memory only.
-pub(crate) fn put_late(text: &mut Vec<u8>, view: &OpView) -> Result<(), AllocError>
-    ensures { OnOk result (text.new.items ≡ text.old.items ++ line (late_columns view.now)) }
-{
-    let OccKey { app, arrival } = view.key.occurrence;
-    put_line(
-        text,
-        &[
-            Field::Left(16, app.as_bytes()),
-            Field::Left(16, &moment_text(arrival)),
-            right(3, u64::from(view.key.number)),
-            Field::Left(4, view.workstation.as_bytes()),
-            Field::Left(1, &[view.status.letter()]),
-            Field::Left(16, &latest_text(view.latest)),
-        ],
-    )
+/// Operations in error.
+pub(crate) struct ErrorRows;
+
+impl Layout<ErrorRow> for ErrorRows {
+    ghost columns = { error_columns };
+
+    fn put(text: &mut Vec<u8>, row: &ErrorRow) -> Result<(), AllocError> {
+        let OccKey { app, arrival } = row.op.occurrence;
+        put_line(
+            text,
+            &[
+                Field::Left(16, app.as_bytes()),
+                Field::Left(16, &moment_text(arrival)),
+                right(3, u64::from(row.op.number)),
+                Field::Left(4, row.ws.as_bytes()),
+                Field::Left(4, row.code.as_bytes()),
+            ],
+        )
+    }
+}
+
+/// Operations that are late.
+pub(crate) struct LateRows;
+
+impl Layout<OpView> for LateRows {
+    ghost columns = { late_columns };
+
+    fn put(text: &mut Vec<u8>, view: &OpView) -> Result<(), AllocError> {
+        let OccKey { app, arrival } = view.key.occurrence;
+        put_line(
+            text,
+            &[
+                Field::Left(16, app.as_bytes()),
+                Field::Left(16, &moment_text(arrival)),
+                right(3, u64::from(view.key.number)),
+                Field::Left(4, view.workstation.as_bytes()),
+                Field::Left(1, &[view.status.letter()]),
+                Field::Left(16, &latest_text(view.latest)),
+            ],
+        )
+    }
 }

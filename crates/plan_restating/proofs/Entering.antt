@@ -1,13 +1,12 @@
 -- The ready list, once an operation has another status.
-use Rattle.std.proofs.Common.{◌≡◌, ◌≢◌, ◌⊎◌, inl, inr, refl, sym, ap, subst, ◌∙◌, true≢false, arith, ℕ, ◌+◌, ◌≤◌, Bool, true, false, not, List, ◌∷◌, filter, length, set, slice_get, Contains, Some, ℤ}
+use Rattle.std.proofs.Common.{◌≡◌, ◌≢◌, ◌⊎◌, inl, inr, refl, sym, ap, subst, ◌∙◌, true≢false, arith, ℕ, ◌+◌, ◌≤◌, Bool, true, false, not, List, ◌∷◌, filter, length, set, slice_get, Contains, Some}
 use Rattle.std.proofs.lemmas.List.Elements.{Contains-append_cases, Contains-append_left, Contains-append_right}
 use Rattle.std.proofs.lemmas.List.Filters.{length-filter_both}
 use Rattle.std.proofs.lemmas.List.Kept.{IsStrictlySortedBy-filter}
 use Rattle.std.proofs.lemmas.Option.{same_Some}
-use Rattle.std.specs.FinMap.{entries, get, keys}
+use Rattle.std.specs.FinMap.{entries, keys}
 use Rattle.std.specs.List.Sorted.{IsStrictlySortedBy}
-use Rattle.plan_basics.specs.Keys.{Name, operation_cmp}
-use Rattle.plan_basics.specs.declared.Attr.{Attr}
+use Rattle.plan_basics.specs.Keys.{operation_cmp}
 use Rattle.plan_basics.specs.declared.keys.OpKey.{OpKey}
 use Rattle.plan_basics.proofs.Members.{contains_cases, contains_head, contains_later}
 use Rattle.status_rules.specs.Classes.{is_ready}
@@ -21,13 +20,13 @@ use Rattle.ready_list.proofs.Indexing.{Entries, entry_cmp, length_placed}
 use Rattle.ready_list.proofs.Members.{all_by_members, contains_filter, contains_from_filter, has_its_key, none_without, other_key}
 use Rattle.ready_list.proofs.Ordered.{keys_sorted, sorted_by_keys, sorted_placed}
 use Rattle.plan_model.proofs.Entries.{entries_in_order}
-use Rattle.plan_model.specs.Contents.{Contents, HasAttribute, Operation}
-use Rattle.plan_model.specs.Starts.{IsLatestStart}
+use Rattle.plan_model.specs.Contents.{Contents, Operation}
 use Rattle.plan_model.specs.declared.Occurrence.{Occurrence}
 use Rattle.plan_choice.specs.plan_laws.proofs.Entries.{same_operation}
 use Rattle.plan_choice.specs.plan_laws.proofs.Latest.{one_latest_start}
 use Rattle.plan_choice.specs.plan_status.proofs.RowKeys.{key_of_row}
-use Rattle.plan_restating.specs.ByStatuses.{AreEntriesBy, IsEntryIn, IsKeyIn, IsReadyBy}
+use Rattle.plan_choice.specs.ReadyItems.{IsEntryIn, IsKeyIn}
+use Rattle.plan_restating.specs.ByStatuses.{AreEntriesBy, IsReadyBy}
 use Rattle.plan_restating.proofs.Exchanged.{ready_after, ready_already, ready_before, ready_now, ready_still, ready_told_now}
 
 -- ---- lists in order
@@ -99,20 +98,6 @@ one_key P a b x y e =
     let occurrence : x.2.0 ≡ y'.2.0 = same_Some x.2.0 y'.2.0 (sym x.2.1 ∙ y'.2.1) in
     let priority : a.priority ≡ b.priority = x.2.2 ∙ ap (λ (z : Occurrence). z.priority) occurrence ∙ sym y'.2.2 in
     λ i. record { latest = latest i; priority = priority i; duration = duration i; op = e i }
-
--- with its latest start an operation has this entry
-pub has_entry : (P : Contents) (o : OpKey) (op : Operation) (v : ℤ) → get P.operations o ≡ Some op → {q : OpKey} {latest : ℤ} {duration priority : ℕ} {ws : Name} {attr : Attr}
-    → q ≡ o → latest ≡ v → duration ≡ op.duration → (t : Occurrence) × (get P.occurrences o.occurrence ≡ Some t) × (priority ≡ t.priority)
-    → ws ≡ op.workstation → HasAttribute P op.workstation attr
-    → IsLatestStart P o v → IsEntryIn P (record { key = record { latest = latest; priority = priority; duration = duration; op = q }; ws = ws; attr = attr })
-has_entry P o op v found {q} {latest} {duration} {priority} {ws} {attr} is_op is_latest is_duration terms is_ws reports start = (
-  (
-    subst (λ z. IsLatestStart P z latest) (sym is_op) (subst (IsLatestStart P o) (sym is_latest) start),
-    (op, ap (get P.operations) is_op ∙ found, is_duration),
-    (terms.0, ap (λ (z : OpKey). get P.occurrences z.occurrence) is_op ∙ terms.1, terms.2),
-  ),
-  (op, ap (get P.operations) is_op ∙ found, (is_ws, reports)),
-)
 
 -- ---- entries
 

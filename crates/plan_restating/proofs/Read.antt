@@ -29,7 +29,8 @@ use Rattle.plan_choice.specs.plan_status.specs.Standings.{AreTallies, BelongsWit
 use Rattle.plan_choice.proofs.Readied.{ready_in_plan}
 use Rattle.plan_choice.specs.Choices.{AreLatestStarts, AreReadyEntries, HasItsWorkstation}
 use Rattle.plan_restating.specs.Before.{AreReadOff}
-use Rattle.plan_restating.specs.ByStatuses.{AreEntriesBy, AreInLine, AreTalliesBy, BelongsBy, CountsAsStarted, HasListed, IsKeyIn, IsReadyBy, IsTallyBy}
+use Rattle.plan_choice.specs.ReadyItems.{IsKeyIn}
+use Rattle.plan_restating.specs.ByStatuses.{AreEntriesBy, AreInLine, AreTalliesBy, BelongsBy, CountsAsStarted, HasListed, IsReadyBy, IsTallyBy}
 use Rattle.plan_restating.proofs.Entering.{one_key}
 use Rattle.plan_restating.proofs.Moved.{attribute_after, row_after, same_keys}
 

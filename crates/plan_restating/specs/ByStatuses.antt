@@ -1,6 +1,6 @@
 -- What goes by the statuses of a plan's operations, whether or not these are the right ones: the numbers of occurrences' operations, and the ready list.
 use Rattle.std.specs.Prelude.{◌≡◌, ◌⊎◌, ℕ, ◌<◌, true, List, Some, length, slice_get, Contains}
-use Rattle.std.specs.FinMap.{entries, get, keys}
+use Rattle.std.specs.FinMap.{entries, keys}
 use Rattle.plan_basics.specs.declared.keys.OccKey.{OccKey}
 use Rattle.plan_basics.specs.declared.keys.OpKey.{OpKey}
 use Rattle.status_rules.specs.Classes.{is_ready}
@@ -8,14 +8,11 @@ use Rattle.status_rules.specs.declared.Counts.{Counts}
 use Rattle.status_rules.specs.declared.Status.{Status}
 use Rattle.status_rules.specs.declared.Status.TheVariants as status
 use Rattle.ready_list.specs.Entries.{IsInOrder}
-use Rattle.ready_list.specs.declared.ReadyKey.{ReadyKey}
 use Rattle.ready_list.specs.declared.entry.ReadyEntry.{ReadyEntry}
-use Rattle.plan_model.specs.Contents.{Contents, Has}
-use Rattle.plan_model.specs.Starts.{IsLatestStart}
-use Rattle.plan_model.specs.declared.Occurrence.{Occurrence}
+use Rattle.plan_model.specs.Contents.{Contents}
 use Rattle.plan_choice.specs.plan_drafts.specs.Places.{AreByPlace}
 use Rattle.plan_choice.specs.plan_records.specs.Rows.{IsCount}
-use Rattle.plan_choice.specs.Choices.{HasItsWorkstation}
+use Rattle.plan_choice.specs.ReadyItems.{IsEntryIn}
 
 -- by these statuses, in the order of the keys, o has this one
 abbrev pub HasListed : List OpKey → List Status → OpKey → Status → Type 0
@@ -54,16 +51,6 @@ pub record CountsOne (s : Status) (n : Counts) : Type 0 where
   pub started : CountsAsStarted s → 0 < n.started
 
 -- ---- the ready list
-
--- what an operation's place in a ready list goes by, whether or not it is ready
-abbrev pub IsKeyIn : Contents → ReadyKey → Type 0
-IsKeyIn P k =
-    IsLatestStart P k.op k.latest × Has P k.op (λ op. k.duration ≡ op.duration)
-    × ((c : Occurrence) × (get P.occurrences k.op.occurrence ≡ Some c) × (k.priority ≡ c.priority))
-
--- the entry of an operation, whether or not it is ready: its key, its workstation and how that reports
-abbrev pub IsEntryIn : Contents → ReadyEntry → Type 0
-IsEntryIn P e = IsKeyIn P e.key × HasItsWorkstation P e
 
 -- by these statuses o is arriving or ready
 abbrev pub IsReadyBy : List OpKey → List Status → OpKey → Type 0

@@ -1,12 +1,11 @@
 // The numbers of an occurrence's operations, once one of them has another status.
 ghost use Rattle.std.specs.Prelude.{◌≡◌, ◌<◌, List, Some, length, slice_get, slice_set};
 ghost use Rattle.std.specs.FinMap.{entries};
-ghost use Rattle.plan_basics.specs.declared.limits.TheConstants.{MOST_OPERATIONS};
 ghost use Rattle.status_rules.specs.declared.Status.{Status as StatusValue};
-ghost use Rattle.plan_choice.specs.plan_status.specs.OneMore.{AreAtMost, CountsOneMore};
+ghost use Rattle.plan_choice.specs.plan_status.specs.OneMore.{CountsOneMore};
 ghost use Rattle.plan_restating.specs.ByStatuses.{AreTalliesBy, CountsOne};
 
-use plan_choice::SoundContents;
+use plan_choice::{SoundContents, count_one};
 use status_rules::{Counts, Status};
 
 // One operation of this status is no longer counted.
@@ -21,22 +20,6 @@ fn count_out(counts: &mut Counts, status: Status)
         Status::Undecided => counts.undecided -= 1,
         Status::Complete => counts.complete -= 1,
         Status::Started | Status::Interrupted => counts.started -= 1,
-        Status::Arriving | Status::ReadyAfterNonreporting | Status::Ready | Status::Waiting => {}
-    }
-}
-
-// One operation of this status is counted.
-fn count_in(counts: &mut Counts, status: Status)
-    requires { AreAtMost MOST_OPERATIONS counts.old }
-    ensures { CountsOneMore status counts.old counts.new }
-{
-    counts.all += 1;
-    match status {
-        Status::Deleted => counts.deleted += 1,
-        Status::Error => counts.error += 1,
-        Status::Undecided => counts.undecided += 1,
-        Status::Complete => counts.complete += 1,
-        Status::Started | Status::Interrupted => counts.started += 1,
         Status::Arriving | Status::ReadyAfterNonreporting | Status::Ready | Status::Waiting => {}
     }
 }
@@ -57,5 +40,5 @@ pub fn retally(
     let key = &contents.operations()[place].0;
     let counts = &mut tallies[contents.occurrence_place_of(key)];
     count_out(counts, old);
-    count_in(counts, new);
+    count_one(counts, new);
 }

@@ -1,28 +1,16 @@
 -- What is at an index among the rows that are shown.
-use Rattle.std.proofs.Common.{◌≡◌, ◌≢◌, ◌↔◌, ◌<◌, inl, inr, refl, sym, ap, ◌∙◌, arith, ℕ, Bool, true, false, not, true≢false, List, length, slice_get, Option, Some, None, option_map}
-use Rattle.std.specs.Prelude.{IsSome, IsTrue}
-use Rattle.std.specs.Map.{keys_of}
+use Rattle.std.proofs.Common.{◌≡◌, ◌≢◌, ◌↔◌, inl, inr, refl, sym, ap, ◌∙◌, ℕ, Bool, true, false, not, true≢false, List, slice_get, Some, option_map}
+use Rattle.std.specs.Prelude.{IsTrue}
 use Rattle.std.proofs.lemmas.Bool.{cases_Bool}
-use Rattle.std.proofs.lemmas.List.{length-map}
 use Rattle.std.proofs.lemmas.Option.{same_Some, slice_get-map}
 use Rattle.plan_state.specs.plan_records.proofs.RowEquality.{equal_rows}
 use Rattle.plan_state.specs.plan_records.specs.contracts.PlanRowPartialEq.TheImpl as equality
 use Rattle.plan_state.specs.plan_records.specs.declared.PlanRow.{PlanRow}
-use Rattle.plan_rows.specs.Rows.{if_shown, rows_of}
-use Rattle.plan_rows.specs.declared.shown.Shown.{Shown}
-
--- an index among rows is one of a plan that is shown
-pub some_shown : {K : Type 0} (rows : Shown → List (K × PlanRow)) (shown : Option Shown) (i : ℕ) → i < length (keys_of (if_shown rows shown)) → IsSome shown
-some_shown rows None i lt = absurd (omega (arith, lt))
-some_shown rows (Some s) i lt = refl
+use Rattle.plan_rows.specs.Rows.{rows_of}
 
 -- a row stands where it stands under its key
 pub row_shown : {K : Type 0} (keyed : List (K × PlanRow)) (i : ℕ) (k : K) (r : PlanRow) → slice_get keyed i ≡ Some (k, r) → slice_get (rows_of keyed) i ≡ Some r
 row_shown {K} keyed i k r at = slice_get-map (λ (x : K × PlanRow). x.1) keyed i ∙ ap (option_map (λ (x : K × PlanRow). x.1)) at
-
--- as much is kept as is shown under the same keys
-pub as_many : {K X : Type 0} (keyed : List (K × PlanRow)) (kept : List (K × X)) → keys_of keyed ≡ keys_of kept → length kept ≡ length (keys_of keyed)
-as_many {K} {X} keyed kept same = sym (ap length same ∙ length-map kept (λ (z : K × X). z.0))
 
 -- rows are compared to tell whether two tables have the same at two indices
 pub rows_alike : (olds news : List PlanRow) (i j : ℕ) (a b : PlanRow) (told : Bool) → slice_get olds i ≡ Some a → slice_get news j ≡ Some b → told ≡ equality.ghosts.eq a b

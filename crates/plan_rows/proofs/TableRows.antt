@@ -1,10 +1,10 @@
 -- The rows of each table for the plan that is shown.
-use Rattle.std.proofs.Common.{◌≡◌, refl, sym, subst, ap, ◌∙◌, List, [], ◌∷◌, map, Contains, Option, Some, None, option_map}
+use Rattle.std.proofs.Common.{◌≡◌, refl, sym, subst, ap, ◌∙◌, Bool, List, [], ◌∷◌, map, Contains, Option, Some, None, option_map}
 use Rattle.std.specs.FinMap.{entries, get}
 use Rattle.std.specs.FinSet as set
 use Rattle.std.proofs.lemmas.Option.{same_Some}
 use Rattle.plan_basics.proofs.Members.{contains_mapped, mapped_contains}
-use Rattle.plan_basics.specs.Keys.{name_cmp-IsAntisymmetric, name_cmp_total}
+use Rattle.plan_basics.specs.Keys.{Name, name_cmp-IsAntisymmetric, name_cmp_total}
 use Rattle.plan_basics.specs.declared.Attr.{Attr}
 use Rattle.plan_basics.specs.declared.keys.OpKey.{OpKey}
 use Rattle.plan_state.specs.plan_drafts.proofs.Tables.{from_set, in_set}
@@ -18,6 +18,7 @@ use Rattle.plan_rows.proofs.KeptRows.{kept_from, kept_there, keyed_by}
 use Rattle.plan_rows.specs.Rows.{dependency_row, resource_row, workstation_row}
 use Rattle.plan_rows.specs.Tables.{AreRowsOf, IsRowOf}
 use Rattle.std.specs.Map.{keys_of}
+use Rattle.workstations.specs.Timetables.{NamedWorkstation}
 use Rattle.workstations.specs.Workstations.{Workstation}
 
 module _ (P : Plan) where
@@ -29,8 +30,10 @@ module _ (P : Plan) where
   resource_told : (r : PlanRow) → Contains (map resource_row (entries P.contents.resources)) r → IsRowOf 3 P r
   resource_told r has = let h = kept_from name_cmp_total name_cmp-IsAntisymmetric resource_row P.contents.resources r has in subst (IsRowOf 3 P) h.3 (h.2, refl)
 
-  pub are_resources : AreRowsOf key.Resource 3 P (keys_of (entries P.contents.resources)) (map resource_row (entries P.contents.resources))
-  are_resources = record { keyed = keyed_by key.Resource resource_row (λ _. refl) (entries P.contents.resources); all = λ r. (resource_told r, resource_there r) }
+  pub are_resources : (xs : List (Name × Bool)) → xs ≡ entries P.contents.resources → AreRowsOf key.Resource 3 P (keys_of xs) (map resource_row xs)
+  are_resources xs same =
+      subst (λ ys. AreRowsOf key.Resource 3 P (keys_of ys) (map resource_row ys)) (sym same)
+      (record { keyed = keyed_by key.Resource resource_row (λ _. refl) (entries P.contents.resources); all = λ r. (resource_told r, resource_there r) })
 
   -- ---- workstations
   with_attribute : (o : Option Workstation) (a : Attr) → option_map (λ ws. ws.attribute) o ≡ Some a → (ws : Workstation) × (o ≡ Some ws) × (ws.attribute ≡ a)
@@ -46,8 +49,10 @@ module _ (P : Plan) where
   workstation_told : (r : PlanRow) → Contains (map workstation_row (entries P.contents.workstations)) r → IsRowOf 1 P r
   workstation_told r has = let h = kept_from name_cmp_total name_cmp-IsAntisymmetric workstation_row P.contents.workstations r has in subst (IsRowOf 1 P) h.3 (ap (option_map (λ ws. ws.attribute)) h.2, refl)
 
-  pub are_workstations : AreRowsOf key.Workstation 1 P (keys_of (entries P.contents.workstations)) (map workstation_row (entries P.contents.workstations))
-  are_workstations = record { keyed = keyed_by key.Workstation workstation_row (λ _. refl) (entries P.contents.workstations); all = λ r. (workstation_told r, workstation_there r) }
+  pub are_workstations : (xs : List NamedWorkstation) → xs ≡ entries P.contents.workstations → AreRowsOf key.Workstation 1 P (keys_of xs) (map workstation_row xs)
+  are_workstations xs same =
+      subst (λ ys. AreRowsOf key.Workstation 1 P (keys_of ys) (map workstation_row ys)) (sym same)
+      (record { keyed = keyed_by key.Workstation workstation_row (λ _. refl) (entries P.contents.workstations); all = λ r. (workstation_told r, workstation_there r) })
 
   -- ---- dependencies
   dependency_there : (pairs : List (OpKey × OpKey)) → set.from_list pairs ≡ P.contents.pairs → (r : PlanRow) → IsRowOf 6 P r → Contains (map dependency_row pairs) r

@@ -83,7 +83,7 @@ module _ (clock now : ℕ) (before after : Option Shown) (c : Changes) where
   pub resources_stay : (contents_shown after).resources ≡ (contents_shown before).resources → AreChangesBelow 3 P Q c → AreChangesBelow 4 P Q c
   resources_stay e so_far =
       let same : Q.contents.resources ≡ P.contents.resources = ap (λ C. C.resources) (sym (contents_of_plan now after)) ∙ (e ∙ ap (λ C. C.resources) (contents_of_plan clock before)) in
-      table_stays 3 P Q (same_rows 3 P Q _ _ _ _ (are_resources P) (are_resources Q) (ap (λ resources. map resource_row (entries resources)) same)) c so_far
+      table_stays 3 P Q (same_rows 3 P Q _ _ _ _ (are_resources P _ refl) (are_resources Q _ refl) (ap (λ resources. map resource_row (entries resources)) same)) c so_far
 
   module _ (touched : List ℕ) (h : AreMovedAmong (contents_shown before) (contents_shown after) touched) where
     moved : AreMovedAmong P.contents Q.contents touched
@@ -92,7 +92,7 @@ module _ (clock now : ℕ) (before after : Option Shown) (c : Changes) where
     pub workstations_stay : AreChangesBelow 1 P Q c → AreChangesBelow 2 P Q c
     workstations_stay so_far =
         let same = rows_reported (entries Q.contents.workstations) ∙ (ap (map (λ (x : Name × Attr). row.Workstation x.0 x.1)) moved.moved.workstations ∙ sym (rows_reported (entries P.contents.workstations))) in
-        table_stays 1 P Q (same_rows 1 P Q _ _ _ _ (are_workstations P) (are_workstations Q) same) c so_far
+        table_stays 1 P Q (same_rows 1 P Q _ _ _ _ (are_workstations P _ refl) (are_workstations Q _ refl) same) c so_far
 
     pub dependencies_stay : AreChangesBelow 6 P Q c → AreChangesBelow 7 P Q c
     dependencies_stay so_far = table_stays 6 P Q (λ r. (dependencies_kept P Q (sym moved.moved.pairs) r, dependencies_kept Q P moved.moved.pairs r)) c so_far

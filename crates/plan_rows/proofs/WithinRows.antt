@@ -29,8 +29,9 @@ use Rattle.workstations.specs.Workstations.{IsWorkstation, Workstation}
 
 -- ---- the order of both
 
-pub intervals_ascend : (ws : List NamedWorkstation) → IsStrictlySortedBy name_cmp (keys_of ws) → IsStrictlySortedBy (λ x y. ordering_then (name_cmp x.0 y.0) (nat_cmp x.1 y.1)) (keys_of (all_intervals ws))
-intervals_ascend ws up = all_ascend intervals_within name_cmp nat_cmp name_cmp_total (λ w. entries_in_order nat_cmp w.intervals) ws up
+pub intervals_ascend : (ws : List NamedWorkstation) → IsStrictlySortedBy name_cmp (keys_of ws) → (xs : List ((Name × ℕ) × OpenInterval)) → xs ≡ all_intervals ws
+    → IsStrictlySortedBy (λ x y. ordering_then (name_cmp x.0 y.0) (nat_cmp x.1 y.1)) (keys_of xs)
+intervals_ascend ws up xs same = rw same (all_ascend intervals_within name_cmp nat_cmp name_cmp_total (λ w. entries_in_order nat_cmp w.intervals) ws up)
 
 needs_keys : (xs : List (Name × Usage)) → keys_of {K = Name} {X = Need} (map (λ (x : Name × Usage). (x.0, need_of x)) xs) ≡ keys_of xs
 needs_keys [] = refl
@@ -39,8 +40,9 @@ needs_keys (x ∷ xs) = λ i. x.0 ∷ needs_keys xs i
 needs_in_order : (o : Operation) → IsStrictlySortedBy name_cmp (keys_of (needs_within o))
 needs_in_order o = subst (IsStrictlySortedBy name_cmp) (sym (needs_keys (entries o.needs))) (entries_in_order name_cmp o.needs)
 
-pub needs_ascend : (os : List (OpKey × Operation)) → IsStrictlySortedBy operation_cmp (keys_of os) → IsStrictlySortedBy (λ x y. ordering_then (operation_cmp x.0 y.0) (name_cmp x.1 y.1)) (keys_of (all_needs os))
-needs_ascend os up = all_ascend needs_within operation_cmp name_cmp operation_cmp_total needs_in_order os up
+pub needs_ascend : (os : List (OpKey × Operation)) → IsStrictlySortedBy operation_cmp (keys_of os) → (xs : List ((OpKey × Name) × Need)) → xs ≡ all_needs os
+    → IsStrictlySortedBy (λ x y. ordering_then (operation_cmp x.0 y.0) (name_cmp x.1 y.1)) (keys_of xs)
+needs_ascend os up xs same = rw same (all_ascend needs_within operation_cmp name_cmp operation_cmp_total needs_in_order os up)
 
 -- ---- of one workstation, and of one operation, as they are kept
 
@@ -94,11 +96,13 @@ module _ (P : Plan) where
       (kept_has nat_cmp_total nat_cmp-IsAntisymmetric is.0.intervals i.from i is.2))
   interval_there r (is, e) = absurd (cc)
 
-  pub are_intervals : AreLegal → AreRowsOf (λ x. key.Interval x.0 x.1) 2 P (keys_of intervals) (map interval_row intervals)
-  are_intervals legal = record {
-    keyed = keyed_members (λ x. key.Interval x.0 x.1) interval_row intervals (λ y has. ap (key.Interval y.0.0) (sym (interval_of legal y has).3));
-    all = λ r. (interval_told legal r, interval_there r);
-  }
+  pub are_intervals : AreLegal → (xs : List ((Name × ℕ) × OpenInterval)) → xs ≡ intervals → AreRowsOf (λ x. key.Interval x.0 x.1) 2 P (keys_of xs) (map interval_row xs)
+  are_intervals legal xs same =
+      subst (λ ys. AreRowsOf (λ x. key.Interval x.0 x.1) 2 P (keys_of ys) (map interval_row ys)) (sym same)
+      (record {
+        keyed = keyed_members (λ x. key.Interval x.0 x.1) interval_row intervals (λ y has. ap (key.Interval y.0.0) (sym (interval_of legal y has).3));
+        all = λ r. (interval_told legal r, interval_there r);
+      })
 
   -- ---- needs
   abbrev needs : List ((OpKey × Name) × Need)
@@ -134,5 +138,7 @@ module _ (P : Plan) where
   need_keyed : (y : (OpKey × Name) × Need) → Contains needs y → key_of (need_row y) ≡ key.Need y.0.0 y.0.1
   need_keyed y has = let h = need_from y has in subst (λ (z : (OpKey × Name) × Need). key_of (need_row z) ≡ key.Need z.0.0 z.0.1) h.4 refl
 
-  pub are_needs : AreRowsOf (λ x. key.Need x.0 x.1) 7 P (keys_of needs) (map need_row needs)
-  are_needs = record { keyed = keyed_members (λ x. key.Need x.0 x.1) need_row needs need_keyed; all = λ r. (need_told r, need_there r) }
+  pub are_needs : (xs : List ((OpKey × Name) × Need)) → xs ≡ needs → AreRowsOf (λ x. key.Need x.0 x.1) 7 P (keys_of xs) (map need_row xs)
+  are_needs xs same =
+      subst (λ ys. AreRowsOf (λ x. key.Need x.0 x.1) 7 P (keys_of ys) (map need_row ys)) (sym same)
+      (record { keyed = keyed_members (λ x. key.Need x.0 x.1) need_row needs need_keyed; all = λ r. (need_told r, need_there r) })

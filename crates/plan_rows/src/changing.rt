@@ -1,5 +1,5 @@
 // All tables together: what changes from one plan to another, and all rows of a plan.
-ghost use Rattle.std.specs.Prelude.{◌≡◌, Some, IfOk, is_some, map};
+ghost use Rattle.std.specs.Prelude.{Some, IfOk, map};
 ghost use Rattle.std.specs.List.Sorted.{IsStrictlySortedBy};
 ghost use Rattle.plan_state.specs.plan_records.specs.Rows.{AreChanges, AreRows, key_of, row_cmp};
 ghost use Rattle.plan_rows.specs.Shown.{IsShown, IsShownIfAny, plan_shown};
@@ -7,7 +7,7 @@ ghost use Rattle.plan_rows.specs.Shown.{IsShown, IsShownIfAny, plan_shown};
 use super::dependencies::push_dependencies;
 use super::intervals::push_intervals;
 use super::keyed::push_resources;
-use super::meta::push_meta;
+use super::meta::meta_changes;
 use super::needs::push_needs;
 use super::occurrences::push_occurrences;
 use super::operations::push_operations;
@@ -16,16 +16,6 @@ use super::workplaces::push_workstations;
 use plan_basics::Moment;
 use plan_state::{Changes, PlanRow};
 use std::alloc::{AllocError, Global};
-
-/// Whether a plan is loaded.
-pub fn is_loaded(shown: Option<Shown<'_>>) -> bool
-    ensures { result ≡ is_some shown.entry }
-{
-    match shown {
-        Some(_) => true,
-        None => false,
-    }
-}
 
 /// Which rows of the tables change from one plan to another.
 pub fn changes_between(
@@ -37,19 +27,8 @@ pub fn changes_between(
     requires after { IsShownIfAny after.loaded }
     ensures { IfOk result (λ c. AreChanges (plan_shown before.entry.clock before.entry.loaded) (plan_shown after.entry.clock after.entry.loaded) c.rows.items c.gone.items) }
 {
-    let PlanShown {
-        clock: was,
-        loaded: old,
-    } = before;
-    let PlanShown {
-        clock: now,
-        loaded: new,
-    } = after;
-    let mut changes = Changes {
-        rows: Vec::new(alloc),
-        gone: Vec::new(alloc),
-    };
-    push_meta(is_loaded(old), was, is_loaded(new), now, &mut changes)?;
+    let (old, new) = (before.loaded, after.loaded);
+    let mut changes = meta_changes(alloc, old, before.clock, new, after.clock)?;
     push_workstations(alloc, old, new, &mut changes)?;
     push_intervals(alloc, old, new, &mut changes)?;
     push_resources(alloc, old, new, &mut changes)?;

@@ -13,6 +13,7 @@ mod occurrence_places;
 mod occurrences;
 mod operations;
 mod shown;
+mod shown_tables;
 mod tables;
 mod touched;
 mod workplaces;

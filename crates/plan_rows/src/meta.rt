@@ -1,13 +1,15 @@
 // The table that tells whether a plan is loaded, and its clock: one row.
-ghost use Rattle.std.specs.Prelude.{◌≡◌, ◌↔◌, ◌++◌, ◌∷◌, [], IsTrue, OnOk};
+ghost use Rattle.std.specs.Prelude.{◌≡◌, ◌↔◌, ◌++◌, ◌∷◌, [], IsTrue, IfOk, OnOk, is_some};
 ghost use Rattle.plan_model.specs.Plan.{Plan};
 ghost use Rattle.plan_state.specs.plan_records.specs.declared.PlanRow.TheVariants as row;
+ghost use Rattle.plan_rows.specs.Shown.{plan_shown};
 ghost use Rattle.plan_rows.specs.Tables.{AreChangesBelow};
 
+use super::shown::Shown;
 use plan_basics::Moment;
 use plan_state::{Changes, PlanRow};
 use row_differences::push_made;
-use std::alloc::AllocError;
+use std::alloc::{AllocError, Global};
 
 // The row of the table.
 fn meta_row(loaded: bool, clock: Moment) -> PlanRow
@@ -41,8 +43,8 @@ fn push_meta_row(loaded: bool, clock: Moment, rows: &mut Vec<PlanRow>) -> Result
     )
 }
 
-/// Adds what changes in the table of one row, from whether a plan was loaded and what its clock was to what they are.
-pub fn push_meta(
+// Adds what changes in the table of one row, from whether a plan was loaded and what its clock was to what they are.
+fn push_meta(
     was_loaded: bool,
     was: Moment,
     loaded: bool,
@@ -55,4 +57,38 @@ pub fn push_meta(
         return Ok(());
     }
     push_meta_row(loaded, clock, &mut changes.rows)
+}
+
+// Whether a plan is loaded.
+fn is_loaded(shown: Option<Shown<'_>>) -> bool
+    ensures { result ≡ is_some shown.entry }
+{
+    match shown {
+        Some(_) => true,
+        None => false,
+    }
+}
+
+/// What changes in the table of one row, from what was shown at its clock to what is shown at this one.
+pub fn meta_changes(
+    alloc: Global,
+    before: Option<Shown<'_>>,
+    was: Moment,
+    after: Option<Shown<'_>>,
+    clock: Moment,
+) -> Result<Changes, AllocError>
+    ensures { IfOk result (AreChangesBelow 1 (plan_shown was before.entry) (plan_shown clock after.entry)) }
+{
+    let mut changes = Changes {
+        rows: Vec::new(alloc),
+        gone: Vec::new(alloc),
+    };
+    push_meta(
+        is_loaded(before),
+        was,
+        is_loaded(after),
+        clock,
+        &mut changes,
+    )?;
+    Ok(changes)
 }

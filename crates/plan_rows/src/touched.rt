@@ -5,10 +5,9 @@ ghost use Rattle.plan_rows.specs.Shown.{IsShownIfAny, contents_shown, plan_shown
 ghost use Rattle.plan_rows.specs.Tables.{AreChangesBelow};
 ghost use Rattle.plan_rows.specs.Touched.{AreTouched, StaysBeside};
 
-use super::changing::is_loaded;
 use super::intervals::push_intervals;
 use super::keyed::push_resources;
-use super::meta::push_meta;
+use super::meta::meta_changes;
 use super::occurrences::push_touched_occurrences;
 use super::operations::push_touched_operations;
 use super::shown::{PlanShown, Shown};
@@ -61,19 +60,8 @@ pub fn touched_changes(
     requires beside { StaysBeside beside (contents_shown before.loaded) (contents_shown after.loaded) }
     ensures { IfOk result (λ c. AreChanges (plan_shown before.entry.clock before.entry.loaded) (plan_shown after.entry.clock after.entry.loaded) c.rows.items c.gone.items) }
 {
-    let PlanShown {
-        clock: was,
-        loaded: old,
-    } = before;
-    let PlanShown {
-        clock: now,
-        loaded: new,
-    } = after;
-    let mut changes = Changes {
-        rows: Vec::new(alloc),
-        gone: Vec::new(alloc),
-    };
-    push_meta(is_loaded(old), was, is_loaded(new), now, &mut changes)?;
+    let (old, new) = (before.loaded, after.loaded);
+    let mut changes = meta_changes(alloc, old, before.clock, new, after.clock)?;
     push_beside(alloc, old, new, beside, &mut changes)?;
     push_touched_occurrences(alloc, old, new, touched, &mut changes)?;
     push_touched_operations(old, new, touched, &mut changes)?;

@@ -8,6 +8,7 @@ pub mod DependencyTexts
 pub mod NeedTexts
 pub mod ReceiptTexts
 pub mod Others
+pub mod Tables
 pub mod Empty
 pub mod Metas
 pub mod Workstations

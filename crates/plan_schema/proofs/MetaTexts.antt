@@ -1,14 +1,15 @@
 -- What the texts on the table `meta` mean.
-use Rattle.std.proofs.Common.{◌≡◌, ℕ, List, codes, Ok, refl, ◌∷◌, [], false}
+use Rattle.std.proofs.Common.{◌≡◌, ℕ, List, codes, Ok, refl, ◌∷◌, []}
 use Rattle.sqlite.specs.Command.TheVariants.{CreateTable}
 use Rattle.sqlite.specs.Compile.{table_defined_by}
-use Rattle.sqlite.specs.Listing.{understood, reads_listing}
+use Rattle.sqlite.specs.Listing.{understood}
 use Rattle.sqlite.proofs.Callers.{IsPlain, command_of, statement_of}
 use Rattle.sqlite_tied.specs.Compute.{everything}
 use Rattle.table_rows.specs.Commands.{upsert_by_rowid, select_by_rowid}
 use Rattle.table_rows.specs.Tables.{no_schema}
 use Rattle.plan_schema.specs.Schema.{meta, schema_9}
 use Rattle.plan_schema.specs.declared.TheConstants.{CREATE_META, PUT_META, READ_META}
+use Rattle.plan_schema.proofs.Tables.{Means}
 
 pub create_is : (command_of (understood no_schema CREATE_META.now) ≡ CreateTable) × (statement_of CREATE_META.now (understood no_schema CREATE_META.now) ≡ CREATE_META.now) × (table_defined_by CREATE_META.now ≡ Ok meta)
 unfolding understood everything
@@ -30,14 +31,6 @@ put_plain = (refl, refl)
 abbrev pub names : List (List ℕ)
 names = codes "id" ∷ codes "id" ∷ codes "version" ∷ codes "loaded" ∷ codes "clock" ∷ []
 
-pub read_is : command_of (understood schema_9 READ_META.now) ≡ select_by_rowid 0 names
+pub read : Means READ_META.now (select_by_rowid 0 names)
 unfolding understood everything
-read_is = refl
-
-pub read_plain : IsPlain (understood schema_9 READ_META.now)
-unfolding understood everything
-read_plain = (refl, refl)
-
-pub read_listing : reads_listing schema_9 READ_META.now ≡ false
-unfolding understood everything
-read_listing = refl
+read = record { is = refl; plain = (refl, refl); unlisted = refl }

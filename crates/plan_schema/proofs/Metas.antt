@@ -12,15 +12,15 @@ use Rattle.std.specs.List.Sorted.{IsPermutation}
 use Rattle.table_rows.specs.Rows.{IsEmpty, shown_by_rowid}
 use Rattle.table_rows.specs.Tables.{field, no_schema, placed_by_rowid}
 use Rattle.table_rows.proofs.ByRowid.{FitsByRowid, put_at, holds_put_at}
-use Rattle.table_rows.proofs.Creation.{created_empty}
 use Rattle.table_rows.proofs.Inside.{ran_inside}
 use Rattle.table_rows.proofs.Reading.{rows_read_by_rowid, row_width_by_rowid, null_in_place}
 use Rattle.table_rows.proofs.Stored.{cast_int, cast_null, or_no}
 use Rattle.plan_schema.specs.Schema.{meta, schema_1, schema_9}
 use Rattle.plan_schema.specs.Stored.{StoredMeta, meta_row, meta_values, with_meta, Turns}
 use Rattle.plan_schema.specs.declared.TheConstants.{CREATE_META, PUT_META, READ_META}
-use Rattle.plan_schema.proofs.MetaTexts.{create_is, create_plain, put_is, put_plain, names, read_is, read_plain, read_listing}
-use Rattle.plan_schema.proofs.Others.{kept}
+use Rattle.plan_schema.proofs.MetaTexts.{create_is, create_plain, put_is, put_plain, names, read}
+use Rattle.plan_schema.proofs.Others.{stored}
+use Rattle.plan_schema.proofs.Tables.{table_made}
 
 fits : FitsByRowid schema_9 (placed_by_rowid meta.name meta.columns 0)
 fits = record { low = refl; still = λ olds news. refl; met = λ new r. or_no _ }
@@ -31,28 +31,15 @@ meta_put old new x r = ran_inside old new PUT_META.now (meta_values x) r (Turns 
     let v = Null ∷ Int x.version ∷ Int x.loaded ∷ Int x.clock ∷ [] in
     let it = put_at schema_9 meta.name meta.columns 0 0 fits refl PUT_META.now put_plain (meta_values x) x.id v refl (λ n i. cast_int n i ∷ cast_null i ∷ cast_int x.version i ∷ cast_int x.loaded i ∷ cast_int x.clock i ∷ []) (λ y more. refl) (λ y r. refl)
     put_is old new count was.schema_is was.metas.numbered ran in
-    let others = kept 0 old.now new.now held it.1 was in
-    record {
-      sound = it.1.sound;
-      schema_is = it.1.schema_is;
-      metas = holds_put_at (λ y. y.id) meta_row (old.now.trees 0) (new.now.trees 0) x v held.metas refl was.metas it.0;
-      workstations = others.workstations (λ e. omega (arith, e));
-      intervals = others.intervals (λ e. omega (arith, e));
-      resources = others.resources (λ e. omega (arith, e));
-      occurrences = others.occurrences (λ e. omega (arith, e));
-      operations = others.operations (λ e. omega (arith, e));
-      dependencies = others.dependencies (λ e. omega (arith, e));
-      needs = others.needs (λ e. omega (arith, e));
-      receipts = others.receipts (λ e. omega (arith, e));
-    })
+    stored 0 old.now new.now held _ it.1 was (holds_put_at (λ y. y.id) meta_row (old.now.trees 0) (new.now.trees 0) x v held.metas refl was.metas it.0, refl, refl, refl, refl, refl, refl, refl, refl))
 
 -- the table is made
 pub meta_made : (old new : State) (r : Result ℕ Error) → ExecutesInside 0 CREATE_META.now [] old new r → OnOk r (IsEmpty no_schema old.now → IsEmpty schema_1 new.now × IsDatabase new.now)
-meta_made old new r = ran_inside old new CREATE_META.now [] r (IsEmpty no_schema old.now → IsEmpty schema_1 new.now × IsDatabase new.now) (λ count ran was. created_empty no_schema CREATE_META.now meta old new count create_is create_plain refl was ran)
+meta_made = table_made no_schema CREATE_META.now meta create_is create_plain refl
 
 -- all rows are read, each once, with the rowid as the first column
 pub meta_read : (old new : State) (rows : List Row) → old.now.schema ≡ schema_9 → Shown READ_META.now [] old new rows → IsPermutation (map (shown_by_rowid 5) (old.now.trees 0)) rows
-meta_read old new rows has shown = rows_read_by_rowid schema_9 READ_META.now 0 names refl read_is read_plain read_listing old new rows has shown
+meta_read old new rows has shown = rows_read_by_rowid schema_9 READ_META.now 0 names refl read.is read.plain read.unlisted old new rows has shown
 
 five : (r : Row) → length r ≡ 5 → column r 1 ≡ Null → r ≡ rowid r ∷ Null ∷ column r 2 ∷ column r 3 ∷ column r 4 ∷ []
 five (a ∷ b ∷ c ∷ d ∷ e ∷ []) long null = ap (λ x. a ∷ x ∷ c ∷ d ∷ e ∷ []) null

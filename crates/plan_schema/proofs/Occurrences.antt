@@ -1,66 +1,38 @@
 -- The table `occurrence` after each text.
-use Rattle.std.proofs.Common.{◌≡◌, ℕ, ◌∷◌, [], inl, inr, refl, sym, subst, arith, Result, OnOk, List}
+use Rattle.std.proofs.Common.{◌≡◌, ℕ, List, [], ◌∷◌, inl, inr, refl, arith, Result, OnOk}
+use Rattle.std.specs.List.Sorted.{IsPermutation}
 use Rattle.sqlite.specs.Effect.{IsDatabase}
-use Rattle.sqlite.specs.State.{State, ExecutesInside, Shown}
 use Rattle.sqlite.specs.Order.{Row}
+use Rattle.sqlite.specs.State.{State, ExecutesInside, Shown}
 use Rattle.sqlite.specs.declared.error.Error.{Error}
 use Rattle.sqlite.specs.declared.types.Value.TheVariants.{Text}
-use Rattle.sqlite_schema.specs.declared.schema.Keys.TheVariants.{Enforced}
-use Rattle.std.specs.List.Sorted.{IsPermutation}
-use Rattle.sqlite_rules.specs.Lists.{Has}
 use Rattle.table_rows.specs.Rows.{IsEmpty}
-use Rattle.table_rows.specs.Stored.{AreRowsOf}
-use Rattle.table_rows.specs.Tables.{placed}
-use Rattle.table_rows.proofs.Creation.{created_empty}
-use Rattle.table_rows.proofs.Inside.{ran_inside}
-use Rattle.table_rows.proofs.Reading.{rows_read, row_width}
-use Rattle.table_rows.proofs.Stored.{cast_int, or_no, value_put}
-use Rattle.table_rows.proofs.Writes.{Fits}
+use Rattle.table_rows.proofs.Stored.{cast_int, or_no}
 use Rattle.plan_schema.specs.Schema.{occurrence, schema_4, schema_5, schema_9}
 use Rattle.plan_schema.specs.Stored.{StoredOccurrence, occurrence_row, with_occurrence, Turns}
 use Rattle.plan_schema.specs.declared.TheConstants.{CREATE_OCCURRENCE, PUT_OCCURRENCE, READ_OCCURRENCE}
-use Rattle.plan_schema.proofs.OccurrenceTexts.{create_is, create_plain, put_is, put_plain, names, read_is, read_plain, read_listing}
-use Rattle.plan_schema.proofs.Others.{kept}
+use Rattle.plan_schema.proofs.Tables.{IsTable, table_made, row_put, all_read}
+use Rattle.plan_schema.proofs.OccurrenceTexts.{create_is, create_plain, put, read}
 
--- the table has no rule in the schema but its key
-fits : Fits schema_9 Enforced (placed occurrence.name occurrence.columns 2 7) 2
-fits = record { low = refl; listed = inr (inr (inr (inr (inl refl)))); still = λ olds news. refl; met = λ new r. or_no _; index = (_, inr (inr (inr (inl refl))), refl, refl, refl); blind = λ x y r v. refl }
-
--- its values stand as rows of it
-rows : AreRowsOf occurrence.name occurrence.columns 2 7 occurrence_row
-rows = record {
-  cast = λ x i. Text x.app ∷ cast_int x.ia i ∷ cast_int x.priority i ∷ cast_int x.deadline i ∷ Text x.status ∷ [];
-  exact = λ x. (tt, (tt, tt));
-  inserted = λ x. refl;
-  found = λ x id more. refl;
-  updated = λ x y id n. refl;
+table : IsTable occurrence 2 7 4 occurrence_row (λ was. was.occurrences) (λ xs was. record was { occurrences = xs })
+table = record {
+  listed = refl;
+  fits = record { low = refl; listed = inr (inr (inr (inr (inl refl)))); still = λ olds news. refl; met = λ new r. or_no _; index = (_, inr (inr (inr (inl refl))), refl, refl, refl); blind = λ x y r v. refl };
+  rows = record { cast = λ x i. Text x.app ∷ cast_int x.ia i ∷ cast_int x.priority i ∷ cast_int x.deadline i ∷ Text x.status ∷ []; exact = λ x. (tt, (tt, tt)); inserted = λ x. refl; found = λ x id more. refl; updated = λ x y id n. refl };
+  filled = (refl, (refl, (refl, (refl, (refl, tt)))));
+  wide = omega arith;
+  held = λ db was holds. holds.occurrences;
+  told = λ db was xs it. (refl, refl, refl, refl, it, refl, refl, refl, refl);
 }
 
 -- a row is put in
 pub occurrence_put : (old new : State) (x : StoredOccurrence) (r : Result ℕ Error) → ExecutesInside 0 PUT_OCCURRENCE.now (occurrence_row x) old new r → OnOk r (Turns (with_occurrence x) old.now new.now)
-occurrence_put old new x r = ran_inside old new PUT_OCCURRENCE.now (occurrence_row x) r (Turns (with_occurrence x) old.now new.now) (λ count ran held was.
-    let it = value_put schema_9 occurrence.name occurrence.columns 2 7 4 fits refl occurrence_row rows PUT_OCCURRENCE.now put_plain put_is old new x held.occurrences count was.schema_is was.occurrences ran in
-    let others = kept 7 old.now new.now held it.1 was in
-    record {
-      sound = it.1.sound;
-      schema_is = it.1.schema_is;
-      metas = others.metas (λ e. omega (arith, e));
-      workstations = others.workstations (λ e. omega (arith, e));
-      intervals = others.intervals (λ e. omega (arith, e));
-      resources = others.resources (λ e. omega (arith, e));
-      occurrences = it.0;
-      operations = others.operations (λ e. omega (arith, e));
-      dependencies = others.dependencies (λ e. omega (arith, e));
-      needs = others.needs (λ e. omega (arith, e));
-      receipts = others.receipts (λ e. omega (arith, e));
-    })
+occurrence_put = row_put table put
 
 -- the table is made
 pub occurrence_made : (old new : State) (r : Result ℕ Error) → ExecutesInside 0 CREATE_OCCURRENCE.now [] old new r → OnOk r (IsEmpty schema_4 old.now → IsEmpty schema_5 new.now × IsDatabase new.now)
-occurrence_made old new r = ran_inside old new CREATE_OCCURRENCE.now [] r (IsEmpty schema_4 old.now → IsEmpty schema_5 new.now × IsDatabase new.now) (λ count ran was. created_empty schema_4 CREATE_OCCURRENCE.now occurrence old new count create_is create_plain refl was ran)
+occurrence_made = table_made schema_4 CREATE_OCCURRENCE.now occurrence create_is create_plain refl
 
 -- all rows are read, each once
 pub occurrence_read : (old new : State) (rows : List Row) → IsDatabase old.now → old.now.schema ≡ schema_9 → Shown READ_OCCURRENCE.now [] old new rows → IsPermutation (old.now.trees 7) rows
-occurrence_read old new rows sound has shown = rows_read schema_9 READ_OCCURRENCE.now 7 names refl read_is read_plain read_listing old new rows has
-    (λ r there. row_width old.now sound occurrence.name occurrence.columns 2 7 (subst (λ s. Has s.tables (placed occurrence.name occurrence.columns 2 7)) (sym has) (inr (inr (inr (inr (inl refl)))))) (refl, (refl, (refl, (refl, (refl, tt))))) (omega arith) r there)
-    shown
+occurrence_read = all_read table read

@@ -1,5 +1,6 @@
--- What a text on one table leaves of the others.
-use Rattle.std.proofs.Common.{◌≡◌, ◌≢◌, ℕ, List, sym, subst}
+-- What a text on one table leaves of all nine.
+use Rattle.std.proofs.Common.{◌≡◌, ◌≢◌, ◌==◌, ℕ, Bool, true, false, List, refl, sym, subst₂}
+use Rattle.std.proofs.lemmas.Bool.{eqb-false}
 use Rattle.sqlite.specs.Effect.{Database}
 use Rattle.sqlite.specs.Order.{Row}
 use Rattle.table_rows.specs.Rows.{Leaves}
@@ -7,30 +8,44 @@ use Rattle.table_rows.specs.Stored.{Holds, HoldsByRowid}
 use Rattle.plan_schema.specs.Schema.{schema_9}
 use Rattle.plan_schema.specs.Stored.{Held, Stores, meta_row, workstation_row, interval_row, resource_row, occurrence_row, operation_row, dependency_row, need_row, receipt_row}
 
--- each table in another tree holds these values
-pub record HoldBeside (tree : ℕ) (after : Database) (held : Held) : Type 0 where
-  pub metas : 0 ≢ tree → HoldsByRowid meta_row (after.trees 0) held.metas
-  pub workstations : 1 ≢ tree → Holds workstation_row (after.trees 1) held.workstations
-  pub intervals : 3 ≢ tree → Holds interval_row (after.trees 3) held.intervals
-  pub resources : 5 ≢ tree → Holds resource_row (after.trees 5) held.resources
-  pub occurrences : 7 ≢ tree → Holds occurrence_row (after.trees 7) held.occurrences
-  pub operations : 9 ≢ tree → Holds operation_row (after.trees 9) held.operations
-  pub dependencies : 11 ≢ tree → Holds dependency_row (after.trees 11) held.dependencies
-  pub needs : 13 ≢ tree → Holds need_row (after.trees 13) held.needs
-  pub receipts : 15 ≢ tree → Holds receipt_row (after.trees 15) held.receipts
+-- values of the table that was written stand in it as told, and those of another are as they were
+abbrev pub IsTold : {X : Type 0} → Bool → (List Row → List X → Type 0) → List Row → List X → List X → Type 0
+IsTold true stand rows was is = stand rows is
+IsTold false stand rows was is = is ≡ was
 
-stay : {X : Type 0} (row : X → Row) (xs : List X) (before after : List Row) → after ≡ before → Holds row before xs → Holds row after xs
-stay row xs before after same h = subst (λ rows. Holds row rows xs) (sym same) h
+-- so it is of each table, after a text on the one in this tree
+abbrev pub AreTold : ℕ → Database → Held → Held → Type 0
+AreTold tree after was is =
+    IsTold (0 == tree) (HoldsByRowid meta_row) (after.trees 0) was.metas is.metas
+    × IsTold (1 == tree) (Holds workstation_row) (after.trees 1) was.workstations is.workstations
+    × IsTold (3 == tree) (Holds interval_row) (after.trees 3) was.intervals is.intervals
+    × IsTold (5 == tree) (Holds resource_row) (after.trees 5) was.resources is.resources
+    × IsTold (7 == tree) (Holds occurrence_row) (after.trees 7) was.occurrences is.occurrences
+    × IsTold (9 == tree) (Holds operation_row) (after.trees 9) was.operations is.operations
+    × IsTold (11 == tree) (Holds dependency_row) (after.trees 11) was.dependencies is.dependencies
+    × IsTold (13 == tree) (Holds need_row) (after.trees 13) was.needs is.needs
+    × IsTold (15 == tree) (Holds receipt_row) (after.trees 15) was.receipts is.receipts
 
-pub kept : (tree : ℕ) (before after : Database) (held : Held) → Leaves schema_9 tree before after → Stores before held → HoldBeside tree after held
-kept tree before after held left was = record {
-  metas = λ other. subst (λ rows. HoldsByRowid meta_row rows held.metas) (sym (left.others.0 other)) was.metas;
-  workstations = λ other. stay workstation_row held.workstations (before.trees 1) (after.trees 1) (left.others.1.0 other) was.workstations;
-  intervals = λ other. stay interval_row held.intervals (before.trees 3) (after.trees 3) (left.others.1.1.0 other) was.intervals;
-  resources = λ other. stay resource_row held.resources (before.trees 5) (after.trees 5) (left.others.1.1.1.0 other) was.resources;
-  occurrences = λ other. stay occurrence_row held.occurrences (before.trees 7) (after.trees 7) (left.others.1.1.1.1.0 other) was.occurrences;
-  operations = λ other. stay operation_row held.operations (before.trees 9) (after.trees 9) (left.others.1.1.1.1.1.0 other) was.operations;
-  dependencies = λ other. stay dependency_row held.dependencies (before.trees 11) (after.trees 11) (left.others.1.1.1.1.1.1.0 other) was.dependencies;
-  needs = λ other. stay need_row held.needs (before.trees 13) (after.trees 13) (left.others.1.1.1.1.1.1.1.0 other) was.needs;
-  receipts = λ other. stay receipt_row held.receipts (before.trees 15) (after.trees 15) (left.others.1.1.1.1.1.1.1.1.0 other) was.receipts;
-}
+pub stored : (tree : ℕ) (before after : Database) (was is : Held) → Leaves schema_9 tree before after → Stores before was → AreTold tree after was is → Stores after is
+stored tree before after was is left h told =
+    let stay = left.others in
+    record {
+      sound = left.sound;
+      schema_is = left.schema_is;
+      metas = stand 0 (HoldsByRowid meta_row) stay.0 h.metas told.0;
+      workstations = stand 1 (Holds workstation_row) stay.1.0 h.workstations told.1;
+      intervals = stand 3 (Holds interval_row) stay.1.1.0 h.intervals told.2;
+      resources = stand 5 (Holds resource_row) stay.1.1.1.0 h.resources told.3;
+      occurrences = stand 7 (Holds occurrence_row) stay.1.1.1.1.0 h.occurrences told.4;
+      operations = stand 9 (Holds operation_row) stay.1.1.1.1.1.0 h.operations told.5;
+      dependencies = stand 11 (Holds dependency_row) stay.1.1.1.1.1.1.0 h.dependencies told.6;
+      needs = stand 13 (Holds need_row) stay.1.1.1.1.1.1.1.0 h.needs told.7;
+      receipts = stand 15 (Holds receipt_row) stay.1.1.1.1.1.1.1.1.0 h.receipts told.8;
+    }
+  where
+    by : {X : Type 0} (b : Bool) (P : List Row → List X → Type 0) (old new : List Row) (xs ys : List X) → (b ≡ false → new ≡ old) → P old xs → IsTold b P new xs ys → P new ys
+    by true P old new xs ys stays at own = own
+    by false P old new xs ys stays at same = subst₂ P (sym (stays refl)) (sym same) at
+
+    stand : {X : Type 0} (t : ℕ) (P : List Row → List X → Type 0) {xs ys : List X} → (t ≢ tree → after.trees t ≡ before.trees t) → P (before.trees t) xs → IsTold (t == tree) P (after.trees t) xs ys → P (after.trees t) ys
+    stand t P {xs} {ys} stays at it = by (t == tree) P (before.trees t) (after.trees t) xs ys (λ apart. stays (eqb-false t tree apart)) at it

@@ -18,7 +18,7 @@ pub use plan_laws::{
 pub use sound::SoundContents;
 pub use standings::{Standing, attribute_of, standings_of};
 pub use statuses::{status_with, statuses_of};
-pub use tallies::{occurrence_status_with, tallies_of};
+pub use tallies::{count_one, occurrence_status_with, tallies_of};
 pub use valid::ValidContents;
 
 /// The law that to name operations that are ready changes nothing of what any operation waits for. It does nothing.

@@ -29,8 +29,8 @@ const NONE_COUNTED: Counts = Counts {
     started: 0,
 };
 
-// One more operation of the occurrence is counted.
-fn count_one(counts: &mut Counts, status: Status)
+/// One more operation of this status is counted.
+pub fn count_one(counts: &mut Counts, status: Status)
     requires { AreAtMost MOST_OPERATIONS counts.old }
     ensures { CountsOneMore status counts.old counts.new }
 {

@@ -20,7 +20,7 @@ ghost use Rattle.tracker_receipts.specs.Judging.{numbered_by};
 
 use super::calls::PreparedCall;
 use super::errors::ErrorRows;
-use super::faults::opening_refusal;
+use super::faults::{opening_refusal, request_refusal};
 use super::opening::stored_state;
 use super::writing::write_call;
 use numbered_steps::{Outcome, Plan, prepare_numbered};
@@ -178,11 +178,13 @@ impl<S: Alter + Drop> Desk<S> {
             Ok(()) => Reply::Accepted {
                 named: call.apply(&mut self.plan, &mut self.receipts),
             },
-            Err(Refusal::Memory) => Reply::Refused(Refusal::Memory),
-            Err(refusal) => {
-                self.is_usable = false;
-                Reply::Refused(refusal)
-            }
+            Err(error) => match request_refusal(&error) {
+                Refusal::Memory => Reply::Refused(Refusal::Memory),
+                refusal => {
+                    self.is_usable = false;
+                    Reply::Refused(refusal)
+                }
+            },
         }
     }
 

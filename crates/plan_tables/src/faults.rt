@@ -1,5 +1,6 @@
 // What is answered where a call of the store fails.
-ghost use Rattle.std.specs.Prelude.{◌≡◌};
+ghost use Rattle.std.specs.Prelude.{◌≡◌, ◌⊎◌};
+ghost use Rattle.plan_basics.specs.declared.Refusal.{Refusal as Told};
 ghost use Rattle.plan_tables.specs.Faults.{opening_refusal, request_refusal};
 
 use plan_basics::Refusal;
@@ -7,7 +8,8 @@ use sqlite::{Error, ErrorCode};
 
 /// What a request is answered whose transaction failed: that memory lacks, or that the store failed.
 pub fn request_refusal(error: &Error) -> Refusal
-    ensures { result ≡ request_refusal error.now }
+    ensures value { result ≡ request_refusal error.now }
+    ensures either { (result ≡ Told.Memory) ⊎ (result ≡ Told.Store) }
 {
     match error {
         Error::SqliteFailure(ErrorCode::OutOfMemory) => Refusal::Memory,

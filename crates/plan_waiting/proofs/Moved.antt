@@ -12,15 +12,17 @@ use Rattle.plan_basics.specs.declared.keys.OpKey.{OpKey}
 use Rattle.plan_moves.specs.workstations.specs.Timetables.{NamedWorkstation}
 use Rattle.plan_moves.specs.workstations.specs.Workstations.{Workstation}
 use Rattle.plan_cascade.specs.declared.kept.Kept.{Kept}
+use Rattle.plan_cascade.specs.declared.kept.Rule.{Rule}
 use Rattle.plan_cascade.specs.Changes.{IsRerun, IsUpward}
-use Rattle.plan_cascade.specs.Counters.{no_rule, rule_at}
+use Rattle.plan_cascade.specs.Counters.{AreRight, no_rule, rule_at}
 use Rattle.plan_moves.specs.plan_model.specs.Contents.{Contents, Operation, Pairs, attribute_at}
 use Rattle.plan_status.specs.plan_drafts.specs.PlanGraphs.{IsGraphFor, IsGraphOf}
 use Rattle.plan_moves.specs.Moves.{IsMovedAt, reporting}
 use Rattle.plan_status.proofs.RowKeys.{key_of_row, row_of_key}
-use Rattle.plan_waiting.proofs.Right.{as_many, kept_there, stands_there}
+use Rattle.plan_waiting.proofs.Right.{as_many, kept_there, right_from_kept, stands_there}
 use Rattle.plan_waiting.proofs.RowRules.{is_given, rule_there, rules_size}
 use Rattle.plan_waiting.specs.Changes.{IsRisen, IsTakenBack}
+use Rattle.plan_waiting.specs.Kept.{AreKept}
 use Rattle.plan_waiting.specs.Rules.{rule_in, rule_on, rules_of}
 
 -- lists with the same element at each index are the same
@@ -59,7 +61,7 @@ module _ (P Q : Contents) (places : List ℕ) (moved : IsMovedAt P Q places) whe
       size : length (keys_of (entries Q.operations)) ≡ length (keys_of (entries P.operations))
       size = length-map (entries Q.operations) (λ (row : OpKey × Operation). row.0) ∙ moved.size ∙ sym (length-map (entries P.operations) (λ (row : OpKey × Operation). row.0))
 
-  pub graph_before : (g : Digraph) → IsGraphFor Q g → IsGraphFor P g
+  graph_before : (g : Digraph) → IsGraphFor Q g → IsGraphFor P g
   graph_before g graph = subst (λ ks. IsGraphOf ks P.pairs g) same_keys (subst (λ (ps : Pairs). IsGraphOf (keys_of (entries Q.operations)) ps g) moved.pairs graph)
 
   -- elsewhere each rule stays
@@ -82,28 +84,40 @@ module _ (P Q : Contents) (places : List ℕ) (moved : IsMovedAt P Q places) whe
   same_size = rules_size Q ∙ moved.size ∙ sym (rules_size P)
 
 module _ (P Q : Contents) (g : Digraph) (graph : IsGraphFor Q g) (kept : List Kept) (places : List ℕ) where
+  right_before : IsMovedAt P Q places → AreKept P kept → AreRight g (rules_of P) kept
+  right_before moved right = right_from_kept P g (graph_before P Q places moved g graph) kept right
+
   -- the places of what is kept are nodes
   nodes_at : IsMovedAt P Q places → length kept ≡ length (entries P.operations) → All (λ i. i < length kept) places → All (λ n. n < g.nodes) places
   nodes_at moved size within i d lt = let h = within i d lt in omega (arith, h, size, as_many P g (graph_before P Q places moved g graph))
 
-  pub upward : IsRisen P Q kept places → IsUpward g (rules_of P) kept places (rules_of Q)
-  upward risen = record {
-    size = same_size P Q places risen.moved;
-    nodes = nodes_at risen.moved risen.right.size risen.within;
-    others = same_rule P Q places risen.moved;
-    given = λ n has on.
-        let lt = All-contains (λ i. i < length kept) places n risen.within has in
-        let row = stands_there P g (graph_before P Q places risen.moved g graph) n (omega (arith, lt, risen.right.size)) in
-        absurd (risen.unsatisfied n has (row.0, row.1, row.2, (kept_there P kept risen.right n row.0 row.1 row.2).0.0 on));
-  }
+  -- what is kept is right by the rules before, which became those that are
+  pub upward : IsRisen P Q kept places → (before : List Rule) × AreRight g before kept × IsUpward g before kept places (rules_of Q)
+  upward risen = (
+    rules_of P,
+    right_before risen.moved risen.right,
+    record {
+      size = same_size P Q places risen.moved;
+      nodes = nodes_at risen.moved risen.right.size risen.within;
+      others = same_rule P Q places risen.moved;
+      given = λ n has on.
+          let lt = All-contains (λ i. i < length kept) places n risen.within has in
+          let row = stands_there P g (graph_before P Q places risen.moved g graph) n (omega (arith, lt, risen.right.size)) in
+          absurd (risen.unsatisfied n has (row.0, row.1, row.2, (kept_there P kept risen.right n row.0 row.1 row.2).0.0 on));
+    },
+  )
 
-  pub taken_back : IsTakenBack P Q g kept places → IsRerun g (rules_of P) places (rules_of Q)
-  taken_back back = record {
-    size = same_size P Q places back.moved;
-    nodes = nodes_at back.moved back.right.size back.within;
-    others = same_rule P Q places back.moved;
-    follow = λ p n has edge. elim (back.follow p n has edge) [
-      | inl there ↦ inl there
-      | inr dead ↦ inr (is_given P n dead.0 dead.1 dead.2 (inr dead.3))
-    ];
-  }
+  pub taken_back : IsTakenBack P Q g kept places → (before : List Rule) × AreRight g before kept × IsRerun g before places (rules_of Q)
+  taken_back back = (
+    rules_of P,
+    right_before back.moved back.right,
+    record {
+      size = same_size P Q places back.moved;
+      nodes = nodes_at back.moved back.right.size back.within;
+      others = same_rule P Q places back.moved;
+      follow = λ p n has edge. elim (back.follow p n has edge) [
+        | inl there ↦ inl there
+        | inr dead ↦ inr (is_given P n dead.0 dead.1 dead.2 (inr dead.3))
+      ];
+    },
+  )

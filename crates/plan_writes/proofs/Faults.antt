@@ -1,5 +1,5 @@
 -- Why a table isn't made, or a row not put in: where the schema is known, never for a name.
-use Rattle.std.proofs.Common.{slice_get, ◌≡◌, ℕ, ℤ, List, [], ◌∷◌, Bool, true, false, Option, Some, None, Result, Ok, Err, inl, inr, sym, ap, subst, subst₂, ◌∙◌, append-nil, IfErr, IsTrue, MatchBool}
+use Rattle.std.proofs.Common.{slice_get, ◌≡◌, ℕ, ℤ, List, [], ◌∷◌, Bool, true, false, Option, Some, None, Result, Ok, Err, inl, inr, sym, ap, subst, subst₂, ◌∙◌, append-nil, IsTrue, MatchBool}
 use Rattle.std.specs.List.{AllByRecursion}
 use Rattle.std.proofs.lemmas.Bool.{cases_Bool, true≢false}
 use Rattle.sqlite.specs.Change.{created}
@@ -44,6 +44,8 @@ use Rattle.sqlite_rules.proofs.ListLemmas.{all_has}
 use Rattle.sqlite_trees.specs.declared.error.StoreError.{StoreError}
 use Rattle.sqlite_trees.specs.declared.error.StoreError.TheVariants as store
 use Rattle.plan_writes.specs.Faults.{FindsNamesFree, IsOfNames}
+use Rattle.table_rows.specs.Rows.{IsEmpty}
+use Rattle.plan_writes.specs.Within.{IsRun}
 
 -- ---- faults that aren't of names
 
@@ -286,27 +288,18 @@ module _ (sql : List ℕ) (params : Row) (old new : State) (schema : Schema) (ha
 
 -- a text that makes a table whose names are free
 pub finds_names_free : (schema : Schema) (sql : List ℕ) (table : Table) → (command_of (understood schema sql) ≡ CreateTable) × (statement_of sql (understood schema sql) ≡ sql) × (table_defined_by sql ≡ Ok table) → IsPlain (understood schema sql) → IsFree schema table
-    → lacks_sequence (created schema table) ≡ false → (old new : State) (r : Result ℕ Error) → (HasCleanDisk new → IsTrue old.in_transaction → ExecutesInside 0 sql [] old new r) → FindsNamesFree schema old new r
-finds_names_free schema sql table is plain free bare old new r ran clean inside empty = refused r (ran clean inside)
-  where
-    quiet : Quiet (Does old.step_limit (mode_of old) [] old.now (statement_of sql (understood schema sql)) None (command_of (understood schema sql)))
-    quiet = subst₂ (λ t k. Quiet (Does old.step_limit (mode_of old) [] old.now t None k)) (sym is.1) (sym is.0) (creates_quietly schema sql table is.2 free bare old.now empty.schema_is old.step_limit old [])
-
-    refused : (r : Result ℕ Error) → ExecutesInside 0 sql [] old new r → IfErr r (λ e. ¬ IsOfNames e)
-    refused (Ok count) h = tt
-    refused (Err e) h = inside_is_other sql [] old new schema empty.schema_is plain quiet e h
+    → lacks_sequence (created schema table) ≡ false → (old new : State) (e : Error) → IsEmpty schema old.now → IsRun sql [] old new (Err e) → ¬ IsOfNames e
+finds_names_free schema sql table is plain free bare old new e empty = inside_is_other sql [] old new schema empty.schema_is plain
+    (subst₂ (λ t k. Quiet (Does old.step_limit (mode_of old) [] old.now t None k)) (sym is.1) (sym is.0) (creates_quietly schema sql table is.2 free bare old.now empty.schema_is old.step_limit old [])) e
 
 -- a text that puts a row in, in place of one with its key
-pub finds_table_named : (schema : Schema) (sql : List ℕ) (params : Row) (at : ℕ) (way : Conflict) (from : Source) (clauses : List Upsert) → command_of (understood schema sql) ≡ InsertOr at way from clauses → IsPlain (understood schema sql)
-    → (old new : State) (r : Result ℕ Error) → (HasCleanDisk new → IsTrue old.in_transaction → ExecutesInside 0 sql params old new r) → FindsNamesFree schema old new r
-finds_table_named schema sql params at way from clauses is plain old new r ran clean inside empty = refused r (ran clean inside)
+pub finds_table_named : (schema : Schema) (sql : List ℕ) (values : Row) (at : ℕ) (way : Conflict) (from : Source) (clauses : List Upsert) → command_of (understood schema sql) ≡ InsertOr at way from clauses → IsPlain (understood schema sql)
+    → (old new : State) (r : Result (Unit {0}) Error) → (HasCleanDisk new → IsTrue old.in_transaction → IsRun sql values old new r) → FindsNamesFree schema old new r
+finds_table_named schema sql values at way from clauses is plain old new = refused
   where
-    text : List ℕ
-    text = statement_of sql (understood schema sql)
+    quiet : Quiet (Does old.step_limit (mode_of old) values old.now (statement_of sql (understood schema sql)) None (command_of (understood schema sql)))
+    quiet = subst (λ k. Quiet (Does old.step_limit (mode_of old) values old.now (statement_of sql (understood schema sql)) None k)) (sym is) (inserts_quietly old.step_limit (mode_of old) values old.now (statement_of sql (understood schema sql)) at way clauses from)
 
-    quiet : Quiet (Does old.step_limit (mode_of old) params old.now text None (command_of (understood schema sql)))
-    quiet = subst (λ k. Quiet (Does old.step_limit (mode_of old) params old.now text None k)) (sym is) (inserts_quietly old.step_limit (mode_of old) params old.now text at way clauses from)
-
-    refused : (r : Result ℕ Error) → ExecutesInside 0 sql params old new r → IfErr r (λ e. ¬ IsOfNames e)
-    refused (Ok count) h = tt
-    refused (Err e) h = inside_is_other sql params old new schema empty.schema_is plain quiet e h
+    refused : (r : Result (Unit {0}) Error) → (HasCleanDisk new → IsTrue old.in_transaction → IsRun sql values old new r) → FindsNamesFree schema old new r
+    refused (Ok x) ran clean inside empty = tt
+    refused (Err e) ran clean inside empty = inside_is_other sql values old new schema empty.schema_is plain quiet e (ran clean inside)

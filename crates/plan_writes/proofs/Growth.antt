@@ -1,23 +1,26 @@
 -- What CREATE TABLE, INSERT and DELETE make of a schema that isn't known.
-use Rattle.std.proofs.Common.{◌≡◌, ℕ, List, [], ◌∷◌, ◌++◌, ◌+◌, not, if◌then◌else◌, is_some, length, ◌==◌, ◌&&◌, Bool, true, false, inl, inr, ◌⊎◌, refl, sym, ap, subst, subst₂, ◌∙◌, slice_get, Option, Some, None, Ok, Err, Result, OnOk}
+use Rattle.std.proofs.Common.{◌≡◌, ℕ, List, [], ◌∷◌, ◌++◌, ◌+◌, not, if◌then◌else◌, is_some, length, ◌==◌, ◌&&◌, Bool, true, false, inl, inr, ◌⊎◌, refl, sym, IsTrue, ap, subst, subst₂, ◌∙◌, slice_get, Option, Some, None, Ok, Err, Result, OnOk}
 use Rattle.std.proofs.lemmas.Bool.{cases_Bool, true≢false, false≢true}
 use Rattle.std.specs.Option.{option_or}
 use Rattle.sqlite_schema.specs.Names.{table_named, index_named, view_named}
 use Rattle.table_rows.proofs.Writes.{not_is, same_value, went}
 use Rattle.sqlite.specs.Clock.{timed as at_times}
 use Rattle.sqlite.specs.Does.{Tally, AtPlace, OnRows, lacks_sequence, MakesSequence}
-use Rattle.sqlite.specs.State.{State, Executes, ExecutesIn, IsStatement, Runs, text_of, shows_rows, mode_of}
+use Rattle.sqlite.specs.State.{State, HasCleanDisk, Survives, Executes, ExecutesIn, IsStatement, Runs, text_of, shows_rows, mode_of}
 use Rattle.sqlite_ast.specs.declared.Rows.{Rows}
 use Rattle.sqlite_ast.specs.declared.Upsert.{Upsert}
 use Rattle.sqlite_schema.specs.declared.command.Conflict.{Conflict}
 use Rattle.sqlite_schema.specs.declared.command.Conflict.TheVariants as how
 use Rattle.sqlite_resolve.specs.Define as define
-use Rattle.plan_writes.specs.Within.{Grows, Rewrites}
+use Rattle.plan_writes.specs.Within.{Grows, IsRun, Rewrites, RunsWithin}
+use Rattle.plan_writes.proofs.Within.{executed}
+use Rattle.sqlite.proofs.Callers.{IsPlain, command_of, statement_of}
+use Rattle.sqlite.specs.Compile.{table_defined_by}
+use Rattle.table_rows.proofs.Creation.{created_empty}
 use Rattle.plan_schema.specs.Stored.{Held, Turns}
 use Rattle.sqlite_ast.specs.declared.Expr.{Expr}
 use Rattle.sqlite_resolve.specs.Write.{deleted}
 use Rattle.sqlite_resolve.specs.Program.{program}
-use Rattle.table_rows.specs.Rows.{IsEmpty}
 use Rattle.sqlite.specs.Effect.{IsDatabase}
 use Rattle.sqlite.specs.State.{ExecutesInside}
 use Rattle.sqlite.specs.declared.error.Error.{Error}
@@ -239,7 +242,7 @@ sequenced db new true is h = let made = rw is at h in inr (is, made.table, made.
 sequenced db new false is h = let same = same_value (rw is at h) in inl (ap (λ (d : Database). d.schema) same)
 
 -- a text that is CREATE TABLE puts its table behind those that there are
-pub grows : (sql : List ℕ) → reads_as makes_table (first sql) ≡ true → (params : Row) (old new : State) (count : ℕ) → Executes sql params old new (Ok count) → HasGrown old.now.schema new.now.schema
+pub grows : (sql : List ℕ) → reads_as makes_table (first sql) ≡ true → (params : Row) (old new : State) (count : ℕ) → Executes sql params old new (Ok count) → HasGrown old.now.schema new.now.schema × IsDatabase new.now
 grows sql is params old new count h =
     let it = ran sql params old new count h in
     let c = it.0 in
@@ -249,14 +252,16 @@ grows sql is params old new count h =
     let first_ = went all.1 in
     let made = first_.1 in
     let now : new.now ≡ all.0 = ap (λ (p : Tally × Database). p.1) (same_value all.2) in
-    let after = sequenced first_.0 all.0 (lacks_sequence first_.0.schema) refl first_.2 in
-    record {
-      table = made.table;
-      grown = elim after [
-        | inl same ↦ inl (ap (λ (d : Database). d.schema) now ∙ same ∙ made.is)
-        | inr more ↦ inr (sym (ap lacks_sequence made.is) ∙ more.0, more.1, ap (λ (d : Database). d.schema) now ∙ more.2 ∙ ap (λ s. created s more.1) made.is)
-      ];
-    }
+    let after = sequenced first_.0 all.0 (lacks_sequence first_.0.schema) refl first_.2 in (
+      record {
+        table = made.table;
+        grown = elim after [
+          | inl same ↦ inl (ap (λ (d : Database). d.schema) now ∙ same ∙ made.is)
+          | inr more ↦ inr (sym (ap lacks_sequence made.is) ∙ more.0, more.1, ap (λ (d : Database). d.schema) now ∙ more.2 ∙ ap (λ s. created s more.1) made.is)
+        ];
+      },
+      w.sound,
+    )
 
 -- what writes rows leaves the schema
 ended : (old new : State) (shown : Option Returning) (k : Command) (params : Row) (tally : Tally) (found : Option Table) → AtPlace (λ table. OnRows (record { limit = old.step_limit; keys = (mode_of old).keys; schema = old.now.schema; table = table; params = params }) (mode_of old) shown k old.now.trees) found (Ok (tally, new.now)) → new.now.schema ≡ old.now.schema
@@ -288,17 +293,21 @@ grown_from from to table bare a b g is = elim g.grown [
   | inr e ↦ absurd (let back = made_of (created a g.table) from e.1 table (sym e.2 ∙ is) in true≢false (sym e.0 ∙ ap lacks_sequence back ∙ bare))
 ]
 
--- a text that makes a table, of which it is known what it makes of a database without rows
-pub grows_so : (from : Schema) (table : Table) (sql : List ℕ) → lacks_sequence from ≡ false → reads_as makes_table (first sql) ≡ true → (old new : State) (r : Result ℕ Error)
-    → (ExecutesInside 0 sql [] old new r → OnOk r (IsEmpty from old.now → IsEmpty (created from table) new.now × IsDatabase new.now)) → ExecutesInside 0 sql [] old new r → OnOk r (Grows from (created from table) old.now new.now)
-grows_so from table sql bare is old new (Ok count) made ran_ = record {
-  empty = made ran_;
-  back = λ e. grown_from from (created from table) table bare old.now.schema new.now.schema (grows sql is [] old new count ran_.0) e;
+-- a text that makes a table makes it in a database without rows
+pub grows_so : (from : Schema) (table : Table) (sql : List ℕ) → (command_of (understood from sql) ≡ CreateTable) × (statement_of sql (understood from sql) ≡ sql) × (table_defined_by sql ≡ Ok table) → IsPlain (understood from sql) → reads_as makes_table (first sql) ≡ true
+    → lacks_sequence from ≡ false → lacks_sequence (created from table) ≡ false → (old new : State) (r : Result (Unit {0}) Error) → IsRun sql [] old new r → OnOk r (Grows from (created from table) old.now new.now)
+grows_so from table sql is plain reads bare bare_after old new (Ok x) ran_ = record {
+  empty = λ was. (created_empty from sql table old new ran_.0 is plain bare_after was ran_.1.0).0;
+  sound = inl (grows sql reads [] old new ran_.0 ran_.1.0).1;
+  back = λ e. grown_from from (created from table) table bare old.now.schema new.now.schema (grows sql reads [] old new ran_.0 ran_.1.0).0 e;
 }
-grows_so from table sql bare is old new (Err e) made ran_ = tt
+grows_so from table sql is plain reads bare bare_after old new (Err e) ran_ = tt
 
 -- a text that changes rows, of which it is known what it makes of the tables
-pub rewrites_so : (change : Held → Held) (sql : List ℕ) → reads_as writes_rows (first sql) ≡ true → (params : Row) (old new : State) (r : Result ℕ Error)
-    → (ExecutesInside 0 sql params old new r → OnOk r (Turns change old.now new.now)) → ExecutesInside 0 sql params old new r → OnOk r (Rewrites change old.now new.now)
-rewrites_so change sql is params old new (Ok count) turns ran_ = record { turns = turns ran_; schema_stays = stays sql is params old new count ran_.0 }
-rewrites_so change sql is params old new (Err e) turns ran_ = tt
+pub rewrites_so : (change : Held → Held) (sql : List ℕ) → reads_as writes_rows (first sql) ≡ true → (values : Row) (old new : State) → ((count : Result ℕ Error) → ExecutesInside 0 sql values old new count → OnOk count (Turns change old.now new.now))
+    → (r : Result (Unit {0}) Error) → (HasCleanDisk new → IsTrue old.in_transaction → IsRun sql values old new r) → Survives old new (λ _. ⊥) → RunsWithin (Rewrites change) old new r
+rewrites_so change sql reads values old new turns r ran_ survives = executed (Rewrites change) sql values old new r (made r) ran_ survives
+  where
+    made : (r : Result (Unit {0}) Error) → IsRun sql values old new r → OnOk r (Rewrites change old.now new.now)
+    made (Ok x) h = record { turns = turns (Ok h.0) h.1; schema_stays = stays sql reads values old new h.0 h.1.0 }
+    made (Err e) h = tt

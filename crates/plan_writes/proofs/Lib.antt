@@ -4,4 +4,5 @@ pub mod Whole
 pub mod Growth
 pub mod Texts
 pub mod Faults
-pub mod Free
+pub mod Making
+pub mod NineTables

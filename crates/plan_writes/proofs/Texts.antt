@@ -1,45 +1,9 @@
--- Which texts make a table, and which put a row in, whatever the schema.
+-- Which texts put rows in or take them out, whatever the schema.
 use Rattle.std.proofs.Common.{◌≡◌, true, refl}
 use Rattle.sqlite_resolve.specs.Compile.{first}
 use Rattle.sqlite_tied.specs.Compute.{everything}
-use Rattle.plan_schema.specs.declared.TheConstants.{CREATE_META, CREATE_WORKSTATION, CREATE_INTERVAL, CREATE_RESOURCE, CREATE_OCCURRENCE, CREATE_OPERATION, CREATE_DEPENDENCY, CREATE_NEED, CREATE_RECEIPT, PUT_META, PUT_RESOURCE, PUT_NEED, PUT_WORKSTATION, PUT_INTERVAL, PUT_OCCURRENCE, PUT_OPERATION, PUT_DEPENDENCY, PUT_RECEIPT, DROP_INTERVAL}
-use Rattle.plan_writes.proofs.Growth.{makes_table, reads_as, writes_rows}
-
-pub makes_meta : reads_as makes_table (first CREATE_META.now) ≡ true
-unfolding first everything
-makes_meta = refl
-
-pub makes_workstation : reads_as makes_table (first CREATE_WORKSTATION.now) ≡ true
-unfolding first everything
-makes_workstation = refl
-
-pub makes_interval : reads_as makes_table (first CREATE_INTERVAL.now) ≡ true
-unfolding first everything
-makes_interval = refl
-
-pub makes_resource : reads_as makes_table (first CREATE_RESOURCE.now) ≡ true
-unfolding first everything
-makes_resource = refl
-
-pub makes_occurrence : reads_as makes_table (first CREATE_OCCURRENCE.now) ≡ true
-unfolding first everything
-makes_occurrence = refl
-
-pub makes_operation : reads_as makes_table (first CREATE_OPERATION.now) ≡ true
-unfolding first everything
-makes_operation = refl
-
-pub makes_dependency : reads_as makes_table (first CREATE_DEPENDENCY.now) ≡ true
-unfolding first everything
-makes_dependency = refl
-
-pub makes_need : reads_as makes_table (first CREATE_NEED.now) ≡ true
-unfolding first everything
-makes_need = refl
-
-pub makes_receipt : reads_as makes_table (first CREATE_RECEIPT.now) ≡ true
-unfolding first everything
-makes_receipt = refl
+use Rattle.plan_schema.specs.declared.TheConstants.{PUT_META, PUT_RESOURCE, PUT_NEED, PUT_WORKSTATION, PUT_INTERVAL, PUT_OCCURRENCE, PUT_OPERATION, PUT_DEPENDENCY, PUT_RECEIPT, DROP_INTERVAL}
+use Rattle.plan_writes.proofs.Growth.{reads_as, writes_rows}
 
 pub writes_meta : reads_as writes_rows (first PUT_META.now) ≡ true
 unfolding first everything

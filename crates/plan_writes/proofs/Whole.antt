@@ -1,9 +1,12 @@
 -- What runs in a transaction that is then committed.
-use Rattle.std.proofs.Common.{◌≡◌, arith, subst, sym, ◌∙◌, false, Ok, Err, Result, OnOk, IsTrue, []}
+use Rattle.std.proofs.Common.{◌≡◌, arith, subst, sym, ◌∙◌, false, true, refl, Ok, Err, Result, OnOk, IsTrue, []}
 use Rattle.sqlite.specs.Effect.{Database}
+use Rattle.sqlite.specs.Held.{Held, state}
 use Rattle.sqlite.specs.State.{State, HasCleanDisk, KeepsCounts, Shows, Survives}
 use Rattle.sqlite.specs.declared.error.Error.{Error}
+use Rattle.sqlite.proofs.Callers.{survives_begin}
 use Rattle.sqlite.proofs.StateLemmas.{survives_then}
+use Rattle.sqlite_trees.specs.declared.store.Store.{Ghosts}
 use Rattle.plan_writes.specs.Within.{IsCommitted, LeavesMade, RunsWithin}
 
 -- what a commit says at Ok
@@ -14,26 +17,33 @@ on_ok : {X E : Type 0} {P Q : Type 0} (r : Result X E) → (P → Q) → OnOk r 
 on_ok (Ok x) f h = f h
 on_ok (Err e) f h = tt
 
--- what is begun shows what was last committed, if the connection is open
+-- what is shown is what was last committed, if the connection is open
 abbrev pub IsSettled : State → Type 0
-IsSettled began = IsTrue began.is_open → began.now ≡ began.committed
+IsSettled s = IsTrue s.is_open → s.now ≡ s.committed
 
-module _ {X : Type 0} (Makes : Database → Database → Type 0) (began mid end : State) (x : X) (ran : RunsWithin Makes began mid (Ok x)) (inside : IsTrue began.in_transaction) (settled : IsSettled began) (survives : Survives mid end (λ db. db ≡ mid.now.trees)) where
-  late : HasCleanDisk end → HasCleanDisk mid
+-- a connection, that as a transaction begins, that as a commit ends it, and that which a caller gets back
+module _ {S : Type 0} (store : Ghosts S) (Makes : Database → Database → Type 0) (conn began : Held S) (mid : State) (end back : Held S) (begins : began ≡ record conn { in_transaction = true }) (same : end ≡ back)
+    (settled : IsSettled (state store conn)) (ran : RunsWithin Makes (state store began) mid (Ok tt)) (survives : Survives mid (state store end) (λ db. db ≡ mid.now.trees)) where
+  within : RunsWithin Makes (state store (record conn { in_transaction = true })) mid (Ok tt)
+  within = subst (λ h. RunsWithin Makes (state store h) mid (Ok tt)) begins ran
+
+  late : HasCleanDisk (state store end) → HasCleanDisk mid
   late clean = omega (arith, clean, survives.clean)
 
-  made : HasCleanDisk end → IsTrue began.is_open → Makes began.committed mid.now
-  made clean was_open = subst (λ db. Makes db mid.now) (settled was_open) (ran.made (late clean) inside)
+  made : HasCleanDisk (state store end) → IsTrue (state store conn).is_open → Makes (state store conn).committed mid.now
+  made clean was_open = subst (λ db. Makes db mid.now) (settled was_open) (within.made (late clean) refl)
 
-  committed : HasCleanDisk end → Commits mid end → IsCommitted Makes began end
+  committed : HasCleanDisk (state store end) → Commits mid (state store end) → IsCommitted Makes (state store conn) (state store end)
   committed clean done =
-      let was_open = (ran.kept (late clean) inside).was_open done.1.was_open in
-      (was_open, done.1.is_open, done.1.now_is ∙ sym done.1.committed_is, subst (Makes began.committed) (sym done.1.committed_is) (made clean was_open))
+      let was_open = (within.kept (late clean) refl).was_open done.1.was_open in
+      (was_open, done.1.is_open, done.1.now_is ∙ sym done.1.committed_is, subst (Makes (state store conn).committed) (sym done.1.committed_is) (made clean was_open))
 
   -- at Ok it is committed
-  pub whole_ok : {Y : Type 0} (r : Result Y Error) → (HasCleanDisk end → OnOk r (Commits mid end)) → HasCleanDisk end → OnOk r (IsCommitted Makes began end)
-  whole_ok r ok clean = on_ok r (committed clean) (ok clean)
+  pub whole_ok : {Y : Type 0} (r : Result Y Error) → (HasCleanDisk (state store end) → OnOk r (Commits mid (state store end))) → HasCleanDisk (state store back) → OnOk r (IsCommitted Makes (state store conn) (state store back))
+  whole_ok r ok = subst (λ h. HasCleanDisk (state store h) → OnOk r (IsCommitted Makes (state store conn) (state store h))) same (λ clean. on_ok r (committed clean) (ok clean))
 
   -- a crash finds what there was, or what was made
-  pub whole_crash : Survives began end (LeavesMade Makes began)
-  whole_crash = survives_then began mid end _ _ (LeavesMade Makes began) (λ _ db none. absurd none) (λ clean db is. (mid.now, made clean, is)) ran.survives survives
+  pub whole_crash : Survives (state store conn) (state store back) (LeavesMade Makes (state store conn))
+  whole_crash = subst (λ h. Survives (state store conn) (state store h) (LeavesMade Makes (state store conn))) same
+      (survives_begin store conn (state store end) (LeavesMade Makes (state store conn))
+      (survives_then (state store (record conn { in_transaction = true })) mid (state store end) _ _ (LeavesMade Makes (state store conn)) (λ _ db none. absurd none) (λ clean db is. (mid.now, made clean, is)) within.survives survives))

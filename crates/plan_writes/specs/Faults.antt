@@ -14,5 +14,5 @@ IsOfNames (SqliteFailure NameTaken) = ⊤
 IsOfNames _ = ⊥
 
 -- a call within a transaction doesn't fail for a name where the database has this schema and no row
-abbrev pub FindsNamesFree : {X : Type 0} → Schema → State → State → Result X Error → Type 0
+abbrev pub FindsNamesFree : Schema → State → State → Result (Unit {0}) Error → Type 0
 FindsNamesFree schema old new r = HasCleanDisk new → IsTrue old.in_transaction → IsEmpty schema old.now → IfErr r (λ e. ¬ IsOfNames e)

@@ -1,7 +1,8 @@
 -- What a call makes of a database, within a transaction.
-use Rattle.std.specs.Prelude.{◌≡◌, false, OnOk, IsTrue, Result}
+use Rattle.std.specs.Prelude.{◌≡◌, ◌⊎◌, ℕ, List, false, OnOk, IsTrue, Ok, Err, Result}
 use Rattle.sqlite.specs.Effect.{Database, IsDatabase}
-use Rattle.sqlite.specs.State.{State, HasCleanDisk, KeepsCommit, Survives}
+use Rattle.sqlite.specs.Order.{Row}
+use Rattle.sqlite.specs.State.{State, ExecutesInside, HasCleanDisk, KeepsCommit, Survives}
 use Rattle.sqlite.specs.Tree.{Trees}
 use Rattle.sqlite.specs.Schema.{Schema}
 use Rattle.sqlite.specs.declared.error.Error.{Error}
@@ -12,8 +13,13 @@ use Rattle.plan_schema.specs.Schema.{schema_9}
 use Rattle.plan_schema.specs.Stored.{Held, Stores, Turns, none_held}
 use Rattle.plan_columns.specs.Tables.{with_row}
 
+-- a text is run with these values within a transaction, or refused; how many rows it changed isn't said
+abbrev pub IsRun : List ℕ → Row → State → State → Result (Unit {0}) Error → Type 0
+IsRun sql values old new (Ok _) = (count : ℕ) × ExecutesInside 0 sql values old new (Ok count)
+IsRun sql values old new (Err e) = ExecutesInside 0 sql values old new (Err e)
+
 -- a call within a transaction: what it makes is seen inside, nothing is committed, and no crash finds it
-pub record RunsWithin {X : Type 0} (Makes : Database → Database → Type 0) (old new : State) (r : Result X Error) : Type 0 where
+pub record RunsWithin (Makes : Database → Database → Type 0) (old new : State) (r : Result (Unit {0}) Error) : Type 0 where
   pub made : HasCleanDisk new → IsTrue old.in_transaction → OnOk r (Makes old.now new.now)
   pub inside : HasCleanDisk new → IsTrue old.in_transaction → OnOk r (IsTrue new.in_transaction × (new.committed ≡ old.committed))
   pub kept : HasCleanDisk new → IsTrue old.in_transaction → KeepsCommit old new
@@ -31,9 +37,10 @@ IsUndone old new = IsTrue old.is_open × (new.now ≡ old.committed) × (new.com
 abbrev pub LeavesMade : (Database → Database → Type 0) → State → Trees → Type 0
 LeavesMade Makes old trees = (db : Database) × (IsTrue old.is_open → Makes old.committed db) × (trees ≡ db.trees)
 
--- a sound database of the one schema without rows becomes such a one of the other, and one that comes to have the other schema had the one
+-- a database of the one schema without rows becomes such a one of the other, which is sound if anything was done; and one that comes to have the other schema had the one
 pub record Grows (from to : Schema) (before after : Database) : Type 0 where
-  pub empty : IsEmpty from before → IsEmpty to after × IsDatabase after
+  pub empty : IsEmpty from before → IsEmpty to after
+  pub sound : IsDatabase after ⊎ (after ≡ before)
   pub back : after.schema ≡ to → before.schema ≡ from
 
 -- whatever values the tables of the one database hold, those of the other hold what the change makes of them; and both have the same tables

@@ -7,22 +7,38 @@ ghost use Rattle.plan_schema.specs.Schema.{schema_9};
 ghost use Rattle.plan_writes.specs.Faults.{FindsNamesFree, IsOfNames};
 ghost use Rattle.plan_writes.specs.Within.{Begins, Grows, IsCommitted, IsUndone, LeavesMade, RunsWithin};
 
-use crate::creation_first::create_first;
-use crate::creation_second::create_second;
-use crate::creation_third::create_third;
 use crate::resource_rows::put_meta;
+use crate::runs::run_text;
 use plan_basics::Moment;
+use plan_schema::{
+    CREATE_DEPENDENCY, CREATE_INTERVAL, CREATE_META, CREATE_NEED, CREATE_OCCURRENCE,
+    CREATE_OPERATION, CREATE_RECEIPT, CREATE_RESOURCE, CREATE_WORKSTATION,
+};
 use sqlite::{Alter, Connection, Error, Transaction};
 
+// The texts that make the nine tables, in the order in which the tables are made.
+const CREATIONS: [&str; 9] = [
+    CREATE_META,
+    CREATE_WORKSTATION,
+    CREATE_INTERVAL,
+    CREATE_RESOURCE,
+    CREATE_OCCURRENCE,
+    CREATE_OPERATION,
+    CREATE_DEPENDENCY,
+    CREATE_NEED,
+    CREATE_RECEIPT,
+];
+
 // The nine tables are made in a database that has none.
-fn create_nine<S: Alter>(tx: &mut Transaction<'_, S>) -> Result<usize, Error>
+fn create_nine<S: Alter>(tx: &mut Transaction<'_, S>) -> Result<(), Error>
     ensures same_reference { tx.new.conn.ghost_name ≡ tx.old.conn.ghost_name }
     ensures made { RunsWithin (Grows no_schema schema_9) (state S.Store tx.old.conn.now) (state S.Store tx.new.conn.now) result }
     ensures names { FindsNamesFree no_schema (state S.Store tx.old.conn.now) (state S.Store tx.new.conn.now) result }
 {
-    create_first(tx)?;
-    create_second(tx)?;
-    create_third(tx)
+    for text in &CREATIONS {
+        run_text(tx, text, &[])?;
+    }
+    Ok(())
 }
 
 // The first minute that a plan can name, at which a clock begins.
@@ -33,7 +49,7 @@ fn first_minute() -> Moment
 }
 
 // The nine tables are made, with the one row that there is before a plan is loaded.
-fn create_all<S: Alter>(tx: &mut Transaction<'_, S>) -> Result<usize, Error>
+fn create_all<S: Alter>(tx: &mut Transaction<'_, S>) -> Result<(), Error>
     ensures same_reference { tx.new.conn.ghost_name ≡ tx.old.conn.ghost_name }
     ensures made { RunsWithin Begins (state S.Store tx.old.conn.now) (state S.Store tx.new.conn.now) result }
     ensures names { FindsNamesFree no_schema (state S.Store tx.old.conn.now) (state S.Store tx.new.conn.now) result }

@@ -4,14 +4,12 @@
 mod changes;
 mod columns;
 mod creation;
-mod creation_first;
-mod creation_second;
-mod creation_third;
 mod numbered;
 mod operation_rows;
 mod receipt_rows;
 mod resource_rows;
 mod rows;
+mod runs;
 mod workstation_rows;
 
 pub use changes::write_changes;

@@ -22,8 +22,7 @@ fn write_with_receipt<S: Alter>(
     ensures written { RunsWithin (Rewrites (written_numbered rows.now gone.now receipt.now)) (state S.Store tx.old.conn.now) (state S.Store tx.new.conn.now) result }
 {
     write_and_drop(tx, rows, gone)?;
-    put_receipt(tx, receipt)?;
-    Ok(())
+    put_receipt(tx, receipt)
 }
 
 /// Writes the rows that changed, takes out those that are gone, and puts the receipt of the tracker whose request

@@ -6,6 +6,7 @@ ghost use Rattle.plan_columns.specs.Columns.{occurrence_columns, operation_colum
 ghost use Rattle.plan_writes.specs.Within.{Rewrites, RunsWithin};
 
 use crate::columns::{flag, minute, number};
+use crate::runs::run_text;
 use plan_basics::{Moment, OccKey, OpKey};
 use plan_records::OperationRow;
 use plan_schema::{PUT_DEPENDENCY, PUT_OCCURRENCE, PUT_OPERATION};
@@ -20,12 +21,13 @@ pub fn put_occurrence<S: Alter>(
     priority: u8,
     deadline: Moment,
     status: OccStatus,
-) -> Result<usize, Error>
+) -> Result<(), Error>
     ensures same_reference { tx.new.conn.ghost_name ≡ tx.old.conn.ghost_name }
     ensures written { RunsWithin (Rewrites (with_occurrence (occurrence_columns occurrence.now priority deadline status))) (state S.Store tx.old.conn.now) (state S.Store tx.new.conn.now) result }
 {
     let letter = [status.letter()];
-    tx.execute(
+    run_text(
+        tx,
         PUT_OCCURRENCE,
         &[
             letters(occurrence.app.as_bytes()),
@@ -38,15 +40,13 @@ pub fn put_occurrence<S: Alter>(
 }
 
 /// Puts an operation in, in place of the one with its key.
-pub fn put_operation<S: Alter>(
-    tx: &mut Transaction<'_, S>,
-    row: &OperationRow,
-) -> Result<usize, Error>
+pub fn put_operation<S: Alter>(tx: &mut Transaction<'_, S>, row: &OperationRow) -> Result<(), Error>
     ensures same_reference { tx.new.conn.ghost_name ≡ tx.old.conn.ghost_name }
     ensures written { RunsWithin (Rewrites (with_operation (operation_columns row.now))) (state S.Store tx.old.conn.now) (state S.Store tx.new.conn.now) result }
 {
     let letter = [row.status.letter()];
-    tx.execute(
+    run_text(
+        tx,
         PUT_OPERATION,
         &[
             letters(row.op.occurrence.app.as_bytes()),
@@ -74,11 +74,12 @@ pub fn put_dependency<S: Alter>(
     tx: &mut Transaction<'_, S>,
     predecessor: &OpKey,
     successor: &OpKey,
-) -> Result<usize, Error>
+) -> Result<(), Error>
     ensures same_reference { tx.new.conn.ghost_name ≡ tx.old.conn.ghost_name }
     ensures written { RunsWithin (Rewrites (with_dependency (dependency_columns predecessor.now successor.now))) (state S.Store tx.old.conn.now) (state S.Store tx.new.conn.now) result }
 {
-    tx.execute(
+    run_text(
+        tx,
         PUT_DEPENDENCY,
         &[
             letters(predecessor.occurrence.app.as_bytes()),

@@ -5,21 +5,20 @@ ghost use Rattle.plan_schema.specs.Stored.{with_receipt};
 ghost use Rattle.plan_columns.specs.Receipts.{stored_receipt};
 ghost use Rattle.plan_writes.specs.Within.{Rewrites, RunsWithin};
 
+use crate::runs::run_text;
 use plan_schema::PUT_RECEIPT;
 use sqlite::{Alter, Error, Transaction};
 use table_rows::{blob, int, letters};
 use tracker_receipts::ReceiptRow;
 
 /// Puts a tracker's receipt in, in place of its last.
-pub fn put_receipt<S: Alter>(
-    tx: &mut Transaction<'_, S>,
-    receipt: &ReceiptRow,
-) -> Result<usize, Error>
+pub fn put_receipt<S: Alter>(tx: &mut Transaction<'_, S>, receipt: &ReceiptRow) -> Result<(), Error>
     ensures same_reference { tx.new.conn.ghost_name ≡ tx.old.conn.ghost_name }
     ensures written { RunsWithin (Rewrites (with_receipt (stored_receipt receipt.now))) (state S.Store tx.old.conn.now) (state S.Store tx.new.conn.now) result }
 {
     let number = receipt.number();
-    tx.execute(
+    run_text(
+        tx,
         PUT_RECEIPT,
         &[
             letters(receipt.tracker_name()),

@@ -8,6 +8,7 @@ ghost use Rattle.plan_writes.specs.Faults.{FindsNamesFree};
 ghost use Rattle.plan_writes.specs.Within.{Rewrites, RunsWithin};
 
 use crate::columns::{flag, keeping, minute, mode, number};
+use crate::runs::run_text;
 use plan_basics::{Moment, OpKey, ResName};
 use plan_schema::{PUT_META, PUT_NEED, PUT_RESOURCE};
 use special_resources::Need;
@@ -20,12 +21,13 @@ pub fn put_meta<S: Alter>(
     version: u32,
     loaded: bool,
     clock: Moment,
-) -> Result<usize, Error>
+) -> Result<(), Error>
     ensures same_reference { tx.new.conn.ghost_name ≡ tx.old.conn.ghost_name }
     ensures written { RunsWithin (Rewrites (with_meta (meta_columns version loaded clock))) (state S.Store tx.old.conn.now) (state S.Store tx.new.conn.now) result }
     ensures names { FindsNamesFree schema_9 (state S.Store tx.old.conn.now) (state S.Store tx.new.conn.now) result }
 {
-    tx.execute(
+    run_text(
+        tx,
         PUT_META,
         &[number(1), number(version), flag(loaded), minute(clock)],
     )
@@ -36,23 +38,24 @@ pub fn put_resource<S: Alter>(
     tx: &mut Transaction<'_, S>,
     name: &ResName,
     available: bool,
-) -> Result<usize, Error>
+) -> Result<(), Error>
     ensures same_reference { tx.new.conn.ghost_name ≡ tx.old.conn.ghost_name }
     ensures written { RunsWithin (Rewrites (with_resource (resource_columns name.now available))) (state S.Store tx.old.conn.now) (state S.Store tx.new.conn.now) result }
 {
-    tx.execute(PUT_RESOURCE, &[letters(name.as_bytes()), flag(available)])
+    run_text(
+        tx,
+        PUT_RESOURCE,
+        &[letters(name.as_bytes()), flag(available)],
+    )
 }
 
 /// Puts an operation's need in, in place of its need of the same special resource.
-pub fn put_need<S: Alter>(
-    tx: &mut Transaction<'_, S>,
-    op: &OpKey,
-    need: &Need,
-) -> Result<usize, Error>
+pub fn put_need<S: Alter>(tx: &mut Transaction<'_, S>, op: &OpKey, need: &Need) -> Result<(), Error>
     ensures same_reference { tx.new.conn.ghost_name ≡ tx.old.conn.ghost_name }
     ensures written { RunsWithin (Rewrites (with_need (need_columns op.now need.now))) (state S.Store tx.old.conn.now) (state S.Store tx.new.conn.now) result }
 {
-    tx.execute(
+    run_text(
+        tx,
         PUT_NEED,
         &[
             letters(op.occurrence.app.as_bytes()),

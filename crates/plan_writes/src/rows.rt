@@ -11,7 +11,7 @@ use plan_records::{PlanRow, RowKey};
 use sqlite::{Alter, Error, Transaction};
 
 /// Puts a row into its table, in place of the one with its key.
-pub fn write_row<S: Alter>(tx: &mut Transaction<'_, S>, row: &PlanRow) -> Result<usize, Error>
+pub fn write_row<S: Alter>(tx: &mut Transaction<'_, S>, row: &PlanRow) -> Result<(), Error>
     ensures same_reference { tx.new.conn.ghost_name ≡ tx.old.conn.ghost_name }
     ensures written { RunsWithin (Rewrites (with_row row.now)) (state S.Store tx.old.conn.now) (state S.Store tx.new.conn.now) result }
 {
@@ -40,13 +40,13 @@ pub fn write_row<S: Alter>(tx: &mut Transaction<'_, S>, row: &PlanRow) -> Result
 }
 
 /// Takes the row with this key out of its table. Only intervals ever go; for a key of another table nothing is done.
-pub fn drop_row<S: Alter>(tx: &mut Transaction<'_, S>, key: &RowKey) -> Result<usize, Error>
+pub fn drop_row<S: Alter>(tx: &mut Transaction<'_, S>, key: &RowKey) -> Result<(), Error>
     ensures same_reference { tx.new.conn.ghost_name ≡ tx.old.conn.ghost_name }
     ensures written { RunsWithin (Rewrites (without_row key.now)) (state S.Store tx.old.conn.now) (state S.Store tx.new.conn.now) result }
 {
     match key {
         RowKey::Interval(ws, from) => drop_interval(tx, ws, *from),
-        _ => Ok(0),
+        _ => Ok(()),
     }
 }
 

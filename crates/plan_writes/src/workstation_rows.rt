@@ -6,6 +6,7 @@ ghost use Rattle.plan_columns.specs.Columns.{workstation_columns, interval_colum
 ghost use Rattle.plan_writes.specs.Within.{Rewrites, RunsWithin};
 
 use crate::columns::{minute, number};
+use crate::runs::run_text;
 use plan_basics::{Attr, Interval, Moment, WsName};
 use plan_schema::{DROP_INTERVAL, PUT_INTERVAL, PUT_WORKSTATION};
 use sqlite::{Alter, Error, Transaction};
@@ -16,12 +17,13 @@ pub fn put_workstation<S: Alter>(
     tx: &mut Transaction<'_, S>,
     name: &WsName,
     attr: Attr,
-) -> Result<usize, Error>
+) -> Result<(), Error>
     ensures same_reference { tx.new.conn.ghost_name ≡ tx.old.conn.ghost_name }
     ensures written { RunsWithin (Rewrites (with_workstation (workstation_columns name.now attr))) (state S.Store tx.old.conn.now) (state S.Store tx.new.conn.now) result }
 {
     let letter = [attr.letter()];
-    tx.execute(
+    run_text(
+        tx,
         PUT_WORKSTATION,
         &[letters(name.as_bytes()), letters(&letter)],
     )
@@ -32,11 +34,12 @@ pub fn put_interval<S: Alter>(
     tx: &mut Transaction<'_, S>,
     ws: &WsName,
     interval: &Interval,
-) -> Result<usize, Error>
+) -> Result<(), Error>
     ensures same_reference { tx.new.conn.ghost_name ≡ tx.old.conn.ghost_name }
     ensures written { RunsWithin (Rewrites (with_interval (interval_columns ws.now interval.now))) (state S.Store tx.old.conn.now) (state S.Store tx.new.conn.now) result }
 {
-    tx.execute(
+    run_text(
+        tx,
         PUT_INTERVAL,
         &[
             letters(ws.as_bytes()),
@@ -54,9 +57,9 @@ pub fn drop_interval<S: Alter>(
     tx: &mut Transaction<'_, S>,
     ws: &WsName,
     from: Moment,
-) -> Result<usize, Error>
+) -> Result<(), Error>
     ensures same_reference { tx.new.conn.ghost_name ≡ tx.old.conn.ghost_name }
     ensures written { RunsWithin (Rewrites (without_interval ws.now (pos from))) (state S.Store tx.old.conn.now) (state S.Store tx.new.conn.now) result }
 {
-    tx.execute(DROP_INTERVAL, &[letters(ws.as_bytes()), minute(from)])
+    run_text(tx, DROP_INTERVAL, &[letters(ws.as_bytes()), minute(from)])
 }

@@ -50,55 +50,25 @@ pub fn bytes<'a>(row: &'a Row, at: usize) -> Option<&'a [u8]>
     }
 }
 
-// A number of 0 to 255.
-fn byte_of(number: i64) -> Option<u8>
-    ensures { IsReading (λ n. (n < 256) × (number ≡ pos n)) result }
-{
-    if !(0..256).contains(&number) {
-        return None;
-    }
-    Some(number as u8)
-}
-
-// A number of 0 to 65,535.
-fn short_of(number: i64) -> Option<u16>
-    ensures { IsReading (λ n. (n < 65536) × (number ≡ pos n)) result }
-{
-    if !(0..65_536).contains(&number) {
-        return None;
-    }
-    Some(number as u16)
-}
-
-// A number of 0 to 4,294,967,295.
-fn count_of(number: i64) -> Option<u32>
-    ensures { IsReading (λ n. (n < 4294967296) × (number ≡ pos n)) result }
-{
-    if !(0..4_294_967_296).contains(&number) {
-        return None;
-    }
-    Some(number as u32)
-}
-
 // A number of 0 to 255 in a column.
 pub fn byte(row: &Row, at: usize) -> Option<u8>
     ensures { IsReading (λ n. (n < 256) × (column row.now at ≡ Int (pos n))) result }
 {
-    byte_of(number(row, at)?)
+    u8::try_from(number(row, at)?).ok()
 }
 
 // A number of 0 to 65,535 in a column.
 pub fn short(row: &Row, at: usize) -> Option<u16>
     ensures { IsReading (λ n. (n < 65536) × (column row.now at ≡ Int (pos n))) result }
 {
-    short_of(number(row, at)?)
+    u16::try_from(number(row, at)?).ok()
 }
 
 // A number of 0 to 4,294,967,295 in a column.
 pub fn count(row: &Row, at: usize) -> Option<u32>
     ensures { IsReading (λ n. (n < 4294967296) × (column row.now at ≡ Int (pos n))) result }
 {
-    count_of(number(row, at)?)
+    u32::try_from(number(row, at)?).ok()
 }
 
 // A moment in a column.

@@ -11,34 +11,21 @@ pub const OBJECT: (&str, &str) = ("{\"at\":\"2024-03-01T22:00\",", "}");
 /// Nothing stands around a body that is told whole.
 pub const WHOLE: (&str, &str) = ("", "");
 
-/// Each part makes a request of an operator with what stands around it, or none does.
-pub fn each_asks(
+/// Each part is what `is_read` looks for with what stands around it, or none is.
+pub fn each_is<F: Fn(Global, &[u8]) -> Result<bool, WireFault>>(
     rt: &impl Abort,
     alloc: Global,
+    is_read: F,
     around: (&str, &str),
     parts: &[&str],
     expected: bool,
-) {
+)
+    requires { F.IsAlwaysCallable is_read }
+{
     let (before, after) = around;
     for part in parts {
         let body = format!(in alloc; "{before}{part}{after}").expect(rt, "memory");
-        let found = is_request(alloc, body.as_bytes()).expect(rt, "memory");
-        assert!(rt; found == expected, "{part}");
-    }
-}
-
-/// Each part makes a report of a tracker with what stands around it, or none does.
-pub fn each_reports(
-    rt: &impl Abort,
-    alloc: Global,
-    around: (&str, &str),
-    parts: &[&str],
-    expected: bool,
-) {
-    let (before, after) = around;
-    for part in parts {
-        let body = format!(in alloc; "{before}{part}{after}").expect(rt, "memory");
-        let found = is_report(alloc, body.as_bytes()).expect(rt, "memory");
+        let found = is_read(alloc, body.as_bytes()).expect(rt, "memory");
         assert!(rt; found == expected, "{part}");
     }
 }
@@ -48,8 +35,8 @@ pub fn is_request(alloc: Global, body: &[u8]) -> Result<bool, WireFault> {
     Ok(read_operator(alloc, body)?.is_some())
 }
 
-// Whether a body is a report of a tracker.
-fn is_report(alloc: Global, body: &[u8]) -> Result<bool, WireFault> {
+/// Whether a body is a report of a tracker.
+pub fn is_report(alloc: Global, body: &[u8]) -> Result<bool, WireFault> {
     Ok(read_report(alloc, body)?.is_some())
 }
 

@@ -1,5 +1,5 @@
 // What an operator may ask, as JSON.
-use super::bodies::{OBJECT, WHOLE, asked, each_asks, each_reports, is_named, is_request, nested};
+use super::bodies::{OBJECT, WHOLE, asked, each_is, is_named, is_report, is_request, nested};
 use plan_records::{Request, What};
 use std::test::Fail;
 
@@ -27,8 +27,8 @@ const REQUESTS: [&str; 18] = [
 
 #[test]
 fn each_do_is_a_request(rt: HostRuntime) {
-    each_asks(&rt, rt.alloc(), OBJECT, &REQUESTS, true);
-    each_reports(&rt, rt.alloc(), OBJECT, &REQUESTS, false);
+    each_is(&rt, rt.alloc(), is_request, OBJECT, &REQUESTS, true);
+    each_is(&rt, rt.alloc(), is_report, OBJECT, &REQUESTS, false);
 }
 
 // Members beside `at` that make no request.
@@ -57,7 +57,7 @@ const NO_REQUESTS: [&str; 20] = [
 
 #[test]
 fn other_members_make_no_request(rt: HostRuntime) {
-    each_asks(&rt, rt.alloc(), OBJECT, &NO_REQUESTS, false);
+    each_is(&rt, rt.alloc(), is_request, OBJECT, &NO_REQUESTS, false);
 }
 
 // What stands around the key of an operation that is held.
@@ -84,7 +84,7 @@ const NO_KEYS: [&str; 12] = [
 
 #[test]
 fn other_keys_make_no_request(rt: HostRuntime) {
-    each_asks(&rt, rt.alloc(), HOLD, &NO_KEYS, false);
+    each_is(&rt, rt.alloc(), is_request, HOLD, &NO_KEYS, false);
 }
 
 // What stands around the one interval that a workstation gets.
@@ -112,7 +112,7 @@ const NO_INTERVALS: [&str; 13] = [
 
 #[test]
 fn other_intervals_make_no_request(rt: HostRuntime) {
-    each_asks(&rt, rt.alloc(), INTERVALS, &NO_INTERVALS, false);
+    each_is(&rt, rt.alloc(), is_request, INTERVALS, &NO_INTERVALS, false);
 }
 
 // Requests in another spelling: with blanks, in another order, with escapes, with a member twice, at any time.
@@ -127,7 +127,7 @@ const SPELLINGS: [&str; 6] = [
 
 #[test]
 fn spelling_is_free(rt: HostRuntime) {
-    each_asks(&rt, rt.alloc(), WHOLE, &SPELLINGS, true);
+    each_is(&rt, rt.alloc(), is_request, WHOLE, &SPELLINGS, true);
 }
 
 #[test]
@@ -160,7 +160,7 @@ const OTHERS: [&str; 15] = [
 
 #[test]
 fn other_bodies_are_no_requests(rt: HostRuntime) -> Result<(), Fail> {
-    each_asks(&rt, rt.alloc(), WHOLE, &OTHERS, false);
+    each_is(&rt, rt.alloc(), is_request, WHOLE, &OTHERS, false);
     assert!(rt;
         !is_request(
             rt.alloc(),

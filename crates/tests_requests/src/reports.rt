@@ -1,5 +1,5 @@
 // What a tracker may report, as JSON.
-use super::bodies::{each_asks, each_reports, is_named};
+use super::bodies::{each_is, is_named, is_report, is_request};
 use plan_records::What;
 use request_texts::{NumberedRequest, read_report};
 use std::test::Fail;
@@ -32,13 +32,13 @@ const COMMANDS: [&str; 7] = [
 
 #[test]
 fn five_are_reports(rt: HostRuntime) {
-    each_reports(&rt, rt.alloc(), FIRST, &REPORTS, true);
-    each_asks(&rt, rt.alloc(), FIRST, &REPORTS, false);
+    each_is(&rt, rt.alloc(), is_report, FIRST, &REPORTS, true);
+    each_is(&rt, rt.alloc(), is_request, FIRST, &REPORTS, false);
 }
 
 #[test]
 fn commands_are_no_reports(rt: HostRuntime) {
-    each_reports(&rt, rt.alloc(), FIRST, &COMMANDS, false);
+    each_is(&rt, rt.alloc(), is_report, FIRST, &COMMANDS, false);
 }
 
 // What stands around tracker and number of a report.
@@ -76,12 +76,12 @@ const NOT_NUMBERED: [&str; 15] = [
 
 #[test]
 fn reports_have_tracker_and_number(rt: HostRuntime) {
-    each_reports(&rt, rt.alloc(), ENDED, &NUMBERED, true);
+    each_is(&rt, rt.alloc(), is_report, ENDED, &NUMBERED, true);
 }
 
 #[test]
 fn others_are_no_reports(rt: HostRuntime) {
-    each_reports(&rt, rt.alloc(), ENDED, &NOT_NUMBERED, false);
+    each_is(&rt, rt.alloc(), is_report, ENDED, &NOT_NUMBERED, false);
 }
 
 // Whether it is the first report of T1, that PAYROLL's 5 is started.

@@ -1,5 +1,5 @@
 -- Nodes in ascending order, and those of them that are kept.
-use Rattle.std.proofs.Common.{◌≡◌, ◌⊎◌, ◌↔◌, inl, inr, refl, sym, ap, subst, ◌∙◌, arith, ℕ, zero, suc, ◌<◌, eqb, List, [], ◌∷◌, ◌++◌, length, Contains}
+use Rattle.std.proofs.Common.{◌≡◌, ◌⊎◌, ◌↔◌, inl, inr, refl, sym, ap, subst, ◌∙◌, arith, ℕ, ◌<◌, eqb, List, [], ◌∷◌, ◌++◌, length, Contains}
 use Rattle.std.specs.List.{remove}
 use Rattle.std.specs.List.Sorted.{IsNonDecreasing, IsPermutation}
 use Rattle.std.proofs.lemmas.Bool.{cases_eq}
@@ -41,35 +41,36 @@ between : (kept : List ℕ) (x : ℕ) (rest : List ℕ) → length kept < length
 between [] x rest = omega arith
 between (y ∷ kept) x rest = omega (arith, between kept x rest)
 
-module _ (keep : ℕ → Type 0) (all : List ℕ) where
-  pub sift_begun : AreAscending all → IsSift keep all [] all
-  sift_begun up = record { in_order = up; sound = λ n has. absurd (contains_none n has); complete = λ n has k. inr has; within = λ n has. has }
+module _ (passes fails : ℕ → Type 0) (all : List ℕ) where
+  pub sift_begun : AreAscending all → IsSift passes fails all [] all
+  sift_begun up = record { in_order = up; sound = λ n has. absurd (contains_none n has); complete = λ n has. inr has; within = λ n has. has }
 
-  pub sift_kept : (kept : List ℕ) (x : ℕ) (rest : List ℕ) → IsSift keep all kept (x ∷ rest) → keep x → IsSift keep all (kept ++ x ∷ []) rest
+  pub sift_kept : (kept : List ℕ) (x : ℕ) (rest : List ℕ) → IsSift passes fails all kept (x ∷ rest) → passes x → IsSift passes fails all (kept ++ x ∷ []) rest
   sift_kept kept x rest s k = record {
     in_order = subst AreAscending (sym (append_assoc kept (x ∷ []) rest)) s.in_order;
-    sound = λ n has. elim (Contains-push_cases kept x n has) [ inl old ↦ s.sound n old | inr here ↦ subst (λ z. Contains all z × keep z) here (s.within x (contains_head x rest), k) ];
-    complete = λ n has is. elim (s.complete n has is) [
-      | inl old ↦ inl (Contains-append_left kept (x ∷ []) n old)
-      | inr left ↦ elim (contains_cases x rest n left) [ inl same ↦ inl (subst (Contains (kept ++ x ∷ [])) same (Contains-push kept x)) | inr later ↦ inr later ]
+    sound = λ n has. elim (Contains-push_cases kept x n has) [ inl old ↦ s.sound n old | inr here ↦ subst (λ z. Contains all z × passes z) here (s.within x (contains_head x rest), k) ];
+    complete = λ n has. elim (s.complete n has) [
+      | inl (inl old) ↦ inl (inl (Contains-append_left kept (x ∷ []) n old))
+      | inl (inr failed) ↦ inl (inr failed)
+      | inr left ↦ elim (contains_cases x rest n left) [ inl same ↦ inl (inl (subst (Contains (kept ++ x ∷ [])) same (Contains-push kept x))) | inr later ↦ inr later ]
     ];
     within = λ n has. s.within n (contains_later x rest n has);
   }
 
-  pub sift_passed : (kept : List ℕ) (x : ℕ) (rest : List ℕ) → IsSift keep all kept (x ∷ rest) → ¬ keep x → IsSift keep all kept rest
-  sift_passed kept x rest s fails = record {
+  pub sift_passed : (kept : List ℕ) (x : ℕ) (rest : List ℕ) → IsSift passes fails all kept (x ∷ rest) → fails x → IsSift passes fails all kept rest
+  sift_passed kept x rest s failed = record {
     in_order = subst AreAscending (remove_between kept x rest) (all_pairs_remove (λ a b. a < b) (kept ++ x ∷ rest) (length kept) (between kept x rest) s.in_order);
     sound = s.sound;
-    complete = λ n has is. elim (s.complete n has is) [
-      | inl old ↦ inl old
-      | inr left ↦ elim (contains_cases x rest n left) [ inl same ↦ absurd (fails (subst keep (sym same) is)) | inr later ↦ inr later ]
+    complete = λ n has. elim (s.complete n has) [
+      | inl told ↦ inl told
+      | inr left ↦ elim (contains_cases x rest n left) [ inl same ↦ inl (inr (subst fails same failed)) | inr later ↦ inr later ]
     ];
     within = λ n has. s.within n (contains_later x rest n has);
   }
 
-  module _ (kept : List ℕ) (s : IsSift keep all kept []) where
+  module _ (kept : List ℕ) (s : IsSift passes fails all kept []) where
     pub sifted_in_order : AreAscending kept
     sifted_in_order = subst AreAscending (append-nil kept) s.in_order
 
-    pub sifted : (n : ℕ) → Contains kept n ↔ (Contains all n × keep n)
-    sifted n = (s.sound n, λ h. elim (s.complete n h.0 h.1) [ inl old ↦ old | inr left ↦ absurd (contains_none n left) ])
+    pub sifted : (n : ℕ) → Contains all n → Contains kept n ⊎ fails n
+    sifted n has = elim (s.complete n has) [ inl told ↦ told | inr left ↦ absurd (contains_none n left) ]

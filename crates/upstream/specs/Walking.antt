@@ -20,9 +20,9 @@ predecessor_rows g = map (predecessors_of g) (range_with_len 0 g.nodes)
 abbrev pub IsWalkBack : Digraph → List Bool → ℕ → Walk → ℕ → Type 0
 IsWalkBack g flags from w place = IsWalk (predecessor_rows g) flags from w.seen.items w.found.items place
 
--- those of `all` of which this is so are kept, in their order, up to a rest that is still to be looked at
-pub record IsSift (keep : ℕ → Type 0) (all kept rest : List ℕ) : Type 0 where
+-- those of `all` that pass are kept, in their order, and those that fail aren't, up to a rest that is still to be looked at
+pub record IsSift (passes fails : ℕ → Type 0) (all kept rest : List ℕ) : Type 0 where
   pub in_order : AreAscending (kept ++ rest)
-  pub sound : (n : ℕ) → Contains kept n → Contains all n × keep n
-  pub complete : (n : ℕ) → Contains all n → keep n → Contains kept n ⊎ Contains rest n
+  pub sound : (n : ℕ) → Contains kept n → Contains all n × passes n
+  pub complete : (n : ℕ) → Contains all n → (Contains kept n ⊎ fails n) ⊎ Contains rest n
   pub within : (n : ℕ) → Contains rest n → Contains all n

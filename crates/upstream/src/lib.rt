@@ -11,7 +11,7 @@ mod walk;
 
 use operation_graph::Graph;
 use plan_basics::Refusal;
-use sifting::{ascending, flagged, unfed};
+use sifting::{ascending, is_fed, sift};
 use std::alloc::Global;
 use walk::Walk;
 
@@ -57,7 +57,7 @@ pub fn flagged_preds(
     ensures refused { IfErr result (λ r. r ≡ Refusal.Memory) }
 {
     let preds = ascending(alloc, graph.preds(node))?;
-    Ok(flagged(alloc, flags, &preds)?)
+    Ok(sift(alloc, &preds, |pred| flags[pred])?)
 }
 
 /// Where what is upstream of a node begins: those of it of whose predecessors none has its flag set, from the least up.
@@ -78,5 +78,5 @@ pub fn sources(
 {
     let found = upstream(alloc, graph, flags, from)?;
     let found = ascending(alloc, &found)?;
-    Ok(unfed(alloc, graph, flags, &found)?)
+    Ok(sift(alloc, &found, |node| !is_fed(graph, flags, node))?)
 }

@@ -1,6 +1,6 @@
 // Nodes in order, and those of them that are kept.
-ghost use Rattle.std.specs.Prelude.{◌≡◌, ◌↔◌, ◌<◌, ℕ, All, Contains, length, IfOk, IsTrue};
-ghost use Rattle.operation_graph.specs.Graphs.{AreDifferent, IsSet};
+ghost use Rattle.std.specs.Prelude.{◌≡◌, ◌↔◌, ◌⊎◌, ◌<◌, ℕ, Contains, length, IfOk, IsTrue, true, false};
+ghost use Rattle.operation_graph.specs.Graphs.{AreDifferent};
 ghost use Rattle.upstream.specs.Upstream.{AreAscending, IsFed};
 
 use operation_graph::Graph;
@@ -17,24 +17,8 @@ pub fn ascending(alloc: Global, nodes: &[usize]) -> Result<Vec<usize>, AllocErro
     Ok(nodes)
 }
 
-/// Those of these nodes whose flags are set, in their order.
-pub fn flagged(alloc: Global, flags: &[bool], nodes: &[usize]) -> Result<Vec<usize>, AllocError>
-    requires within { All (λ n. n < length flags.now) nodes.now }
-    requires in_order { AreAscending nodes.now }
-    ensures in_order { IfOk result (λ v. AreAscending v.items) }
-    ensures nodes { IfOk result (λ v. (n : ℕ) → Contains v.items n ↔ (Contains nodes.now n × IsSet flags.now n)) }
-{
-    let mut kept = Vec::new(alloc);
-    for node in nodes {
-        if flags[*node] {
-            kept.push(*node)?;
-        }
-    }
-    Ok(kept)
-}
-
 /// Whether a predecessor of a node has its flag set.
-fn is_fed(graph: &Graph, flags: &[bool], node: usize) -> bool
+pub fn is_fed(graph: &Graph, flags: &[bool], node: usize) -> bool
     requires node { node < graph.now.nodes }
     requires flags { length flags.now ≡ graph.now.nodes }
     ensures { IsTrue result ↔ IsFed graph.now flags.now node }
@@ -47,22 +31,21 @@ fn is_fed(graph: &Graph, flags: &[bool], node: usize) -> bool
     false
 }
 
-/// Those of these nodes of whose predecessors none has its flag set, in their order.
-pub fn unfed(
+/// Those of these nodes that are to be kept, in their order.
+pub fn sift<F: Fn(usize) -> bool>(
     alloc: Global,
-    graph: &Graph,
-    flags: &[bool],
     nodes: &[usize],
+    keep: F,
 ) -> Result<Vec<usize>, AllocError>
-    requires within { All (λ n. n < graph.now.nodes) nodes.now }
-    requires flags { length flags.now ≡ graph.now.nodes }
+    requires asked { (n : ℕ) → Contains nodes.now n → F.pre keep n }
     requires in_order { AreAscending nodes.now }
     ensures in_order { IfOk result (λ v. AreAscending v.items) }
-    ensures nodes { IfOk result (λ v. (n : ℕ) → Contains v.items n ↔ (Contains nodes.now n × ¬ IsFed graph.now flags.now n)) }
+    ensures kept { IfOk result (λ v. (n : ℕ) → Contains v.items n → Contains nodes.now n × F.post keep n true) }
+    ensures left { IfOk result (λ v. (n : ℕ) → Contains nodes.now n → Contains v.items n ⊎ F.post keep n false) }
 {
     let mut kept = Vec::new(alloc);
     for node in nodes {
-        if !is_fed(graph, flags, *node) {
+        if keep(*node) {
             kept.push(*node)?;
         }
     }

@@ -2,6 +2,7 @@ use Rattle.std.proofs.Common.{◌≡◌, FitsSigned, codes, rules, to_z-of_z, w6
 use Rattle.clap.specs.Matches.{found_of}
 use Rattle.plan_basics.specs.Watched.{inner_of}
 use Rattle.plan_records.specs.Answer.{answer_of}
+use Rattle.desk_commands.specs.Whys.{IsNoMinute}
 use Rattle.desk_commands.specs.Words.{text_given}
 use Rattle.desk_commands.specs.declared.endings.Fault.TheVariants as fault
 use Rattle.desk_commands.proofs.Loaded.{load_shown}
@@ -16,4 +17,4 @@ returns-clause-shown g c =
     c.in_ok-at.ensures.minute (simp to_z-of_z at c.load_into-reply.ensures) c.tell-told.ensures.shown
 
 pub returns-clause-fault : goal.returns-clause-fault
-returns-clause-fault g c = of_them_too (λ f. f ≡ fault.Moment) c.tell-told.result c.tell-told.ensures.fault
+returns-clause-fault g c = of_them_too (λ f. (f ≡ fault.Moment) × IsNoMinute (text_given (found_of c.args.given.now) (codes "at"))) c.tell-told.result c.tell-told.ensures.fault

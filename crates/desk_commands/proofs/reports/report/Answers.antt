@@ -2,6 +2,7 @@ use Rattle.std.proofs.Common.{◌≡◌, codes}
 use Rattle.clap.specs.Matches.{first_value, found_of}
 use Rattle.plan_basics.specs.Watched.{inner_of}
 use Rattle.plan_loads.specs.plan_tables.specs.Faults.{IsOpeningRefusal}
+use Rattle.desk_commands.specs.Asked.{AsksNoReport}
 use Rattle.desk_commands.specs.Words.{text_given}
 use Rattle.desk_commands.specs.declared.endings.Fault.TheVariants as fault
 use Rattle.desk_commands.proofs.Told.{of_them_too, report_refused, report_shown}
@@ -21,4 +22,4 @@ returns-clause-shown g c =
     c.in-Ok.desk.is_usable c.in-Ok.desk.plan c.in_ok-kind.ensures.kind c.show-shown.ensures.shown
 
 pub returns-clause-fault : goal.returns-clause-fault
-returns-clause-fault g c = of_them_too (λ f. f ≡ fault.Words) c.show-shown.result c.show-shown.ensures.fault
+returns-clause-fault g c = of_them_too (λ f. (f ≡ fault.Words) × AsksNoReport (text_given (found_of c.args.given.now) (codes "kind")) (first_value (found_of c.args.given.now) (codes "ws"))) c.show-shown.result c.show-shown.ensures.fault

@@ -5,7 +5,7 @@ use Rattle.exchange_heads.specs.Heads.{request_at}
 use Rattle.exchange_heads.specs.Routes.{path_of, IsPathOf}
 use Rattle.exchange_heads.specs.Tests.{Request, Takes, Fails, Asks}
 use Rattle.exchange_heads.proofs.Texts.{IfSome-each}
-use Rattle.exchange_heads.proofs.Answered.{of_line, sent, refused}
+use Rattle.exchange_heads.proofs.Answered.{of_line, sent}
 use Rattle.exchange_heads.proofs.asking.answer_of.Goals as goal
 
 pub returns-in-Err-clause-answer : goal.returns-in-Err-clause-answer
@@ -20,37 +20,19 @@ segment_of-requires g c =
     let path : IsPathOf c.in-Ok.route (path_of c.target-target.result.now) = takes.path.1 in
     record { ready = rw c.in-Ready.is at path }
 
-pub returns-in-Ok-2-clause-answer : goal.returns-in-Ok-2-clause-answer
-returns-in-Ok-2-clause-answer g c =
+pub returns-in_ok-body_of-in-Report-clause-answer : goal.returns-in_ok-body_of-in-Report-clause-answer
+returns-in_ok-body_of-in-Report-clause-answer g c =
     let head = c.args.head.now in
-    let request : List ℕ → Request = λ left. request_at head.bytes.now head.headers.now head.spans left in
-    let takes : (left : List ℕ) → Takes (request left) route.Report =
-    λ left. rw c.in-Report.is at (of_line (λ q. Takes q c.in-Ok.route) _ _ head.bytes.now head.headers.now head.spans left c.method.ensures c.target-target.ensures (rw c.in-Ok.is at c.in_ok-line.ensures)) in
-    sent _ request route.Report c.in-Ok-2.body.items refl takes (rw c.in-Ok-2.is at c.in_ok-body-in-Report.ensures.body)
+    let line = rw c.in-Report.is at (rw c.in-Ok.is at c.in_ok-line.ensures) in
+    sent _ (request_at head.bytes.now head.headers.now head.spans) route.Report (λ body. body.items) asked.Report c.in_ok-body_of-in-Report.field-0 c.map.result refl (λ q body has. has)
+    (λ left. of_line (λ q. Takes q route.Report) _ _ head.bytes.now head.headers.now head.spans left c.method.ensures c.target-target.ensures line) c.map.ensures.cases c.in_ok-body_of-in-Report.ensures.body
 
-pub returns-in-Err-2-clause-answer : goal.returns-in-Err-2-clause-answer
-returns-in-Err-2-clause-answer g c =
+pub returns-in_ok-body_of-in-Operator-clause-answer : goal.returns-in_ok-body_of-in-Operator-clause-answer
+returns-in_ok-body_of-in-Operator-clause-answer g c =
     let head = c.args.head.now in
-    let request : List ℕ → Request = λ left. request_at head.bytes.now head.headers.now head.spans left in
-    let takes : (left : List ℕ) → Takes (request left) route.Report =
-    λ left. rw c.in-Report.is at (of_line (λ q. Takes q c.in-Ok.route) _ _ head.bytes.now head.headers.now head.spans left c.method.ensures c.target-target.ensures (rw c.in-Ok.is at c.in_ok-line.ensures)) in
-    refused _ request route.Report c.in-Err-2.test refl takes (rw c.in-Err-2.is at c.in_ok-body-in-Report.ensures.body)
-
-pub returns-in-Ok-3-clause-answer : goal.returns-in-Ok-3-clause-answer
-returns-in-Ok-3-clause-answer g c =
-    let head = c.args.head.now in
-    let request : List ℕ → Request = λ left. request_at head.bytes.now head.headers.now head.spans left in
-    let takes : (left : List ℕ) → Takes (request left) route.Operator =
-    λ left. rw c.in-Operator.is at (of_line (λ q. Takes q c.in-Ok.route) _ _ head.bytes.now head.headers.now head.spans left c.method.ensures c.target-target.ensures (rw c.in-Ok.is at c.in_ok-line.ensures)) in
-    sent _ request route.Operator c.in-Ok-3.body.items refl takes (rw c.in-Ok-3.is at c.in_ok-body-in-Operator.ensures.body)
-
-pub returns-in-Err-3-clause-answer : goal.returns-in-Err-3-clause-answer
-returns-in-Err-3-clause-answer g c =
-    let head = c.args.head.now in
-    let request : List ℕ → Request = λ left. request_at head.bytes.now head.headers.now head.spans left in
-    let takes : (left : List ℕ) → Takes (request left) route.Operator =
-    λ left. rw c.in-Operator.is at (of_line (λ q. Takes q c.in-Ok.route) _ _ head.bytes.now head.headers.now head.spans left c.method.ensures c.target-target.ensures (rw c.in-Ok.is at c.in_ok-line.ensures)) in
-    refused _ request route.Operator c.in-Err-3.test refl takes (rw c.in-Err-3.is at c.in_ok-body-in-Operator.ensures.body)
+    let line = rw c.in-Operator.is at (rw c.in-Ok.is at c.in_ok-line.ensures) in
+    sent _ (request_at head.bytes.now head.headers.now head.spans) route.Operator (λ body. body.items) asked.Operator c.in_ok-body_of-in-Operator.field-0 c.map-in-Operator.result refl (λ q body has. has)
+    (λ left. of_line (λ q. Takes q route.Operator) _ _ head.bytes.now head.headers.now head.spans left c.method.ensures c.target-target.ensures line) c.map-in-Operator.ensures.cases c.in_ok-body_of-in-Operator.ensures.body
 
 pub returns-in_ok-segment_of-in-Ready-clause-answer : goal.returns-in_ok-segment_of-in-Ready-clause-answer
 returns-in_ok-segment_of-in-Ready-clause-answer g c =

@@ -1,14 +1,34 @@
-use Rattle.std.proofs.Common.{[], sym, subst}
+use Rattle.std.proofs.Common.{[], ◌∷◌, sym, subst, ◌∙◌, ◌+◌, drop, get_or}
+use Rattle.std.proofs.lemmas.List.{drop_more, drop_all}
 use Rattle.plan_cascade.specs.Counters.{IsCascade}
 use Rattle.plan_cascade.proofs.Journals.{journaled_on}
 use Rattle.plan_cascade.proofs.settling.settle.Goals as goal
 
+pub returns-in_err-take_up-clause-journaled : goal.returns-in_err-take_up-clause-journaled
+returns-in_err-take_up-clause-journaled g c = journaled_on c.args.kept.now c.loop-node.kept c.take_up.new.kept c.args.journal.now.items c.loop-node.journal.items c.take_up.new.journal.items
+    c.loop-node.invariant.journaled c.in_err-take_up.ensures.journaled
+
+pub loop-node-preserved : goal.loop-node-preserved
+loop-node-preserved g c =
+    let nodes = c.args.changed.now in
+    let i = c.loop-node.node-index in
+    let inv = c.loop-node.invariant in
+    record {
+      rules = c.in_ok-take_up.ensures.rules ∙ inv.rules;
+      cascade = subst (λ rules. IsCascade c.args.graph.now rules (drop (i + 1) nodes) c.take_up.new.kept c.take_up.new.work.items []) inv.rules
+          (c.in_ok-take_up.ensures.step c.args.graph.now (drop (i + 1) nodes) c.requires.graph
+          (subst (λ rules. IsCascade c.args.graph.now rules (get_or nodes i 0 ∷ drop (i + 1) nodes) c.loop-node.kept c.loop-node.work.items []) (sym inv.rules)
+          (subst (λ xs. IsCascade c.args.graph.now (g.R.Rules.listed c.args.rules.now) xs c.loop-node.kept c.loop-node.work.items []) (drop_more nodes i 0 c.loop-node-test.true) inv.cascade)));
+      journaled = journaled_on c.args.kept.now c.loop-node.kept c.take_up.new.kept c.args.journal.now.items c.loop-node.journal.items c.take_up.new.journal.items
+          inv.journaled c.in_ok-take_up.ensures.journaled;
+    }
+
 pub spread-requires-clause-begun : goal.spread-requires-clause-begun
 spread-requires-clause-begun g c =
-    subst (λ rules. IsCascade c.args.graph.now rules [] c.take_up_all.new.kept c.take_up_all.new.work.items []) (sym c.in_ok-take_up_all.ensures.rules)
-    (c.in_ok-take_up_all.ensures.step c.args.graph.now c.requires.graph
-    (subst (λ xs. IsCascade c.args.graph.now (g.R.Rules.listed c.args.rules.now) c.args.changed.now c.args.kept.now xs []) (sym c.new-work.ensures.items) c.requires.begun))
+    let inv = c.loop-node.invariant in
+    subst (λ rules. IsCascade c.args.graph.now rules [] c.loop-node.kept c.loop-node.work.items []) (sym inv.rules)
+    (subst (λ xs. IsCascade c.args.graph.now (g.R.Rules.listed c.args.rules.now) xs c.loop-node.kept c.loop-node.work.items []) (drop_all c.loop-node.node-index c.args.changed.now c.loop-node-test.false) inv.cascade)
 
 pub returns-clause-journaled : goal.returns-clause-journaled
-returns-clause-journaled g c = journaled_on c.args.kept.now c.take_up_all.new.kept c.spread.new.kept c.args.journal.now.items c.take_up_all.new.journal.items c.spread.new.journal.items
-    c.in_ok-take_up_all.ensures.journaled c.spread.ensures.journaled
+returns-clause-journaled g c = journaled_on c.args.kept.now c.loop-node.kept c.spread.new.kept c.args.journal.now.items c.loop-node.journal.items c.spread.new.journal.items
+    c.loop-node.invariant.journaled c.spread.ensures.journaled

@@ -35,8 +35,8 @@ if_err : {T : Type 0} {A B C D : Refusal → Type 0} (r : Result T Refusal) → 
 if_err (Ok t) a b z f = tt
 if_err (Err e) a b z f = f e a b z
 
-pub returns-in-StartAndCompletion-2-clause-ok : goal.returns-in-StartAndCompletion-2-clause-ok
-returns-in-StartAndCompletion-2-clause-ok c =
+pub returns-in-StartAndCompletion-2 : goal.returns-in-StartAndCompletion-2
+returns-in-StartAndCompletion-2 c =
     let P = c.args.loaded.now in
     let o = c.args.key.now in
     let op = c.args.reported.now.operation in
@@ -47,22 +47,11 @@ returns-in-StartAndCompletion-2-clause-ok c =
     let taken = c.given_out_at-taken.result in
     let has : HasTaken P c.contents-contents.result.now op taken held =
     subst (λ (Q : Contents). HasTaken P Q op taken held) (sym c.contents-contents.ensures.contents) (has_taken P op taken held c.given_out_at-taken.ensures c.holdings.ensures) in
-    if_ok c.check_start.result c.check_start.ensures.ok (λ met.
-    subst (λ z. NoneRefuses (MayBeStarted P m o op (Some z))) (sym c.in-StartAndCompletion.is)
-    (λ r. line_by_line P o op m (λ _. Unit {0}) may (λ line first _. met P has line first) r tt))
-
-pub returns-in-StartAndCompletion-2-clause-refused : goal.returns-in-StartAndCompletion-2-clause-refused
-returns-in-StartAndCompletion-2-clause-refused c =
-    let P = c.args.loaded.now in
-    let o = c.args.key.now in
-    let op = c.args.reported.now.operation in
-    let m = c.args.at in
-    let yes : c.is_startable.result ≡ true = search rules in
-    let may : MayStart P o op m refusal.WrongStatus = startable P o c.args.reported.now c.requires m c.in-StartAndCompletion.is (sym c.is_startable.ensures ∙ yes) in
-    let held = c.holdings.result.now.held in
-    let taken = c.given_out_at-taken.result in
-    let has : HasTaken P c.contents-contents.result.now op taken held =
-    subst (λ (Q : Contents). HasTaken P Q op taken held) (sym c.contents-contents.ensures.contents) (has_taken P op taken held c.given_out_at-taken.ensures c.holdings.ensures) in
-    if_err c.check_start.result c.check_start.ensures.line c.check_start.ensures.refused c.check_start.ensures.least (λ r line never least.
-    inr (subst (λ z. IsLeastRefusal (MayBeStarted P m o op (Some z)) r) (sym c.in-StartAndCompletion.is)
-    (never P has, line_by_line P o op m (λ lower. number_of lower < number_of r) may (λ lower first less. least P has lower first less))))
+    record {
+      ok = if_ok c.check_start.result c.check_start.ensures.ok (λ met.
+          subst (λ z. NoneRefuses (MayBeStarted P m o op (Some z))) (sym c.in-StartAndCompletion.is)
+          (λ r. line_by_line P o op m (λ _. Unit {0}) may (λ line first _. met P has line first) r tt));
+      refused = if_err c.check_start.result c.check_start.ensures.line c.check_start.ensures.refused c.check_start.ensures.least (λ r line never least.
+          inr (subst (λ z. IsLeastRefusal (MayBeStarted P m o op (Some z)) r) (sym c.in-StartAndCompletion.is)
+          (never P has, line_by_line P o op m (λ lower. number_of lower < number_of r) may (λ lower first less. least P has lower first less))));
+    }

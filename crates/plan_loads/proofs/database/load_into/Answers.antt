@@ -1,4 +1,4 @@
-use Rattle.std.proofs.Common.{◌≡◌, w64, FitsSigned, to_z-of_z}
+use Rattle.std.proofs.Common.{w64, FitsSigned, to_z-of_z}
 use Rattle.sqlite.specs.Held.{state}
 use Rattle.plan_records.specs.Answer.{answer_of}
 use Rattle.plan_tables.specs.Desk.{state_of}

@@ -1,5 +1,5 @@
 use Rattle.sqlite.specs.Held.{state}
-use Rattle.plan_schema.proofs.ReceiptTexts.{read_plain}
+use Rattle.plan_schema.proofs.ReceiptTexts.{read}
 use Rattle.plan_schema.proofs.Receipts.{receipt_read}
 use Rattle.plan_schema.specs.declared.TheConstants.{READ_RECEIPT}
 use Rattle.plan_reads.specs.Tables.{receipt_rows}
@@ -29,4 +29,4 @@ returns-clause-rows g c clean live has =
 
 pub returns-clause-understood : goal.returns-clause-understood
 returns-clause-understood g c clean has =
-    query_faults READ_RECEIPT.now receipt_is_query read_plain (state g.S.Store c.args.conn.now) (state g.S.Store c.query_all.new.self) has c.query_all.result (c.query_all.ensures.err clean)
+    query_faults READ_RECEIPT.now receipt_is_query read.plain (state g.S.Store c.args.conn.now) (state g.S.Store c.query_all.new.self) has c.query_all.result (c.query_all.ensures.err clean)

@@ -1,4 +1,3 @@
-use Rattle.std.proofs.Common.{rules, ◌≡◌}
 use Rattle.plan_basics.specs.Watched.{inner_of}
 use Rattle.plan_reports.specs.Reports.{IsWhyReport, why_refusal_of}
 use Rattle.plan_reports.proofs.Whys.{text_begun, text_written}

@@ -41,10 +41,10 @@ count_out-requires c =
     one_there c.args.contents.now counted.0 c.args.tallies.now counted.2 c.args.place (row k).0 (row k).1 (row_at k) c.args.old counted.1
     c.occurrence_place_of.result its.0 its.1 (stood o) (stood_there o)
 
-pub count_in-requires : goal.count_in-requires
-count_in-requires c =
-    let k : After-index-operations-place = (goal.at.count_in-requires c).After-index-operations-place in
-    let o : After-occurrence_place_of = (goal.at.count_in-requires c).After-occurrence_place_of in
+pub count_one-requires : goal.count_one-requires
+count_one-requires c =
+    let k : After-index-operations-place = (goal.at.count_one-requires c).After-index-operations-place in
+    let o : After-occurrence_place_of = (goal.at.count_one-requires c).After-occurrence_place_of in
     let counted = c.requires.counted in
     let its = c.occurrence_place_of.ensures.at in
     at_most_fewer MOST_OPERATIONS c.args.old c.count_out.new.counts (stood o) c.count_out.ensures
@@ -57,4 +57,4 @@ returns c statuses was are =
     let o : After-occurrence_place_of = (goal.at.returns c).After-occurrence_place_of in
     let its = c.occurrence_place_of.ensures.at in
     tallies_exchanged c.args.contents.now statuses c.args.tallies.now are c.args.place (row k).0 (row k).1 (row_at k) c.args.old was
-    c.occurrence_place_of.result its.0 its.1 (stood o) (stood_there o) c.args.new c.count_out.new.counts c.count_in.new.counts c.count_out.ensures c.count_in.ensures
+    c.occurrence_place_of.result its.0 its.1 (stood o) (stood_there o) c.args.new c.count_out.new.counts c.count_one.new.counts c.count_out.ensures c.count_one.ensures

@@ -6,8 +6,6 @@ use Rattle.plan_rows.specs.Shown.{plan_shown}
 
 pub returns : goal.returns
 returns c = λ clock now so_far.
-    let P = plan_shown clock c.args.before in
-    let Q = plan_shown now c.args.after in
     let was = c.pairs_of.ensures.pairs ∙ ap (λ C. C.pairs) (contents_of_plan clock c.args.before) in
     let is = c.pairs_of-2.ensures.pairs ∙ ap (λ C. C.pairs) (contents_of_plan now c.args.after) in
-    c.push_changes.ensures 6 P Q (are_dependencies P c.pairs_of.result.now was) (are_dependencies Q c.pairs_of-2.result.now is) so_far
+    c.push_changes.ensures 6 (plan_shown clock c.args.before) (plan_shown now c.args.after) (are_dependencies _ c.pairs_of.result.now was) (are_dependencies _ c.pairs_of-2.result.now is) so_far

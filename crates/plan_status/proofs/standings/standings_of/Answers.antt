@@ -1,4 +1,4 @@
-use Rattle.std.proofs.Common.{rules, arith, ◌≡◌, ◌+◌, ℕ, ap, ◌∙◌, sym, length, slice_index_or, Some, slice_get}
+use Rattle.std.proofs.Common.{rules, arith, ◌≡◌, ◌<◌, ◌+◌, ℕ, ap, ◌∙◌, sym, length, slice_index_or, Some, slice_get}
 use Rattle.std.proofs.lemmas.Option.{slice_get-get_or, same_Some}
 use Rattle.std.specs.FinMap.{entries, get}
 use Rattle.std.specs.FinSet.{from_list}
@@ -10,7 +10,7 @@ use Rattle.plan_status.proofs.LoadedRows.{few_rows, row_found}
 use Rattle.plan_status.proofs.RowKeys.{row_read}
 use Rattle.plan_status.proofs.RowStandings.{at_most_first, at_most_more, standing_at, standings_all, standings_first, standings_more}
 use Rattle.plan_status.proofs.standings.standings_of.Goals as goal
-use Rattle.plan_status.proofs.standings.standings_of.Goals.{After-attribute_of-attr}
+use Rattle.plan_status.proofs.standings.standings_of.Goals.{After-deref-before-items}
 
 pub loop-before-init : goal.loop-before-init
 loop-before-init c =
@@ -22,69 +22,59 @@ loop-before-init c =
       at_most = at_most_first n c.in_ok-standings.standings.items all;
     }
 
+-- all edges of the graph, in turn
+all_edges : (c : After-deref-before-items) → AreAllInTurn c.args.graph.now c.deref-before-items.result.now
+all_edges c = all_shown c.args.graph.now c.deref-before-items.result.now _ c.deref-before-items.ensures.value c.in_ok-edges_in_turn.ensures.edges c.in_ok-edges_in_turn.ensures.in_turn
+
+-- the edge at an index
+abbrev edge : After-deref-before-items → ℕ → ℕ × ℕ
+edge c i = slice_index_or c.deref-before-items.result.now i (0, 0)
+
+joined : (c : After-deref-before-items) (i : ℕ) → i < length c.deref-before-items.result.now → IsPairAt c.args.contents.now (edge c i)
+joined c i lt = pair_below c.args.contents.now c.operations-rows.ensures.valid c.args.graph.now c.requires c.deref-before-items.result.now (all_edges c) i lt
+
 pub bounds-rows-before : goal.bounds-rows-before
 bounds-rows-before c =
-    let P = c.args.contents.now in
-    let edges = c.deref-before-items.result.now in
-    let i = c.loop-before.before-index in
-    let told = c.in_ok-edges_in_turn.ensures in
-    let all = all_shown c.args.graph.now edges _ c.deref-before-items.ensures.value told.edges told.in_turn in
-    let within = ends_within P (slice_index_or edges i (0, 0)) (pair_below P c.operations-rows.ensures.valid c.args.graph.now c.requires edges all i c.loop-before-test.true) in
+    let a : After-deref-before-items = (goal.at.bounds-rows-before c).After-deref-before-items in
+    let within = ends_within c.args.contents.now _ (joined a c.loop-before.before-index c.loop-before-test.true) in
     omega (arith, within.0, ap length c.operations-rows.ensures.rows)
 
 pub offset_bounds-rows-before : goal.offset_bounds-rows-before
 offset_bounds-rows-before c =
     let P = c.args.contents.now in
-    let edges = c.deref-before-items.result.now in
-    let i = c.loop-before.before-index in
-    let told = c.in_ok-edges_in_turn.ensures in
-    let all = all_shown c.args.graph.now edges _ c.deref-before-items.ensures.value told.edges told.in_turn in
-    let within = ends_within P (slice_index_or edges i (0, 0)) (pair_below P c.operations-rows.ensures.valid c.args.graph.now c.requires edges all i c.loop-before-test.true) in
+    let a : After-deref-before-items = (goal.at.offset_bounds-rows-before c).After-deref-before-items in
+    let within = ends_within P _ (joined a c.loop-before.before-index c.loop-before-test.true) in
     omega (arith, within.0, few_rows P c.operations-rows.ensures.valid)
 
 pub attribute_of-attr-requires : goal.attribute_of-attr-requires
 attribute_of-attr-requires c =
     let P = c.args.contents.now in
-    let edges = c.deref-before-items.result.now in
-    let i = c.loop-before.before-index in
-    let told = c.in_ok-edges_in_turn.ensures in
-    let all = all_shown c.args.graph.now edges _ c.deref-before-items.ensures.value told.edges told.in_turn in
-    let e = slice_index_or edges i (0, 0) in
-    let within = ends_within P e (pair_below P c.operations-rows.ensures.valid c.args.graph.now c.requires edges all i c.loop-before-test.true) in
+    let a : After-deref-before-items = (goal.at.attribute_of-attr-requires c).After-deref-before-items in
+    let e = edge a c.loop-before.before-index in
+    let within = ends_within P e (joined a c.loop-before.before-index c.loop-before-test.true) in
     let rows = c.operations-rows.result.now in
     let row = slice_index_or rows e.0 c.index-rows-before.result in
     (row.0, row_found P e.0 row.0 row.1 (row_read rows (entries P.operations) c.operations-rows.ensures.rows e.0 c.index-rows-before.result within.0))
 
--- all edges of the graph, in turn
-all_edges : (c : After-attribute_of-attr) → AreAllInTurn c.args.graph.now c.deref-before-items.result.now
-all_edges c = all_shown c.args.graph.now c.deref-before-items.result.now _ c.deref-before-items.ensures.value c.in_ok-edges_in_turn.ensures.edges c.in_ok-edges_in_turn.ensures.in_turn
-
--- the edge that is gone through
-abbrev edge : After-attribute_of-attr → ℕ × ℕ
-edge c = slice_index_or c.deref-before-items.result.now c.loop-before.before-index (0, 0)
-
-joined : (c : After-attribute_of-attr) → IsPairAt c.args.contents.now (edge c)
-joined c = pair_below c.args.contents.now c.operations-rows.ensures.valid c.args.graph.now c.requires c.deref-before-items.result.now (all_edges c) c.loop-before.before-index c.loop-before-test.true
-
 pub index-requires : goal.index-requires
 index-requires c =
-    let a : After-attribute_of-attr = (goal.at.index-requires c).After-attribute_of-attr in
-    let within = ends_within c.args.contents.now (edge a) (joined a) in
+    let a : After-deref-before-items = (goal.at.index-requires c).After-deref-before-items in
+    let within = ends_within c.args.contents.now _ (joined a c.loop-before.before-index c.loop-before-test.true) in
     omega (arith, within.1, c.loop-before.invariant.so_far.size, c.loop-before.standings.ok.0)
 
 pub index-requires-in-loop-before : goal.index-requires-in-loop-before
 index-requires-in-loop-before c =
-    let a : After-attribute_of-attr = (goal.at.index-requires-in-loop-before c).After-attribute_of-attr in
-    let within = ends_within c.args.contents.now (edge a) (joined a) in
+    let a : After-deref-before-items = (goal.at.index-requires-in-loop-before c).After-deref-before-items in
+    let within = ends_within c.args.contents.now _ (joined a c.loop-before.before-index c.loop-before-test.true) in
     omega (arith, within.0, c.loop-before.invariant.so_far.size, c.loop-before.standings.ok.0)
 
 pub standing_after-requires : goal.standing_after-requires
 standing_after-requires c =
     let P = c.args.contents.now in
     let rows = entries P.operations in
-    let a : After-attribute_of-attr = (goal.at.standing_after-requires c).After-attribute_of-attr in
-    let e = edge a in
-    let pair = joined a in
+    let a : After-deref-before-items = (goal.at.standing_after-requires c).After-deref-before-items in
+    let e = edge a c.loop-before.before-index in
+    let pair = joined a c.loop-before.before-index c.loop-before-test.true in
     let standing = c.index.result.now in
     let invariant = c.loop-before.invariant in
     let here = standing_at rows e.1 ((pair_of rows e).1, pair.after) pair.second c.loop-before.standings.items invariant.so_far.size standing c.index.ensures in
@@ -94,8 +84,8 @@ standing_after-requires c =
 
 pub index_mut-requires : goal.index_mut-requires
 index_mut-requires c =
-    let a : After-attribute_of-attr = (goal.at.index_mut-requires c).After-attribute_of-attr in
-    let within = ends_within c.args.contents.now (edge a) (joined a) in
+    let a : After-deref-before-items = (goal.at.index_mut-requires c).After-deref-before-items in
+    let within = ends_within c.args.contents.now _ (joined a c.loop-before.before-index c.loop-before-test.true) in
     omega (arith, within.1, c.loop-before.invariant.so_far.size, c.loop-before.standings.ok.0)
 
 pub loop-before-preserved : goal.loop-before-preserved
@@ -104,12 +94,12 @@ loop-before-preserved c =
     let graph = c.args.graph.now in
     let edges = c.deref-before-items.result.now in
     let i = c.loop-before.before-index in
-    let a : After-attribute_of-attr = (goal.at.loop-before-preserved c).After-attribute_of-attr in
-    let e = edge a in
+    let a : After-deref-before-items = (goal.at.loop-before-preserved c).After-deref-before-items in
+    let e = edge a i in
     let lt = c.loop-before-test.true in
     let all = all_edges a in
     let at = slice_get-get_or edges i (0, 0) lt in
-    let pair = joined a in
+    let pair = joined a i lt in
     let rows = entries P.operations in
     let shown = c.operations-rows.result.now in
     let row : OpKey × Operation = slice_index_or shown e.0 c.index-rows-before.result in
@@ -140,8 +130,7 @@ returns-clause-standings c =
     let P = c.args.contents.now in
     let graph = c.args.graph.now in
     let edges = c.deref-before-items.result.now in
-    let told = c.in_ok-edges_in_turn.ensures in
-    let all = all_shown graph edges _ c.deref-before-items.ensures.value told.edges told.in_turn in
+    let all = all_edges ((goal.at.returns-clause-standings c).After-deref-before-items) in
     let n = c.loop-before.before-index in
     let past = c.loop-before-test.false in
     let is : n ≡ length edges = omega (arith, past, c.loop-before.auto.before-index-end) in

@@ -1,5 +1,7 @@
-use Rattle.std.proofs.Common.{ℕ, false, sym, subst, ◌∙◌}
+use Rattle.std.proofs.Common.{ℕ, ◌≡◌, false, length, inl, inr, ap, sym, subst, ◌∙◌}
+use Rattle.sqlite.specs.Effect.{Database, IsDatabase}
 use Rattle.sqlite.specs.Held.{state}
+use Rattle.table_rows.specs.Rows.{IsEmpty}
 use Rattle.table_rows.specs.Tables.{no_schema}
 use Rattle.plan_schema.specs.Schema.{schema_9}
 use Rattle.plan_schema.specs.Stored.{Stores, none_held, with_meta}
@@ -9,9 +11,16 @@ use Rattle.plan_writes.proofs.Within.{as_err, then_runs}
 use Rattle.plan_writes.specs.Within.{Begins, Grows, Rewrites}
 use Rattle.plan_writes.proofs.creation.create_all.Goals as goal
 
+-- nine tables aren't none, so that something was done
+sound : (before between : Database) → IsEmpty no_schema before → Grows no_schema schema_9 before between → IsDatabase between
+sound before between empty grew = elim grew.sound [
+  | inl is ↦ is
+  | inr same ↦ absurd (let e : ◌≡◌ {A = ℕ} 9 0 = sym (ap (λ s. length s.tables) (grew.empty empty).schema_is) ∙ ap (λ (d : Database). length d.schema.tables) same ∙ ap (λ s. length s.tables) empty.schema_is in cc)
+]
+
 pub returns-in_err-create_nine-clause-made : goal.returns-in_err-create_nine-clause-made
 returns-in_err-create_nine-clause-made g c =
-    as_err {X = ℕ} {Y = ℕ} (Grows no_schema schema_9) Begins (state g.S.Store c.args.tx.now.conn.now) (state g.S.Store c.create_nine.new.tx.conn.now)
+    as_err (Grows no_schema schema_9) Begins (state g.S.Store c.args.tx.now.conn.now) (state g.S.Store c.create_nine.new.tx.conn.now)
     c.in_err-create_nine.field-0.0 c.from_residual.result c.from_residual.ensures.0 c.in_err-create_nine.ensures.made
 
 pub returns-clause-made : goal.returns-clause-made
@@ -20,10 +29,9 @@ returns-clause-made g c =
     let Puts = Rewrites (with_meta (meta_columns 1 false clock)) in
     let mid = state g.S.Store c.create_nine.new.tx.conn.now in
     let new = state g.S.Store c.put_meta.new.tx.conn.now in
-    then_runs {X = ℕ} {Y = ℕ} (Grows no_schema schema_9) Puts Begins (state g.S.Store c.args.tx.now.conn.now) mid new
-    c.in_ok-create_nine.field-0 c.in_ok-create_nine.ensures.made
+    then_runs (Grows no_schema schema_9) Puts Begins (state g.S.Store c.args.tx.now.conn.now) mid new c.in_ok-create_nine.ensures.made
     (λ before between after grew put. record {
-      stores = λ empty. let it = grew.empty empty in subst (λ m. Stores after (with_meta (meta_columns 1 false m) none_held)) c.first_minute.ensures (put.turns none_held (stores_none between it.0 it.1));
+      stores = λ empty. subst (λ m. Stores after (with_meta (meta_columns 1 false m) none_held)) c.first_minute.ensures (put.turns none_held (stores_none between (grew.empty empty) (sound before between empty grew)));
       back = λ e. grew.back (sym put.schema_stays ∙ e);
     })
     c.put_meta.result c.put_meta.ensures.written

@@ -1,26 +1,22 @@
-use Rattle.std.proofs.Common.{ℕ, Ok}
+use Rattle.std.proofs.Common.{◌∙◌, refl}
 use Rattle.sqlite.specs.Held.{state}
 use Rattle.table_rows.specs.Tables.{no_schema}
-use Rattle.plan_schema.specs.Schema.{schema_3, schema_6, schema_9}
-use Rattle.plan_writes.proofs.Within.{grown, as_err, then_refused, then_runs}
-use Rattle.plan_writes.specs.Within.{Grows}
+use Rattle.plan_schema.specs.Schema.{schema_9}
+use Rattle.plan_writes.proofs.Making.{set_out, goes_on, finds_free}
+use Rattle.plan_writes.proofs.NineTables.{nine_lead}
 use Rattle.plan_writes.proofs.creation.create_nine.Goals as goal
 
-pub returns-in_err-create_first-clause-made : goal.returns-in_err-create_first-clause-made
-returns-in_err-create_first-clause-made g c =
-    as_err {X = ℕ} {Y = ℕ} (Grows no_schema schema_3) (Grows no_schema schema_9) (state g.S.Store c.args.tx.now.conn.now) (state g.S.Store c.create_first.new.tx.conn.now)
-    c.in_err-create_first.field-0.0 c.from_residual.result c.from_residual.ensures.0 c.in_err-create_first.ensures.made
+pub loop-text-init : goal.loop-text-init
+loop-text-init g c = (refl, set_out no_schema schema_9 _ (state g.S.Store c.args.tx.now.conn.now) nine_lead)
 
-pub returns-in_err-create_second-clause-made : goal.returns-in_err-create_second-clause-made
-returns-in_err-create_second-clause-made g c =
-    then_refused {X = ℕ} {Y = ℕ} {Z = ℕ} (Grows no_schema schema_3) (Grows schema_3 schema_6) (Grows no_schema schema_9) (state g.S.Store c.args.tx.now.conn.now) (state g.S.Store c.create_first.new.tx.conn.now) (state g.S.Store c.create_second.new.tx.conn.now)
-    c.in_ok-create_first.field-0 c.in_err-create_second.field-0.0 c.from_residual-in_err-create_second.result c.from_residual-in_err-create_second.ensures.0 c.in_ok-create_first.ensures.made c.in_err-create_second.ensures.made
+pub returns-in_err-run_text-clause-names : goal.returns-in_err-run_text-clause-names
+returns-in_err-run_text-clause-names g c =
+    finds_free (λ t. t.now) no_schema schema_9 _ c.loop-text.text-index c.loop-text-test.true (state g.S.Store c.args.tx.now.conn.now) (state g.S.Store c.loop-text.tx.conn.now) (state g.S.Store c.run_text.new.tx.conn.now) c.loop-text.invariant.1 _
+    c.in_err-run_text.field-0.0 c.in_err-run_text.ensures.runs c.run_text.ensures.survives c.from_residual.result c.from_residual.ensures.1
 
-pub returns-clause-made : goal.returns-clause-made
-returns-clause-made g c =
-    let old = state g.S.Store c.args.tx.now.conn.now in
-    let one = state g.S.Store c.create_first.new.tx.conn.now in
-    let two = state g.S.Store c.create_second.new.tx.conn.now in
-    let new = state g.S.Store c.create_third.new.tx.conn.now in
-    let both = then_runs {X = ℕ} {Y = ℕ} (Grows no_schema schema_3) (Grows schema_3 schema_6) (Grows no_schema schema_6) old one two c.in_ok-create_first.field-0 c.in_ok-create_first.ensures.made (grown no_schema schema_3 schema_6) (Ok c.in_ok-create_second.field-0) c.in_ok-create_second.ensures.made in
-    then_runs {X = ℕ} {Y = ℕ} (Grows no_schema schema_6) (Grows schema_6 schema_9) (Grows no_schema schema_9) old two new c.in_ok-create_second.field-0 both (grown no_schema schema_6 schema_9) c.create_third.result c.create_third.ensures.made
+pub loop-text-preserved : goal.loop-text-preserved
+loop-text-preserved g c = (
+  c.run_text.ensures.same_reference ∙ c.loop-text.invariant.0,
+  goes_on (λ t. t.now) no_schema schema_9 _ c.loop-text.text-index c.loop-text-test.true (state g.S.Store c.args.tx.now.conn.now) (state g.S.Store c.loop-text.tx.conn.now) (state g.S.Store c.run_text.new.tx.conn.now) c.loop-text.invariant.1 _
+      c.in_ok-run_text.ensures.runs c.run_text.ensures.survives,
+)

@@ -8,21 +8,19 @@ use Rattle.plan_columns.specs.Columns.{meta_columns}
 use Rattle.plan_writes.proofs.Faults.{finds_table_named}
 use Rattle.plan_writes.proofs.Growth.{rewrites_so}
 use Rattle.plan_writes.proofs.Texts.{writes_meta}
-use Rattle.plan_writes.specs.Within.{Rewrites}
-use Rattle.plan_writes.proofs.Within.{executed}
 use Rattle.plan_writes.proofs.resource_rows.put_meta.Goals as goal
 
 pub returns-clause-written : goal.returns-clause-written
 returns-clause-written g c =
     let old = state g.S.Store c.args.tx.now.conn.now in
-    let new = state g.S.Store c.execute.new.self.conn.now in
+    let new = state g.S.Store c.run_text.new.tx.conn.now in
     let x = meta_columns c.args.version c.args.loaded c.args.clock in
-    executed (Rewrites (with_meta x)) old new PUT_META.now (meta_values x) c.execute.result (rewrites_so (with_meta x) PUT_META.now writes_meta (meta_values x) old new c.execute.result (meta_put old new x c.execute.result))
-    (λ clean inside. rw (c.number.ensures, c.number-2.ensures, c.flag.ensures, c.minute.ensures) at (c.execute.ensures.runs clean inside))
-    c.execute.ensures.survives
+    rewrites_so (with_meta x) PUT_META.now writes_meta (meta_values x) old new (meta_put old new x) c.run_text.result
+    (λ clean inside. rw (c.number.ensures, c.number-2.ensures, c.flag.ensures, c.minute.ensures) at (c.run_text.ensures.runs clean inside))
+    c.run_text.ensures.survives
 
 pub returns-clause-names : goal.returns-clause-names
 returns-clause-names g c =
     let x = meta_columns c.args.version c.args.loaded c.args.clock in
-    finds_table_named schema_9 PUT_META.now (meta_values x) _ _ _ _ put_is put_plain (state g.S.Store c.args.tx.now.conn.now) (state g.S.Store c.execute.new.self.conn.now) c.execute.result
-    (λ clean inside. rw (c.number.ensures, c.number-2.ensures, c.flag.ensures, c.minute.ensures) at (c.execute.ensures.runs clean inside))
+    finds_table_named schema_9 PUT_META.now (meta_values x) _ _ _ _ put_is put_plain (state g.S.Store c.args.tx.now.conn.now) (state g.S.Store c.run_text.new.tx.conn.now) c.run_text.result
+    (λ clean inside. rw (c.number.ensures, c.number-2.ensures, c.flag.ensures, c.minute.ensures) at (c.run_text.ensures.runs clean inside))

@@ -5,15 +5,13 @@ use Rattle.plan_schema.proofs.Needs.{need_put}
 use Rattle.plan_columns.specs.Columns.{need_columns}
 use Rattle.plan_writes.proofs.Growth.{rewrites_so}
 use Rattle.plan_writes.proofs.Texts.{writes_need}
-use Rattle.plan_writes.specs.Within.{Rewrites}
-use Rattle.plan_writes.proofs.Within.{executed}
 use Rattle.plan_writes.proofs.resource_rows.put_need.Goals as goal
 
 pub returns-clause-written : goal.returns-clause-written
 returns-clause-written g c =
     let old = state g.S.Store c.args.tx.now.conn.now in
-    let new = state g.S.Store c.execute.new.self.conn.now in
+    let new = state g.S.Store c.run_text.new.tx.conn.now in
     let x = need_columns c.args.op.now c.args.need.now in
-    executed (Rewrites (with_need x)) old new PUT_NEED.now (need_row x) c.execute.result (rewrites_so (with_need x) PUT_NEED.now writes_need (need_row x) old new c.execute.result (need_put old new x c.execute.result))
-    (λ clean inside. rw (c.letters.ensures, c.as_bytes.ensures.text, c.minute.ensures, c.number.ensures, c.from.ensures, c.letters-2.ensures, c.as_bytes-2.ensures.text, c.mode.ensures, c.keeping.ensures) at (c.execute.ensures.runs clean inside))
-    c.execute.ensures.survives
+    rewrites_so (with_need x) PUT_NEED.now writes_need (need_row x) old new (need_put old new x) c.run_text.result
+    (λ clean inside. rw (c.letters.ensures, c.as_bytes.ensures.text, c.minute.ensures, c.number.ensures, c.from.ensures, c.letters-2.ensures, c.as_bytes-2.ensures.text, c.mode.ensures, c.keeping.ensures) at (c.run_text.ensures.runs clean inside))
+    c.run_text.ensures.survives

@@ -25,4 +25,4 @@ returns-in-Interval-clause-written g c = rw c.in-Interval.is c.drop_interval.ens
 pub returns-in_default-clause-written : goal.returns-in_default-clause-written
 returns-in_default-clause-written g c =
     let now = state g.S.Store c.args.tx.now.conn.now in
-    nothing_done (Rewrites (without_row c.args.key.now)) now 0 (record { turns = λ held was. subst (Stores now.now) (sym (stays c.args.key.now c.in_default.not-Interval held)) was; schema_stays = refl })
+    nothing_done (Rewrites (without_row c.args.key.now)) now (record { turns = λ held was. subst (Stores now.now) (sym (stays c.args.key.now c.in_default.not-Interval held)) was; schema_stays = refl })

@@ -1,6 +1,4 @@
-use Rattle.std.proofs.Common.{◌≡◌, ◌+◌, ◌∷◌, drop, refl, ◌∙◌, arith}
-use Rattle.std.proofs.lemmas.Grind.{common_steps}
-use Rattle.std.proofs.lemmas.List.{drop_all}
+use Rattle.std.proofs.Common.{refl, ◌∙◌}
 use Rattle.sqlite.specs.Held.{state}
 use Rattle.plan_columns.specs.Tables.{without_row, without_rows}
 use Rattle.plan_writes.proofs.Lists.{set_out, goes_on, breaks_off, arrives}
@@ -10,26 +8,15 @@ pub loop-key-init : goal.loop-key-init
 loop-key-init g c = (refl, set_out without_row without_rows (λ held. refl) (λ x xs held. refl) c.args.gone.now (state g.S.Store c.args.tx.now.conn.now))
 
 pub loop-key-preserved : goal.loop-key-preserved
-loop-key-preserved g c =
-    let far = c.loop-key.invariant in
-    let all = c.args.gone.now in
-    let left = drop c.loop-key.key-index all in
-    let rest = drop (c.loop-key.key-index + 1) all in
-    let step : left ≡ c.key-item.result ∷ rest = grind (arith, common_steps, c.key-item.is, c.loop-key-test.true) in (
-      c.drop_row.ensures.same_reference ∙ far.0,
-      goes_on without_row without_rows (λ held. refl) (λ x xs held. refl) all left rest c.key-item.result step
-          (state g.S.Store c.args.tx.now.conn.now) (state g.S.Store c.loop-key.tx.conn.now) (state g.S.Store c.drop_row.new.tx.conn.now) c.in_ok-drop_row.field-0 far.1 c.in_ok-drop_row.ensures.written,
-    )
+loop-key-preserved g c = (
+  c.drop_row.ensures.same_reference ∙ c.loop-key.invariant.0,
+  goes_on without_row without_rows (λ held. refl) (λ x xs held. refl) c.args.gone.now c.loop-key.key-index c.key-item.result c.loop-key-test.true c.key-item.is (state g.S.Store c.args.tx.now.conn.now) (state g.S.Store c.loop-key.tx.conn.now) (state g.S.Store c.drop_row.new.tx.conn.now) c.loop-key.invariant.1 c.in_ok-drop_row.ensures.written,
+)
 
 pub returns-in_err-drop_row-clause-written : goal.returns-in_err-drop_row-clause-written
 returns-in_err-drop_row-clause-written g c =
-    let all = c.args.gone.now in
-    breaks_off without_row without_rows (λ held. refl) (λ x xs held. refl) all (drop c.loop-key.key-index all) c.key-item.result
-    (state g.S.Store c.args.tx.now.conn.now) (state g.S.Store c.loop-key.tx.conn.now) (state g.S.Store c.drop_row.new.tx.conn.now) c.in_err-drop_row.field-0.0 c.from_residual.result c.from_residual.ensures.0
-    c.loop-key.invariant.1 c.in_err-drop_row.ensures.written
+    breaks_off without_row without_rows (λ held. refl) (λ x xs held. refl) c.args.gone.now c.loop-key.key-index c.key-item.result (state g.S.Store c.args.tx.now.conn.now) (state g.S.Store c.loop-key.tx.conn.now) (state g.S.Store c.drop_row.new.tx.conn.now)
+    c.in_err-drop_row.field-0.0 c.from_residual.result c.from_residual.ensures.0 c.loop-key.invariant.1 c.in_err-drop_row.ensures.written
 
 pub returns-clause-written : goal.returns-clause-written
-returns-clause-written g c =
-    let all = c.args.gone.now in
-    arrives without_row without_rows (λ held. refl) (λ x xs held. refl) tt all (drop c.loop-key.key-index all) (drop_all c.loop-key.key-index all (omega (arith, c.loop-key-test.false)))
-    (state g.S.Store c.args.tx.now.conn.now) (state g.S.Store c.loop-key.tx.conn.now) c.loop-key.invariant.1
+returns-clause-written g c = arrives without_row without_rows (λ held. refl) (λ x xs held. refl) c.args.gone.now c.loop-key.key-index c.loop-key-test.false (state g.S.Store c.args.tx.now.conn.now) (state g.S.Store c.loop-key.tx.conn.now) c.loop-key.invariant.1

@@ -1,0 +1,11 @@
+use Rattle.std.proofs.Common.{ℕ, List, [], ◌∷◌, drop}
+use Rattle.plan_cascade.specs.declared.kept.Kept.{Kept}
+use Rattle.plan_cascade.specs.Changes.{IsClearing}
+use Rattle.plan_cascade.specs.Journal.{IsJournaled}
+use Rattle.plan_cascade.proofs.clearing.clear.Given as goal
+
+abbrev pub invariant-loop-succ : goal.invariant-loop-succ
+invariant-loop-succ l = record {
+  step : (start : List Kept) (gone : List ℕ) → IsClearing l.graph start gone l.fn.kept [] → IsClearing l.graph start (l.node ∷ gone) l.kept (drop l.succ-index l.succ-items);
+  journaled : IsJournaled l.fn.kept l.fn.journal.items l.kept l.journal.items;
+}
