@@ -1,14 +1,14 @@
 -- What may be wrong with an addition's record beside what may be with a plan's: one thing at most.
-use Rattle.std.proofs.Common.{◌≡◌, ◌↔◌, refl, sym, ap, subst, ◌∙◌, ℕ, ◌<◌, length, slice_get, Option, Some, None}
+use Rattle.std.proofs.Common.{◌≡◌, ◌↔◌, refl, sym, ap, subst, ◌∙◌, ℕ, ◌<◌, length, slice_get, Some, None}
 use Rattle.std.proofs.lemmas.Option.{none-some, same_Some, slice_get_within}
 use Rattle.plan_basics.specs.declared.keys.OccKey.{OccKey}
 use Rattle.plan_items.specs.declared.Item.{Item}
 use Rattle.plan_items.specs.declared.Item.TheVariants as item
 use Rattle.plan_drafts.specs.AdditionItems.{MayComeIn}
-use Rattle.record_faults.specs.Sayings.{Sayings, SaysAt, IsGiven}
+use Rattle.record_faults.specs.Sayings.{Sayings, SaysAt}
 use Rattle.addition_faults.specs.declared.faults.AdditionFault.{AdditionFault}
 use Rattle.addition_faults.specs.declared.faults.AdditionFault.TheVariants as of_addition
-use Rattle.addition_faults.specs.AdditionFaults.{occurrence_said, entered, IsBeside}
+use Rattle.addition_faults.specs.AdditionFaults.{occurrence_said, IsBeside}
 use Rattle.addition_faults.proofs.ComingIn.{says_one, only_occurrence, one_entering, entered_given}
 
 -- an occurrence may come in, and so may a dependency

@@ -1,15 +1,15 @@
 -- Records without a fault denote an addition.
-use Rattle.std.proofs.Common.{◌≡◌, ◌≢◌, ◌⊎◌, inl, inr, refl, sym, ap, subst, ◌∙◌, true≢false, arith, ℕ, zero, suc, ◌+◌, ◌^◌, ◌<◌, ◌≤◌, true, false, cond, List, [], ◌∷◌, length, map, get_or, slice_get, All, Contains, Option, Some, None}
+use Rattle.std.proofs.Common.{◌≡◌, ◌≢◌, ◌⊎◌, inl, inr, refl, sym, ap, subst, ◌∙◌, true≢false, arith, ℕ, zero, suc, ◌+◌, ◌<◌, ◌≤◌, true, false, cond, List, [], ◌∷◌, length, map, get_or, slice_get, All, Contains, Option, Some, None}
 use Rattle.std.specs.List.{AllPairs}
 use Rattle.std.specs.Cmp.{IsTotalOrder}
 use Rattle.std.specs.FinMap.{IsAntisymmetric}
 use Rattle.std.specs.Ordering.{eq_by_cmp}
 use Rattle.std.specs.declared.cmp.Ordering.{Ordering}
 use Rattle.std.proofs.lemmas.Bool.{cases_lt}
-use Rattle.std.proofs.lemmas.Option.{none-some, same_Some, slice_get-get_or, slice_get_within}
+use Rattle.std.proofs.lemmas.Option.{none-some, same_Some, slice_get-get_or}
 use Rattle.std.proofs.lemmas.List.Elements.{All-contains_itself}
 use Rattle.plan_basics.proofs.Members.{tied_is, all_by_members, at_place, place_of, contains_head, contains_later, contains_cases, contains_none}
-use Rattle.plan_basics.specs.Keys.{occurrence_cmp, occurrence_cmp_total, occurrence_cmp-IsAntisymmetric, operation_cmp, operation_cmp_total, operation_cmp-IsAntisymmetric}
+use Rattle.plan_basics.specs.Keys.{occurrence_cmp_total, occurrence_cmp-IsAntisymmetric, operation_cmp_total, operation_cmp-IsAntisymmetric}
 use Rattle.plan_basics.specs.declared.keys.OccKey.{OccKey}
 use Rattle.plan_basics.specs.declared.keys.OpKey.{OpKey}
 use Rattle.plan_basics.specs.declared.limits.TheConstants.{MOST_NEEDS}
@@ -22,19 +22,18 @@ use Rattle.text_faults.specs.plan_model.specs.declared.Occurrence.{Occurrence}
 use Rattle.plan_drafts.specs.declared.RowKey.{RowKey}
 use Rattle.plan_drafts.specs.declared.RowKey.TheVariants as key
 use Rattle.plan_drafts.specs.Records.{key_of}
-use Rattle.plan_drafts.specs.PlanItems.{as_occurrence, as_operation, keys_said, needs_of}
-use Rattle.plan_drafts.specs.AdditionItems.{MayComeIn, ComesWith, AreNewOperations, IsNeedOf, AreNewNeeds, IsEndAmong, IsNewPair, AreNewPairs, ComeIn, CanComeIn}
-use Rattle.plan_drafts.proofs.Lists.{Differ, differ_from_pairs, differ_filter, in_map, from_map, in_filter, from_filter, sole_there, sole_member}
+use Rattle.plan_drafts.specs.PlanItems.{as_occurrence, keys_said, needs_of}
+use Rattle.plan_drafts.specs.AdditionItems.{MayComeIn, ComesWith, AreNewOperations, IsNeedOf, AreNewNeeds, IsEndAmong, IsNewPair, AreNewPairs, CanComeIn}
+use Rattle.plan_drafts.proofs.Lists.{Differ, differ_from_pairs, differ_filter, from_map, from_filter, sole_there, sole_member}
 use Rattle.plan_drafts.proofs.Tables.{itself}
 use Rattle.plan_drafts.proofs.ItemKinds as kinds
 use Rattle.plan_drafts.proofs.ItemKinds.{occurrences_in, operations_in, needs_in, pairs_in, key_in, read_stands, read_distinct}
 use Rattle.record_faults.specs.declared.faults.Fault.{Fault}
 use Rattle.record_faults.specs.declared.faults.Fault.TheVariants as fault
-use Rattle.record_faults.specs.declared.names.Naming.TheVariants.{First, Second}
 use Rattle.record_faults.specs.declared.groups.Group.{Group}
 use Rattle.record_faults.specs.declared.groups.Group.TheVariants as group
 use Rattle.record_faults.specs.contracts.groups.GroupOrd.TheImpl.Laws as group_laws
-use Rattle.record_faults.specs.Sayings.{Sayings, SaysAt, owner_of, owned, given, IsGiven, IsFirst, IsNowhere}
+use Rattle.record_faults.specs.Sayings.{Sayings, SaysAt, owned, given, IsGiven, IsFirst, IsNowhere}
 use Rattle.record_faults.specs.Groups.{is_of, count_of}
 use Rattle.record_faults.specs.Faults.{IsFaultAt}
 use Rattle.record_faults.proofs.Denoted.{says_put, given_get, given_put}

@@ -1,12 +1,12 @@
 -- The occurrence that comes in: where it is said, and that there is one at most.
-use Rattle.std.proofs.Common.{◌≡◌, ◌↔◌, ◌⊎◌, inl, inr, refl, sym, ap, subst, ◌∙◌, arith, ℕ, zero, suc, ◌+◌, ◌<◌, List, [], ◌∷◌, length, slice_get, Option, Some, None}
+use Rattle.std.proofs.Common.{◌≡◌, ◌↔◌, inl, inr, refl, sym, ap, subst, ◌∙◌, arith, ℕ, zero, suc, ◌+◌, [], ◌∷◌, length, slice_get, Option, Some, None}
 use Rattle.std.proofs.lemmas.Bool.{cases_lt}
 use Rattle.std.proofs.lemmas.Option.{none-some, same_Some, slice_get_within}
 use Rattle.plan_basics.specs.declared.keys.OccKey.{OccKey}
 use Rattle.plan_basics.specs.declared.keys.OpKey.{OpKey}
 use Rattle.plan_items.specs.declared.Item.{Item}
 use Rattle.record_faults.specs.Sayings.{Sayings, SaysAt, IsGiven}
-use Rattle.addition_faults.specs.AdditionFaults.{occurrence_said, entered, NoneBelow, IsEntering, IsEnteringIfAny, IsOwn}
+use Rattle.addition_faults.specs.AdditionFaults.{occurrence_said, entered, NoneBelow, IsEntering, IsOwn}
 
 -- what a place says is what it enters
 pub given_entered : (said : Sayings) (i : ℕ) (o : Option Item) (c : OccKey) → slice_get said i ≡ Some o → occurrence_said o ≡ Some c → IsGiven (entered said) c i

@@ -1,7 +1,6 @@
 -- Records that denote an addition have no fault.
-use Rattle.std.proofs.Common.{◌≡◌, ◌≢◌, ◌⊎◌, inl, inr, refl, sym, ap, subst, ◌∙◌, arith, ℕ, zero, suc, ◌<◌, ◌≤◌, List, [], ◌∷◌, length, map, slice_get, All, Contains, Option, Some, None}
+use Rattle.std.proofs.Common.{◌≡◌, ◌≢◌, inl, inr, refl, sym, ap, subst, ◌∙◌, arith, ℕ, zero, suc, ◌<◌, ◌≤◌, List, [], ◌∷◌, length, map, slice_get, Contains, Option, Some}
 use Rattle.std.specs.List.{AllPairs}
-use Rattle.std.specs.Map.{keys_of}
 use Rattle.std.proofs.lemmas.Option.{none-some, same_Some, slice_get_within, get_or_from_slice_get}
 use Rattle.std.proofs.lemmas.List.Elements.{All-contains}
 use Rattle.plan_basics.proofs.Members.{at_place, place_of}
@@ -29,7 +28,7 @@ use Rattle.record_faults.specs.declared.names.Naming.TheVariants.{First, Second}
 use Rattle.record_faults.specs.declared.groups.Group.{Group}
 use Rattle.record_faults.specs.declared.groups.Group.TheVariants as group
 use Rattle.record_faults.specs.Sayings.{Sayings, SaysAt, owner_of, owned, given, IsGiven}
-use Rattle.record_faults.specs.Groups.{group_of, most_of, count_of}
+use Rattle.record_faults.specs.Groups.{group_of, count_of}
 use Rattle.record_faults.specs.Faults.{name_of, IsSilent, IsRepetition, IsOverlap, IsUndefined, IsUnused, IsCrowd, IsMissing, IsFaultAt}
 use Rattle.record_faults.proofs.Denoted.{no_gap, says_put, given_get, given_put}
 use Rattle.record_faults.proofs.Limits.{groups_in, count_occurrences, count_needs}

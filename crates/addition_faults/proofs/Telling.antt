@@ -1,9 +1,8 @@
 -- Faults of an addition that are told one after another.
-use Rattle.std.proofs.Common.{◌≡◌, ◌↔◌, ◌⊎◌, inl, inr, refl, sym, ap, subst, ◌∙◌, arith, ℕ, ◌+◌, ◌<◌, List, [], ◌∷◌, ◌++◌, Contains, Option, Some, None}
+use Rattle.std.proofs.Common.{◌≡◌, ◌↔◌, ◌⊎◌, inl, inr, sym, subst, arith, ℕ, ◌+◌, List, [], ◌∷◌, ◌++◌, Contains}
 use Rattle.std.proofs.lemmas.Bool.{cases_lt}
 use Rattle.std.proofs.lemmas.List.Elements.{Contains-append_left, Contains-append_right, Contains-append_cases}
 use Rattle.plan_basics.proofs.Members.{contains_head, contains_cases, contains_none}
-use Rattle.addition_faults.specs.declared.faults.AdditionFault.{AdditionFault}
 use Rattle.addition_faults.specs.declared.faults.PlacedFault.{PlacedFault}
 use Rattle.addition_faults.specs.AdditionFaults.{AreToldBelow}
 

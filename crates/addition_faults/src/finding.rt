@@ -1,6 +1,7 @@
 // What is found in the records of an addition.
-ghost use Rattle.std.specs.Prelude.{◌≡◌, ◌↔◌, ◌⊎◌, ◌≤◌, ◌<◌, [], length, Contains, IfOk, OnOk};
+ghost use Rattle.std.specs.Prelude.{◌≡◌, ◌≢◌, ◌↔◌, ◌⊎◌, ◌≤◌, ◌<◌, [], length, Contains, IfOk, OnOk};
 ghost use Rattle.std.specs.List.{AllPairs};
+ghost use Rattle.record_faults.specs.Faults.{StayOnce};
 ghost use Rattle.record_faults.specs.Sayings.{texts_of, AreSayings};
 ghost use Rattle.addition_faults.specs.AdditionFaults.{IsFaultHere, IsFaultOfAddition, DenoteSomeAddition, IsEnteringIfAny, IsToldOf, IsToldAt, IsBesideAt, AreToldBelow};
 ghost use Rattle.addition_faults.specs.declared.faults.PlacedFault.{PlacedFault};
@@ -21,7 +22,8 @@ fn tell_judged(
     found: &RecordFault,
 ) -> Result<(), AllocError>
     requires { IsEnteringIfAny said.now entering.now }
-    ensures { OnOk result ((f : PlacedFault) → Contains faults.new.items f ↔ (Contains faults.old.items f ⊎ IsToldOf said.now found.now f)) }
+    ensures told { OnOk result ((f : PlacedFault) → Contains faults.new.items f ↔ (Contains faults.old.items f ⊎ IsToldOf said.now found.now f)) }
+    ensures once { OnOk result (StayOnce (IsToldOf said.now found.now) faults.old.items faults.new.items) }
 {
     if !is_judged(said, entering, found.place, &found.fault) {
         return Ok(());
@@ -41,8 +43,10 @@ fn judged_of(
     said: &[Option<Item>],
     entering: &Entering,
 ) -> Result<Vec<PlacedFault>, AllocError>
-    requires { IsEnteringIfAny said.now entering.now }
-    ensures { IfOk result (λ v. AreToldBelow (IsToldAt said.now found.now) (length found.now) v.items) }
+    requires entering { IsEnteringIfAny said.now entering.now }
+    requires once { AllPairs (λ a b. a ≢ b) found.now }
+    ensures told { IfOk result (λ v. AreToldBelow (IsToldAt said.now found.now) (length found.now) v.items) }
+    ensures once { IfOk result (λ v. AllPairs (λ a b. a ≢ b) v.items) }
 {
     let mut faults = Vec::new(alloc);
     for number in 0..found.len() {
@@ -60,7 +64,8 @@ fn tell_beside(
 ) -> Result<(), AllocError>
     requires entering { IsEnteringIfAny said.now entering.now }
     requires place { place < length said.now }
-    ensures { OnOk result ((f : PlacedFault) → Contains faults.new.items f ↔ (Contains faults.old.items f ⊎ IsBesideAt said.now place f)) }
+    ensures told { OnOk result ((f : PlacedFault) → Contains faults.new.items f ↔ (Contains faults.old.items f ⊎ IsBesideAt said.now place f)) }
+    ensures once { OnOk result (StayOnce (IsBesideAt said.now place) faults.old.items faults.new.items) }
 {
     let Some(fault) = beside(said, entering, place) else {
         return Ok(());
@@ -76,7 +81,8 @@ fn beside_of(
     entering: &Entering,
 ) -> Result<Vec<PlacedFault>, AllocError>
     requires { IsEnteringIfAny said.now entering.now }
-    ensures { IfOk result (λ v. AreToldBelow (IsBesideAt said.now) (length said.now) v.items) }
+    ensures told { IfOk result (λ v. AreToldBelow (IsBesideAt said.now) (length said.now) v.items) }
+    ensures once { IfOk result (λ v. AllPairs (λ a b. a ≢ b) v.items) }
 {
     let mut faults = Vec::new(alloc);
     for place in 0..said.len() {
@@ -92,7 +98,8 @@ fn faults_here(
     said: &[Option<Item>],
 ) -> Result<Vec<PlacedFault>, AllocError>
     requires { AreSayings (texts_of records.now) said.now }
-    ensures { IfOk result (λ v. (f : PlacedFault) → Contains v.items f ↔ IsFaultHere (texts_of records.now) said.now f.place f.fault) }
+    ensures exactly { IfOk result (λ v. (f : PlacedFault) → Contains v.items f ↔ IsFaultHere (texts_of records.now) said.now f.place f.fault) }
+    ensures once { IfOk result (λ v. AllPairs (λ a b. a ≢ b) v.items) }
 {
     let entering = entering(said);
     let found = faults_of(alloc, records)?;
@@ -102,14 +109,15 @@ fn faults_here(
     Ok(faults)
 }
 
-/// The faults of the records of an addition's text, in the order of their places; there is none exactly where the records
-/// denote an addition. What takes a plan to judge is none: workstations, special resources and operations of other
-/// occurrences that are named, the plan's limits, and paths that return. Each record may have any number of fields. It
-/// fails for want of memory only.
+/// The faults of the records of an addition's text, in the order of their places, each once; there is none exactly where
+/// the records denote an addition. What takes a plan to judge is none: workstations, special resources and operations of
+/// other occurrences that are named, the plan's limits, and paths that return. Each record may have any number of fields.
+/// It fails for want of memory only.
 pub fn faults_of_addition(alloc: Global, records: &[Fields]) -> Result<Vec<PlacedFault>, AllocError>
     ensures exactly { IfOk result (λ v. (f : PlacedFault) → Contains v.items f ↔ IsFaultOfAddition (texts_of records.now) f.place f.fault) }
     ensures none { IfOk result (λ v. (v.items ≡ []) ↔ DenoteSomeAddition (texts_of records.now)) }
     ensures in_order { IfOk result (λ v. AllPairs (λ a b. a.place ≤ b.place) v.items) }
+    ensures once { IfOk result (λ v. AllPairs (λ a b. a ≢ b) v.items) }
 {
     let said = sayings(alloc, records)?;
     let mut faults = faults_here(alloc, records, &said)?;

@@ -1,5 +1,5 @@
 // The faults of an addition's text, and what is told of each.
-ghost use Rattle.std.specs.Prelude.{◌≡◌, ◌↔◌, ◌≤◌, ◌++◌, ℕ, List, [], codes, decimal, IfOk};
+ghost use Rattle.std.specs.Prelude.{◌≡◌, ◌≢◌, ◌↔◌, ◌≤◌, ◌++◌, ℕ, List, [], codes, decimal, IfOk};
 ghost use Rattle.std.specs.List.{AllPairs};
 ghost use Rattle.std.specs.String.{string_bytes};
 ghost use Rattle.text_records.specs.Lines.{BeginOn};
@@ -16,19 +16,20 @@ use text_records::{TextRecords, records_of_text};
 /// The faults of an addition's text.
 #[derive(Drop)]
 pub struct AdditionTextFaults {
-    /// The faults of its records, in the order of their places.
+    /// The faults of its records, in the order of their places, each once.
     pub faults: Vec<PlacedFault>,
     /// The line in which each record begins, as what is told of a record's faults takes it: without faults of its own.
     pub read: TextFaults,
 }
 
-/// The faults of an addition's text, in the order of its records; there is none exactly where the text denotes an addition.
-/// What takes the plan to judge is none. A byte order mark, line ends of either kind and quotes are no faults. It fails for
-/// want of memory only.
+/// The faults of an addition's text, in the order of its records, each once; there is none exactly where the text denotes
+/// an addition. What takes the plan to judge is none. A byte order mark, line ends of either kind and quotes are no
+/// faults. It fails for want of memory only.
 pub fn faults_of_addition_text(alloc: Global, text: &[u8]) -> Result<AdditionTextFaults, AllocError>
     ensures exactly { IfOk result (λ t. AreFaultsOfAdditionText text.now t.faults.items) }
     ensures none { IfOk result (λ t. (t.faults.items ≡ []) ↔ TextDenotesSomeAddition text.now) }
     ensures in_order { IfOk result (λ t. AllPairs (λ a b. a.place ≤ b.place) t.faults.items) }
+    ensures once { IfOk result (λ t. AllPairs (λ a b. a ≢ b) t.faults.items) }
     ensures lines { IfOk result (λ t. BeginOn text.now t.read.lines.items) }
 {
     let TextRecords { records, lines } = records_of_text(alloc, text)?;

@@ -1,6 +1,5 @@
 -- The faults that are told of a list of records are its faults, and there is none exactly where it denotes a plan.
-use Rattle.std.proofs.Common.{◌≡◌, ◌↔◌, inl, inr, refl, sym, ap, ap₂, subst, ◌∙◌, true, false, true≢false, eqb, Bool, IsTrue, arith, ℕ, ◌≤◌, List, [], ◌∷◌, length, All, Contains, Some, None}
-use Rattle.std.specs.List.{AllPairs}
+use Rattle.std.proofs.Common.{◌≡◌, ◌↔◌, inl, inr, refl, sym, ap, ap₂, subst, ◌∙◌, true, false, true≢false, eqb, Bool, IsTrue, arith, ℕ, List, [], ◌∷◌, length, All, Contains, Some, None}
 use Rattle.std.proofs.lemmas.Bool.{eqb-true}
 use Rattle.plan_basics.proofs.Members.{all_by_members, contains_cases, contains_none}
 use Rattle.plan_drafts.proofs.Lists.{no_members}
@@ -72,10 +71,6 @@ some_told (x ∷ xs) n size e empty = cc
 -- what is told of whether records say a plan
 pub no_plan_told : (records : List Fields) (said read : Sayings) (told : Bool) → AreSayings records said → read ≡ said → (IsTrue told ↔ SaySome read) → told ≡ false → ¬ DenoteSome records
 no_plan_told records said read told are same says is_false denoted = true≢false (sym (says.1 (subst SaySome (sym same) ((say_denoted records said are).1 denoted))) ∙ is_false)
-
--- one is in order
-pub one_in_order : (one : RecordFault) → AllPairs (λ (a : RecordFault) (b : RecordFault). a.place ≤ b.place) (one ∷ [])
-one_in_order one i j d lt within = absurd (omega (arith, lt, within))
 
 -- where a plan is denoted no record has a fault
 pub none_of_plan : (records : List Fields) (said : Sayings) → AreSayings records said → SaySome said → (f : RecordFault) → ¬ IsFaultOfRecord records f.place f.fault

@@ -19,7 +19,7 @@ use Rattle.record_faults.specs.declared.groups.Group.TheVariants as group
 use Rattle.record_faults.specs.Groups.{grouped}
 use Rattle.record_faults.specs.Sayings.{Sayings, IsGiven, given}
 use Rattle.record_faults.proofs.Overlapping.{no_second}
-use Rattle.record_faults.specs.Faults.{IsAnswer, IsSilent, IsRepetition, interval_said, IsOverlap, IsUndefined, IsUnused, IsCrowd, IsMissing, IsOwnFault, AreInOrderTo, AreFaultsBelow, AreFaults}
+use Rattle.record_faults.specs.Faults.{IsAnswer, IsSilent, IsRepetition, interval_said, IsOverlap, IsUndefined, IsUnused, IsCrowd, IsMissing, IsOwnFault, IsFaultAt, StayOnce, AreInOrderTo, AreFaultsBelow, AreFaults}
 
 -- what is read of a list within it
 pub at_read : {X : Type 0} (xs : List X) (i : ℕ) (d v : X) → i < length xs → get_or xs i d ≡ v → slice_get xs i ≡ Some v
@@ -109,16 +109,25 @@ by_property h x = (
   elim [ inl v ↦ h.1 (inl v) | inr p ↦ h.1 (inr (p.0, x.1 p.1)) ],
 )
 
+-- what two and then one tell
+pub more_of_two : {V0 V1 V2 P A B C : Type 0} → (V1 ↔ (V0 ⊎ (P × (A ⊎ B)))) → (V2 ↔ (V1 ⊎ (P × C))) → V2 ↔ (V0 ⊎ (P × (A ⊎ B ⊎ C)))
+more_of_two a b =
+    by_property (more a b) (elim [ inl two ↦ elim two [ inl x ↦ inl x | inr y ↦ inr (inl y) ] | inr z ↦ inr (inr z) ], elim [ inl x ↦ inl (inl x) | inr rest ↦ elim rest [ inl y ↦ inl (inr y) | inr z ↦ inr z ] ])
+
 -- ---- all places
 pub no_place : (records : List Fields) (said : Sayings) → AreFaultsBelow records said 0 []
-no_place records said = record { exact = λ f. (λ has. absurd (contains_none f has), λ h. let lt = h.0 in absurd (omega (arith, lt))); in_order = λ i j d lt within. absurd (omega arith) }
+no_place records said = record {
+  exact = λ f. (λ has. absurd (contains_none f has), λ h. let lt = h.0 in absurd (omega (arith, lt)));
+  in_order = λ i j d lt within. absurd (omega arith);
+  once = λ i j d lt within. absurd (omega arith);
+}
 
 module _ (records : List Fields) (said : Sayings) (n : ℕ) (old new : List RecordFault) (are : AreFaultsBelow records said n old) where
   pub in_order_to : AreInOrderTo n old
   in_order_to = record { in_order = are.in_order; within = all_by_members (λ (a : RecordFault). a.place ≤ n) old (λ a has. let lt = ((are.exact a).0 has).0 in omega (arith, lt)) }
 
-  pub place_more : ((f : RecordFault) → Contains new f ↔ (Contains old f ⊎ ((f.place ≡ n) × IsOwnFault records said n f.fault))) → (AreInOrderTo n old → AreInOrderTo n new) → AreFaultsBelow records said (n + 1) new
-  place_more told ordered = record {
+  pub place_more : ((f : RecordFault) → Contains new f ↔ (Contains old f ⊎ ((f.place ≡ n) × IsOwnFault records said n f.fault))) → (AreInOrderTo n old → AreInOrderTo n new) → StayOnce (λ (f : RecordFault). f.place ≡ n) old new → AreFaultsBelow records said (n + 1) new
+  place_more told ordered stay = record {
     exact = λ f. (
       λ has. elim ((told f).0 has) [
         | inl before ↦ let h = (are.exact f).0 before in let lt = h.0 in (omega (arith, lt), h.1)
@@ -130,6 +139,7 @@ module _ (records : List Fields) (said : Sayings) (n : ℕ) (old new : List Reco
       ],
     );
     in_order = (ordered in_order_to).in_order;
+    once = stay (λ f at has. let lt = ((are.exact f).0 has).0 in omega (arith, lt, at)) are.once;
   }
 
 -- ---- the faults of records are at their places
@@ -197,12 +207,16 @@ missing_told g said place f h = (
   elim [ inl v ↦ h.1 (inl v) | inr m ↦ let at = missing_at g said place f m in h.1 (inr (at, subst (λ k. IsMissing g said k f) at m)) ],
 )
 
-pub all_told :
-    (records : List Fields) (said : Sayings) (below more all : List RecordFault) → AreFaultsBelow records said (length said) below →
-    ((f : RecordFault) → Contains more f ↔ (Contains below f ⊎ IsMissing group.Workstations said f.place f.fault)) → (AreInOrderTo (length said) below → AreInOrderTo (length said) more) →
-    ((f : RecordFault) → Contains all f ↔ (Contains more f ⊎ IsMissing group.Occurrences said f.place f.fault)) → (AreInOrderTo (length said) more → AreInOrderTo (length said) all) → AreFaults records said all
-all_told records said below more all are first first_ordered second second_ordered = record {
-  exact = λ f. (
+-- what is missing is of one group
+one_missing : (said : Sayings) (place other : ℕ) (f : Fault) → IsMissing group.Workstations said place f → IsMissing group.Occurrences said other f → ⊥
+one_missing said place other (fault.Missing k) h m = let same : group.Workstations ≡ group.Occurrences = sym h.0 ∙ m.0 in cc
+one_missing said place other _ h m = h
+
+module _
+    (records : List Fields) (said : Sayings) (below more all : List RecordFault) (are : AreFaultsBelow records said (length said) below)
+    (first : (f : RecordFault) → Contains more f ↔ (Contains below f ⊎ IsMissing group.Workstations said f.place f.fault)) (second : (f : RecordFault) → Contains all f ↔ (Contains more f ⊎ IsMissing group.Occurrences said f.place f.fault)) where
+  all_exact : (f : RecordFault) → Contains all f ↔ IsFaultAt records said f.place f.fault
+  all_exact f = (
     λ has. elim ((second f).0 has) [
       | inr m ↦ inr (inr m)
       | inl in_more ↦ elim ((first f).0 in_more) [ inr m ↦ inr (inl m) | inl in_below ↦ inl ((are.exact f).0 in_below).1 ]
@@ -211,9 +225,22 @@ all_told records said below more all are first first_ordered second second_order
       | inl own ↦ (second f).1 (inl ((first f).1 (inl ((are.exact f).1 (own_within records said f.place f.fault own, own)))))
       | inr m ↦ elim m [ inl w ↦ (second f).1 (inl ((first f).1 (inr w))) | inr o ↦ (second f).1 (inr o) ]
     ],
-  );
-  in_order = (second_ordered (first_ordered (in_order_to records said (length said) below below are))).in_order;
-}
+  )
+
+  not_below : (g : Group) (f : RecordFault) → IsMissing g said f.place f.fault → ¬ Contains below f
+  not_below g f m has = let at = missing_at g said f.place f.fault m in let lt = ((are.exact f).0 has).0 in omega (arith, at, lt)
+
+  not_before : (f : RecordFault) → IsMissing group.Occurrences said f.place f.fault → ¬ Contains more f
+  not_before f m has = elim ((first f).0 has) [ inl in_below ↦ not_below group.Occurrences f m in_below | inr w ↦ one_missing said f.place f.place f.fault w m ]
+
+  pub all_told :
+      (AreInOrderTo (length said) below → AreInOrderTo (length said) more) → (AreInOrderTo (length said) more → AreInOrderTo (length said) all) →
+      StayOnce (λ (f : RecordFault). IsMissing group.Workstations said f.place f.fault) below more → StayOnce (λ (f : RecordFault). IsMissing group.Occurrences said f.place f.fault) more all → AreFaults records said all
+  all_told first_ordered second_ordered first_once second_once = record {
+    exact = all_exact;
+    in_order = (second_ordered (first_ordered (in_order_to records said (length said) below below are))).in_order;
+    once = second_once not_before (first_once (not_below group.Workstations) are.once);
+  }
 
 -- what is told is that there is none of the group
 pub tell_after :
@@ -222,3 +249,11 @@ pub tell_after :
     OnOk r ((f : RecordFault) → Contains new f ↔ (Contains old f ⊎ IsMissing g items f.place f.fault))
 tell_after g items said same old new found answer (Ok u) told = λ f. missing_told g items f.place f.fault (subst (λ z. Contains new f ↔ (Contains old f ⊎ ((f.place ≡ length z) × IsMissing g z (length z) f.fault))) same (by_property (told f) (told_is (IsMissing g said (length said)) found answer f.fault)))
 tell_after g items said same old new found answer (Err e) told = told
+
+-- and it is told once
+pub once_after :
+    {E : Type 0} (g : Group) (items said : Sayings) → said ≡ items → (old new : List RecordFault) (found : Option Fault) → IsAnswer (IsMissing g said (length said)) found → (r : Result (Unit {0}) E) →
+    OnOk r (StayOnce (λ (f : RecordFault). (f.place ≡ length said) × (found ≡ Some f.fault)) old new) → OnOk r (StayOnce (λ (f : RecordFault). IsMissing g items f.place f.fault) old new)
+once_after g items said same old new found answer (Err e) stay = tt
+once_after g items said same old new found answer (Ok u) stay = λ none once.
+    stay (λ f h. none f (subst (λ z. IsMissing g z f.place f.fault) same (subst (λ n. IsMissing g said n f.fault) (sym h.0) ((told_is (IsMissing g said (length said)) found answer f.fault).0 h.1)))) once

@@ -6,6 +6,7 @@ pub mod Limits
 pub mod Telling
 pub mod Overlapping
 pub mod Gathering
+pub mod Once
 pub mod PlanIntervals
 pub mod Denoted
 pub mod Finding

@@ -1,5 +1,5 @@
 -- The faults of a list of records, each with its place.
-use Rattle.std.specs.Prelude.{◌≡◌, ◌↔◌, ◌⊎◌, ℕ, ◌<◌, ◌≤◌, List, length, All, Contains, Option, Some, None, MatchOption, slice_get, slice_index_or}
+use Rattle.std.specs.Prelude.{◌≡◌, ◌≢◌, ◌↔◌, ◌⊎◌, ℕ, ◌<◌, ◌≤◌, List, length, All, Contains, Option, Some, None, MatchOption, slice_get, slice_index_or}
 use Rattle.std.specs.List.{AllPairs}
 use Rattle.std.specs.Option.{option_and_then}
 use Rattle.plan_basics.specs.Intervals.{OpenInterval, AreApart}
@@ -45,6 +45,10 @@ second_name _ = None
 abbrev pub name_of : Naming → Item → Option RowKey
 name_of First x = first_name x
 name_of Second x = second_name x
+
+-- a dependency from an operation to itself is said: both things that it names are one
+abbrev pub IsToItself : Option Item → Type 0
+IsToItself said = (o : OpKey) × (said ≡ Some (item.Dependency o o))
 
 -- the record says nothing, and this is what is wrong with it
 abbrev pub IsSilent : List Fields → Sayings → ℕ → Fault → Type 0
@@ -135,17 +139,23 @@ IsFault records place f = (said : Sayings) × AreSayings records said × (IsFaul
 abbrev pub IsAnswer : (Fault → Type 0) → Option Fault → Type 0
 IsAnswer P told = MatchOption told ((f : Fault) → ¬ P f) (λ f. P f × ((g : Fault) → P g → g ≡ f))
 
+-- where none with the property was among the old ones, and of these none stood twice, none of the new ones does
+abbrev pub StayOnce : {X : Type 0} → (X → Type 0) → List X → List X → Type 0
+StayOnce {X} P old new = ((x : X) → P x → ¬ Contains old x) → AllPairs (λ a b. a ≢ b) old → AllPairs (λ a b. a ≢ b) new
+
 -- in the order of their places, none of which is after this one
 pub record AreInOrderTo (place : ℕ) (faults : List RecordFault) : Type 0 where
   pub in_order : AllPairs (λ (a : RecordFault) (b : RecordFault). a.place ≤ b.place) faults
   pub within : All (λ (a : RecordFault). a.place ≤ place) faults
 
--- the faults of the records at the places below this one, no others, and in the order of their places
+-- the faults of the records at the places below this one, no others, in the order of their places, and each once
 pub record AreFaultsBelow (records : List Fields) (said : Sayings) (n : ℕ) (faults : List RecordFault) : Type 0 where
   pub exact : (f : RecordFault) → Contains faults f ↔ ((f.place < n) × IsOwnFault records said f.place f.fault)
   pub in_order : AllPairs (λ (a : RecordFault) (b : RecordFault). a.place ≤ b.place) faults
+  pub once : AllPairs (λ (a : RecordFault) (b : RecordFault). a ≢ b) faults
 
--- all faults, no others, and in the order of their places
+-- all faults, no others, in the order of their places, and each once
 pub record AreFaults (records : List Fields) (said : Sayings) (faults : List RecordFault) : Type 0 where
   pub exact : (f : RecordFault) → Contains faults f ↔ IsFaultAt records said f.place f.fault
   pub in_order : AllPairs (λ (a : RecordFault) (b : RecordFault). a.place ≤ b.place) faults
+  pub once : AllPairs (λ (a : RecordFault) (b : RecordFault). a ≢ b) faults

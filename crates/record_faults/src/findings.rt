@@ -1,5 +1,5 @@
 // What is found in a list of records.
-ghost use Rattle.std.specs.Prelude.{◌≡◌, ◌↔◌, ◌≤◌, ℕ, [], All, Contains, IfOk, MatchOption};
+ghost use Rattle.std.specs.Prelude.{◌≡◌, ◌≢◌, ◌↔◌, ◌≤◌, ℕ, [], All, Contains, IfOk, MatchOption};
 ghost use Rattle.std.specs.List.{AllPairs};
 ghost use Rattle.record_faults.specs.Faults.{IsFaultAt, IsReturning, IsFaultOfRecord, IsFault, IsCircleOf, NoCircleIn, DenoteSome};
 ghost use Rattle.record_faults.specs.Readings.{IsReadingOf};
@@ -36,14 +36,15 @@ fn returning(
     }
 }
 
-/// The faults of a list of records, in the order of their places; there is none exactly where the records denote a plan.
-/// Each record may have any number of fields. It fails for want of memory only. Where the records denote a plan it takes
-/// as long as to find that out.
+/// The faults of a list of records, in the order of their places, each once; there is none exactly where the records denote
+/// a plan. Each record may have any number of fields. It fails for want of memory only. Where the records denote a plan it
+/// takes as long as to find that out.
 pub fn faults_of(alloc: Global, records: &[Fields]) -> Result<Vec<RecordFault>, AllocError>
     ensures faults { IfOk result (λ v. All (λ f. IsFault (texts_of records.now) f.place f.fault) v.items) }
     ensures each { IfOk result (λ v. (f : RecordFault) → IsFaultOfRecord (texts_of records.now) f.place f.fault → Contains v.items f) }
     ensures none { IfOk result (λ v. (v.items ≡ []) ↔ DenoteSome (texts_of records.now)) }
     ensures in_order { IfOk result (λ v. AllPairs (λ a b. a.place ≤ b.place) v.items) }
+    ensures once { IfOk result (λ v. AllPairs (λ a b. a ≢ b) v.items) }
 {
     let said = sayings(alloc, records)?;
     if say_some(alloc, &said)? {

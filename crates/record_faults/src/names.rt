@@ -1,6 +1,6 @@
 // What an item names.
-ghost use Rattle.std.specs.Prelude.{◌≡◌};
-ghost use Rattle.record_faults.specs.Faults.{first_name, second_name, name_of};
+ghost use Rattle.std.specs.Prelude.{◌≡◌, ◌↔◌, IsTrue};
+ghost use Rattle.record_faults.specs.Faults.{first_name, second_name, name_of, IsToItself};
 
 use plan_drafts::RowKey;
 use plan_items::Item;
@@ -44,5 +44,20 @@ pub fn named(naming: Naming, item: &Item) -> Option<RowKey>
     match naming {
         Naming::First => first_named(item),
         Naming::Second => second_named(item),
+    }
+}
+
+// Whether a dependency from an operation to itself is said: it names that operation twice.
+pub fn is_to_itself(said: &Option<Item>) -> bool
+    ensures { IsTrue result ↔ IsToItself said.now }
+{
+    match *said {
+        Some(
+            Item::Dependency {
+                predecessor,
+                successor,
+            },
+        ) => predecessor == successor,
+        _ => false,
     }
 }

@@ -1,5 +1,5 @@
 // The faults of a text.
-ghost use Rattle.std.specs.Prelude.{◌≡◌, ◌↔◌, ◌≤◌, [], true, All, Contains, IfOk, IfSome, IsSome};
+ghost use Rattle.std.specs.Prelude.{◌≡◌, ◌≢◌, ◌↔◌, ◌≤◌, [], true, All, Contains, IfOk, IfSome, IsSome};
 ghost use Rattle.record_faults.specs.Faults.{IsFault, IsCircleOf, DenoteSome};
 ghost use Rattle.record_faults.specs.Sayings.{texts_of};
 ghost use Rattle.record_faults.specs.declared.faults.Fault.TheVariants as variant;
@@ -15,7 +15,7 @@ use text_records::{TextRecords, records_of_text};
 /// The faults of a text.
 #[derive(Drop)]
 pub struct TextFaults {
-    /// The faults of its records, in the order of their places.
+    /// The faults of its records, in the order of their places, each once.
     pub faults: Vec<RecordFault>,
     /// The line in which each record begins. The first line is 1.
     pub lines: Vec<u64>,
@@ -50,12 +50,13 @@ fn circle_told(
     Ok(circle)
 }
 
-/// The faults of a plan's text, in the order of its records; there is none exactly where the text denotes a plan. A byte
-/// order mark, line ends of either kind and quotes are no faults. It fails for want of memory only.
+/// The faults of a plan's text, in the order of its records, each once; there is none exactly where the text denotes a plan.
+/// A byte order mark, line ends of either kind and quotes are no faults. It fails for want of memory only.
 pub fn faults_of_text(alloc: Global, text: &[u8]) -> Result<TextFaults, AllocError>
     ensures faults { IfOk result (λ t. AreFaultsOfText text.now t.faults.items) }
     ensures none { IfOk result (λ t. (t.faults.items ≡ []) ↔ TextDenotesSome text.now) }
     ensures in_order { IfOk result (λ t. AllPairs (λ a b. a.place ≤ b.place) t.faults.items) }
+    ensures once { IfOk result (λ t. AllPairs (λ a b. a ≢ b) t.faults.items) }
     ensures lines { IfOk result (λ t. BeginOn text.now t.lines.items) }
     ensures told { IfOk result (λ t. (f : RecordFault) → Contains t.faults.items f → f.fault ≡ variant.Returns → IsSome t.circle) }
     ensures alone { IfOk result (λ t. IsSome t.circle → (f : RecordFault) × Contains t.faults.items f × (f.fault ≡ variant.Returns)) }

@@ -13,7 +13,7 @@ const PLAN: &str = "W,CPU1,A,,,,,,,\n\
     D,DAILY,2024-03-01T22:00,10,DAILY,2024-03-01T22:00,20,,,\n";
 
 // What follows the plan, and what is told.
-const AFTER: [(&str, &str); 16] = [
+const AFTER: [(&str, &str); 17] = [
     ("", ""),
     ("W,CPU2,A,,,,,,\n", "line 7: 9 fields: a record has 10\n"),
     (
@@ -42,6 +42,10 @@ const AFTER: [(&str, &str); 16] = [
     ),
     (
         "D,DAILY,2024-03-01T22:00,10,DAILY,2024-03-01T22:00,30,,,\n",
+        "line 7: operation DAILY/2024-03-01T22:00/030: no record defines it\n",
+    ),
+    (
+        "D,DAILY,2024-03-01T22:00,30,DAILY,2024-03-01T22:00,30,,,\n",
         "line 7: operation DAILY/2024-03-01T22:00/030: no record defines it\n",
     ),
     (

@@ -1,6 +1,5 @@
-use Rattle.std.proofs.Common.{◌≡◌, sym, ap, ◌∙◌, true≢false, Some, None}
+use Rattle.std.proofs.Common.{sym, ◌∙◌, true≢false, Some}
 use Rattle.std.proofs.lemmas.Option.{none-some}
-use Rattle.plan_drafts.specs.AdditionItems.{MayComeIn}
 use Rattle.record_faults.specs.Sayings.{SaysAt}
 use Rattle.record_faults.proofs.Gathering.{at_read}
 use Rattle.addition_faults.specs.declared.faults.AdditionFault.TheVariants as of_addition

@@ -1,5 +1,5 @@
-use Rattle.std.proofs.Common.{◌≡◌, sym, ap, ◌∙◌, arith, Some}
-use Rattle.std.proofs.lemmas.Option.{same_Some, slice_get_within}
+use Rattle.std.proofs.Common.{sym, ap, ◌∙◌, arith, Some}
+use Rattle.std.proofs.lemmas.Option.{same_Some}
 use Rattle.plan_items.specs.declared.Item.TheVariants as item
 use Rattle.record_faults.proofs.Gathering.{at_read}
 use Rattle.addition_faults.proofs.judging.says_need_of.Goals as goal

@@ -1,11 +1,12 @@
-use Rattle.std.proofs.Common.{◌≡◌, ◌↔◌, ◌≤◌, sym, subst, arith, [], List, All, Contains}
+use Rattle.std.proofs.Common.{◌≡◌, ◌≢◌, ◌↔◌, ◌≤◌, sym, subst, arith, [], List, All, Contains}
 use Rattle.std.specs.List.{AllPairs}
 use Rattle.record_faults.specs.declared.faults.RecordFault.{RecordFault}
 use Rattle.record_faults.specs.Sayings.{texts_of}
 use Rattle.record_faults.specs.Faults.{IsFault, DenoteSome}
 use Rattle.record_faults.specs.Plans.{SaySome}
 use Rattle.record_faults.proofs.Denoted.{say_denoted}
-use Rattle.record_faults.proofs.Finding.{none_of_plan, are_faults, each_is_told, some_fault, never, alone_faults, alone_each, alone_none, one_in_order, empty_told, some_told, no_plan_told}
+use Rattle.record_faults.proofs.Finding.{none_of_plan, are_faults, each_is_told, some_fault, never, alone_faults, alone_each, alone_none, empty_told, some_told, no_plan_told}
+use Rattle.record_faults.proofs.Once.{alone_in_pairs}
 use Rattle.record_faults.proofs.findings.faults_of.Goals as goal
 
 pub returns-then-branch-clause-each : goal.returns-then-branch-clause-each
@@ -43,7 +44,10 @@ returns-then-is_empty-clause-none c =
     (alone_none (texts_of c.args.records.now) c.in_ok-fault.fault (no_plan_told (texts_of c.args.records.now) c.in_ok-said.said.items c.deref.result.now c.in_ok-say_some.field-0 c.in_ok-said.ensures c.deref.ensures.value c.in_ok-say_some.ensures c.if-branch.false))
 
 pub returns-then-is_empty-clause-in_order : goal.returns-then-is_empty-clause-in_order
-returns-then-is_empty-clause-in_order c = subst (AllPairs (λ (a b : RecordFault). a.place ≤ b.place)) (sym c.in_ok-alone.ensures.items) (one_in_order c.in_ok-fault.fault)
+returns-then-is_empty-clause-in_order c = subst (AllPairs (λ (a b : RecordFault). a.place ≤ b.place)) (sym c.in_ok-alone.ensures.items) (alone_in_pairs (λ (a b : RecordFault). a.place ≤ b.place) c.in_ok-fault.fault)
+
+pub returns-then-is_empty-clause-once : goal.returns-then-is_empty-clause-once
+returns-then-is_empty-clause-once c = subst (AllPairs (λ (a b : RecordFault). a ≢ b)) (sym c.in_ok-alone.ensures.items) (alone_in_pairs (λ (a b : RecordFault). a ≢ b) c.in_ok-fault.fault)
 
 pub returns-clause-faults : goal.returns-clause-faults
 returns-clause-faults c = are_faults (texts_of c.args.records.now) c.in_ok-reading.reading (c.in_ok-reading.ensures (texts_of c.args.records.now) c.in_ok-said.ensures) c.in_ok-faults.faults.items c.in_ok-faults.ensures
@@ -59,3 +63,6 @@ returns-clause-none c =
 
 pub returns-clause-in_order : goal.returns-clause-in_order
 returns-clause-in_order c = c.in_ok-faults.ensures.in_order
+
+pub returns-clause-once : goal.returns-clause-once
+returns-clause-once c = c.in_ok-faults.ensures.once
