@@ -4,7 +4,7 @@ use Rattle.std.specs.FinMap.{contains_key, get, insert, len}
 use Rattle.plan_basics.specs.Keys.{Name}
 use Rattle.plan_basics.specs.declared.Refusal.TheVariants as refusal
 use Rattle.plan_basics.specs.declared.limits.TheConstants.{MOST_TRACKERS}
-use Rattle.plan_core.specs.State.{IsMovedFrom, IsPreparedFor, PlanState}
+use Rattle.plan_core.specs.State.{FitsPlan, IsPreparedFor, PlanState, plan_after}
 use Rattle.plan_core.specs.plan_model.specs.Plan.{IsSoundPlan}
 use Rattle.plan_records.specs.Answer.{accepted}
 use Rattle.plan_records.specs.Receipts.{IsReceipt}
@@ -18,7 +18,7 @@ use Rattle.numbered_steps.proofs.Rooms.{accepted_with_room}
 
 module _ (s : PlanState) (T : Receipts) (n : Numbered) (p : NumberedStep) where
   module _ (is : IsNumberedStepFor s T n p) where
-    pub own_step : Step s.plan n.request (accepted p.prepared.named) p.prepared.plan
+    pub own_step : Step s.plan n.request (accepted p.prepared.named) (plan_after s p.prepared)
     own_step = let step = is.step.2 in record {
       none_refuses = λ r. (step.none_refuses r).0;
       is_request = step.is_request;
@@ -29,7 +29,7 @@ module _ (s : PlanState) (T : Receipts) (n : Numbered) (p : NumberedStep) where
     }
 
     pub is_prepared : IsPreparedFor s p.prepared
-    is_prepared = record { request = n.request; by = record { step = own_step; changes = is.changes; moved = is.moved } }
+    is_prepared = record { request = n.request; by = record { step = own_step; changes = is.changes; fits = is.fits } }
 
     pub has_room : (contains_key T p.tracker ≡ true) ⊎ (len T < MOST_TRACKERS)
     has_room = subst (λ (k : Name). (contains_key T k ≡ true) ⊎ (len T < MOST_TRACKERS)) (sym is.tracker) ((is.step.2.none_refuses refusal.Limit).1 refl).0
@@ -37,14 +37,14 @@ module _ (s : PlanState) (T : Receipts) (n : Numbered) (p : NumberedStep) where
     pub is_legal : IsReceipt p.tracker p.receipt
     is_legal = subst (λ (k : Name). IsReceipt k p.receipt) (sym is.tracker) is.legal
 
-  pub step_is : IsSoundPlan s.plan → IsNumbered n → n.number ≡ last_number (get T n.tracker) + 1 → HasReceiptRoom T n → Step s.plan n.request (accepted p.prepared.named) p.prepared.plan → AreChanges s.plan p.prepared.plan p.prepared.rows p.prepared.gone → IsMovedFrom s p.prepared
+  pub step_is : IsSoundPlan s.plan → IsNumbered n → n.number ≡ last_number (get T n.tracker) + 1 → HasReceiptRoom T n → Step s.plan n.request (accepted p.prepared.named) (plan_after s p.prepared) → AreChanges s.plan (plan_after s p.prepared) p.prepared.rows p.prepared.gone → FitsPlan s p.prepared
       → p.tracker ≡ n.tracker → p.receipt ≡ receipt_of n p.prepared.named → p.row ≡ columns_of n.tracker p.receipt → IsNumberedStepFor s T n p
-  step_is sound legal next room step changes moved tracker receipt row = record {
+  step_is sound legal next room step changes fits tracker receipt row = record {
     tracker = tracker;
     receipt = receipt;
-    step = (next, λ chosen is. legal, accepted_with_room s.plan T n room p.prepared.named p.prepared.plan step, ap (insert T n.tracker) receipt);
-    legal = subst (IsReceipt n.tracker) (sym receipt) (its_receipt s.plan p.prepared.plan p.prepared.named sound T n legal next room step);
+    step = (next, λ chosen is. legal, accepted_with_room s.plan T n room p.prepared.named (plan_after s p.prepared) step, ap (insert T n.tracker) receipt);
+    legal = subst (IsReceipt n.tracker) (sym receipt) (its_receipt s.plan (plan_after s p.prepared) p.prepared.named sound T n legal next room step);
     changes = changes;
-    moved = moved;
+    fits = fits;
     row = row;
   }

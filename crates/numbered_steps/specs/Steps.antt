@@ -2,7 +2,7 @@
 use Rattle.std.specs.Prelude.{◌≡◌, List}
 use Rattle.std.specs.FinMap.{insert}
 use Rattle.plan_basics.specs.declared.keys.OpKey.{OpKey}
-use Rattle.plan_core.specs.State.{IsMovedFrom, PlanState}
+use Rattle.plan_core.specs.State.{FitsPlan, PlanState, plan_after}
 use Rattle.plan_records.specs.Answer.{accepted}
 use Rattle.plan_records.specs.Receipts.{IsReceipt}
 use Rattle.plan_records.specs.Rows.{AreChanges}
@@ -16,14 +16,14 @@ use Rattle.numbered_steps.specs.declared.steps.Outcome.TheVariants.{Again, New}
 abbrev pub receipt_of : Numbered → List OpKey → Receipt
 receipt_of n named = record { number = n.number; text = n.text; named = named }
 
--- by this request some step leads from this plan and these receipts to the plan that was prepared and to its own receipt beside the others; the rows that change are told, and that of its receipt
+-- by this request some step leads from this plan and these receipts to the plan that was prepared of it and to its own receipt beside the others; the rows that change are told, and that of its receipt
 pub record IsNumberedStepFor (s : PlanState) (T : Receipts) (n : Numbered) (p : NumberedStep) : Type 0 where
   pub tracker : p.tracker ≡ n.tracker
   pub receipt : p.receipt ≡ receipt_of n p.prepared.named
-  pub step : StepsAnew s.plan T n (accepted p.prepared.named) p.prepared.plan (insert T n.tracker p.receipt)
+  pub step : StepsAnew s.plan T n (accepted p.prepared.named) (plan_after s p.prepared) (insert T n.tracker p.receipt)
   pub legal : IsReceipt n.tracker p.receipt
-  pub changes : AreChanges s.plan p.prepared.plan p.prepared.rows p.prepared.gone
-  pub moved : IsMovedFrom s p.prepared
+  pub changes : AreChanges s.plan (plan_after s p.prepared) p.prepared.rows p.prepared.gone
+  pub fits : FitsPlan s p.prepared
   pub row : p.row ≡ columns_of n.tracker p.receipt
 
 -- if it is answered again, this holds of the keys

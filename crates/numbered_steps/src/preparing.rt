@@ -4,6 +4,7 @@ ghost use Rattle.std.specs.FinMap.{get};
 ghost use Rattle.plan_basics.specs.Refusals.{IsLeastRefusal};
 ghost use Rattle.plan_basics.specs.declared.limits.TheConstants.{GREATEST_REQUEST_NUMBER};
 ghost use Rattle.plan_core.specs.Provided.{StartsAreProvided};
+ghost use Rattle.plan_core.specs.State.{plan_after};
 ghost use Rattle.plan_core.specs.plan_model.specs.Plan.{IsSoundPlan};
 ghost use Rattle.plan_records.specs.Answer.{accepted, refused};
 ghost use Rattle.plan_records.specs.Step.{AnswersAgain, HasReceiptRoom, IsNumbered, Numbered, NumberedMayBeAccepted, NumberedStep as NumberedStepOf, Receipts as LastReceipts};
@@ -37,7 +38,7 @@ pub fn prepare_numbered(
     ensures unchanged { plan.new ≡ plan.old }
     ensures again { IfOk result (IfAgain (λ named. AnswersAgain (get receipts.now tracker.now) (numbered_by tracker.now number text.now request.now) (accepted named))) }
     ensures new { IfOk result (IfNew (IsNumberedStepFor plan.old receipts.now (numbered_by tracker.now number text.now request.now))) }
-    ensures starts { IfOk result (IfNew (λ p. StartsAreProvided plan.old.plan request.now (accepted p.prepared.named) p.prepared.plan)) }
+    ensures starts { IfOk result (IfNew (λ p. StartsAreProvided plan.old.plan request.now (accepted p.prepared.named) (plan_after plan.old p.prepared))) }
     ensures refused { IfErr result (λ r. (r ≡ Refusal.Memory) ⊎ NumberedStepOf plan.old.plan receipts.now (numbered_by tracker.now number text.now request.now) (refused r) plan.old.plan receipts.now) }
 {
     match receipts.judge(tracker, number, text) {

@@ -1,6 +1,7 @@
 // A numbered request that isn't refused.
 ghost use Rattle.std.specs.Prelude.{◌≡◌};
 ghost use Rattle.std.specs.FinMap.{insert};
+ghost use Rattle.plan_core.specs.State.{plan_after};
 ghost use Rattle.plan_records.specs.Step.{Numbered};
 ghost use Rattle.numbered_steps.specs.Steps.{IsNumberedStepFor};
 
@@ -36,7 +37,7 @@ impl NumberedStep {
     /// start, in order. It takes no memory.
     pub fn apply(self, plan: &mut Plan, receipts: &mut Receipts) -> Vec<OpKey>
         requires { (n : Numbered) × IsNumberedStepFor plan.old receipts.old n self }
-        ensures plan { plan.new.plan ≡ self.prepared.plan }
+        ensures plan { plan.new.plan ≡ plan_after plan.old self.prepared }
         ensures receipts { receipts.new ≡ insert receipts.old self.tracker self.receipt }
         ensures named { result.items ≡ self.prepared.named }
     {

@@ -1,5 +1,6 @@
 -- Intervals that may be taken.
-use Rattle.std.proofs.Common.{◌≡◌, refl, sym, ap, subst, ◌∙◌, List, Some, Result, Ok, Err, IfErr}
+use Rattle.std.proofs.Common.{◌≡◌, refl, sym, ap, subst, ◌∙◌, true, true≢false, List, Option, Some, None, is_some, Result, Ok, Err, IfErr}
+use Rattle.std.specs.Option.{IsNone, IsSome}
 use Rattle.std.specs.Result.{IsOk, OnOk}
 use Rattle.std.specs.FinMap.{get, insert}
 use Rattle.plan_basics.specs.declared.Refusal.{Refusal}
@@ -18,6 +19,11 @@ may_be_taken : (P : Contents) (w : Name) (items : List OpenInterval) → NoneRef
 may_be_taken P w items free refusal.Limit = free refusal.Limit
 may_be_taken P w items free refusal.BadPlan = free refusal.BadPlan
 may_be_taken P w items free _ = tt
+
+-- what isn't absent is there
+pub is_there : {A B : Type 0} (r : Option A) (y : Option B) → (IsNone r → y ≡ None) → is_some y ≡ true → IsSome r
+is_there (Some x) y absent known = refl
+is_there None y absent known = absurd (true≢false (sym known ∙ ap is_some (absent refl)))
 
 -- are taken
 pub is_taken : (P : Contents) (w : Name) (items own : List OpenInterval) → own ≡ items → NoneRefuses (MayBeOpenBy P w items)

@@ -1,6 +1,6 @@
 // What operators' commands change of what the plan holds.
-ghost use Rattle.std.specs.Prelude.{◌≡◌, IfOk, true};
-ghost use Rattle.std.specs.FinMap.{insert, contains_key};
+ghost use Rattle.std.specs.Prelude.{◌≡◌, IfOk};
+ghost use Rattle.std.specs.FinMap.{insert};
 ghost use Rattle.std.specs.Fn.{FnReturnsAt};
 ghost use Rattle.std.specs.Ordering.{eq_by_cmp};
 ghost use Rattle.plan_basics.specs.Keys.{occurrence_cmp};
@@ -14,97 +14,67 @@ ghost use Rattle.plan_records.specs.declared.What.TheVariants as what;
 ghost use Rattle.plan_changes.specs.Intervals.{opened};
 
 use super::mark_rows::with_marks;
-use plan_basics::{Interval, OccKey, OpKey, ResName, WsName};
+use plan_basics::{Interval, OccKey, OpKey, WsName};
 use plan_records::{OperationRecord, PlanContents};
 use status_rules::Mark;
 use std::alloc::{AllocError, Global};
+use workstations::Workstation;
 
-// The contents with the operation of a key made anew: as f makes it, where each call of the change gives what f gives. A key that
-// has no row is passed over.
-fn with_changed<F: Fn(&OperationRecord) -> OperationRecord + Drop>(
-    alloc: Global,
-    contents: &PlanContents,
+// Makes the operation of a key anew: as f makes it, where each call of the change gives what f gives. A key that has no row is
+// passed over.
+fn change_operation<F: Fn(&OperationRecord) -> OperationRecord + Drop>(
+    contents: &mut PlanContents,
     key: &OpKey,
     change: F,
-) -> Result<PlanContents, AllocError>
+)
     requires { F.IsAlwaysCallable change }
-    ensures { (f : Operation → Operation) → ((op changed : Operation) → FnReturnsAt F.Fn change op changed → changed ≡ f op) → IfOk result (λ new. new ≡ revised (is_at key.now) f contents.now) }
+    ensures { (f : Operation → Operation) → ((op changed : Operation) → FnReturnsAt F.Fn change op changed → changed ≡ f op) → contents.new ≡ revised (is_at key.now) f contents.old }
 {
-    let mut new = contents.try_clone(alloc)?;
     if let Some(operation) = contents.operation(key) {
-        new.set_operation(key, change(operation));
+        let changed = change(operation);
+        contents.set_operation(key, changed);
     }
-    Ok(new)
 }
 
-/// The contents with an operation held, or not held any more. A key that has no row is passed over.
-pub fn with_held(
-    alloc: Global,
-    contents: &PlanContents,
-    key: &OpKey,
-    held: bool,
-) -> Result<PlanContents, AllocError>
-    ensures { IfOk result (λ new. new ≡ revised (is_at key.now) (λ op. record op { held = held }) contents.now) }
+/// Holds an operation, or doesn't any more. A key that has no row is passed over. It takes no memory.
+pub fn set_held(contents: &mut PlanContents, key: &OpKey, held: bool)
+    ensures { contents.new ≡ revised (is_at key.now) (λ op. record op { held = held }) contents.old }
 {
-    with_changed(
-        alloc,
+    change_operation(
         contents,
         key,
         |operation| OperationRecord { held, ..*operation },
-    )
+    );
 }
 
-/// The contents with an operation made a no-operation, or one that is carried out again. A key that has no row is passed over.
-pub fn with_nop(
-    alloc: Global,
-    contents: &PlanContents,
-    key: &OpKey,
-    nop: bool,
-) -> Result<PlanContents, AllocError>
-    ensures { IfOk result (λ new. new ≡ revised (is_at key.now) (λ op. record op { nop = nop }) contents.now) }
+/// Makes an operation a no-operation, or one that is carried out again. A key that has no row is passed over. It takes no
+/// memory.
+pub fn set_nop(contents: &mut PlanContents, key: &OpKey, nop: bool)
+    ensures { contents.new ≡ revised (is_at key.now) (λ op. record op { nop = nop }) contents.old }
 {
-    with_changed(
-        alloc,
+    change_operation(
         contents,
         key,
         |operation| OperationRecord { nop, ..*operation },
-    )
+    );
 }
 
-/// The contents with a special resource of theirs available, or not.
-pub fn with_available(
-    alloc: Global,
-    contents: &PlanContents,
-    name: &ResName,
-    available: bool,
-) -> Result<PlanContents, AllocError>
-    requires { contains_key contents.now.resources name.now ≡ true }
-    ensures { IfOk result (λ new. new ≡ record contents.now { resources = insert contents.now.resources name.now available }) }
-{
-    let mut new = contents.try_clone(alloc)?;
-    new.set_available(name, available);
-    Ok(new)
-}
-
-/// The contents with a workstation of theirs open in these intervals, which are no more than it may have, and of which no
-/// two overlap.
-pub fn with_intervals(
+/// A workstation of the contents, open in these intervals in place of its own, which are no more than it may have, and of
+/// which no two overlap. To set it opens it in them.
+pub fn workstation_with(
     alloc: Global,
     contents: &PlanContents,
     name: &WsName,
     intervals: &[Interval],
-) -> Result<PlanContents, AllocError>
+) -> Result<Workstation, AllocError>
     requires { NoneRefuses (MayBeOpenBy contents.now name.now intervals.now) }
-    ensures { IfOk result (λ new. new ≡ opened name.now intervals.now contents.now) }
+    ensures name { IfOk result (λ workstation. workstation.0 ≡ name.now) }
+    ensures opens { IfOk result (λ workstation. record contents.now { workstations = insert contents.now.workstations workstation.0 workstation.1 } ≡ opened name.now intervals.now contents.now) }
 {
-    let mut new = contents.try_clone(alloc)?;
-    if let Some(workstation) = contents.workstation(name) {
-        let mut workstation = workstation.try_clone()?;
-        let own = Vec::from_slice(alloc, intervals)?;
-        workstation.replace_intervals(own).unwrap();
-        new.set_workstation(workstation);
-    }
-    Ok(new)
+    let mut workstation = contents.workstation(name).unwrap().try_clone()?;
+    let own = Vec::from_slice(alloc, intervals)?;
+    workstation.replace_intervals(own).unwrap();
+    Ok(workstation)
 }
 
 // The operations of an occurrence.

@@ -5,7 +5,9 @@
 mod additions;
 mod commands;
 mod mark_rows;
+mod markings;
 
 pub use additions::{with_addition, with_pair};
-pub use commands::{deleted, with_available, with_held, with_intervals, with_nop};
+pub use commands::{deleted, set_held, set_nop, workstation_with};
 pub use mark_rows::{mark_all, with_marks};
+pub use markings::{markings_differ, markings_of, put_markings};

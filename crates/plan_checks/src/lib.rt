@@ -11,7 +11,7 @@ mod under_way;
 
 pub use checks::{check_load, check_request};
 pub use plan_state::{
-    Choice, Figures, LoadedPlan, Moved, Reported, SoundContents, chosen, chosen_with, latest_of,
+    Choice, Figures, LoadedPlan, Parts, Reported, SoundContents, chosen, chosen_with, latest_of,
     ready_of, satisfy, unsatisfy,
 };
 pub use reach::reached_keys;

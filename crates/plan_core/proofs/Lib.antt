@@ -9,3 +9,4 @@ pub mod Provided
 pub mod ReadyViews
 pub mod Refusing
 pub mod Settling
+pub mod Trying

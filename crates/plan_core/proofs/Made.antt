@@ -1,31 +1,17 @@
 -- Contents that a request makes.
-use Rattle.std.proofs.Common.{◌≡◌, refl, sym, subst, ◌∙◌, ℕ, Bool, true, false, ◌||◌, [], ◌∷◌, Option, Some, None, is_some, Result, IfOk}
-use Rattle.std.specs.Ordering.{eq_by_cmp}
-use Rattle.plan_basics.specs.Keys.{operation_cmp}
+use Rattle.std.proofs.Common.{◌≡◌, refl, sym, subst, ℕ, true, Option, Some, None, is_some, Result, IfOk}
 use Rattle.plan_basics.specs.Refusals.{NoneRefuses}
 use Rattle.plan_basics.specs.declared.Refusal.TheVariants as refusal
-use Rattle.plan_basics.specs.declared.keys.OpKey.{OpKey}
 use Rattle.plan_steps.specs.plan_model.specs.Contents.{AddedParts, Contents}
-use Rattle.plan_steps.specs.plan_model.specs.Ready.{with_mark}
 use Rattle.plan_records.specs.Acceptance.{MayBeDone}
-use Rattle.plan_records.specs.Changes.{Changes, IsRequest, marked, revised}
+use Rattle.plan_records.specs.Changes.{Changes, IsRequest}
 use Rattle.plan_records.specs.declared.What.{What}
 use Rattle.plan_records.specs.declared.What.TheVariants as what
 use Rattle.plan_steps.specs.plan_drafts.specs.Contents.{AreAdditionParts, added_of}
 use Rattle.plan_steps.specs.plan_drafts.specs.Drafts.{IsAddition}
 use Rattle.plan_steps.specs.plan_drafts.specs.declared.contents.AdditionParts.{AdditionParts}
-use Rattle.ready_list.specs.Choice.{is_among}
-use Rattle.status_rules.specs.declared.Mark.{Mark}
 use Rattle.plan_core.specs.Requested.{AreMadeBy}
 use Rattle.plan_changes.proofs.Answered.{if_ok}
-
-or_false : (b : Bool) → (b || false) ≡ b
-or_false true = refl
-or_false false = refl
-
--- to mark the operations of a list of one is to mark that one
-one_marked : (o : OpKey) (mark : Mark) (P : Contents) → revised (is_among (o ∷ [])) (with_mark mark) P ≡ marked o mark P
-one_marked o mark P = λ i. revised (λ q. or_false (eq_by_cmp operation_cmp q o) i) (with_mark mark) P
 
 module _ (P : Contents) (w : What) (legal : IsRequest w) where
   -- where it is what the request changes, of what is answered, r, to a request, v, that is this one
@@ -33,11 +19,6 @@ module _ (P : Contents) (w : What) (legal : IsRequest w) where
   if_made v is answer answered changes =
       subst (λ r. IfOk r (AreMadeBy P v)) (sym answered)
       (subst (λ v. IfOk answer (AreMadeBy P v)) (sym is) (if_ok answer (λ new change. record { is_request = legal; changes = change }) changes))
-
-  -- where it marks one operation
-  pub if_marked : {E : Type 0} {r : Result Contents E} (o : OpKey) (mark : Mark) → ((Q : Contents) → Q ≡ marked o mark P → Changes P w Q) → (v : What) → v ≡ w → (answer : Result Contents E) → r ≡ answer
-      → IfOk answer (λ new. new ≡ revised (is_among (o ∷ [])) (with_mark mark) P) → IfOk r (AreMadeBy P v)
-  if_marked o mark changes v is answer answered plan = if_made v is answer answered (if_ok answer (λ new h. changes new (h ∙ one_marked o mark P)) plan)
 
 -- ---- what is known of a request that nothing refuses
 

@@ -44,6 +44,14 @@ module _ (P : Plan) (q : Request) (allows : NoneRefuses (MayBeAccepted P q)) whe
   is_clear refusal.Loaded = (request_passes P.contents (minute_of q.at) q.what).6
   is_clear r = allows r
 
+  -- its minute is a moment
+  pub is_moment : IsMoment (minute_of q.at)
+  is_moment = let told = allows refusal.MomentRange in subst IsMoment (sym (ap minute_of told.1)) told.2
+
+  -- of contents, H, that are the plan's
+  pub is_clear_of : (H : Contents) → H ≡ P.contents → (at : ℕ) × IsMoment at × NoneRefuses (MayBeDone H at q.what)
+  is_clear_of H is = (minute_of q.at, is_moment, subst (λ (z : Contents). NoneRefuses (MayBeDone z (minute_of q.at) q.what)) (sym is) is_clear)
+
   module _ (new : Contents) (made : AreMadeBy P.contents q.what new) where
     pub made_sound : IsSoundPlan P → IsSound new
     made_sound sound = every_change_keeps_sound q.what P new q.at sound allows made.is_request made.changes

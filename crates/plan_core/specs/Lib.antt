@@ -7,8 +7,9 @@ pub use Rattle.plan_records
 pub use Rattle.plan_steps.specs.plan_state
 pub use Rattle.plan_status
 pub use Rattle.ready_list
-pub mod State
 pub mod Next
+pub mod State
 pub mod Provided
 pub mod Requested
+pub mod Trials
 pub mod Views

@@ -9,6 +9,7 @@ mod reads;
 mod ready_views;
 mod requests;
 mod settle;
+mod taking;
 mod views;
 
 pub use lists::{Occs, Ops};

@@ -1,7 +1,6 @@
 // The plan in memory, and the steps that requests take in it.
 ghost use Rattle.std.specs.Prelude.{◌≡◌, ◌⊎◌, ℕ, pos, true, map, Some, None, IfOk, IfErr, OnOk};
 ghost use Rattle.plan_basics.specs.Refusals.{IsLeastRefusal, NoneRefuses};
-ghost use Rattle.plan_core.specs.Next.{IsRight, contents_next, moves};
 ghost use Rattle.plan_steps.specs.plan_model.specs.Contents.{Contents};
 ghost use Rattle.plan_steps.specs.plan_model.specs.Plan.{no_plan, plan_held, IsSoundPlan};
 ghost use Rattle.plan_records.specs.declared.What.{What};
@@ -14,19 +13,18 @@ ghost use Rattle.plan_core.specs.Provided.{RunStartsAreProvided, StartsAreProvid
 ghost use Rattle.plan_core.specs.Requested.{AreMadeBy, IsAnswered, MayBeMadeAt};
 ghost use Rattle.plan_core.specs.State.{IsPreparedBy, IsPreparedFor, plan_after, AcceptedAnswerAll, AnswersAll};
 ghost use Rattle.plan_steps.specs.plan_kept.specs.Edits.{IsSmall};
-ghost use Rattle.plan_steps.specs.plan_rows.specs.Touched.{StaysBeside};
-ghost use Rattle.plan_steps.specs.plan_state.specs.Figures.{AreFigures, KeepsFrame};
-ghost use Rattle.plan_steps.specs.Touched.{IsTouchedAt};
+ghost use Rattle.plan_steps.specs.Naming.{AreStepNotes};
 
-use super::prepared::{Next, Prepared};
-use super::requests::{beside, changed, drafted};
+use super::prepared::{Next, Prepared, Writing};
+use super::requests::{changed, drafted};
 use super::settle::settle;
+use super::taking::{put, tried};
 use plan_basics::{Moment, OpKey, Refusal};
 use plan_records::{Changes, PlanContents, Reply, Request, What};
 use plan_status::SoundContents;
 use plan_steps::{
-    Beside, LoadedPlan, Moved, PlanShown, Shown, SmallStep, changes_between, check_load,
-    check_request, edit_of, is_small, small_step, touched_changes,
+    LoadedPlan, Notes, PlanShown, Shown, changes_between, check_load, check_request, edit_of,
+    is_small, noted_changes,
 };
 use std::alloc::Global;
 use std::marker::Model;
@@ -51,22 +49,6 @@ impl Model for Plan {
     ghost view = { λ p. record { plan = plan_held p.clock p.loaded } };
 
     ghost invariant = { λ p. IsSoundPlan (plan_held p.clock p.loaded) };
-}
-
-// Puts what a request makes of a plan in that plan's place. It takes no memory.
-fn put(loaded: &mut Option<LoadedPlan>, next: Next)
-    requires right { IsRight next }
-    requires frame { moves next ≡ true → (P : Contents) × (loaded.old ≡ Some P) × KeepsFrame P (contents_next next) }
-    ensures { loaded.new ≡ Some (contents_next next) }
-{
-    match next {
-        Next::Whole(whole) => *loaded = Some(whole),
-        Next::Moved(moved) => {
-            if let Some(plan) = loaded {
-                plan.take_up(moved);
-            }
-        }
-    }
 }
 
 impl Plan {
@@ -116,9 +98,10 @@ impl Plan {
         Ok(at)
     }
 
-    // What a request that may be accepted makes of what the plan holds. The error is always `Memory`.
+    // What a request that isn't small and may be accepted makes of what the plan holds. The error is always `Memory`.
     fn contents_after(&self, request: &Request) -> Result<PlanContents, Refusal>
-        requires { NoneRefuses (MayBeAccepted self.now.plan request.now) }
+        requires clear { NoneRefuses (MayBeAccepted self.now.plan request.now) }
+        requires whole { ¬ IsSmall request.now.what }
         ensures made { IfOk result (AreMadeBy self.now.plan.contents request.now.what) }
         ensures refused { IfErr result (λ r. r ≡ Refusal.Memory) }
     {
@@ -152,9 +135,11 @@ impl Plan {
         let _ = self.clock();
     }
 
-    // What a request that may be accepted leads to at its moment, all worked out afresh. The error is always `Memory`.
+    // What a request that isn't small and may be accepted leads to at its moment, all worked out afresh. The error is always
+    // `Memory`.
     fn prepare_whole(&self, request: &Request, at: Moment) -> Result<Prepared, Refusal>
         requires clear { NoneRefuses (MayBeAccepted self.now.plan request.now) }
+        requires whole { ¬ IsSmall request.now.what }
         requires at { request.now.at ≡ pos at }
         ensures prepared { IfOk result (IsPreparedBy request.now self.now) }
         ensures refused { IfErr result (λ r. r ≡ Refusal.Memory) }
@@ -171,21 +156,11 @@ impl Plan {
         })
     }
 
-    // Which rows of the tables change where these operations were touched, and moved so at this moment. The error is always
-    // `Memory`.
-    fn changes_at(
-        &self,
-        at: Moment,
-        moved: &Moved,
-        beside: Beside,
-        touched: &[usize],
-    ) -> Result<Changes, Refusal>
+    // Which rows of the tables change by a step to this moment of which these are the notes. The error is always `Memory`.
+    fn changes_by(&self, at: Moment, notes: &Notes) -> Result<Changes, Refusal>
         requires loaded { self.now.plan.loaded ≡ true }
-        requires figures { AreFigures moved.now.contents moved.now.figures }
-        requires frame { KeepsFrame self.now.plan.contents moved.now.contents }
-        requires touched { IsTouchedAt self.now.plan.contents moved.now.contents touched.now }
-        requires beside { StaysBeside beside self.now.plan.contents moved.now.contents }
-        ensures changes { IfOk result (λ c. AreChanges self.now.plan (plan_held at (Some moved.now.contents)) c.rows.items c.gone.items) }
+        requires notes { (Q : Contents) × AreStepNotes self.now.plan.contents Q notes.now }
+        ensures changes { IfOk result (λ c. (Q : Contents) → AreStepNotes self.now.plan.contents Q notes.now → AreChanges self.now.plan (plan_held at (Some Q)) c.rows.items c.gone.items) }
         ensures refused { IfErr result (λ r. r ≡ Refusal.Memory) }
     {
         let loaded = self.loaded.as_ref().unwrap();
@@ -193,44 +168,37 @@ impl Plan {
             clock: self.clock,
             loaded: Some(Shown::of(loaded)),
         };
-        let after = PlanShown {
-            clock: at,
-            loaded: Some(Shown::moved(loaded, moved)),
-        };
-        Ok(touched_changes(self.alloc, before, after, beside, touched)?)
+        Ok(noted_changes(self.alloc, before, at, notes)?)
     }
 
-    // What a small request that may be accepted leads to at its moment: what is kept of the plan moves with it. The error is
-    // always `Memory`.
-    fn prepare_small(&self, request: &Request, at: Moment) -> Result<Prepared, Refusal>
-        requires clear { NoneRefuses (MayBeAccepted self.now.plan request.now) }
+    // What a small request that may be accepted leads to at its moment: it is tried in the plan, which is then as it was. The
+    // error is always `Memory`.
+    fn prepare_small(&mut self, request: &Request, at: Moment) -> Result<Prepared, Refusal>
+        requires clear { NoneRefuses (MayBeAccepted self.old.plan request.now) }
         requires small { IsSmall request.now.what }
         requires at { request.now.at ≡ pos at }
-        ensures prepared { IfOk result (IsPreparedBy request.now self.now) }
+        ensures unchanged { self.new ≡ self.old }
+        ensures prepared { IfOk result (IsPreparedBy request.now self.old) }
         ensures refused { IfErr result (λ r. r ≡ Refusal.Memory) }
     {
-        self.look_at();
-        let alloc = self.alloc;
-        let before = self.loaded.as_ref().unwrap();
-        let edit = edit_of(alloc, before, &request.what)?;
-        let contents = SoundContents::of(changed(alloc, before, &request.what)?);
-        let SmallStep {
-            moved,
-            named,
-            touched,
-        } = small_step(alloc, before, contents, &edit, at)?;
-        let changes = self.changes_at(at, &moved, beside(&request.what), &touched)?;
+        let edit = edit_of(self.alloc, self.loaded.as_ref().unwrap(), &request.what)?;
+        let step = tried(self.alloc, &mut self.loaded, &edit, at)?;
+        let changes = self.changes_by(at, &step.notes)?;
         Ok(Prepared {
             clock: at,
-            next: Next::Moved(moved),
-            named,
+            next: Next::Small(Writing {
+                keys: edit.keys,
+                revision: edit.revision,
+                figures: step.figures,
+            }),
+            named: step.named,
             changes,
         })
     }
 
-    /// What a request leads to, if it is accepted: it makes all checks and takes all memory, and the plan stays as it is. A
-    /// request by which only marks and flags change, which special resources are available, or when workstations are open,
-    /// moves what is kept of the plan from what it touches; any other works all out afresh.
+    /// What a request leads to, if it is accepted: it makes all checks and takes all memory, and the plan comes back as it
+    /// was. A request by which only marks and flags change, which special resources are available, or when workstations are
+    /// open, is tried in the plan itself, and what is kept of it moves from what that touches; any other works all out afresh.
     /// It is refused for the least number that applies (this project's own), or for want of memory. What it leads to is
     /// sound, for whatever becomes started there was all that it needs, and the rows that change are told exactly.
     pub fn prepare(&mut self, request: &Request) -> Result<Prepared, Refusal>
@@ -262,7 +230,7 @@ impl Plan {
         ensures starts { (q : Request) × Step self.old.plan q (accepted result.items) self.new.plan × StartsAreProvided self.old.plan q (accepted result.items) self.new.plan }
     {
         self.clock = prepared.clock;
-        put(&mut self.loaded, prepared.next);
+        put(&mut self.loaded, prepared.next, &prepared.named);
         prepared.named
     }
 

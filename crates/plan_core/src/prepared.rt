@@ -3,20 +3,31 @@ ghost use Rattle.std.specs.Prelude.{◌≡◌};
 
 use plan_basics::{Moment, OpKey};
 use plan_records::Changes;
-use plan_steps::{LoadedPlan, Moved};
+use plan_steps::{Figures, LoadedPlan, Revision};
 use std::marker::Model;
+
+/// What a small request writes into what a plan holds, and the figures of the plan then. The graph and the latest starts
+/// stay.
+#[derive(Drop)]
+pub(crate) struct Writing {
+    /// The operations on which it sets a mark, if that is what it writes.
+    pub keys: Vec<OpKey>,
+    pub revision: Revision,
+    /// With what is named marked so.
+    pub figures: Figures,
+}
 
 /// What a request that is accepted makes of a plan.
 #[derive(Drop)]
 pub(crate) enum Next {
     /// All of it anew.
     Whole(LoadedPlan),
-    /// What moves with marks and flags; the graph and the latest starts stay.
-    Moved(Moved),
+    /// The plan with this written into it.
+    Small(Writing),
 }
 
-/// A request that is accepted, with all that it takes: the plan that it leads to, the operations that are named to start,
-/// and which rows of the tables change. Contracts see it as that plan, those keys and those rows.
+/// A request that is accepted, with all that it takes: its moment, what it makes of the plan that it was prepared for, the
+/// operations that are named to start, and which rows of the tables change. Contracts see it as these.
 #[derive(Drop)]
 pub struct Prepared {
     pub(crate) clock: Moment,
@@ -26,20 +37,13 @@ pub struct Prepared {
 }
 
 impl Model for Prepared {
-    ghost use Rattle.std.specs.Prelude.{Some};
-    ghost use Rattle.plan_steps.specs.plan_model.specs.Plan.{IsSoundPlan};
-    ghost use Rattle.plan_steps.specs.plan_model.specs.Plan.{plan_held};
     ghost use Rattle.plan_core.specs.State.{PreparedState, prepared_code};
 
     ghost Value = { PreparedState };
 
     ghost coded = { prepared_code };
 
-    ghost use Rattle.plan_core.specs.Next.{IsRight, contents_next, moves};
-
-    ghost view = { λ p. record { plan = plan_held p.clock (Some (contents_next p.next)); moves = moves p.next; named = p.named.items; rows = p.changes.rows.items; gone = p.changes.gone.items } };
-
-    ghost invariant = { λ p. IsSoundPlan (plan_held p.clock (Some (contents_next p.next))) × IsRight p.next };
+    ghost view = { λ p. record { clock = p.clock; next = p.next; named = p.named.items; rows = p.changes.rows.items; gone = p.changes.gone.items } };
 }
 
 impl Prepared {

@@ -10,7 +10,7 @@ mod places;
 pub use edits::{edited_places, is_small};
 pub use places::places_of;
 pub use plan_checks::{
-    Choice, Figures, LoadedPlan, Moved, Reported, check_load, check_request, chosen, chosen_with,
+    Choice, Figures, LoadedPlan, Parts, Reported, check_load, check_request, chosen, chosen_with,
     latest_of, reached_keys, ready_of, satisfy, unsatisfy,
 };
 

@@ -14,3 +14,5 @@ mod MovedRows
 mod OccurrencesOf
 mod TouchedTables
 mod TouchedRows
+mod PairedLists
+mod NotedTables

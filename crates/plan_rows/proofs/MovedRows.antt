@@ -1,16 +1,17 @@
 -- Operations of which only marks and flags change: their keys, their needs, and those that stay.
 use Rattle.std.proofs.Common.{◌≡◌, inl, inr, refl, sym, ap, ◌∙◌, arith, ℕ, zero, suc, List, [], ◌∷◌, map, slice_get, Contains, Option, Some, None, option_map}
-use Rattle.std.specs.FinMap.{entries, get}
+use Rattle.std.specs.FinMap.{FinMap, entries, get}
 use Rattle.std.specs.List.{zip}
 use Rattle.std.specs.Map.{keys_of}
 use Rattle.std.proofs.lemmas.Option.{same_Some, slice_get-map, slice_get_cases, slice_get_past, slice_get_within}
-use Rattle.plan_basics.specs.Keys.{operation_cmp-IsAntisymmetric, operation_cmp_total}
+use Rattle.plan_basics.specs.Keys.{occurrence_cmp, operation_cmp-IsAntisymmetric, operation_cmp_total}
 use Rattle.plan_basics.specs.declared.keys.OpKey.{OpKey}
 use Rattle.plan_state.specs.plan_drafts.proofs.EntryRows.{entry_of, row_in}
 use Rattle.plan_model.specs.Contents.{Contents, Operation}
+use Rattle.plan_model.specs.declared.Occurrence.{Occurrence}
 use Rattle.plan_state.specs.plan_moves.specs.Moves.{IsMovedAt}
 use Rattle.row_differences.proofs.Merging.{key_within}
-use Rattle.plan_rows.specs.Touched.{AreMovedAmong}
+use Rattle.plan_rows.specs.Touched.{AreMovedAmong, AreOccurrencesOf, BelongsAt}
 
 -- lists that have the same at each index are the same
 pub same_by_index : {X : Type 0} (xs ys : List X) → ((i : ℕ) → slice_get xs i ≡ slice_get ys i) → xs ≡ ys
@@ -92,3 +93,39 @@ module _ (P Q : Contents) (touched : List ℕ) (h : AreMovedAmong P Q touched) w
         row_in operation_cmp_total operation_cmp-IsAntisymmetric Q.operations i o z.1 (there ∙ (λ t. Some ((same t).0, z.1))),
         ap (λ (x : Operation). x.needs) row.remarked.rest ∙ (λ t. (same t).1.needs),
       )
+
+-- where operations belong stays
+module _ (P Q : Contents) (touched : List ℕ) (h : AreMovedAmong P Q touched) (i p : ℕ) where
+  belonged : BelongsAt Q i p → BelongsAt P i p
+  belonged b = let row = h.moved.rows i b.o b.op b.operation in record {
+    o = b.o;
+    op = row.before;
+    terms = b.terms;
+    operation = row.was;
+    occurrence = ap (λ (kept : FinMap occurrence_cmp Occurrence). slice_get (entries kept) p) (sym h.moved.occurrences) ∙ b.occurrence;
+  }
+
+  belongs : BelongsAt P i p → BelongsAt Q i p
+  belongs b =
+      let size = h.moved.size in
+      let lt = slice_get_within (entries P.operations) i (b.o, b.op) b.operation in
+      let (z, there) = key_within (entries Q.operations) i (omega (arith, lt, size)) in
+      let row = h.moved.rows i z.0 z.1 there in
+      let same : ◌≡◌ {A = OpKey × Operation} (z.0, row.before) (b.o, b.op) = same_Some (z.0, row.before) (b.o, b.op) (sym row.was ∙ b.operation) in
+      record {
+        o = b.o;
+        op = z.1;
+        terms = b.terms;
+        operation = there ∙ (λ t. Some ((same t).0, z.1));
+        occurrence = ap (λ (kept : FinMap occurrence_cmp Occurrence). slice_get (entries kept) p) h.moved.occurrences ∙ b.occurrence;
+      }
+
+-- so operations have the same occurrences
+pub same_occurrences : (P Q : Contents) (touched places : List ℕ) → AreMovedAmong P Q touched → AreOccurrencesOf Q touched places → AreOccurrencesOf P touched places
+same_occurrences P Q touched places h are = record {
+  ascend = are.ascend;
+  all = λ p. (
+    λ has. let (i, among, b) = (are.all p).0 has in (i, among, belonged P Q touched h i p b),
+    λ one. let (i, among, b) = one in (are.all p).1 (i, among, belongs P Q touched h i p b),
+  );
+}

@@ -13,7 +13,7 @@ use Rattle.std.proofs.lemmas.Bool.Decides.{nat_tests}
 use Rattle.std.proofs.lemmas.Cmp.{ranked}
 use Rattle.std.proofs.lemmas.List.Elements.{AllZip-get_or, length_all_zip}
 use Rattle.std.proofs.lemmas.List.Kept.{Contains-dedup_nat, Contains-from_dedup, IsStrictlySortedBy-dedup}
-use Rattle.std.proofs.lemmas.Option.{same_Some, slice_get-get_or, slice_get-map}
+use Rattle.std.proofs.lemmas.Option.{same_Some, slice_get-get_or, slice_get-map, slice_get_within}
 use Rattle.plan_basics.proofs.Members.{contains_cases, contains_head, contains_later, contains_none}
 use Rattle.plan_basics.specs.Keys.{occurrence_cmp, occurrence_cmp_total, operation_cmp}
 use Rattle.plan_basics.specs.declared.keys.OccKey.{OccKey}
@@ -104,3 +104,7 @@ module _ (P : Contents) where
       λ h. Contains-dedup_nat places i (to_places touched places belong i h),
     );
   }
+
+  -- they are all there
+  pub places_within : (touched places : List ℕ) → AreOccurrencesOf P touched places → (p : ℕ) → Contains places p → p < length occurrences
+  places_within touched places are p has = let (i, among, b) = (are.all p).0 has in slice_get_within occurrences p (b.o.occurrence, b.terms) b.occurrence

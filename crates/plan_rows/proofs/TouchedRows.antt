@@ -30,7 +30,7 @@ occurrences_beside : (shown : Option Shown) → if_shown keyed_occurrences shown
 occurrences_beside None = ap (λ xs. map keyed_occurrence (zip xs [])) (none_kept occurrence_cmp_total)
 occurrences_beside (Some s) = refl
 
-within_keys : {K X : Type 0} (rows : List (K × X)) (keys : List K) → keys ≡ keys_of rows → (i : ℕ) → i < length rows → i < length keys
+pub within_keys : {K X : Type 0} (rows : List (K × X)) (keys : List K) → keys ≡ keys_of rows → (i : ℕ) → i < length rows → i < length keys
 within_keys {K} {X} rows keys same i lt = let e = ap length same in let f = length-map rows (λ (z : K × X). z.0) in omega (arith, lt, e, f)
 
 -- the occurrence of an operation of what is shown is there

@@ -7,6 +7,7 @@ use Rattle.std.specs.Cmp.{booleans_Decides}
 use Rattle.std.specs.FinMap.{IsAntisymmetric, nat_cmp-IsAntisymmetric}
 use Rattle.std.specs.Map.{keys_of}
 use Rattle.std.specs.Ordering.{nat_cmp, ordering_then}
+use Rattle.std.specs.declared.cmp.Ordering.{Ordering}
 use Rattle.plan_basics.proofs.PairOrders.{by_two-IsAntisymmetric}
 use Rattle.plan_basics.specs.Intervals.{OpenInterval}
 use Rattle.plan_basics.specs.Keys.{Name, name_cmp, name_cmp-IsAntisymmetric, operation_cmp, operation_cmp-IsAntisymmetric}
@@ -52,8 +53,12 @@ one_availability z w e = cc
 pub resource_alike : (before after : List (Name × Bool)) (i j : ℕ) → HaveOneKey (keys_of before) (keys_of after) i j → HaveEqualValues beq before after i j ↔ (slice_get (map resource_row before) i ≡ slice_get (map resource_row after) j)
 resource_alike = valued_alike beq resource_row booleans_Decides one_availability
 
+-- intervals stand by their workstations' names, and then by their first minutes
+abbrev pub interval_key_cmp : Name × ℕ → Name × ℕ → Ordering
+interval_key_cmp x y = ordering_then (name_cmp x.0 y.0) (nat_cmp x.1 y.1)
+
 -- only equal keys of intervals tie
-pub interval_key_exact : IsAntisymmetric {K = Name × ℕ} (λ x y. ordering_then (name_cmp x.0 y.0) (nat_cmp x.1 y.1))
+pub interval_key_exact : IsAntisymmetric interval_key_cmp
 interval_key_exact = by_two-IsAntisymmetric name_cmp-IsAntisymmetric nat_cmp-IsAntisymmetric
 
 -- intervals are compared as rows of one workstation are

@@ -9,3 +9,4 @@ pub mod Rows
 pub mod Tables
 pub mod Alike
 pub mod Touched
+pub mod Notes

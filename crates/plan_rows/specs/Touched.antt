@@ -9,8 +9,8 @@ use Rattle.plan_model.specs.declared.Occurrence.{Occurrence}
 use Rattle.plan_state.specs.plan_moves.specs.Moves.{IsMovedAt}
 use Rattle.plan_rows.specs.Shown.{contents_shown, Known, known_of}
 use Rattle.plan_rows.specs.declared.shown.Shown.{Shown}
-use Rattle.plan_rows.specs.declared.touched.Beside.{Beside}
-use Rattle.plan_rows.specs.declared.touched.Beside.TheVariants as beside
+use Rattle.plan_rows.specs.declared.notes.Beside.{Beside}
+use Rattle.plan_rows.specs.declared.notes.Beside.TheVariants as beside
 use Rattle.status_rules.specs.declared.Counts.{Counts}
 
 -- what is known of each operation that is shown

@@ -1,10 +1,14 @@
 // The table of the intervals of workstations.
-ghost use Rattle.std.specs.Prelude.{◌≡◌, ◌↔◌, ◌<◌, ◌++◌, ℕ, List, Some, IfOk, OnOk, length, map, refl, slice_get};
+ghost use Rattle.std.specs.Prelude.{◌≡◌, ◌↔◌, ◌<◌, ◌++◌, ℕ, List, Option, Some, IfOk, OnOk, length, map, refl, slice_get};
+ghost use Rattle.std.specs.FinMap.{entries};
+ghost use Rattle.std.specs.List.Sorted.{IsStrictlySortedBy};
+ghost use Rattle.std.specs.Map.{keys_of};
 ghost use Rattle.plan_state.specs.plan_drafts.specs.declared.RowKey.TheVariants as key;
-ghost use Rattle.plan_rows.specs.Alike.{interval_alike, interval_key_exact};
+ghost use Rattle.plan_rows.specs.Alike.{interval_alike, interval_key_cmp, interval_key_exact};
 ghost use Rattle.plan_rows.specs.Rows.{all_intervals, interval_row, intervals_within, under_both};
-ghost use Rattle.plan_rows.specs.Shown.{IsShownIfAny, plan_shown};
+ghost use Rattle.plan_rows.specs.Shown.{IsShownIfAny, contents_shown, plan_shown};
 ghost use Rattle.plan_rows.specs.Tables.{AreChangesBelow};
+ghost use Rattle.plan_rows.specs.declared.shown.Shown.{Shown as ShownValue};
 
 use super::kept::workstations_of;
 use super::shown::Shown;
@@ -54,8 +58,8 @@ fn push_intervals_of(
     Ok(())
 }
 
-// The intervals of all workstations, each under its workstation's name and its first minute.
-fn intervals_of(
+/// The intervals of all workstations, each under its workstation's name and its first minute.
+pub fn intervals_of(
     alloc: Global,
     workstations: &[Workstation],
 ) -> Result<Vec<((WsName, Moment), Interval)>, AllocError>
@@ -66,6 +70,28 @@ fn intervals_of(
         push_intervals_of(&mut found, workstation)?;
     }
     Ok(found)
+}
+
+/// Adds what changes in the table of intervals, from these rows of it after.
+pub fn push_noted_intervals(
+    alloc: Global,
+    before: Option<Shown<'_>>,
+    after: &[((WsName, Moment), Interval)],
+    changes: &mut Changes,
+) -> Result<(), AllocError>
+    requires before { IsShownIfAny before }
+    requires in_order { IsStrictlySortedBy interval_key_cmp (keys_of after.now) }
+    ensures { (clock now : ℕ) (shown : Option ShownValue) → IsShownIfAny shown → after.now ≡ all_intervals (entries (contents_shown shown).workstations) → AreChangesBelow 2 (plan_shown clock before.entry) (plan_shown now shown) changes.old → OnOk result (AreChangesBelow 3 (plan_shown clock before.entry) (plan_shown now shown) changes.new) }
+{
+    let old = intervals_of(alloc, workstations_of(before))?;
+    push_changes(
+        alloc,
+        &KeyedRows {
+            before: &old,
+            after,
+        },
+        changes,
+    )
 }
 
 /// Adds what changes in the table of intervals.
@@ -79,14 +105,6 @@ pub fn push_intervals(
     requires after { IsShownIfAny after }
     ensures { (clock now : ℕ) → AreChangesBelow 2 (plan_shown clock before.entry) (plan_shown now after.entry) changes.old → OnOk result (AreChangesBelow 3 (plan_shown clock before.entry) (plan_shown now after.entry) changes.new) }
 {
-    let old = intervals_of(alloc, workstations_of(before))?;
     let new = intervals_of(alloc, workstations_of(after))?;
-    push_changes(
-        alloc,
-        &KeyedRows {
-            before: &old,
-            after: &new,
-        },
-        changes,
-    )
+    push_noted_intervals(alloc, before, &new, changes)
 }

@@ -1,6 +1,10 @@
 // The table of special resources: rows of a key and a value each.
 ghost use Rattle.std.specs.Prelude.{◌≡◌, ◌↔◌, ◌<◌, ℕ, List, Some, OnOk, length, map, refl, slice_get};
-ghost use Rattle.plan_basics.specs.Keys.{name_cmp-IsAntisymmetric};
+ghost use Rattle.std.specs.FinMap.{entries};
+ghost use Rattle.std.specs.List.Sorted.{IsStrictlySortedBy};
+ghost use Rattle.std.specs.Map.{keys_of};
+ghost use Rattle.plan_basics.specs.Keys.{name_cmp, name_cmp-IsAntisymmetric};
+ghost use Rattle.plan_model.specs.Plan.{Plan};
 ghost use Rattle.plan_state.specs.plan_drafts.specs.declared.RowKey.TheVariants as key;
 ghost use Rattle.plan_rows.specs.Alike.{resource_alike};
 ghost use Rattle.plan_rows.specs.Rows.{resource_row};
@@ -38,6 +42,26 @@ impl<'a, 'b> PlanTable for KeyedRows<'a, 'b, ResName, bool> {
     ghost alike = { λ t i j one. resource_alike t.before.now t.after.now i j one };
 }
 
+/// Adds what changes in the table of special resources, from these rows of it after.
+pub fn push_noted_resources(
+    alloc: Global,
+    before: Option<Shown<'_>>,
+    after: &[(ResName, bool)],
+    changes: &mut Changes,
+) -> Result<(), AllocError>
+    requires in_order { IsStrictlySortedBy name_cmp (keys_of after.now) }
+    ensures { (clock : ℕ) (Q : Plan) → after.now ≡ entries Q.contents.resources → AreChangesBelow 3 (plan_shown clock before.entry) Q changes.old → OnOk result (AreChangesBelow 4 (plan_shown clock before.entry) Q changes.new) }
+{
+    push_changes(
+        alloc,
+        &KeyedRows {
+            before: resources_of(before),
+            after,
+        },
+        changes,
+    )
+}
+
 /// Adds what changes in the table of special resources.
 pub fn push_resources(
     alloc: Global,
@@ -47,12 +71,5 @@ pub fn push_resources(
 ) -> Result<(), AllocError>
     ensures { (clock now : ℕ) → AreChangesBelow 3 (plan_shown clock before.entry) (plan_shown now after.entry) changes.old → OnOk result (AreChangesBelow 4 (plan_shown clock before.entry) (plan_shown now after.entry) changes.new) }
 {
-    push_changes(
-        alloc,
-        &KeyedRows {
-            before: resources_of(before),
-            after: resources_of(after),
-        },
-        changes,
-    )
+    push_noted_resources(alloc, before, resources_of(after), changes)
 }

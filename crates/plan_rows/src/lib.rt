@@ -1,7 +1,6 @@
 //! The rows of the tables for a loaded plan, and which of them change from one plan to the next.
 #![tactic(auto)]
 
-mod at_places;
 mod changing;
 mod dependencies;
 mod intervals;
@@ -9,13 +8,14 @@ mod kept;
 mod keyed;
 mod meta;
 mod needs;
+mod noted_rows;
+mod notes;
 mod occurrence_places;
 mod occurrences;
 mod operations;
 mod shown;
 mod shown_tables;
 mod tables;
-mod touched;
 mod workplaces;
 
 pub use changing::{changes_between, rows_of};
@@ -23,6 +23,7 @@ pub use dependencies::push_dependencies;
 pub use intervals::push_intervals;
 pub use keyed::push_resources;
 pub use needs::push_needs;
+pub use notes::{Beside, Notes, noted_changes, notes_of};
 pub use occurrences::push_occurrences;
 pub use operations::push_operations;
 pub use plan_state::{
@@ -30,5 +31,4 @@ pub use plan_state::{
     holdings_of, kept_of, latest_of, ready_of, standings_of, statuses_of, tallies_of,
 };
 pub use shown::{PlanShown, Shown};
-pub use touched::{Beside, touched_changes};
 pub use workplaces::push_workstations;

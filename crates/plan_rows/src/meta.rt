@@ -43,8 +43,8 @@ fn push_meta_row(loaded: bool, clock: Moment, rows: &mut Vec<PlanRow>) -> Result
     )
 }
 
-// Adds what changes in the table of one row, from whether a plan was loaded and what its clock was to what they are.
-fn push_meta(
+/// Adds what changes in the table of one row, from whether a plan was loaded and what its clock was to what they are.
+pub fn push_meta(
     was_loaded: bool,
     was: Moment,
     loaded: bool,
@@ -59,8 +59,8 @@ fn push_meta(
     push_meta_row(loaded, clock, &mut changes.rows)
 }
 
-// Whether a plan is loaded.
-fn is_loaded(shown: Option<Shown<'_>>) -> bool
+/// Whether a plan is loaded.
+pub fn is_loaded(shown: Option<Shown<'_>>) -> bool
     ensures { result ≡ is_some shown.entry }
 {
     match shown {

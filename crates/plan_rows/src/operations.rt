@@ -1,15 +1,17 @@
 // The table of operations.
-ghost use Rattle.std.specs.Prelude.{◌≡◌, ◌<◌, ℕ, Some, OnOk, length, refl, slice_get};
+ghost use Rattle.std.specs.Prelude.{◌≡◌, ◌<◌, ℕ, List, Contains, Some, IfOk, OnOk, length, refl, slice_get};
 ghost use Rattle.std.specs.FinMap.{entries};
 ghost use Rattle.plan_basics.specs.Keys.{operation_cmp-IsAntisymmetric};
 ghost use Rattle.plan_state.specs.plan_drafts.specs.declared.RowKey.TheVariants as key;
+ghost use Rattle.plan_rows.specs.Notes.{AreNotedAt, AreWithin};
 ghost use Rattle.plan_rows.specs.Rows.{keyed_operations, rows_of};
-ghost use Rattle.plan_rows.specs.Shown.{IsShown, IsShownIfAny, plan_shown};
+ghost use Rattle.plan_rows.specs.Shown.{IsShown, IsShownIfAny, contents_shown, plan_shown};
 ghost use Rattle.plan_rows.specs.Tables.{AreChangesBelow};
 ghost use Rattle.plan_rows.specs.Touched.{AreTouched};
+ghost use Rattle.plan_rows.specs.declared.shown.Shown.{Shown as ShownValue};
 
-use super::at_places::push_touched;
 use super::kept::operations_of;
+use super::noted_rows::{NotedRow, note_rows, push_noted};
 use super::shown::Shown;
 use super::shown_tables::{ShownTables, Tabled};
 use super::tables::push_changes;
@@ -89,25 +91,28 @@ pub fn push_operations(
     )
 }
 
-/// Adds what changes in the table of operations, where no more was touched than these.
-pub fn push_touched_operations(
-    before: Option<Shown<'_>>,
-    after: Option<Shown<'_>>,
+/// Notes the rows of the operations at these places.
+pub fn note_operations(
+    alloc: Global,
+    shown: Shown<'_>,
     touched: &[usize],
+) -> Result<Vec<NotedRow>, AllocError>
+    requires shown { IsShown shown }
+    requires within { (i : ℕ) → Contains touched.now i → i < length (entries shown.contents.now.operations) }
+    ensures { IfOk result (λ v. AreNotedAt (rows_of (keyed_operations shown.entry)) touched.now v.items) }
+{
+    note_rows::<OperationRecord>(alloc, Some(shown), touched)
+}
+
+/// Adds what changes in the table of operations, from the rows of touched operations that are noted.
+pub fn push_noted_operations(
+    before: Option<Shown<'_>>,
+    notes: &[NotedRow],
     changes: &mut Changes,
 ) -> Result<(), AllocError>
     requires before { IsShownIfAny before }
-    requires after { IsShownIfAny after }
-    requires touched { AreTouched before after touched.now }
-    ensures { (clock now : ℕ) → AreChangesBelow 5 (plan_shown clock before.entry) (plan_shown now after.entry) changes.old → OnOk result (AreChangesBelow 6 (plan_shown clock before.entry) (plan_shown now after.entry) changes.new) }
+    requires within { AreWithin (length (entries (contents_shown before).operations)) notes.now }
+    ensures { (clock now : ℕ) (after : ShownValue) (touched : List ℕ) → IsShown after → AreTouched before.entry (Some after) touched → AreNotedAt (rows_of (keyed_operations after)) touched notes.now → AreChangesBelow 5 (plan_shown clock before.entry) (plan_shown now (Some after)) changes.old → OnOk result (AreChangesBelow 6 (plan_shown clock before.entry) (plan_shown now (Some after)) changes.new) }
 {
-    push_touched(
-        &ShownTables {
-            table: PhantomData::<OperationRecord>,
-            before,
-            after,
-        },
-        touched,
-        changes,
-    )
+    push_noted::<OperationRecord>(before, notes, &mut changes.rows)
 }

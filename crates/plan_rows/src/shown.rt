@@ -1,11 +1,12 @@
 // What is kept of a loaded plan, for its views.
 ghost use Rattle.std.specs.Prelude.{◌≡◌};
 ghost use Rattle.plan_rows.specs.Shown.{IsShown};
-ghost use Rattle.plan_state.specs.Figures.{AreFigures, KeepsFrame};
+ghost use Rattle.plan_state.specs.plan_choice.specs.Choices.{AreLatestStarts};
+ghost use Rattle.plan_state.specs.Figures.{AreFigures};
 
 use latest_start::Latest;
 use plan_basics::Moment;
-use plan_state::{LoadedPlan, Moved, PlanContents, Standing};
+use plan_state::{Figures, LoadedPlan, PlanContents, SoundContents, Standing};
 use status_rules::{Counts, Status};
 
 /// The rows of a loaded plan, with what is known of each of them.
@@ -32,23 +33,20 @@ impl<'a> Shown<'a> {
             latest: loaded.latest(),
         }
     }
-}
 
-impl<'a> Shown<'a> {
-    /// What is kept of contents of which the graph and the latest starts are those of this plan, and which have these figures.
-    pub fn moved(loaded: &'a LoadedPlan, moved: &'a Moved) -> Shown<'a>
-        requires figures { AreFigures moved.now.contents moved.now.figures }
-        requires frame { KeepsFrame loaded.now moved.now.contents }
-        ensures contents { result.contents.now ≡ moved.now.contents }
+    /// What is kept of contents that have these figures and these latest starts.
+    pub fn with(contents: &'a SoundContents, figures: &'a Figures, latest: &'a Latest) -> Shown<'a>
+        requires figures { AreFigures contents.now figures.now }
+        requires latest { AreLatestStarts contents.now latest.now.starts }
+        ensures contents { result.contents.now ≡ contents.now }
         ensures shown { IsShown result }
     {
-        let figures = &moved.figures;
         Shown {
-            contents: moved.contents.rows(),
+            contents: contents.rows(),
             standings: &figures.standings,
             statuses: &figures.statuses,
             tallies: &figures.tallies,
-            latest: loaded.latest(),
+            latest,
         }
     }
 }

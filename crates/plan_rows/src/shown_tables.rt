@@ -9,7 +9,6 @@ ghost use Rattle.plan_rows.specs.Rows.{if_shown, rows_of};
 ghost use Rattle.plan_rows.specs.Shown.{IsShown, IsShownIfAny};
 ghost use Rattle.plan_rows.specs.declared.shown.Shown.{Shown as ShownValue};
 
-use super::at_places::ComparedTable;
 use super::shown::Shown;
 use super::tables::PlanTable;
 use plan_state::{PlanRow, RowKey};
@@ -58,8 +57,8 @@ fn key<T: Tabled>(shown: Option<Shown<'_>>, place: usize) -> T::Key
     T::kept(shown)[place].0
 }
 
-// The row at an index.
-fn row<T: Tabled>(shown: Option<Shown<'_>>, place: usize) -> PlanRow
+/// The row at an index.
+pub fn row<T: Tabled>(shown: Option<Shown<'_>>, place: usize) -> PlanRow
     requires shown { IsShownIfAny shown }
     requires within { place < length (keys_of (if_shown T.keyed shown)) }
     ensures { slice_get (rows_of (if_shown T.keyed shown.entry)) place ≡ Some result }
@@ -134,10 +133,4 @@ impl<'a, 'b, T: Tabled> PlanTable for ShownTables<'a, 'b, T> {
     ghost exact = { T.exact };
 
     ghost alike = { λ t i j one. (λ h. h, λ h. h) };
-}
-
-impl<'a, 'b, T: Tabled> ComparedTable for ShownTables<'a, 'b, T> {
-    fn row_before(&self, old: usize) -> PlanRow {
-        row::<T>(self.before, old)
-    }
 }

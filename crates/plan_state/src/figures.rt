@@ -33,13 +33,6 @@ pub struct Figures {
     pub ready: ReadyList,
 }
 
-/// What a plan holds, with its figures.
-#[derive(Drop)]
-pub struct Moved {
-    pub contents: SoundContents,
-    pub figures: Figures,
-}
-
 impl Figures {
     /// A copy. The error is always `Memory`.
     pub fn try_clone(&self, alloc: Global) -> Result<Figures, Refusal>

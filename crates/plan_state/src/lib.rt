@@ -4,8 +4,8 @@
 mod figures;
 mod loaded;
 
-pub use figures::{Figures, Moved};
-pub use loaded::{LoadedPlan, Reported};
+pub use figures::Figures;
+pub use loaded::{LoadedPlan, Parts, Reported};
 pub use plan_choice::{
     Choice, SoundContents, Standing, ValidContents, check_start, chosen, chosen_with, given_out_of,
     graph_for, holdings_of, latest_of, occurrence_status_with, ready_of, standings_of, statuses_of,

@@ -8,11 +8,11 @@ ghost use Rattle.plan_choice.specs.plan_drafts.specs.PlanGraphs.{IsGraphFor};
 ghost use Rattle.plan_choice.specs.plan_model.specs.Contents.{Operation};
 ghost use Rattle.plan_choice.specs.plan_model.specs.Holdings.{given_out};
 ghost use Rattle.plan_choice.specs.plan_model.specs.Status.{HasOccurrenceStatus, HasStatus};
-ghost use Rattle.plan_state.specs.Figures.{AreFigures, KeepsFrame};
+ghost use Rattle.plan_state.specs.Figures.{AreFigures};
 ghost use Rattle.plan_state.specs.Reports.{IsReported};
 ghost use Rattle.plan_choice.specs.plan_status.specs.Standings.{AreStandings, AreTallies};
 
-use crate::figures::{Figures, Moved};
+use crate::figures::Figures;
 use latest_start::Latest;
 use operation_graph::Graph;
 use plan_basics::{Attr, OccKey, OpKey};
@@ -30,6 +30,15 @@ pub struct Reported {
     /// How its workstation reports.
     pub attribute: Attr,
     pub status: Status,
+}
+
+/// A loaded plan, taken apart: what it holds, the graph of its pairs, the latest start of each operation, and the figures.
+#[derive(Drop)]
+pub struct Parts {
+    pub contents: SoundContents,
+    pub graph: Graph,
+    pub latest: Latest,
+    pub figures: Figures,
 }
 
 /// What a loaded plan holds, with what is kept of it: the graph of its pairs and the latest start of each operation, and the
@@ -73,14 +82,19 @@ impl LoadedPlan {
         }
     }
 
-    /// Takes up contents of which the graph and the latest starts are the same, with their figures. It takes no memory.
-    pub fn take_up(&mut self, moved: Moved)
-        requires frame { KeepsFrame self.old moved.contents }
-        requires figures { AreFigures moved.contents moved.figures }
-        ensures { self.new ≡ moved.contents }
+    /// What it is made of, so that it can be written to.
+    pub fn into_parts(self) -> Parts
+        ensures contents { result.contents ≡ self }
+        ensures graph { IsGraphFor self result.graph }
+        ensures latest { AreLatestStarts self result.latest.starts }
+        ensures figures { AreFigures self result.figures }
     {
-        self.contents = moved.contents;
-        self.figures = moved.figures;
+        Parts {
+            contents: self.contents,
+            graph: self.graph,
+            latest: self.latest,
+            figures: self.figures,
+        }
     }
 
     /// What it holds.

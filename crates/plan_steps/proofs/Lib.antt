@@ -1,4 +1,10 @@
 pub mod KnownAlike
 pub mod Alike
-pub mod Parts
+pub mod StepParts
 pub mod NamedFigures
+pub mod Written
+pub mod Marked
+pub mod EditedKeys
+pub mod Requested
+pub mod MadeEdits
+pub mod SmallSteps

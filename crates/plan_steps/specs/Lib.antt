@@ -7,5 +7,8 @@ pub use Rattle.plan_kept.specs.plan_laws
 pub use Rattle.plan_kept.specs.plan_model
 pub use Rattle.plan_rows
 pub use Rattle.plan_kept.specs.plan_state
+pub mod EditedKeys
+pub mod Revisions
 pub mod Edits
+pub mod Naming
 pub mod Touched

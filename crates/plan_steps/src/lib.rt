@@ -1,19 +1,27 @@
 //! What a small request leads to: one by which only marks and flags change, which special resources are available, or when
-//! workstations are open. What is kept of the plan moves with it, from
-//! the operations that the request edits and those that are named.
+//! workstations are open. It is written into the plan's own contents, what follows is worked out and noted there, and then all is
+//! put back. What is kept of the plan moves with it, from the operations that the request edits and those that are named.
 #![tactic(auto)]
 
 mod counting;
 mod edits;
+mod following;
 mod moving;
 mod naming;
+mod noting;
 mod places;
+mod requests;
+mod revisions;
 mod steps;
+mod writing;
 
 pub use edits::{Edit, edit_of};
+pub use following::SmallStep;
 pub use plan_kept::{
-    LoadedPlan, Moved, Reported, check_load, check_request, chosen, is_small, latest_of,
+    Figures, LoadedPlan, Parts, Reported, check_load, check_request, chosen, is_small, latest_of,
     reached_keys, ready_of,
 };
-pub use plan_rows::{Beside, PlanShown, Shown, changes_between, touched_changes};
-pub use steps::{SmallStep, small_step};
+pub use plan_rows::{Notes, PlanShown, Shown, changes_between, noted_changes};
+pub use revisions::Revision;
+pub use steps::small_step;
+pub use writing::stepped;

@@ -1,14 +1,17 @@
 // The figures of a plan, moved on to those of the plan after an edit.
 ghost use Rattle.std.specs.Prelude.{◌≡◌, IfErr, IfOk, OnOk};
 ghost use Rattle.plan_basics.specs.declared.Refusal.{Refusal};
+ghost use Rattle.plan_kept.specs.plan_model.specs.Contents.{Contents};
 ghost use Rattle.plan_kept.specs.plan_state.specs.Figures.{AreFigures};
-ghost use Rattle.plan_steps.specs.Edits.{ArePlacesWith, IsEditOf};
+ghost use Rattle.plan_steps.specs.Edits.{ArePlacesWith, WasEdited};
 ghost use Rattle.plan_steps.specs.Touched.{AreKnownAlike};
 
 use super::counting::recount;
-use super::edits::{Edit, look_at};
+use super::edits::Edit;
+use latest_start::Latest;
+use operation_graph::Graph;
 use plan_basics::Refusal;
-use plan_kept::{Figures, LoadedPlan};
+use plan_kept::Figures;
 use plan_restating::{restand, restate};
 use plan_status::SoundContents;
 use plan_takings::retake;
@@ -18,25 +21,24 @@ use std::alloc::Global;
 /// always `Memory`: then the figures may be moved in part.
 pub fn move_figures(
     alloc: Global,
-    before: &LoadedPlan,
+    graph: &Graph,
+    latest: &Latest,
     after: &SoundContents,
     edit: &Edit,
     figures: &mut Figures,
 ) -> Result<Vec<usize>, Refusal>
-    requires edit { IsEditOf before.now after.now edit.now }
-    requires figures { AreFigures before.now figures.old }
+    requires { (P : Contents) × WasEdited P after.now edit.now graph.now latest.now.starts figures.old }
     ensures figures { OnOk result (AreFigures after.now figures.new) }
-    ensures touched { IfOk result (λ touched. ArePlacesWith before.now edit.now.places.items touched.items) }
-    ensures same { IfOk result (λ touched. AreKnownAlike before.now after.now touched.items) }
+    ensures touched { IfOk result (λ touched. ArePlacesWith after.now edit.now.places.items touched.items) }
+    ensures same { IfOk result (λ touched. (P : Contents) → WasEdited P after.now edit.now graph.now latest.now.starts figures.old → AreKnownAlike P after.now touched.items) }
     ensures refused { IfErr result (λ r. r ≡ Refusal.Memory) }
 {
-    look_at(before);
     let contents = after.valid();
-    let touched = recount(alloc, before, after, edit, &mut figures.kept)?;
+    let touched = recount(alloc, graph, after, edit, &mut figures.kept)?;
     restand(&mut figures.standings, &figures.kept, &touched);
     restate(
         after,
-        before.latest(),
+        latest,
         &figures.standings,
         &mut figures.statuses,
         &mut figures.tallies,
@@ -44,11 +46,11 @@ pub fn move_figures(
         &touched,
     )?;
     retake(
-        before.contents().valid(),
         contents,
         &mut figures.given,
         &mut figures.holdings,
         &edit.places,
+        &edit.marks,
     )?;
     Ok(touched)
 }

@@ -1,79 +1,56 @@
-// What is named at a moment, and the figures once it is.
+// What is named at a moment.
 ghost use Rattle.std.specs.Prelude.{◌≡◌, ℕ, IfErr, IfOk};
 ghost use Rattle.plan_basics.specs.declared.Refusal.{Refusal};
-ghost use Rattle.plan_kept.specs.plan_choice.specs.Choices.{AreLatestStarts};
-ghost use Rattle.plan_kept.specs.plan_model.specs.Ready.{IsChosen, named as named_in};
-ghost use Rattle.plan_kept.specs.Edits.{ArePlacesOf};
 ghost use Rattle.plan_kept.specs.plan_state.specs.Figures.{AreFigures};
+ghost use Rattle.plan_steps.specs.Naming.{IsNaming};
 
-use latest_start::Latest;
 use plan_basics::{Moment, OpKey, Refusal};
-use plan_changes::mark_all;
-use plan_kept::{Choice, Figures, Moved, chosen_with, places_of};
-use plan_restating::restate;
+use plan_changes::markings_of;
+use plan_kept::{Choice, Figures, chosen_with, places_of};
+use plan_moves::Marking;
 use plan_status::SoundContents;
-use status_rules::Mark;
 use std::alloc::Global;
 
-/// What is named, at which places, and what the plan holds and what is kept of it then.
+/// What is named, and what is needed to mark it so and to put that back.
 #[derive(Drop)]
 pub struct Naming {
-    pub moved: Moved,
+    /// The operations, in order.
     pub named: Vec<OpKey>,
+    /// Their indices in key order, ascending.
     pub places: Vec<usize>,
+    /// The markings that they have before, in the order of the operations.
+    pub marks: Vec<Marking>,
+    /// The figures, with what is given out and held once they are named.
+    pub figures: Figures,
 }
 
-// The contents with these operations, which were chosen, marked named. It takes no memory.
-fn with_named(contents: SoundContents, named: &[OpKey]) -> SoundContents
-    requires { (m : ℕ) × IsChosen contents m named.now }
-    ensures { result ≡ named_in named.now contents }
-{
-    let mut rows = contents.into_rows();
-    mark_all(&mut rows, named, &Mark::Named);
-    SoundContents::of(rows)
-}
-
-/// Names what is chosen at a moment, and moves the figures on to what follows from that. The error is always `Memory`.
+/// What is named at a moment. The error is always `Memory`.
 pub fn name(
     alloc: Global,
-    latest: &Latest,
-    contents: SoundContents,
-    mut figures: Figures,
+    contents: &SoundContents,
+    figures: Figures,
     at: Moment,
 ) -> Result<Naming, Refusal>
-    requires latest { AreLatestStarts contents latest.now.starts }
-    requires figures { AreFigures contents figures }
-    ensures chosen { IfOk result (λ n. IsChosen contents at n.named.items) }
-    ensures contents { IfOk result (λ n. n.moved.contents ≡ named_in n.named.items contents) }
-    ensures figures { IfOk result (λ n. AreFigures n.moved.contents n.moved.figures) }
-    ensures places { IfOk result (λ n. ArePlacesOf contents n.named.items n.places.items) }
+    requires { AreFigures contents.now figures }
+    ensures naming { IfOk result (IsNaming contents.now at) }
     ensures refused { IfErr result (λ r. r ≡ Refusal.Memory) }
 {
     let Figures {
         kept,
         standings,
-        mut statuses,
-        mut tallies,
+        statuses,
+        tallies,
         given,
         holdings,
-        mut ready,
+        ready,
     } = figures;
     let Choice {
         named,
         given,
         holdings,
-    } = chosen_with(&contents, &ready, at, given, holdings)?;
-    let places = places_of(alloc, &contents, &named)?;
-    let contents = with_named(contents, &named);
-    restate(
-        &contents,
-        latest,
-        &standings,
-        &mut statuses,
-        &mut tallies,
-        &mut ready,
-        &places,
-    )?;
+    } = chosen_with(contents, &ready, at, given, holdings)?;
+    let places = places_of(alloc, contents, &named)?;
+    let marks = markings_of(alloc, contents.rows(), &named)?;
     let figures = Figures {
         kept,
         standings,
@@ -84,8 +61,9 @@ pub fn name(
         ready,
     };
     Ok(Naming {
-        moved: Moved { contents, figures },
         named,
         places,
+        marks,
+        figures,
     })
 }

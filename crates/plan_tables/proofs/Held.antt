@@ -9,6 +9,7 @@ use Rattle.sqlite_trees.specs.declared.store.Store.{Ghosts}
 use Rattle.plan_reads.specs.table_rows.specs.Tables.{no_schema}
 use Rattle.numbered_steps.specs.Steps.{IsNumberedStepFor}
 use Rattle.numbered_steps.specs.declared.steps.NumberedStep.{NumberedStep}
+use Rattle.numbered_steps.specs.plan_core.specs.State.{plan_after}
 use Rattle.plan_basics.specs.declared.keys.OpKey.{OpKey}
 use Rattle.plan_reads.specs.plan_columns.proofs.PlanWritten.{step_written}
 use Rattle.plan_reads.specs.plan_columns.proofs.ReceiptPut.{none_are_held, receipt_written, receipts_stay, rows_beside_receipt}
@@ -87,7 +88,7 @@ plain_step P Q T n named h = record { none_refuses = λ r. (h.none_refuses r).0;
 
 -- a numbered request leads to the state that was prepared for it
 pub numbered_step : (s : State) (n : NumberedRequest) (p : NumberedStep) → IsNumberedStepFor (record { plan = s.plan }) s.receipts n p → CallStep s (numbered n) (accepted p.prepared.named) (state_after s (Numbered p))
-numbered_step s n p is = inr (subst (λ t. StepsAnew s.plan s.receipts n (accepted p.prepared.named) p.prepared.plan (insert s.receipts t p.receipt)) (sym is.tracker) is.step)
+numbered_step s n p is = inr (subst (λ t. StepsAnew s.plan s.receipts n (accepted p.prepared.named) (plan_after (record { plan = s.plan }) p.prepared) (insert s.receipts t p.receipt)) (sym is.tracker) is.step)
 
 -- some call leads to the state that was prepared
 pub step_of : (s : State) (p : PreparedCall) → IsPreparedAt s p → (c : Call) × CallStep s c (accepted (named_by p)) (state_after s p)
@@ -97,14 +98,15 @@ step_of s (Numbered p) is = (numbered is.0, numbered_step s is.0 p is.1)
 -- what it writes leads from the tables of the one to those of the other
 pub prepared_carries : (s : State) (p : PreparedCall) → IsSoundPlan s.plan → IsPreparedAt s p → Carries s (state_after s p) (change_of p)
 prepared_carries s (Plain p) sound is held rows receipts = (
-  step_written s.plan p.plan is.request (accepted p.named) p.rows p.gone sound is.by.step is.by.changes held rows,
+  step_written s.plan (state_after s (Plain p)).plan is.request (accepted p.named) p.rows p.gone sound is.by.step is.by.changes held rows,
   receipts_stay s.receipts p.rows p.gone held receipts,
 )
 prepared_carries s (Numbered p) sound is held rows receipts =
     let n = is.0 in
     let q = p.prepared in
-    let step = plain_step s.plan q.plan s.receipts n q.named is.1.step.2 in (
-      rows_beside_receipt (IsRow q.plan) (stored_receipt p.row) (written q.rows q.gone held) (step_written s.plan q.plan n.request (accepted q.named) q.rows q.gone sound step is.1.changes held rows),
+    let Q = (state_after s (Numbered p)).plan in
+    let step = plain_step s.plan Q s.receipts n q.named is.1.step.2 in (
+      rows_beside_receipt (IsRow Q) (stored_receipt p.row) (written q.rows q.gone held) (step_written s.plan Q n.request (accepted q.named) q.rows q.gone sound step is.1.changes held rows),
       subst₂ (λ t c. HoldReceipts (insert s.receipts t p.receipt) (written_numbered q.rows q.gone c held)) (sym is.1.tracker) (sym is.1.row) (receipt_written s.receipts n.tracker p.receipt q.rows q.gone held receipts),
     )
 

@@ -4,7 +4,7 @@ use Rattle.std.specs.FinMap.{insert}
 use Rattle.plan_basics.specs.declared.keys.OpKey.{OpKey}
 use Rattle.plan_reads.specs.plan_columns.specs.Receipts.{written_numbered}
 use Rattle.plan_reads.specs.plan_columns.specs.Tables.{written}
-use Rattle.numbered_steps.specs.plan_core.specs.State.{IsPreparedFor}
+use Rattle.numbered_steps.specs.plan_core.specs.State.{IsPreparedFor, plan_after}
 use Rattle.plan_records.specs.Run.{State}
 use Rattle.plan_records.specs.Step.{Numbered as NumberedRequest}
 use Rattle.plan_reads.specs.plan_schema.specs.Stored.{Held}
@@ -19,8 +19,8 @@ named_by (Numbered p) = p.prepared.named
 
 -- the plan that it leads to, and the receipts beside it: a plain request leaves them
 abbrev pub state_after : State → PreparedCall → State
-state_after s (Plain p) = record { plan = p.plan; receipts = s.receipts }
-state_after s (Numbered p) = record { plan = p.prepared.plan; receipts = insert s.receipts p.tracker p.receipt }
+state_after s (Plain p) = record { plan = plan_after (record { plan = s.plan }) p; receipts = s.receipts }
+state_after s (Numbered p) = record { plan = plan_after (record { plan = s.plan }) p.prepared; receipts = insert s.receipts p.tracker p.receipt }
 
 -- what is written into the tables: the rows that change, and the receipt of a numbered request
 abbrev pub change_of : PreparedCall → Held → Held

@@ -49,7 +49,7 @@ module _ (P Q : Contents) (alike : IsRemarkedPlan P Q) where
     its_workstation : new.workstation ≡ old.workstation
     its_workstation = ap (λ (op : Operation). op.workstation) remarked.rest
 
-    known_in_both : takes (attribute_at Q new.workstation) ≡ takes (attribute_at P old.workstation)
+    pub known_in_both : takes (attribute_at Q new.workstation) ≡ takes (attribute_at P old.workstation)
     known_in_both = ap takes (attribute_same P Q alike new.workstation ∙ ap (attribute_at P) its_workstation)
 
     known_before : (r : Name) (usage : Usage) → Holds P o r usage → takes (attribute_at P old.workstation) ≡ true

@@ -3,4 +3,5 @@ pub mod Remarked
 pub mod HeldBetween
 pub mod GivenBetween
 pub mod OnePlace
+pub mod Before
 pub mod Retaking

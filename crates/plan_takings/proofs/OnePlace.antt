@@ -36,16 +36,16 @@ module _ (P Q : Contents) (alike : IsRemarkedPlan P Q) (m : ℕ) (before after :
   same_before : ◌≡◌ {A = OpKey × Operation} (o, (alike.rows m o new is).before) before
   same_before = same_Some (o, (alike.rows m o new is).before) before (sym (alike.rows m o new is).row ∙ was)
 
-  remarked : IsRemarked old new
+  pub remarked : IsRemarked old new
   remarked = subst (λ (row : OpKey × Operation). IsRemarked row.1 new) same_before (alike.rows m o new is).remarked
 
   was_its : slice_get (entries P.operations) m ≡ Some (o, old)
   was_its = subst (λ (row : OpKey × Operation). slice_get (entries P.operations) m ≡ Some (o, row.1)) same_before (alike.rows m o new is).row
 
-  found_before : get P.operations o ≡ Some old
+  pub found_before : get P.operations o ≡ Some old
   found_before = row_found P m o old was_its
 
-  found_after : get Q.operations o ≡ Some new
+  pub found_after : get Q.operations o ≡ Some new
   found_after = row_found Q m o new is
 
   holding_before : (held : Held) → AreHeldBetween P Q m held → HoldsJust P o held

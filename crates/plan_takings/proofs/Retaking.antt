@@ -10,10 +10,13 @@ use Rattle.std.proofs.lemmas.Option.{get_or_from_slice_get, same_Some, slice_get
 use Rattle.plan_basics.specs.declared.keys.OpKey.{OpKey}
 use Rattle.special_resources.specs.Holdings.{Held}
 use Rattle.plan_model.specs.Contents.{Contents, Operation}
+use Rattle.plan_model.specs.Valid.{IsValid}
 use Rattle.plan_choice.specs.plan_drafts.proofs.RowPlaces.{row_at}
 use Rattle.plan_moves.specs.Moves.{IsMovedAt}
+use Rattle.plan_moves.specs.declared.Marking.{Marking}
 use Rattle.workstations.specs.declared.Capacity.{Capacity}
 use Rattle.plan_choice.specs.Choices.{AreGivenOut, AreHeldIn}
+use Rattle.plan_takings.specs.Before.{HasPlanBefore, IsBeforeAt, WereMarked}
 use Rattle.plan_takings.specs.Between.{AreGivenBetween, AreHeldBetween, IsRemarkedPlan}
 use Rattle.plan_takings.proofs.GivenBetween.{AreSame, given_first, given_last, given_onward}
 use Rattle.plan_takings.proofs.HeldBetween.{held_first, held_last, held_onward}
@@ -29,10 +32,10 @@ pub record AreRetaken (P Q : Contents) (places : List ℕ) (k : ℕ) (given : Li
   pub are_held : AreHeldBetween P Q next held
 
 module _ (P Q : Contents) (places : List ℕ) (moved : IsMovedAt P Q places) where
-  abbrev pub alike : IsRemarkedPlan P Q
+  abbrev alike : IsRemarkedPlan P Q
   alike = remarked_by_move P Q places moved
 
-  pub none_retaken : (given : List Capacity) (held : Held) → AreGivenOut P (entries P.workstations) given → AreHeldIn P held → AreRetaken P Q places 0 given held
+  none_retaken : (given : List Capacity) (held : Held) → AreGivenOut P (entries P.workstations) given → AreHeldIn P held → AreRetaken P Q places 0 given held
   none_retaken given held are_given are_held = record {
     next = 0;
     within = omega arith;
@@ -89,14 +92,14 @@ module _ (P Q : Contents) (places : List ℕ) (moved : IsMovedAt P Q places) whe
       ]
 
       -- as far as the next place
-      pub given_to_next : AreGivenBetween P Q i given
+      given_to_next : AreGivenBetween P Q i given
       given_to_next = given_up_to i (so_far.ahead k i at (omega arith)) (omega (arith, within)) next_below
 
-      pub held_to_next : AreHeldBetween P Q i held
+      held_to_next : AreHeldBetween P Q i held
       held_to_next = held_up_to i (so_far.ahead k i at (omega arith)) (omega (arith, within)) next_below
 
       -- and past it
-      pub retaken_past : (given' : List Capacity) (held' : Held) → AreGivenBetween P Q (i + 1) given' → AreHeldBetween P Q (i + 1) held' → AreRetaken P Q places (k + 1) given' held'
+      retaken_past : (given' : List Capacity) (held' : Held) → AreGivenBetween P Q (i + 1) given' → AreHeldBetween P Q (i + 1) held' → AreRetaken P Q places (k + 1) given' held'
       retaken_past given' held' are_given are_held = record {
         next = i + 1;
         within = omega (arith, within);
@@ -114,12 +117,63 @@ module _ (P Q : Contents) (places : List ℕ) (moved : IsMovedAt P Q places) whe
       none_below : (j i : ℕ) → slice_get places j ≡ Some i → k ≤ j → length (entries P.operations) ≤ i
       none_below j i at le = absurd (omega (arith, all, le, slice_get_within places j i at))
 
-      pub given_to_last : AreGivenOut Q (entries Q.workstations) given
+      given_to_last : AreGivenOut Q (entries Q.workstations) given
       given_to_last =
           given_last P Q alike (length (entries P.operations)) (omega (arith, moved.size)) given
           (given_up_to (length (entries P.operations)) so_far.within (omega arith) none_below)
 
-      pub held_to_last : AreHeldIn Q held
+      held_to_last : AreHeldIn Q held
       held_to_last =
           held_last P Q alike (length (entries P.operations)) (omega (arith, moved.size)) held
           (held_up_to (length (entries P.operations)) so_far.within (omega arith) none_below)
+
+-- there was a plan with these markings at these places, of which the first k are gone through
+pub record HasPlanBetween (Q : Contents) (places : List ℕ) (marks : List Marking) (k : ℕ) (given : List Capacity) (held : Held) : Type 0 where
+  pub plan : Contents
+  pub valid : IsValid plan
+  pub moved : IsMovedAt plan Q places
+  pub marked : WereMarked plan places marks
+  pub retaken : AreRetaken plan Q places k given held
+
+module _ (Q : Contents) (places : List ℕ) (marks : List Marking) where
+  pub none_gone_through : (given : List Capacity) (held : Held) → HasPlanBefore Q places marks given held → HasPlanBetween Q places marks 0 given held
+  none_gone_through given held before = record {
+    plan = before.plan;
+    valid = before.valid;
+    moved = before.moved;
+    marked = before.marked;
+    retaken = none_retaken before.plan Q places before.moved given held before.are_given before.are_held;
+  }
+
+  module _ (k : ℕ) (given : List Capacity) (held : Held) (so_far : HasPlanBetween Q places marks k given held) where
+    module _ (up : IsStrictlySortedBy nat_cmp places) (i : ℕ) (at : slice_get places k ≡ Some i) (within : i < length (entries Q.operations)) where
+      within_before : i < length (entries so_far.plan.operations)
+      within_before = omega (arith, within, so_far.moved.size)
+
+      -- the next place
+      pub before_next : (m : Marking) → slice_get marks k ≡ Some m → IsBeforeAt so_far.plan Q i m given held
+      before_next m there = record {
+        valid = so_far.valid;
+        remarked = remarked_by_move so_far.plan Q places so_far.moved;
+        marked = so_far.marked.each k i m at there;
+        are_given = given_to_next so_far.plan Q places so_far.moved k given held so_far.retaken up i at within_before;
+        are_held = held_to_next so_far.plan Q places so_far.moved k given held so_far.retaken up i at within_before;
+      }
+
+      -- and past it
+      pub gone_past : (given' : List Capacity) (held' : Held) → AreGivenBetween so_far.plan Q (i + 1) given' → AreHeldBetween so_far.plan Q (i + 1) held' → HasPlanBetween Q places marks (k + 1) given' held'
+      gone_past given' held' are_given are_held = record {
+        plan = so_far.plan;
+        valid = so_far.valid;
+        moved = so_far.moved;
+        marked = so_far.marked;
+        retaken = retaken_past so_far.plan Q places so_far.moved k given held so_far.retaken up i at within_before given' held' are_given are_held;
+      }
+
+    -- past the last place
+    module _ (all : length places ≤ k) where
+      pub given_at_last : AreGivenOut Q (entries Q.workstations) given
+      given_at_last = given_to_last so_far.plan Q places so_far.moved k given held so_far.retaken all
+
+      pub held_at_last : AreHeldIn Q held
+      held_at_last = held_to_last so_far.plan Q places so_far.moved k given held so_far.retaken all

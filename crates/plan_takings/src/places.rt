@@ -5,62 +5,62 @@ ghost use Rattle.std.specs.List.Sorted.{IsStrictlySortedBy};
 ghost use Rattle.std.specs.Ordering.{nat_cmp};
 ghost use Rattle.plan_basics.specs.declared.Refusal.{Refusal};
 ghost use Rattle.plan_choice.specs.Choices.{AreGivenOut, AreHeldIn};
-ghost use Rattle.plan_moves.specs.Moves.{IsMovedAt};
-ghost use Rattle.plan_takings.specs.Between.{AreGivenBetween, AreHeldBetween, IsRemarkedPlan};
+ghost use Rattle.plan_model.specs.Contents.{Contents};
+ghost use Rattle.plan_takings.specs.Before.{HasPlanBefore, IsBeforeAt};
+ghost use Rattle.plan_takings.specs.Between.{AreGivenBetween, AreHeldBetween};
 
 use super::given::given_anew;
 use super::held::retake_needs;
 use plan_basics::Refusal;
 use plan_choice::{ValidContents, starts_are_known};
+use plan_moves::Marking;
 use special_resources::Holdings;
 use workstations::Capacity;
 
-// Moves what is given out and held, where the operation at this place may have got another mark.
+// Moves what is given out and held, where the operation at this place had this marking before.
 fn retake_at(
-    before: &ValidContents,
-    after: &ValidContents,
+    contents: &ValidContents,
     given: &mut [Capacity],
     holdings: &mut Holdings,
     place: usize,
+    marking: &Marking,
 ) -> Result<(), Refusal>
-    requires remarked { IsRemarkedPlan before.now after.now }
-    requires within { place < length (entries before.now.operations) }
-    requires given { AreGivenBetween before.now after.now place given.old }
-    requires held { AreHeldBetween before.now after.now place holdings.old.held }
-    ensures given { OnOk result (AreGivenBetween before.now after.now (place + 1) given.new) }
-    ensures held { OnOk result (AreHeldBetween before.now after.now (place + 1) holdings.new.held) }
+    requires within { place < length (entries contents.now.operations) }
+    requires stations { length given.old ≡ length (entries contents.now.workstations) }
+    ensures given { OnOk result ((P : Contents) → IsBeforeAt P contents.now place marking.now given.old holdings.old.held → AreGivenBetween P contents.now (place + 1) given.new) }
+    ensures held { OnOk result ((P : Contents) → IsBeforeAt P contents.now place marking.now given.old holdings.old.held → AreHeldBetween P contents.now (place + 1) holdings.new.held) }
     ensures refused { IfErr result (λ r. r ≡ Refusal.Memory) }
 {
-    let old = &before.operations()[place].1;
-    let (key, new) = &after.operations()[place];
-    if !starts_are_known(before, old) {
+    let (key, operation) = &contents.operations()[place];
+    if !starts_are_known(contents, operation) {
         return Ok(());
     }
-    let station = before.rows().known_workstation_place(&old.workstation);
-    given[station] = given_anew(&given[station], old, new);
-    retake_needs(holdings, key, new)
+    let old = marking.put_on(operation);
+    let station = contents
+        .rows()
+        .known_workstation_place(&operation.workstation);
+    given[station] = given_anew(&given[station], &old, operation);
+    retake_needs(holdings, key, operation)
 }
 
 /// Moves what workstations have given out and who holds special resources, where the operations at these places, in ascending
-/// order, got other marks. The error is always `Memory`: then both may be moved in part.
+/// order, had these markings before, one for each place. The error is always `Memory`: then both may be moved in part.
 pub fn retake(
-    before: &ValidContents,
-    after: &ValidContents,
+    contents: &ValidContents,
     given: &mut [Capacity],
     holdings: &mut Holdings,
     places: &[usize],
+    marks: &[Marking],
 ) -> Result<(), Refusal>
-    requires moved { IsMovedAt before.now after.now places.now }
+    requires before { HasPlanBefore contents.now places.now marks.now given.old holdings.old.held }
     requires ascending { IsStrictlySortedBy nat_cmp places.now }
-    requires within { (i : ℕ) → Contains places.now i → i < length (entries before.now.operations) }
-    requires given { AreGivenOut before.now (entries before.now.workstations) given.old }
-    requires held { AreHeldIn before.now holdings.old.held }
-    ensures given { OnOk result (AreGivenOut after.now (entries after.now.workstations) given.new) }
-    ensures held { OnOk result (AreHeldIn after.now holdings.new.held) }
+    requires within { (i : ℕ) → Contains places.now i → i < length (entries contents.now.operations) }
+    ensures given { OnOk result (AreGivenOut contents.now (entries contents.now.workstations) given.new) }
+    ensures held { OnOk result (AreHeldIn contents.now holdings.new.held) }
     ensures refused { IfErr result (λ r. r ≡ Refusal.Memory) }
 {
-    for place in places {
-        retake_at(before, after, given, holdings, *place)?;
+    for (index, place) in places.iter().enumerate() {
+        retake_at(contents, given, holdings, *place, &marks[index])?;
     }
     Ok(())
 }

@@ -1,7 +1,7 @@
 use Rattle.std.proofs.Common.{rules, ◌≡◌, ◌⊎◌, ◌+◌, inl, inr, refl, sym, ap, subst, ◌∙◌, true≢false}
 use Rattle.std.specs.FinMap.{get}
 use Rattle.plan_basics.specs.declared.Refusal.TheVariants as refusal
-use Rattle.plan_core.specs.State.{IsMovedFrom, PlanState}
+use Rattle.plan_core.specs.State.{FitsPlan, PlanState}
 use Rattle.plan_records.specs.Answer.{refused}
 use Rattle.plan_records.specs.Step.{HasReceiptRoom, Numbered, NumberedStep, last_number}
 use Rattle.tracker_receipts.specs.Judging.{numbered_by}
@@ -44,4 +44,4 @@ returns-clause-new c =
     let n : Numbered = numbered_by c.args.tracker.now c.args.number c.args.text.now q in
     let p : Prepared = record { tracker = c.args.tracker.now; prepared = c.in_ok-prepared.prepared; receipt = c.in_ok-receipt.receipt; row = c.in_ok-receipt.row } in
     step_is c.args.plan.now c.args.receipts.now n p c.look_at.ensures.sound (c.look_at.ensures.legal c.args.number q) ((rw c.in-New.is at c.judge.ensures.new).0 tt) ((c.if-not-has_room.ensures q).0 refl)
-    c.in_ok-prepared.ensures.step c.in_ok-prepared.ensures.changes (subst (λ (s : PlanState). IsMovedFrom s c.in_ok-prepared.prepared) c.in_ok-prepared.ensures.unchanged c.in_ok-prepared.ensures.prepared.by.moved) refl (c.in_ok-receipt.ensures.receipt ∙ ap (receipt_of n) c.named.ensures) c.in_ok-receipt.ensures.row
+    c.in_ok-prepared.ensures.step c.in_ok-prepared.ensures.changes (subst (λ (s : PlanState). FitsPlan s c.in_ok-prepared.prepared) c.in_ok-prepared.ensures.unchanged c.in_ok-prepared.ensures.prepared.by.fits) refl (c.in_ok-receipt.ensures.receipt ∙ ap (receipt_of n) c.named.ensures) c.in_ok-receipt.ensures.row

@@ -1,12 +1,9 @@
 use Rattle.std.proofs.Common.{◌∙◌, ap}
 use Rattle.std.specs.FinMap.{entries}
 use Rattle.plan_rows.proofs.NoRows.{contents_of_plan}
-use Rattle.plan_rows.proofs.TableRows.{are_resources}
 use Rattle.plan_rows.proofs.keyed.push_resources.Goals as goal
 use Rattle.plan_rows.specs.Shown.{plan_shown}
 
 pub returns : goal.returns
 returns c = λ clock now so_far.
-    let was = c.resources_of.ensures.rows ∙ ap (λ C. entries C.resources) (contents_of_plan clock c.args.before) in
-    let is = c.resources_of-2.ensures.rows ∙ ap (λ C. entries C.resources) (contents_of_plan now c.args.after) in
-    c.push_changes.ensures 3 (plan_shown clock c.args.before) (plan_shown now c.args.after) (are_resources _ c.resources_of.result.now was) (are_resources _ c.resources_of-2.result.now is) so_far
+    c.push_noted_resources.ensures clock (plan_shown now c.args.after) (c.resources_of.ensures.rows ∙ ap (λ C. entries C.resources) (contents_of_plan now c.args.after)) so_far

@@ -4,7 +4,7 @@ use Rattle.plan_cascade.specs.declared.kept.Kept.{Kept}
 use Rattle.plan_kept.specs.plan_drafts.proofs.Lists.{contains_none, from_map}
 use Rattle.plan_kept.specs.plan_drafts.specs.PlanGraphs.{IsGraphFor}
 use Rattle.plan_kept.specs.plan_model.specs.Contents.{Contents}
-use Rattle.plan_steps.proofs.Parts.{all_below, graph_after, on_ok}
+use Rattle.plan_steps.proofs.StepParts.{all_below, graph_after, on_ok}
 use Rattle.plan_steps.proofs.counting.cascade.Goals as goal
 use Rattle.plan_steps.specs.Edits.{AreBelow}
 use Rattle.plan_kept.specs.plan_waiting.proofs.Journals.{unnoted_stays}
@@ -20,37 +20,37 @@ noted_below kept now journal new is empty i has =
 
 pub unsatisfy-requires-clause-graph : goal.unsatisfy-requires-clause-graph
 unsatisfy-requires-clause-graph c =
-    subst (λ (R : Contents). IsGraphFor R c.graph.result.now) (sym c.valid-contents.ensures.contents)
-    (graph_after c.args.before.now c.args.after.now c.args.edit.now.places.items c.requires.edit.moved c.graph.result.now c.graph.ensures)
+    subst (λ (R : Contents). IsGraphFor R c.args.graph.now) (sym c.valid-contents.ensures.contents)
+    (graph_after c.requires.before.0 c.args.after.now c.args.edit.now.places.items c.requires.before.1.edit.moved c.args.graph.now c.requires.before.1.graph)
 
 pub unsatisfy-requires-clause-moved : goal.unsatisfy-requires-clause-moved
 unsatisfy-requires-clause-moved c =
-    let P = c.args.before.now in
+    let P = c.requires.before.0 in
     let Q = c.args.after.now in
-    let g = c.graph.result.now in
+    let g = c.args.graph.now in
     let kept = c.args.kept.now in
-    let edit = c.requires.edit in
+    let edit = c.requires.before.1.edit in
     let places = c.args.edit.now.places.items in
-    let right = c.requires.kept in (
+    let right = c.requires.before.1.kept in (
       P,
       subst (λ (R : Contents). IsTakenBack P R g kept c.deref.result.now) (sym c.valid-contents.ensures.contents)
           (subst (IsTakenBack P Q g kept) (sym c.deref.ensures.value)
-          (record { moved = edit.moved; right = right; within = all_below (length kept) places (λ i has. subst (λ n. i < n) (sym right.size) (edit.within i has)); follow = edit.follow c.if-edit.true g c.graph.ensures })),
+          (record { moved = edit.moved; right = right; within = all_below (length kept) places (λ i has. subst (λ n. i < n) (sym right.size) (edit.within i has)); follow = edit.follow c.if-edit.true g c.requires.before.1.graph })),
     )
 
 pub satisfy-requires-clause-graph : goal.satisfy-requires-clause-graph
 satisfy-requires-clause-graph c =
-    subst (λ (R : Contents). IsGraphFor R c.graph-else-edit.result.now) (sym c.valid-contents.ensures.contents)
-    (graph_after c.args.before.now c.args.after.now c.args.edit.now.places.items c.requires.edit.moved c.graph-else-edit.result.now c.graph-else-edit.ensures)
+    subst (λ (R : Contents). IsGraphFor R c.args.graph.now) (sym c.valid-contents.ensures.contents)
+    (graph_after c.requires.before.0 c.args.after.now c.args.edit.now.places.items c.requires.before.1.edit.moved c.args.graph.now c.requires.before.1.graph)
 
 pub satisfy-requires-clause-moved : goal.satisfy-requires-clause-moved
 satisfy-requires-clause-moved c =
-    let P = c.args.before.now in
+    let P = c.requires.before.0 in
     let Q = c.args.after.now in
     let kept = c.args.kept.now in
-    let edit = c.requires.edit in
+    let edit = c.requires.before.1.edit in
     let places = c.args.edit.now.places.items in
-    let right = c.requires.kept in (
+    let right = c.requires.before.1.kept in (
       P,
       subst (λ (R : Contents). IsRisen P R kept c.deref-else-edit.result.now) (sym c.valid-contents.ensures.contents)
           (subst (IsRisen P Q kept) (sym c.deref-else-edit.ensures.value)

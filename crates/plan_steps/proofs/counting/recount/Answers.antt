@@ -5,14 +5,15 @@ use Rattle.plan_steps.proofs.counting.recount.Goals as goal
 
 pub returns-clause-touched : goal.returns-clause-touched
 returns-clause-touched c =
-    let right = c.requires.kept in
+    let was = c.requires.1 in
+    let size = sym was.edit.moved.size in
     let noted : c.deref-3.result.now ≡ map (λ (e : ℕ × Kept). e.0) c.cascade.new.journal.items = c.deref-3.ensures.value ∙ c.in_ok-noted.ensures ∙ ap (map (λ (e : ℕ × Kept). e.0)) c.deref.ensures.value in
     let edited = c.deref-2.ensures.value in
     if_both_ok c.joined.result (λ all ascend both. record {
       ascend = ascend;
       within = λ i has. elim ((both i).0 has) [
-        | inl first ↦ c.requires.edit.within i (subst (λ ps. Contains ps i) edited first)
-        | inr second ↦ subst (λ n. i < n) right.size (c.in_ok-cascade.ensures.within i (subst (λ ps. Contains ps i) noted second))
+        | inl first ↦ subst (λ n. i < n) size (was.edit.within i (subst (λ ps. Contains ps i) edited first))
+        | inr second ↦ subst (λ n. i < n) (was.kept.size ∙ size) (c.in_ok-cascade.ensures.within i (subst (λ ps. Contains ps i) noted second))
       ];
       among = λ i has. (both i).1 (inl (subst (λ ps. Contains ps i) (sym edited) has));
     }) c.joined.ensures.ascend c.joined.ensures.both

@@ -1,63 +1,76 @@
-use Rattle.std.proofs.Common.{inl, inr, sym, subst, ℕ, ◌<◌, length, Contains}
-use Rattle.std.specs.FinMap.{entries}
-use Rattle.plan_kept.proofs.Frame.{frame_stays, moves_follow}
+use Rattle.std.proofs.Common.{◌≡◌, sym, subst, ap, ◌∙◌, IfOk}
+use Rattle.plan_changes.proofs.Answered.{if_ok}
 use Rattle.plan_kept.specs.plan_model.specs.Contents.{Contents}
-use Rattle.plan_kept.specs.plan_model.specs.Ready.{named}
+use Rattle.plan_kept.specs.plan_model.specs.Ready.{IsChosen, named}
 use Rattle.plan_kept.specs.plan_model.specs.Valid.{IsSound}
-use Rattle.plan_kept.specs.plan_moves.specs.Moves.{IsMovedAt}
-use Rattle.plan_kept.specs.plan_state.specs.Figures.{KeepsFrame}
-use Rattle.plan_steps.proofs.KnownAlike.{row_stays}
-use Rattle.plan_steps.proofs.NamedFigures.{named_alike, naming_moved}
+use Rattle.plan_kept.specs.plan_state.specs.Figures.{AreFigures, KeepsFrame}
 use Rattle.plan_steps.proofs.steps.small_step.Goals as goal
-use Rattle.plan_steps.specs.Touched.{AreKnownAlike, IsTouchedAt}
+use Rattle.plan_steps.proofs.steps.small_step.Goals.{After-with_revision-after}
+use Rattle.plan_steps.specs.Edits.{IsEditOf, WasEdited, edited}
+use Rattle.plan_steps.specs.Naming.{AreStepNotes}
+use Rattle.plan_steps.specs.Revisions.{HasPlaceFor, written}
 
-pub name-requires-clause-latest : goal.name-requires-clause-latest
-name-requires-clause-latest c = (frame_stays c.args.before.now c.args.contents c.args.edit.now.places.items c.requires.moved).latest c.latest.result.now.starts c.latest.ensures
+pub with_revision-after-requires-clause-has_place : goal.with_revision-after-requires-clause-has_place
+with_revision-after-requires-clause-has_place c = subst (HasPlaceFor c.args.contents) (sym c.in-Ok.ensures.forth) c.requires.edit.has_place
 
-pub returns-clause-frame : goal.returns-clause-frame
-returns-clause-frame c =
-    let P = c.args.before.now in
-    let Q = c.args.contents in
-    let n = c.in_ok-moved.field-0 in
-    let os = n.named.items in
-    let told = c.in_ok-moved.ensures in
-    let edits = c.args.edit.now.places.items in
-    let first = frame_stays P Q edits c.requires.moved in
-    let second = frame_stays Q (named os Q) n.places.items (naming_moved Q c.args.at os told.chosen n.places.items told.places) in
-    subst (KeepsFrame P) (sym told.contents) (record {
-      graph = λ g is. second.graph g (first.graph g is);
-      latest = λ starts are. second.latest starts (first.latest starts are);
-    })
+pub with_revision-after-requires-clause-sound : goal.with_revision-after-requires-clause-sound
+with_revision-after-requires-clause-sound c =
+    subst (λ ks. IsSound (written ks c.in-Ok.trial.forth c.args.contents)) (sym c.deref.ensures.value)
+    (subst (λ x. IsSound (written c.args.edit.now.keys.items x c.args.contents)) (sym c.in-Ok.ensures.forth) c.requires.edit.sound_after)
 
-pub returns-clause-touched : goal.returns-clause-touched
-returns-clause-touched c =
-    let P = c.args.before.now in
-    let Q = c.args.contents in
-    let n = c.in_ok-moved.field-0 in
-    let os = n.named.items in
-    let told = c.in_ok-moved.ensures in
-    let edits = c.args.edit.now.places.items in
-    let edited = c.in_ok-edited.edited.items in
-    let first = c.in_ok-edited.ensures in
-    let touched = c.in_ok-touched.touched.items in
-    let joined = c.in_ok-touched.ensures in
-    let later = naming_moved Q c.args.at os told.chosen n.places.items told.places in
-    let known = named_alike Q c.args.at os told.chosen n.places.items told.places (subst IsSound c.contents.view_is c.contents.invariant) c.move_figures.new.figures first.figures in
-    let from_edited : (i : ℕ) → Contains edited i → Contains touched i = λ i has. (joined.both i).1 (inl (subst (λ is. Contains is i) (sym c.deref.ensures.value) has)) in
-    let from_named : (i : ℕ) → Contains n.places.items i → Contains touched i = λ i has. (joined.both i).1 (inr (subst (λ is. Contains is i) (sym c.deref-2.ensures.value) has)) in
-    let moved : IsMovedAt P (named os Q) touched = moves_follow P Q (named os Q) edits n.places.items touched c.requires.moved later
-    (λ i some. elim some [ inl at ↦ from_edited i (first.touched.among i at) | inr at ↦ from_named i at ]) in
-    let within : (i : ℕ) → Contains touched i → i < length (entries P.operations) = λ i has. elim ((joined.both i).0 has) [
-      | inl at ↦ first.touched.within i (subst (λ is. Contains is i) c.deref.ensures.value at)
-      | inr at ↦ subst (λ k. i < k) c.requires.moved.size (told.places.within i (subst (λ is. Contains is i) c.deref-2.ensures.value at))
-    ] in
-    let same : AreKnownAlike P (named os Q) touched = λ i out o op at.
-    let once = first.same i (λ has. out (from_edited i has)) o op at in
-    let twice = known i (λ has. out (from_named i has)) o op (row_stays P Q edits c.requires.moved i o op at (λ has. out (from_edited i (first.touched.among i has)))) in
-    (λ s is. twice.0 s (once.0 s is), λ s is. twice.1 s (once.1 s is)) in
-    subst (λ (R : Contents). IsTouchedAt P R touched) (sym told.contents) (record {
-      moved = record { places = touched; moved = moved; among = λ i has. has };
-      ascend = joined.ascend;
-      within = within;
-      same = same;
-    })
+-- what was written makes the edited plan
+is_edited : (c : After-with_revision-after) → c.with_revision-after.result ≡ edited c.args.edit.now c.args.contents
+is_edited c =
+    c.with_revision-after.ensures
+    ∙ ap (λ ks. written ks c.in-Ok.trial.forth c.args.contents) c.deref.ensures.value
+    ∙ ap (λ x. written c.args.edit.now.keys.items x c.args.contents) c.in-Ok.ensures.forth
+
+-- of which the edit was made
+was_edited : (c : After-with_revision-after) → WasEdited c.args.contents c.with_revision-after.result c.args.edit.now c.args.graph.now c.args.latest.now.starts c.args.figures.now
+was_edited c =
+    let P = c.args.contents in
+    let e = c.args.edit.now in
+    record {
+      sound = c.requires.edit.sound;
+      sound_after = subst IsSound (sym (is_edited c)) c.requires.edit.sound_after;
+      edit = subst (λ (Q : Contents). IsEditOf P Q e) (sym (is_edited c)) c.requires.edit.edit;
+      after = is_edited c;
+      graph = c.requires.graph;
+      latest = c.requires.latest;
+      figures = c.requires.figures;
+    }
+
+pub step_after-same-requires : goal.step_after-same-requires
+step_after-same-requires c = (c.args.contents, was_edited (goal.at.step_after-same-requires c).After-with_revision-after)
+
+pub without_edit-requires : goal.without_edit-requires
+without_edit-requires c =
+    let is = is_edited (goal.at.without_edit-requires c).After-with_revision-after in
+    (c.args.contents, record { edit = c.requires.edit; puts_back = c.in-Ok.ensures.back; after = c.step_after-same.ensures.contents ∙ is })
+
+pub returns-in-Ok-clause-contents : goal.returns-in-Ok-clause-contents
+returns-in-Ok-clause-contents c =
+    let is = is_edited (goal.at.returns-in-Ok-clause-contents c).After-with_revision-after in
+    c.without_edit.ensures c.args.contents (record { edit = c.requires.edit; puts_back = c.in-Ok.ensures.back; after = c.step_after-same.ensures.contents ∙ is })
+
+pub returns-in-Ok-clause-chosen : goal.returns-in-Ok-clause-chosen
+returns-in-Ok-clause-chosen c =
+    let is = is_edited (goal.at.returns-in-Ok-clause-chosen c).After-with_revision-after in
+    subst (λ (Q : Contents). IfOk c.step_after-same.result.1 (λ s. IsChosen Q c.args.at s.named.items)) is c.step_after-same.ensures.chosen
+
+pub returns-in-Ok-clause-figures : goal.returns-in-Ok-clause-figures
+returns-in-Ok-clause-figures c =
+    let is = is_edited (goal.at.returns-in-Ok-clause-figures c).After-with_revision-after in
+    subst (λ (Q : Contents). IfOk c.step_after-same.result.1 (λ s. AreFigures (named s.named.items Q) s.figures)) is c.step_after-same.ensures.figures
+
+pub returns-in-Ok-clause-frame : goal.returns-in-Ok-clause-frame
+returns-in-Ok-clause-frame c =
+    let here = (goal.at.returns-in-Ok-clause-frame c).After-with_revision-after in
+    let P = c.args.contents in
+    if_ok c.step_after-same.result.1 (λ s keeps. subst (λ (Q : Contents). KeepsFrame P (named s.named.items Q)) (is_edited here) (keeps P (was_edited here))) c.step_after-same.ensures.frame
+
+pub returns-in-Ok-clause-notes : goal.returns-in-Ok-clause-notes
+returns-in-Ok-clause-notes c =
+    let here = (goal.at.returns-in-Ok-clause-notes c).After-with_revision-after in
+    let P = c.args.contents in
+    if_ok c.step_after-same.result.1 (λ s notes. subst (λ (Q : Contents). AreStepNotes P (named s.named.items Q) s.notes) (is_edited here) (notes P (was_edited here))) c.step_after-same.ensures.notes

@@ -1,35 +1,45 @@
-use Rattle.std.proofs.Common.{◌≡◌, sym, ap, subst, ◌∙◌, Some, Option}
-use Rattle.plan_steps.specs.plan_drafts.proofs.Tables.{is_found}
-use Rattle.plan_steps.specs.plan_model.specs.Contents.{Contents}
-use Rattle.plan_steps.specs.plan_model.specs.Plan.{Plan, plan_held}
+use Rattle.std.proofs.Common.{◌≡◌, sym, ap, subst}
+use Rattle.plan_steps.specs.plan_model.specs.Plan.{Plan, IsSoundPlan, plan_held}
 use Rattle.plan_records.specs.Answer.{accepted}
 use Rattle.plan_records.specs.Step.{Step}
-use Rattle.plan_steps.specs.plan_state.specs.Figures.{KeepsFrame}
 use Rattle.plan_core.proofs.Preparing.{seen_sound}
-use Rattle.plan_core.proofs.Provided.{step_starts}
-use Rattle.plan_core.proofs.Refusing.{held_loaded}
+use Rattle.plan_core.proofs.Provided.{step_sound, step_starts}
+use Rattle.plan_core.proofs.Trying.{is_after}
 use Rattle.plan_core.proofs.plan.Plan.apply.Goals as goal
-use Rattle.plan_core.specs.Next.{contents_next}
-use Rattle.plan_core.specs.State.{PlanState, PreparedState}
+use Rattle.plan_core.proofs.plan.Plan.apply.Goals.{After-put}
+use Rattle.plan_core.specs.State.{PreparedState, plan_after}
 
-pub put-requires-clause-frame : goal.put-requires-clause-frame
-put-requires-clause-frame c = λ moves.
-    let clock = c.self.inside.clock in
-    let moved = c.requires.by.moved in
-    let moves_so = sym (ap (λ (p : PreparedState). p.moves) c.prepared.view_is) ∙ moves in
-    let held = is_found c.self.inside.loaded (sym (held_loaded clock c.self.inside.loaded) ∙ ap (λ (s : PlanState). s.plan.loaded) c.self.view_is ∙ moved.loaded moves_so) in
-    let same : plan_held clock (Some held.0) ≡ c.args.self.now.plan = ap (plan_held clock) (sym held.1) ∙ ap (λ (s : PlanState). s.plan) c.self.view_is in
-    let after : c.args.prepared.plan.contents ≡ contents_next c.prepared.inside.next = sym (ap (λ (p : PreparedState). p.plan.contents) c.prepared.view_is) in
-    (held.0, held.1, subst (KeepsFrame held.0) after (subst (λ (P : Plan). KeepsFrame P.contents c.args.prepared.plan.contents) (sym same) (moved.frame moves_so)))
+-- what is put there is what the request leads to
+led : (c : After-put) → plan_held c.prepared.inside.clock c.put.new.loaded ≡ plan_after c.args.self.now c.args.prepared
+led c =
+    let new = c.prepared.inside in
+    is_after c.self.inside.clock c.self.inside.loaded c.put.new.loaded c.args.self.now (record { clock = new.clock; next = new.next; named = new.named.items; rows = new.changes.rows.items; gone = new.changes.gone.items }) c.args.prepared
+    c.deref.result.now c.self.view_is c.prepared.view_is c.deref.ensures.value (c.put.ensures c.self.inside.clock)
+
+-- a step leads there
+step : (c : After-put) → Step c.args.self.now.plan c.requires.request (accepted c.prepared.inside.named.items) (plan_held c.prepared.inside.clock c.put.new.loaded)
+step c =
+    let P = c.args.self.now.plan in
+    let q = c.requires.request in
+    subst (λ os. Step P q (accepted os) (plan_held c.prepared.inside.clock c.put.new.loaded)) (sym (ap (λ (p : PreparedState). p.named) c.prepared.view_is))
+    (subst (λ (Q : Plan). Step P q (accepted c.args.prepared.named) Q) (sym (led c)) c.requires.by.step)
+
+sound : (c : After-put) → IsSoundPlan (plan_held c.prepared.inside.clock c.put.new.loaded)
+sound c =
+    step_sound c.args.self.now.plan (plan_held c.prepared.inside.clock c.put.new.loaded) c.requires.request (accepted c.prepared.inside.named.items)
+    (seen_sound c.self.inside.clock c.self.inside.loaded c.args.self.now c.self.invariant c.self.view_is) (step c)
+
+pub invariant_of-self : goal.invariant_of-self
+invariant_of-self c = sound (goal.at.invariant_of-self c).After-put
+
+pub returns-clause-sound : goal.returns-clause-sound
+returns-clause-sound c = sound (goal.at.returns-clause-sound c).After-put
 
 pub returns-clause-starts : goal.returns-clause-starts
 returns-clause-starts c =
-    let P = c.args.self.now.plan in
-    let q = c.requires.request in
-    let new = c.prepared.inside in
-    let after = plan_held new.clock c.put.new.loaded in
-    let reply = accepted new.named.items in
-    let sound = seen_sound c.self.inside.clock c.self.inside.loaded c.args.self.now c.self.invariant c.self.view_is in
-    let made : Step P q reply (plan_held new.clock (Some (contents_next new.next))) = subst (λ (p : PreparedState). Step P q (accepted p.named) p.plan) (sym c.prepared.view_is) c.requires.by.step in
-    let step : Step P q reply after = subst (λ (l : Option Contents). Step P q reply (plan_held new.clock l)) (sym c.put.ensures) made in
-    (q, step, step_starts P after q reply sound step)
+    let a = (goal.at.returns-clause-starts c).After-put in (
+      c.requires.request,
+      step a,
+      step_starts c.args.self.now.plan (plan_held c.prepared.inside.clock c.put.new.loaded) c.requires.request (accepted c.prepared.inside.named.items)
+          (seen_sound c.self.inside.clock c.self.inside.loaded c.args.self.now c.self.invariant c.self.view_is) (step a),
+    )

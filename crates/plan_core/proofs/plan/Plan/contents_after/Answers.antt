@@ -12,7 +12,7 @@ use Rattle.plan_core.proofs.Refusing.{held_loaded}
 use Rattle.plan_core.proofs.plan.Plan.contents_after.Goals as goal
 
 pub unwrap-requires : goal.unwrap-requires
-unwrap-requires c = c.as_ref.ensures.variant ∙ has_draft c.args.self.now.plan c.args.request.now c.requires c.in-Load.draft c.in-Load.is
+unwrap-requires c = c.as_ref.ensures.variant ∙ has_draft c.args.self.now.plan c.args.request.now c.requires.clear c.in-Load.draft c.in-Load.is
 
 pub unwrap-requires-in_default : goal.unwrap-requires-in_default
 unwrap-requires-in_default c =
@@ -20,7 +20,7 @@ unwrap-requires-in_default c =
     c.as_ref-in_default.ensures.variant
     ∙ sym (held_loaded c.self.inside.clock c.self.inside.loaded)
     ∙ ap (λ (s : PlanState). s.plan.loaded) c.self.view_is
-    ∙ has_plan c.args.self.now.plan c.args.request.now c.requires needs
+    ∙ has_plan c.args.self.now.plan c.args.request.now c.requires.clear needs
 
 pub changed-requires : goal.changed-requires
 changed-requires c =
@@ -32,7 +32,8 @@ changed-requires c =
     let same : plan_held clock (Some h) ≡ c.args.self.now.plan = ap (plan_held clock) some ∙ ap (λ (s : PlanState). s.plan) c.self.view_is in
     record {
       needs = needs;
-      clear = (minute_of q.at, subst (λ (P : Plan). NoneRefuses (MayBeDone P.contents (minute_of q.at) q.what)) (sym same) (is_clear c.args.self.now.plan q c.requires));
+      whole = c.requires.whole;
+      clear = (minute_of q.at, subst (λ (P : Plan). NoneRefuses (MayBeDone P.contents (minute_of q.at) q.what)) (sym same) (is_clear c.args.self.now.plan q c.requires.clear));
     }
 
 pub returns-in_ok-drafted-clause-made : goal.returns-in_ok-drafted-clause-made

@@ -1,4 +1,4 @@
-use Rattle.std.proofs.Common.{ap, subst, sym, Some, true≢false}
+use Rattle.std.proofs.Common.{ap, subst, sym, Some}
 use Rattle.plan_records.specs.Answer.{accepted}
 use Rattle.plan_records.specs.Step.{Step}
 use Rattle.plan_core.proofs.Preparing.{accepted_step, made_sound}
@@ -28,5 +28,5 @@ pub returns-clause-prepared : goal.returns-clause-prepared
 returns-clause-prepared c = record {
   step = step (goal.at.returns-clause-prepared c).In_ok-settled;
   changes = c.in_ok-changes.ensures.changes;
-  moved = record { loaded = λ h. absurd (true≢false (sym h)); frame = λ h. absurd (true≢false (sym h)) };
+  fits = tt;
 }

@@ -1,6 +1,5 @@
-use Rattle.std.proofs.Common.{◌≡◌, ◌∙◌, subst, sym, List}
+use Rattle.std.proofs.Common.{◌∙◌, subst, sym}
 use Rattle.std.specs.FinMap.{entries}
-use Rattle.plan_cascade.specs.declared.kept.Kept.{Kept}
 use Rattle.plan_choice.specs.Choices.{AreGivenOut, AreHeldIn, AreReadyEntries}
 use Rattle.plan_choice.specs.plan_drafts.specs.Places.{AreStatuses}
 use Rattle.plan_choice.specs.plan_status.specs.Standings.{AreStandings, AreTallies}

@@ -3,7 +3,7 @@ use Rattle.sqlite.specs.Held.{state}
 use Rattle.sqlite.specs.State.{Survives}
 use Rattle.plan_basics.specs.declared.Refusal.TheVariants as refusal
 use Rattle.numbered_steps.specs.plan_core.specs.Provided.{StartsAreProvided}
-use Rattle.numbered_steps.specs.plan_core.specs.State.{IsPreparedFor, PlanState}
+use Rattle.numbered_steps.specs.plan_core.specs.State.{IsPreparedFor, PlanState, plan_after}
 use Rattle.numbered_steps.specs.plan_laws.proofs.Receipts.{answer_keeps_receipts}
 use Rattle.plan_records.specs.Answer.{accepted, answer_of, refused}
 use Rattle.plan_records.specs.Run.{Answers, plain}
@@ -27,7 +27,7 @@ returns-in-Ok-clause-answers g c =
     let same = ap (λ (s : PlanState). (let d : DeskState _ = record { plan = s.plan; receipts = c.self.inside.receipts; is_usable = c.self.inside.is_usable; conn = c.self.inside.conn } in d)) c.prepare.ensures.unchanged ∙ c.self.view_is in
     let usable : c.self.inside.is_usable ≡ true = search rules in
     let was : old.is_usable ≡ true = sym (ap (λ (d : DeskState _). d.is_usable) c.self.view_is) ∙ usable in
-    let step = subst (λ P. Step P q (accepted p.named) p.plan) (ap (λ (d : DeskState _). d.plan) c.self.view_is) c.in-Ok.ensures.step in
+    let step = subst (λ P. Step P q (accepted p.named) (plan_after (record { plan = P }) p)) (ap (λ (d : DeskState _). d.plan) c.self.view_is) c.in-Ok.ensures.step in
     carried_answers old new (plain q) p.named (state_after (state_of old) (Plain p)) was (step, refl) x
     (subst (λ (d : DeskState _). IsCarriedOut d p.named (state_after (state_of d) (Plain p)) x new) same c.carry_out.ensures.reply)
 
@@ -49,8 +49,8 @@ returns-in-Ok-clause-starts g c =
     let same = ap (λ (s : PlanState). (let d : DeskState _ = record { plan = s.plan; receipts = c.self.inside.receipts; is_usable = c.self.inside.is_usable; conn = c.self.inside.conn } in d)) c.prepare.ensures.unchanged ∙ c.self.view_is in
     let usable : c.self.inside.is_usable ≡ true = search rules in
     let was : old.is_usable ≡ true = sym (ap (λ (d : DeskState _). d.is_usable) c.self.view_is) ∙ usable in
-    let step = subst (λ P. Step P q (accepted p.named) p.plan) plan c.in-Ok.ensures.step in
-    let starts = subst (λ P. StartsAreProvided P q (accepted p.named) p.plan) plan c.in-Ok.ensures.starts in
+    let step = subst (λ P. Step P q (accepted p.named) (plan_after (record { plan = P }) p)) plan c.in-Ok.ensures.step in
+    let starts = subst (λ P. StartsAreProvided P q (accepted p.named) (plan_after (record { plan = P }) p)) plan c.in-Ok.ensures.starts in
     carried_starts old new (plain q) p.named (state_after (state_of old) (Plain p)) was (step, refl) q x
     (subst (λ (d : DeskState _). IsCarriedOut d p.named (state_after (state_of d) (Plain p)) x new) same c.carry_out.ensures.reply) starts
 
@@ -63,7 +63,7 @@ returns-in-Ok-clause-stops g c is_open has =
     let Makes = Rewrites (change_of (Plain p)) in
     let plan = ap (λ (d : DeskState _). d.plan) c.self.view_is in
     let kept = subst (IsKept g.S.Store) c.self.view_is c.self.invariant in
-    let step = subst (λ P. Step P q (accepted p.named) p.plan) plan c.in-Ok.ensures.step in
+    let step = subst (λ P. Step P q (accepted p.named) (plan_after (record { plan = P }) p)) plan c.in-Ok.ensures.step in
     let before = subst (λ (s : PlanState). IsPreparedFor s p) c.prepare.ensures.unchanged c.in-Ok.ensures.prepared in
     let is = subst (λ P. (let s : PlanState = record { plan = P } in IsPreparedFor s p)) plan before in
     let carries = prepared_carries (state_of old) (Plain p) kept.legal.0 is in

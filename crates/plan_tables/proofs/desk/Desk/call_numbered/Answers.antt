@@ -5,7 +5,7 @@ use Rattle.sqlite.specs.State.{Survives}
 use Rattle.numbered_steps.specs.Steps.{IfAgain, IfNew, IsNumberedStepFor}
 use Rattle.plan_basics.specs.declared.Refusal.TheVariants as refusal
 use Rattle.numbered_steps.specs.plan_core.specs.Provided.{StartsAreProvided}
-use Rattle.numbered_steps.specs.plan_core.specs.State.{PlanState}
+use Rattle.numbered_steps.specs.plan_core.specs.State.{PlanState, plan_after}
 use Rattle.numbered_steps.specs.plan_laws.proofs.Receipts.{answer_keeps_receipts}
 use Rattle.plan_records.specs.Answer.{accepted, answer_of, refused}
 use Rattle.plan_records.specs.Run.{Answers, CallStep, numbered}
@@ -81,8 +81,8 @@ returns-in-Ok-New-clause-starts g c =
     let is = subst (λ (d : DeskState _). IsNumberedStepFor (record { plan = d.plan }) d.receipts n p) c.self.view_is told in
     let reply = subst (λ (d : DeskState _). IsCarriedOut d p.prepared.named (state_after (state_of d) (Numbered p)) x new) same c.carry_out.ensures.reply in
     let q = c.args.request.now in
-    let provided : StartsAreProvided c.self.inside.plan.plan q (accepted p.prepared.named) p.prepared.plan = subst (IfNew (λ r. StartsAreProvided c.self.inside.plan.plan q (accepted r.prepared.named) r.prepared.plan)) c.in-Ok-New.field-0-is c.in-Ok-New.ensures.starts in
-    let starts = subst (λ (d : DeskState _). StartsAreProvided d.plan q (accepted p.prepared.named) p.prepared.plan) c.self.view_is provided in
+    let provided : StartsAreProvided c.self.inside.plan.plan q (accepted p.prepared.named) (plan_after c.self.inside.plan p.prepared) = subst (IfNew (λ r. StartsAreProvided c.self.inside.plan.plan q (accepted r.prepared.named) (plan_after c.self.inside.plan r.prepared))) c.in-Ok-New.field-0-is c.in-Ok-New.ensures.starts in
+    let starts = subst (λ (d : DeskState _). StartsAreProvided d.plan q (accepted p.prepared.named) (plan_after (record { plan = d.plan }) p.prepared)) c.self.view_is provided in
     carried_starts old new (numbered n) p.prepared.named (state_after (state_of old) (Numbered p)) was (numbered_step (state_of old) n p is) q x reply starts
 
 pub returns-in-Ok-New-clause-again : goal.returns-in-Ok-New-clause-again

@@ -1,0 +1,64 @@
+// Markings of some operations, noted and put back.
+ghost use Rattle.std.specs.Prelude.{◌≡◌, true, All, IfOk, Some, length};
+ghost use Rattle.std.specs.FinMap.{contains_key, get};
+ghost use Rattle.plan_records.specs.plan_model.specs.Contents.{Contents, IsInPlan};
+ghost use Rattle.plan_changes.specs.Markings.{DifferBothWays, DifferInMarks, DifferencesFollow, HoldingRemarks, MarkingRemarks, NopRemarks, OperationsStayInPlan, RemakingRemarks, WereMarked};
+
+use plan_basics::OpKey;
+use plan_moves::Marking;
+use plan_records::{OperationRecord, PlanContents};
+use std::alloc::{AllocError, Global};
+
+// The operation of a key that has one.
+fn known_operation<'a>(contents: &'a PlanContents, key: &OpKey) -> &'a OperationRecord
+    requires { contains_key contents.now.operations key.now ≡ true }
+    ensures { get contents.now.operations key.now ≡ Some result.now }
+{
+    contents.operation(key).unwrap()
+}
+
+/// The markings of these operations, in their order.
+pub fn markings_of(
+    alloc: Global,
+    contents: &PlanContents,
+    keys: &[OpKey],
+) -> Result<Vec<Marking>, AllocError>
+    requires { All (IsInPlan contents.now) keys.now }
+    ensures { IfOk result (λ marks. WereMarked contents.now keys.now marks.items) }
+{
+    let mut marks = Vec::with_capacity(alloc, keys.len())?;
+    for key in keys {
+        let operation = known_operation(contents, key);
+        marks.push(Marking {
+            mark: operation.mark,
+            held: operation.held,
+            nop: operation.nop,
+        })?;
+    }
+    Ok(marks)
+}
+
+/// Puts these markings on these operations, one for each. It takes no memory.
+pub fn put_markings(contents: &mut PlanContents, keys: &[OpKey], marks: &[Marking])
+    requires one_each { length marks.now ≡ length keys.now }
+    requires known { All (IsInPlan contents.old) keys.now }
+    ensures { (P : Contents) → DifferInMarks P contents.old keys.now → WereMarked P keys.now marks.now → contents.new ≡ P }
+{
+    for (i, key) in keys.iter().enumerate() {
+        let operation = marks[i].put_on(known_operation(contents, key));
+        contents.set_operation(key, operation);
+    }
+}
+
+/// The law that plans differ in markings both ways, that they have the same operations then, and that one such difference
+/// after another is one; and that where operations are held or released, made no-operations or not, or given a mark, no more
+/// than their markings differ. It does nothing.
+pub fn markings_differ()
+    ensures both_ways { DifferBothWays }
+    ensures in_plan { OperationsStayInPlan }
+    ensures follow { DifferencesFollow }
+    ensures remade { RemakingRemarks }
+    ensures held { HoldingRemarks }
+    ensures nop { NopRemarks }
+    ensures marked { MarkingRemarks }
+{}

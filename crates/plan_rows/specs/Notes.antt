@@ -1,0 +1,60 @@
+-- The rows that are noted of a plan as a step leaves it, and what they say of the plan before.
+use Rattle.std.specs.Prelude.{◌≡◌, ◌<◌, ℕ, List, slice_get, Contains, Option, Some}
+use Rattle.std.specs.FinMap.{entries}
+use Rattle.std.specs.List.{AllZip}
+use Rattle.plan_model.specs.Contents.{Contents}
+use Rattle.plan_state.specs.plan_records.specs.declared.PlanRow.{PlanRow}
+use Rattle.plan_rows.specs.Rows.{all_intervals, keyed_occurrences, keyed_operations, rows_of}
+use Rattle.plan_rows.specs.Shown.{IsShown, contents_shown}
+use Rattle.plan_rows.specs.Touched.{AreOccurrencesOf, AreTouched, StaysBeside}
+use Rattle.plan_rows.specs.declared.noted_rows.NotedRow.{NotedRow}
+use Rattle.plan_rows.specs.declared.notes.NotedBeside.{NotedBeside}
+use Rattle.plan_rows.specs.declared.notes.NotedBeside.TheVariants as noted
+use Rattle.plan_rows.specs.declared.notes.Notes.{Notes}
+use Rattle.plan_rows.specs.declared.shown.Shown.{Shown}
+use Rattle.plan_rows.specs.declared.notes.Beside.{Beside}
+use Rattle.plan_rows.specs.declared.notes.Beside.TheVariants as beside
+
+-- it notes the row that stands at i among these
+abbrev pub IsNotedAt : List PlanRow → ℕ → NotedRow → Type 0
+IsNotedAt rows i note = (note.place ≡ i) × (slice_get rows i ≡ Some note.row)
+
+-- they note the rows at these places, in order
+abbrev pub AreNotedAt : List PlanRow → List ℕ → List NotedRow → Type 0
+AreNotedAt rows places notes = AllZip (IsNotedAt rows) places notes
+
+-- each of them notes a row of a table of this length
+abbrev pub AreWithin : ℕ → List NotedRow → Type 0
+AreWithin n notes = (note : NotedRow) → Contains notes note → note.place < n
+
+-- it has the table of what may differ beside operations, if anything may
+abbrev pub IsNotedBeside : Contents → Beside → NotedBeside → Type 0
+IsNotedBeside Q beside.Nothing noted.Nothing = Unit {0}
+IsNotedBeside Q beside.Resources (noted.Resources rows) = rows.items ≡ entries Q.resources
+IsNotedBeside Q beside.Workstations (noted.Intervals rows) = rows.items ≡ all_intervals (entries Q.workstations)
+IsNotedBeside Q b n = ⊥
+
+-- they note the rows of these operations, of their occurrences, and of the table beside
+pub record AreNotes (s : Shown) (b : Beside) (touched : List ℕ) (notes : Notes) : Type 0 where
+  pub operations : AreNotedAt (rows_of (keyed_operations s)) touched notes.operations.items
+  pub places : List ℕ
+  pub of_operations : AreOccurrencesOf s.contents.now touched places
+  pub occurrences : AreNotedAt (rows_of (keyed_occurrences s)) places notes.occurrences.items
+  pub beside : IsNotedBeside s.contents.now b notes.beside
+
+-- they were noted of a plan that holds Q, and no more differs between the plan before and that one than what they note
+pub record IsNotedStep (before : Option Shown) (Q : Contents) (notes : Notes) : Type 0 where
+  pub after : Shown
+  pub shown : IsShown after
+  pub holds : after.contents.now ≡ Q
+  pub beside : Beside
+  pub touched : List ℕ
+  pub stays : StaysBeside beside (contents_shown before) after.contents.now
+  pub among : AreTouched before (Some after) touched
+  pub noted : AreNotes after beside touched notes
+
+-- beside operations no more differs from P to Q than the table that it has, whose rows are those of Q
+abbrev pub NotesBeside : Contents → Contents → NotedBeside → Type 0
+NotesBeside P Q noted.Nothing = (Q.workstations ≡ P.workstations) × (Q.resources ≡ P.resources)
+NotesBeside P Q (noted.Resources rows) = (Q.workstations ≡ P.workstations) × (rows.items ≡ entries Q.resources)
+NotesBeside P Q (noted.Intervals rows) = (Q.resources ≡ P.resources) × (rows.items ≡ all_intervals (entries Q.workstations))

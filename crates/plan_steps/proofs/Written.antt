@@ -1,0 +1,69 @@
+-- What is written beside operations, and put back.
+use Rattle.std.proofs.Common.{◌≡◌, refl, sym, ap, ◌∙◌, Bool, true, false, cond, List, Option, Some, is_some, Ordering}
+use Rattle.std.specs.Cmp.{IsTotalOrder, eq_by_cmp_equiv}
+use Rattle.std.specs.FinMap.{FinMap, IsAntisymmetric, contains_key, get, get-insert, insert, same_map}
+use Rattle.std.specs.Ordering.{eq_by_cmp}
+use Rattle.plan_basics.specs.Keys.{Name, name_cmp_total, name_cmp-IsAntisymmetric}
+use Rattle.plan_basics.specs.declared.keys.OpKey.{OpKey}
+use Rattle.plan_kept.specs.plan_drafts.proofs.MadeEntries.{key_of}
+use Rattle.plan_kept.specs.plan_model.specs.Contents.{Contents}
+use Rattle.plan_kept.specs.workstations.specs.Timetables.{NamedWorkstation}
+use Rattle.plan_rows.specs.Touched.{StaysBeside}
+use Rattle.plan_rows.specs.declared.notes.Beside.TheVariants as kind
+use Rattle.plan_steps.specs.Revisions.{PutsBack, written}
+use Rattle.plan_steps.specs.declared.revisions.Revision.{Revision}
+use Rattle.plan_steps.specs.declared.revisions.Revision.TheVariants as revision
+
+-- what writes neither a special resource nor a workstation leaves them
+pub leaves_others : (x : Revision) → ((r : Name) (available : Bool) → x ≡ revision.Available r available → ⊥) → ((w : NamedWorkstation) → x ≡ revision.Opened w → ⊥)
+    → (keys : List OpKey) (P : Contents) → StaysBeside kind.Nothing P (written keys x P)
+leaves_others (revision.Available r available) no_resource no_workstation keys P = absurd (no_resource r available refl)
+leaves_others (revision.Opened w) no_resource no_workstation keys P = absurd (no_workstation w refl)
+leaves_others revision.Nothing no_resource no_workstation keys P = (refl, refl)
+leaves_others (revision.Mark mark) no_resource no_workstation keys P = (refl, refl)
+leaves_others (revision.Held o held) no_resource no_workstation keys P = (refl, refl)
+leaves_others (revision.Nop o nop) no_resource no_workstation keys P = (refl, refl)
+
+-- it puts back nothing
+pub puts_nothing_back : (x : Revision) → ((r : Name) (available : Bool) → x ≡ revision.Available r available → ⊥) → ((w : NamedWorkstation) → x ≡ revision.Opened w → ⊥)
+    → (P : Contents) → PutsBack P x revision.Nothing
+puts_nothing_back (revision.Available r available) no_resource no_workstation P = absurd (no_resource r available refl)
+puts_nothing_back (revision.Opened w) no_resource no_workstation P = absurd (no_workstation w refl)
+puts_nothing_back revision.Nothing no_resource no_workstation P = record { has_place = tt; back = refl }
+puts_nothing_back (revision.Mark mark) no_resource no_workstation P = record { has_place = tt; back = refl }
+puts_nothing_back (revision.Held o held) no_resource no_workstation P = record { has_place = tt; back = refl }
+puts_nothing_back (revision.Nop o nop) no_resource no_workstation P = record { has_place = tt; back = refl }
+
+-- ---- one value put in, and the one that stood there put back
+
+module _ {K X : Type 0} {R : K → K → Ordering} (total : IsTotalOrder R) (exact : IsAntisymmetric R) (k : K) (m : FinMap R X) where
+  -- it is there
+  pub there_after : (x : X) → contains_key (insert m k x) k ≡ true
+  there_after x = ap is_some (get-insert total m k x k) ∙ ap (λ b. is_some (cond b (Some x) (get m k))) ((eq_by_cmp_equiv total).refl k)
+
+  over : (e : Bool) (x old : X) (y : Option X) → (e ≡ true → y ≡ Some old) → cond e (Some old) (cond e (Some x) y) ≡ y
+  over true x old y here = sym (here refl)
+  over false x old y here = refl
+
+  -- the map is as it was
+  pub put_back : (x old : X) → get m k ≡ Some old → insert (insert m k x) k old ≡ m
+  put_back x old known = same_map total exact (insert (insert m k x) k old) m (λ q.
+      get-insert total (insert m k x) k old q
+      ∙ ap (cond (eq_by_cmp R q k) (Some old)) (get-insert total m k x q)
+      ∙ over (eq_by_cmp R q k) x old (get m q) (λ e. ap (get m) (key_of exact q k e) ∙ known))
+
+-- a special resource
+pub puts_resource_back : (P : Contents) (r : Name) (available was : Bool) → get P.resources r ≡ Some was → PutsBack P (revision.Available r available) (revision.Available r was)
+puts_resource_back P r available was known = record {
+  has_place = there_after name_cmp_total name_cmp-IsAntisymmetric r P.resources available;
+  back = ap (λ resources. record P { resources = resources }) (put_back name_cmp_total name_cmp-IsAntisymmetric r P.resources available was known);
+}
+
+-- a workstation
+pub puts_workstation_back : (P : Contents) (w old : NamedWorkstation) → old.0 ≡ w.0 → get P.workstations w.0 ≡ Some old.1 → PutsBack P (revision.Opened w) (revision.Opened old)
+puts_workstation_back P w old name known = record {
+  has_place = ap (contains_key (insert P.workstations w.0 w.1)) name ∙ there_after name_cmp_total name_cmp-IsAntisymmetric w.0 P.workstations w.1;
+  back =
+      ap (λ n. record P { workstations = insert (insert P.workstations w.0 w.1) n old.1 }) name
+      ∙ ap (λ workstations. record P { workstations = workstations }) (put_back name_cmp_total name_cmp-IsAntisymmetric w.0 P.workstations w.1 old.1 known);
+}
