@@ -1,14 +1,9 @@
 -- What is shown of a load.
-use Rattle.std.proofs.Common.{◌≡◌, ◌⊎◌, ap, subst, refl, inl, inr, ℕ, ℤ, List, Option, Result, IfOk}
+use Rattle.std.proofs.Common.{refl, inl, inr, ℕ, ℤ, List, Option, Result, IfOk}
 use Rattle.std.proofs.lemmas.Result.{IfOk-weaker}
 use Rattle.plan_basics.specs.Minutes.{IsMinuteText}
 use Rattle.plan_loads.specs.Databases.{IsAnswerToLoad}
-use Rattle.plan_basics.specs.declared.Refusal.{Refusal}
-use Rattle.plan_basics.specs.declared.Refusal.TheVariants as refusal
 use Rattle.plan_loads.specs.plan_model.specs.Contents.{Contents}
-use Rattle.plan_loads.specs.plan_model.specs.Plan.{Plan, no_plan}
-use Rattle.plan_records.specs.Step.{Step}
-use Rattle.plan_records.specs.declared.Request.{Request}
 use Rattle.plan_records.specs.Answer.{Answer, accepted, refused}
 use Rattle.sqlite.specs.State.{State as StoreState}
 use Rattle.desk_commands.specs.Answers.{IsShown}
@@ -35,8 +30,3 @@ pub check_shown : (moment : List ℕ) (at : ℤ) (found : Option Contents) (a : 
 check_shown moment at found a r old new says answers shown =
     IfOk-weaker r (IsShown a old new) (IsCheckShown moment old new)
     (λ (e : Ending) (is : IsShown a old new e). (at, says, found, a, answers, is)) shown
-
--- an empty plan's refusal
-pub refused_alone : (P : Plan) (q : Request) (r : Refusal) → P ≡ no_plan → (r ≡ refusal.Memory) ⊎ Step P q (refused r) P → ((Q : Plan) × Step no_plan q (refused r) Q) ⊎ (refused r ≡ refused refusal.Memory)
-refused_alone P q r empty (inl e) = inr (ap refused e)
-refused_alone P q r empty (inr step) = inl (P, subst (λ Q. Step Q q (refused r) P) empty step)

@@ -1,9 +1,8 @@
-// `check` and `load`: a plan's text is loaded into an empty plan in memory, or into the desk of a database's file.
+// `check` and `load`: what an empty plan answers to the load of a plan's text, and its load into the desk of a database's file.
 ghost use Rattle.std.specs.Prelude.{◌≡◌, ◌⊎◌, IfOk, IfErr, codes};
 ghost use Rattle.clap.specs.Matches.{found_of};
 ghost use Rattle.plan_basics.specs.Watched.{inner_of};
-ghost use Rattle.plan_records.specs.Answer.{answer_of};
-ghost use Rattle.desk_commands.specs.Loads.{IsCheckAnswer, IsCheckShown, IsLoadShown};
+ghost use Rattle.desk_commands.specs.Loads.{IsCheckShown, IsLoadShown};
 ghost use Rattle.desk_commands.specs.Statuses.{IsOfSurroundings};
 ghost use Rattle.desk_commands.specs.Whys.{IsNoMinute};
 ghost use Rattle.desk_commands.specs.Words.{text_given};
@@ -16,32 +15,14 @@ use crate::given::moment_of;
 use crate::words::value_of;
 use clap::ArgMatches;
 use plan_basics::Watched;
-use plan_loads::{Plan, load_into};
-use plan_records::{PlanDraft, Reply, Request, What};
+use plan_loads::load_into;
+use plan_trials::answer_alone;
 use sqlite::Connection;
-use std::alloc::Global;
 use std::fs;
 use std::io::Write;
 use std::rt::HostRuntime;
 
-// What an empty plan in memory answers to the load of a draft at a minute.
-fn answer_alone(alloc: Global, at: i64, draft: Option<PlanDraft>) -> Reply
-    ensures { IsCheckAnswer at draft (answer_of result) }
-{
-    let mut plan = Plan::empty(alloc);
-    let prepared = plan.prepare(&Request {
-        at,
-        what: What::Load(draft),
-    });
-    match prepared {
-        Ok(prepared) => Reply::Accepted {
-            named: plan.apply(prepared),
-        },
-        Err(refusal) => Reply::Refused(refusal),
-    }
-}
-
-/// `check`: the plan of a file is loaded into an empty plan in memory. The moment is judged before the file.
+/// `check`: what an empty plan in memory answers to the load of a file's plan. The moment is judged before the file.
 pub fn check<W: Write>(
     rt: &HostRuntime,
     given: &ArgMatches,

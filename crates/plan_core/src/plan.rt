@@ -189,7 +189,7 @@ impl Plan {
             next: Next::Small(Writing {
                 keys: edit.keys,
                 revision: edit.revision,
-                figures: step.figures,
+                shift: step.shift,
             }),
             named: step.named,
             changes,

@@ -3,10 +3,10 @@ ghost use Rattle.std.specs.Prelude.{◌≡◌};
 
 use plan_basics::{Moment, OpKey};
 use plan_records::Changes;
-use plan_steps::{Figures, LoadedPlan, Revision};
+use plan_steps::{LoadedPlan, Revision, Shift};
 use std::marker::Model;
 
-/// What a small request writes into what a plan holds, and the figures of the plan then. The graph and the latest starts
+/// What a small request writes into what a plan holds, and what changes in its figures. The graph and the latest starts
 /// stay.
 #[derive(Drop)]
 pub(crate) struct Writing {
@@ -14,7 +14,7 @@ pub(crate) struct Writing {
     pub keys: Vec<OpKey>,
     pub revision: Revision,
     /// With what is named marked so.
-    pub figures: Figures,
+    pub shift: Shift,
 }
 
 /// What a request that is accepted makes of a plan.

@@ -10,7 +10,7 @@ ghost use Rattle.plan_steps.specs.plan_model.specs.Ready.{named as named_in};
 
 use super::prepared::{Next, Writing};
 use plan_basics::{Moment, OpKey, Refusal};
-use plan_steps::{Edit, LoadedPlan, Parts, SmallStep, small_step, stepped};
+use plan_steps::{Edit, LoadedPlan, Parts, SmallStep, shifted, small_step, stepped};
 use std::alloc::Global;
 
 /// What an edit leads to at a moment, tried in the plan, which is then as it was. The error is always `Memory`.
@@ -31,7 +31,7 @@ pub fn tried(
         latest,
         figures,
     } = loaded.take().unwrap().into_parts();
-    let (contents, step) = small_step(alloc, contents, &graph, &latest, &figures, edit, at);
+    let (contents, figures, step) = small_step(alloc, contents, &graph, &latest, figures, edit, at);
     *loaded = Some(LoadedPlan::of(contents, graph, latest, figures));
     step
 }
@@ -45,18 +45,18 @@ fn with_writing(plan: LoadedPlan, writing: Writing, named: &[OpKey]) -> LoadedPl
         contents,
         graph,
         latest,
-        ..
+        figures,
     } = plan.into_parts();
     let Writing {
         keys,
         revision,
-        figures,
+        shift,
     } = writing;
     LoadedPlan::of(
         stepped(contents, &keys, revision, named),
         graph,
         latest,
-        figures,
+        shifted(figures, shift),
     )
 }
 

@@ -22,7 +22,7 @@ use Rattle.plan_model.specs.Valid.{IsAcyclic}
 use Rattle.plan_model.specs.declared.Occurrence.{Occurrence}
 use Rattle.plan_drafts.specs.PlanGraphs.{AreAmong, JoinOperations}
 use Rattle.plan_items.specs.declared.OperationItem.{OperationItem}
-use Rattle.plan_drafts.specs.PlanItems.{Fits, IsOneOf, BelongsTo, AreOperations, EachHasOperation, AreRowsOf, IsPairIn, ArePairsInOrder, keys_said, needs_of, occurrence_of, operation_of, row_of, terms_of}
+use Rattle.plan_drafts.specs.PlanItems.{Fits, IsOneOf, BelongsTo, AreOperations, EachHasOperation, AreRowsOf, IsPairIn, ArePairs, ArePairsInOrder, keys_said, needs_of, occurrence_of, operation_of, row_of, terms_of}
 use Rattle.plan_drafts.proofs.Keyed.{key_to_row, row_to_key, said_apart}
 use Rattle.plan_drafts.proofs.Lists.{all_by_members, contains_cases, contains_head, contains_none, in_map, from_map}
 use Rattle.plan_drafts.proofs.Pairs.{pair_cmp_total, pair_cmp-IsAntisymmetric}
@@ -152,6 +152,11 @@ pub told_by : {G : Type 0} (P : Type 0) (Q : G → Type 0) (found : Option G) �
 told_by P Q None h = (λ e. absurd (true≢false (sym e)), λ p. absurd (h p))
 told_by P Q (Some g) h = (λ _. h.1, λ _. refl)
 
+-- so it is where one of two premises is known
+pub known_so : {G : Type 0} (A B : Type 0) (Q : G → Type 0) → A → (found : Option G) → MatchOption found (¬ (A × B)) (λ g. Q g × A × B) → MatchOption found (¬ B) (λ g. Q g × B)
+known_so A B Q a None none = λ b. none (a, b)
+known_so A B Q a (Some g) is = (is.0, is.2)
+
 abbrev Pair : Type 0
 Pair = OpKey × OpKey
 
@@ -179,6 +184,17 @@ module _ (ks : List OpKey) (pairs ordered : List Pair) (same : IsPermutation pai
   pub same_pairs : ◌≡◌ {A = set.FinSet pair_cmp} (set.from_list pairs) (set.from_list ordered)
   same_pairs = set.same_set pair_cmp_total pair_cmp-IsAntisymmetric (set.from_list pairs) (set.from_list ordered) (λ q.
       set.contains-from_list pair_cmp_total pairs q ∙ list_any-IsPermutation (eq_by_cmp pair_cmp q) pairs ordered same ∙ sym (set.contains-from_list pair_cmp_total ordered q))
+
+  -- and back
+  pub within_in_order : AreAmong ks ordered → All (IsPairIn ks) pairs
+  within_in_order among =
+      all_by_members (IsPairIn ks) pairs (λ (p : Pair) has.
+      let is = All-contains (λ (p : Pair). Contains ks p.0 × Contains ks p.1) ordered p among (Contains-permutation pairs ordered p same has) in
+      record { first = is.0; second = is.1 })
+
+  -- where the ends of those in order aren't all among the keys, or some path of them returns, the pairs are none of a plan
+  pub no_pairs_in_order : ¬ (AreAmong ks ordered × IsAcyclic (set.from_list ordered)) → ¬ ArePairs ks pairs
+  no_pairs_in_order none are = none (ends_among are.within, subst IsAcyclic same_pairs are.acyclic)
 
   pub pairs_are :
       length pairs ≤ MOST_PAIRS → All (IsPairIn ks) pairs → AllPairs (λ a b. a ≢ b) pairs → IsStrictlySortedBy pair_cmp ordered → IsAcyclic (set.from_list ordered) →

@@ -1,9 +1,11 @@
 -- Indices of keys in order.
-use Rattle.std.proofs.Common.{◌≡◌, ◌≢◌, inl, inr, refl, sym, ap, subst, ◌∙◌, arith, ℕ, ◌+◌, ◌<◌, List, length, get_or, slice_get, Some, Contains, Result, Ok, Err}
+use Rattle.std.proofs.Common.{◌≡◌, ◌≢◌, true, true≢false, inl, inr, refl, sym, ap, subst, ◌∙◌, arith, ℕ, ◌+◌, ◌<◌, List, length, get_or, slice_get, Some, Contains, Option, Result, Ok, Err}
+use Rattle.std.specs.Prelude.{MatchOption}
+use Rattle.std.specs.Result.{result_ok}
 use Rattle.std.specs.Cmp.{IsTotalOrder}
 use Rattle.std.specs.FinMap.{IsAntisymmetric}
 use Rattle.std.specs.List.Sorted.{IsStrictlySortedBy, IsSortedBy, IsBinarySearchResult, IsSearchInRange}
-use Rattle.std.specs.Ordering.{is_lt, ordering_reverse}
+use Rattle.std.specs.Ordering.{is_eq, is_lt, ordering_reverse}
 use Rattle.std.specs.declared.cmp.Ordering.{Ordering}
 use Rattle.std.specs.declared.cmp.Ordering.TheVariants.{Less, Equal, Greater}
 use Rattle.std.proofs.lemmas.Bool.{cases_lt}
@@ -60,3 +62,21 @@ module _ {K : Type 0} {R : K → K → Ordering} (total : IsTotalOrder R) where
           | inl before ↦ let less : R (get_or ks j k) k ≡ Less = parts.0 j k (omega arith) before in cc
           | inr after ↦ let greater : R (get_or ks j k) k ≡ Greater = parts.1 j k after lt in cc
         ])
+
+    -- and it shows where a key is, or that it isn't there
+    pub searched : (ks : List K) (k : K) (r : Result ℕ ℕ) → IsSearchInRange r (length ks) → IsBinarySearchResult (λ y. R y k) ks r → IsStrictlySortedBy R ks → (place : Option ℕ) → place ≡ result_ok r
+        → MatchOption place (¬ Contains ks k) (λ i. slice_get ks i ≡ Some k)
+    searched ks k r within h sorted place is = rw is (shown r within h)
+      where
+        shown : (r : Result ℕ ℕ) → IsSearchInRange r (length ks) → IsBinarySearchResult (λ y. R y k) ks r → MatchOption (result_ok r) (¬ Contains ks k) (λ i. slice_get ks i ≡ Some k)
+        shown (Ok i) within h = slice_get-get_or ks i k within ∙ ap Some (exact (get_or ks i k) k (h k))
+        shown (Err i) within h = λ has. let there = search_places ks k (Err i) within h sorted has in let same = there.1 in cc
+
+    -- a key that ties with the one at an index is that one
+    pub tied_at : (ks : List K) (i : ℕ) (k seen : K) → i < length ks → seen ≡ get_or ks i seen → (o : Ordering) → o ≡ R seen k → true ≡ is_eq o → slice_get ks i ≡ Some k
+    tied_at ks i k seen within is o told tied = slice_get-get_or ks i seen within ∙ ap Some (sym is ∙ exact seen k (sym told ∙ at_eq o tied))
+      where
+        at_eq : (o : Ordering) → true ≡ is_eq o → o ≡ Equal
+        at_eq Less e = absurd (true≢false e)
+        at_eq Equal e = refl
+        at_eq Greater e = absurd (true≢false e)

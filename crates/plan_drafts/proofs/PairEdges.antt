@@ -8,7 +8,7 @@ use Rattle.std.proofs.lemmas.Option.{slice_get_within}
 use Rattle.plan_model.specs.operation_graph.specs.Graphs.{AreDifferent, Digraph, HasEdge, IsBuiltOf, IsEdgeOf, edges_of}
 use Rattle.plan_model.specs.operation_graph.specs.Paths.{IsAcyclicBy, LeadsBy, by_edge, by_more}
 use Rattle.plan_model.specs.operation_graph.proofs.EdgeSets.{edge_listed, listed_edge}
-use Rattle.plan_basics.proofs.Members.{contains_mapped, mapped_contains, place_of}
+use Rattle.plan_basics.proofs.Members.{all_by_members, at_place, contains_mapped, mapped_contains, place_of}
 use Rattle.plan_basics.specs.Keys.{operation_cmp, operation_cmp_total}
 use Rattle.plan_basics.specs.declared.keys.OpKey.{OpKey}
 use Rattle.plan_model.specs.Contents.{Pairs, IsPairOf, pair_cmp}
@@ -51,6 +51,10 @@ module _ (keys : List OpKey) (pairs : List Pair) (edges : List Edge) (at_places 
   edges_within k d lt =
       let x = pair_of_edge (get_or edges k d) (All-contains_itself edges k d lt) in
       (slice_get_within keys (get_or edges k d).0 x.0.0 x.2, slice_get_within keys (get_or edges k d).1 x.0.1 x.3)
+
+  -- so that both ends of each pair are among the keys
+  pub ends_at_places : AreAmong keys pairs
+  ends_at_places = all_by_members (λ (x : Pair). Contains keys x.0 × Contains keys x.1) pairs (λ x has. let e = edge_of_pair x has in (at_place keys e.0.0 x.0 e.2, at_place keys e.0.1 x.1 e.3))
 
   module _ (sorted : IsStrictlySortedBy operation_cmp keys) where
     pub edge_at : (i j : ℕ) → IsEdgeOf (edges_of edges) i j ↔ IsPairAt keys (from_list pairs) i j

@@ -1,8 +1,9 @@
 // What texts denote: a plan to be loaded, or an addition to one.
-ghost use Rattle.std.specs.Prelude.{◌≡◌, All, IfOk, IfErr, MatchOption};
+ghost use Rattle.std.specs.Prelude.{◌≡◌, List, All, IfOk, IfErr, MatchOption};
+ghost use Rattle.std.specs.List.{AllZip};
 ghost use Rattle.plan_drafts.specs.Drafts.{IsDraft};
 ghost use Rattle.plan_drafts.specs.Contents.{added_parts, AreAdditionParts};
-ghost use Rattle.plan_items.specs.Items.{IsItem};
+ghost use Rattle.plan_items.specs.Items.{Fields, IsItem, Says};
 ghost use Rattle.plan_drafts.specs.Records.{records_of, AreItemsOf, Denotes, DenotesAddition};
 ghost use Rattle.plan_model.specs.Contents.{Contents, AddedParts};
 
@@ -58,13 +59,31 @@ impl PlanDraft {
         let Some(items) = read_items(alloc, &records)? else {
             return Ok(None);
         };
-        let Some(contents) = contents_of_items(alloc, &items)? else {
+        PlanDraft::of_items(alloc, &items)
+    }
+
+    /// The draft that records denote which say these items, one item each, as `build` makes it of the records; `None` where they
+    /// denote none. The error is always `Memory`.
+    pub fn of_items(alloc: Global, items: &[Item]) -> Result<Option<PlanDraft>, Refusal>
+        requires { All IsItem items.now }
+        ensures denoted { IfOk result (λ found. (records : List Fields) → AllZip Says records items.now → MatchOption found ((P : Contents) → ¬ Denotes records P) (λ draft. Denotes records draft)) }
+        ensures memory { IfErr result (λ r. r ≡ Refusal.Memory) }
+    {
+        let Some(contents) = contents_of_items(alloc, items)? else {
             return Ok(None);
         };
         if contents.workstations().is_empty() || contents.occurrences().is_empty() {
             return Ok(None);
         }
         Ok(Some(PlanDraft { contents }))
+    }
+
+    /// What it holds, so that it need not be copied.
+    pub fn into_contents(self) -> PlanContents
+        ensures contents { result ≡ self }
+        ensures draft { IsDraft self }
+    {
+        self.contents
     }
 
     /// What it holds.

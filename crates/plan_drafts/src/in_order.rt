@@ -10,9 +10,9 @@ ghost use Rattle.plan_model.specs.Contents.{pair_cmp};
 ghost use Rattle.plan_model.specs.Valid.{IsAcyclic};
 ghost use Rattle.plan_drafts.specs.PlanGraphs.{AreAmong};
 ghost use Rattle.plan_drafts.specs.AdditionItems.{new_row};
-ghost use Rattle.plan_drafts.specs.PlanItems.{row_of, occurrence_of, need_cmp, need_key, needs_of, IsOneOf, BelongsTo, AreOccurrenceRows, AreOccurrencesInOrder, AreOperations, EachHasOperation, AreRowsOf, IsPairIn, ArePairs, ArePairsInOrder};
+ghost use Rattle.plan_drafts.specs.PlanItems.{row_of, occurrence_of, need_cmp, need_key, needs_of, IsOneOf, BelongsTo, AreOccurrenceRows, AreOccurrencesInOrder, AreOperations, EachHasOperation, AreRowsOf, ArePairs, ArePairsInOrder};
 
-use super::graphs::graph_of;
+use super::graphs::{graph_among, graph_of};
 use super::intervals::is_named;
 use super::key_order::{in_key_order, keys};
 use super::needs::own_needs;
@@ -171,22 +171,6 @@ pub fn is_among(keys: &[OpKey], key: &OpKey) -> bool
     keys.binary_search(key).is_ok()
 }
 
-// Whether both ends of a pair are among keys in order.
-fn is_pair_in(keys: &[OpKey], pair: &(OpKey, OpKey)) -> bool
-    requires { IsStrictlySortedBy operation_cmp keys.now }
-    ensures { IsTrue result ↔ IsPairIn keys.now pair.now }
-{
-    is_among(keys, &pair.0) && is_among(keys, &pair.1)
-}
-
-// Whether those of all pairs are.
-fn are_pairs_in(keys: &[OpKey], pairs: &[(OpKey, OpKey)]) -> bool
-    requires { IsStrictlySortedBy operation_cmp keys.now }
-    ensures { IsTrue result ↔ All (IsPairIn keys.now) pairs.now }
-{
-    pairs.iter().all(|pair| is_pair_in(keys, pair))
-}
-
 // Whether no path of these pairs returns to its start.
 pub fn are_pairs_acyclic(
     alloc: Global,
@@ -215,14 +199,12 @@ pub fn pairs_in_order(
     if pairs.len() > MOST_PAIRS {
         return Ok(None);
     }
-    if !are_pairs_in(keys, &pairs) {
-        return Ok(None);
-    }
     let Some(pairs) = in_key_order(pairs, |pair| *pair)? else {
         return Ok(None);
     };
-    if !are_pairs_acyclic(alloc, keys, &pairs)? {
+    let Some(graph) = graph_among(alloc, keys, &pairs)? else {
         return Ok(None);
-    }
+    };
+    let _ = graph;
     Ok(Some(pairs))
 }

@@ -20,7 +20,7 @@ mod places;
 pub use builder::Record;
 pub use contents::{AdditionParts, PlanContents, copies_of};
 pub use drafts::{Addition, PlanDraft, contents_of_items};
-pub use graphs::{graph_of, is_acyclic};
+pub use graphs::{graph_among, graph_of, is_acyclic};
 pub use key_order::{ExactKey, in_key_order, keys};
 pub use places::row_place;
 use plan_basics::{Moment, OccKey, OpKey, ResName, WsName};

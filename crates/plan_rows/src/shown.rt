@@ -1,12 +1,10 @@
 // What is kept of a loaded plan, for its views.
 ghost use Rattle.std.specs.Prelude.{◌≡◌};
 ghost use Rattle.plan_rows.specs.Shown.{IsShown};
-ghost use Rattle.plan_state.specs.plan_choice.specs.Choices.{AreLatestStarts};
-ghost use Rattle.plan_state.specs.Figures.{AreFigures};
 
 use latest_start::Latest;
 use plan_basics::Moment;
-use plan_state::{Figures, LoadedPlan, PlanContents, SoundContents, Standing};
+use plan_state::{LoadedPlan, PlanContents, Standing};
 use status_rules::{Counts, Status};
 
 /// The rows of a loaded plan, with what is known of each of them.
@@ -31,22 +29,6 @@ impl<'a> Shown<'a> {
             statuses: loaded.statuses(),
             tallies: loaded.tallies(),
             latest: loaded.latest(),
-        }
-    }
-
-    /// What is kept of contents that have these figures and these latest starts.
-    pub fn with(contents: &'a SoundContents, figures: &'a Figures, latest: &'a Latest) -> Shown<'a>
-        requires figures { AreFigures contents.now figures.now }
-        requires latest { AreLatestStarts contents.now latest.now.starts }
-        ensures contents { result.contents.now ≡ contents.now }
-        ensures shown { IsShown result }
-    {
-        Shown {
-            contents: contents.rows(),
-            standings: &figures.standings,
-            statuses: &figures.statuses,
-            tallies: &figures.tallies,
-            latest,
         }
     }
 }

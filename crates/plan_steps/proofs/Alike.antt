@@ -35,7 +35,7 @@ use Rattle.plan_rows.specs.Touched.{AreTouched, HasOneOf}
 -- ---- what is read off a plan is one
 
 -- one truth value at most says whether this is so
-one_truth : {A : Type 0} (b c : Bool) → Decides b A → Decides c A → b ≡ c
+pub one_truth : {A : Type 0} (b c : Bool) → Decides b A → Decides c A → b ≡ c
 one_truth b c x y = both_ways b c (λ e. y.1 (x.0 e)) (λ e. x.1 (y.0 e))
 
 -- an operation has one standing at most
@@ -84,7 +84,7 @@ zipped_alike xs vs ys ws i e f = slice_get-zip xs ys i ∙ (λ j. both (e j) (f 
 
 module _ {K V X : Type 0} (before after : List (K × V)) (was is : K → X → Type 0) (xs ys : List X) (size : length after ≡ length before) (x_by : AreByPlace before xs was) (y_by : AreByPlace after ys is) (i : ℕ) where
   -- what is known at an index is the same where its key was there before, and what was known of it is what is known
-  alike_at : ((k : K) (v : V) → slice_get after i ≡ Some (k, v) → (old : V) × (slice_get before i ≡ Some (k, old)) × ((x y : X) → was k x → is k y → x ≡ y)) → slice_get ys i ≡ slice_get xs i
+  pub alike_at : ((k : K) (v : V) → slice_get after i ≡ Some (k, v) → (old : V) × (slice_get before i ≡ Some (k, old)) × ((x y : X) → was k x → is k y → x ≡ y)) → slice_get ys i ≡ slice_get xs i
   alike_at same = elim (slice_get_cases after i).1 [
     | inl here ↦
         let lt = here.1 in
@@ -138,7 +138,7 @@ module _ (P Q : Contents) (valid : IsValid P) (valid_after : IsValid Q) (touched
     count_after s n = count_alike (λ o h. (h.0, status_after o s h.0 h.1)) (λ o h. (h.0, status_before o s h.0 h.1))
 
     -- and its numbers stay
-    tally_after : (n : Counts) → IsTally P c n → IsTally Q c n
+    pub tally_after : (n : Counts) → IsTally P c n → IsTally Q c n
     tally_after n tally = record {
       all = count_alike (λ o h. (h.0, in_plan_after o h.0 h.1)) (λ o h. (h.0, in_plan_before o h.1)) tally.all;
       deleted = count_after status.Deleted n.deleted tally.deleted;

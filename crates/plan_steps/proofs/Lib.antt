@@ -8,3 +8,10 @@ pub mod EditedKeys
 pub mod Requested
 pub mod MadeEdits
 pub mod SmallSteps
+pub mod Overwritten
+pub mod ColumnParts
+pub mod Agreeing
+pub mod Belonging
+pub mod KeptThen
+pub mod MovedColumns
+pub mod MadeSteps

@@ -1,5 +1,5 @@
 -- What is known and kept of a plan once what is chosen is named.
-use Rattle.std.proofs.Common.{refl, sym, subst, ℕ, ℤ, ◌<◌, List, length, Contains}
+use Rattle.std.proofs.Common.{refl, sym, ap, ◌∙◌, subst, ℕ, ℤ, ◌<◌, List, length, Contains}
 use Rattle.std.specs.FinMap.{entries}
 use Rattle.plan_basics.specs.Keys.{operation_cmp, operation_cmp_total, operation_cmp-IsAntisymmetric}
 use Rattle.plan_basics.specs.declared.keys.OpKey.{OpKey}
@@ -15,17 +15,21 @@ use Rattle.plan_kept.proofs.SmallMoves.{naming_moves}
 use Rattle.plan_kept.specs.Edits.{ArePlacesOf}
 use Rattle.plan_kept.specs.plan_laws.proofs.Kept.{choice_keeps_sound}
 use Rattle.plan_kept.proofs.Frame.{frame_stays}
-use Rattle.plan_kept.specs.plan_choice.specs.Choices.{AreGivenOut, AreHeldIn, AreLatestStarts}
+use Rattle.plan_kept.specs.plan_choice.specs.Choices.{AreLatestStarts}
 use Rattle.plan_kept.specs.plan_waiting.specs.Kept.{AreKept}
 use Rattle.plan_cascade.specs.declared.kept.Kept.{Kept}
 use Rattle.plan_steps.specs.Edits.{ArePlacesIn}
 use Rattle.plan_steps.specs.Naming.{WasNamed}
-use Rattle.plan_kept.specs.plan_state.specs.declared.figures.Figures.{Figures}
+use Rattle.plan_steps.specs.declared.columns.Columns.{Columns}
+use Rattle.ready_list.specs.declared.entry.ReadyEntry.{ReadyEntry}
 use Rattle.plan_status.proofs.Naming.{naming_keeps_standings}
 use Rattle.plan_status.specs.Standings.{AreStandings, IsStanding}
 use Rattle.plan_status.specs.declared.standings.Standing.{Standing}
 use Rattle.plan_steps.proofs.KnownAlike.{known_alike}
-use Rattle.plan_steps.specs.Touched.{AreKnownAlike}
+use Rattle.plan_steps.proofs.Agreeing.{leads_back}
+use Rattle.plan_steps.specs.Columns.{AreColumnsOf, AreSizedBy, IsExcerptOf, MakesOf}
+use Rattle.plan_steps.specs.declared.excerpts.Excerpt.{Excerpt}
+use Rattle.plan_steps.specs.Touched.{AreKnownAlike, IsTouchedAt}
 use Rattle.plan_kept.specs.plan_waiting.proofs.Naming.{known_stays, naming_keeps_kept}
 
 module _ (P : Contents) (m : ℕ) (os : List OpKey) (chosen : IsChosen P m os) where
@@ -47,9 +51,18 @@ module _ (P : Contents) (m : ℕ) (os : List OpKey) (chosen : IsChosen P m os) w
         kept kept were (naming_keeps_kept P os (chosen_are_ready P m os chosen).0 kept were) standings stood
         places (λ i has. has) (λ i out. refl)
 
+    -- so that no more is touched
+    pub named_touched : IsSound P → (l : Columns) → AreColumnsOf P l → IsTouchedAt P (named os P) places
+    named_touched sound l columns = record {
+      moved = record { places = places; moved = naming_moved; among = λ i has. has };
+      ascend = are.ascend;
+      within = are.within;
+      same = named_alike sound l.kept.items columns.kept l.standings.items columns.standings;
+    }
+
 -- ---- what is chosen was named
 
-module _ (P R : Contents) (os : List OpKey) (places : List ℕ) (starts : List ℤ) (f : Figures) (was : WasNamed P R os places starts f) where
+module _ (P R : Contents) (os : List OpKey) (places : List ℕ) (starts : List ℤ) (l : Columns) (es : List ReadyEntry) (was : WasNamed P R os places starts l es) where
   abbrev m : ℕ
   m = was.chosen.0
 
@@ -57,7 +70,7 @@ module _ (P R : Contents) (os : List OpKey) (places : List ℕ) (starts : List �
   chosen = was.chosen.1
 
   abbrev kept : List Kept
-  kept = f.kept.items
+  kept = l.kept.items
 
   pub moved_on : IsMovedAt P R places
   moved_on = subst (λ S. IsMovedAt P S places) (sym was.after) (naming_moved P m os chosen places was.places)
@@ -68,20 +81,39 @@ module _ (P R : Contents) (os : List OpKey) (places : List ℕ) (starts : List �
   pub places_in_after : (touched : List ℕ) → ArePlacesIn P touched → ArePlacesIn R touched
   places_in_after touched are = record { ascend = are.ascend; within = λ i has. subst (λ n. i < n) (sym moved_on.size) (are.within i has) }
 
-  pub standings_after : AreStandings R f.standings.items
-  standings_after = subst (λ S. AreStandings S f.standings.items) (sym was.after) (named_standings P m os chosen f.standings.items was.figures.standings)
+  pub standings_after : AreStandings R l.standings.items
+  standings_after = subst (λ S. AreStandings S l.standings.items) (sym was.after) (named_standings P m os chosen l.standings.items was.columns.standings)
 
   pub latest_after : AreLatestStarts R starts
   latest_after = (frame_stays P R places moved_on).latest starts was.latest
 
   pub kept_after : AreKept R kept
-  kept_after = subst (λ S. AreKept S kept) (sym was.after) (naming_keeps_kept P os (chosen_are_ready P m os chosen).0 kept was.figures.kept)
+  kept_after = subst (λ S. AreKept S kept) (sym was.after) (naming_keeps_kept P os (chosen_are_ready P m os chosen).0 kept was.columns.kept)
 
   pub known_after : AreKnownAlike P R places
-  known_after = subst (λ S. AreKnownAlike P S places) (sym was.after) (named_alike P m os chosen places was.places was.sound kept was.figures.kept f.standings.items was.figures.standings)
+  known_after = subst (λ S. AreKnownAlike P S places) (sym was.after) (named_alike P m os chosen places was.places was.sound kept was.columns.kept l.standings.items was.columns.standings)
 
-  pub given_after : AreGivenOut R (entries R.workstations) f.given.items
-  given_after = subst (λ (S : Contents). AreGivenOut S (entries S.workstations) f.given.items) (sym was.after) was.figures.given
+  pub sound_after : IsSound R
+  sound_after = subst IsSound (sym was.after) (choice_keeps_sound P m os was.sound chosen)
 
-  pub held_after : AreHeldIn R f.holdings.held
-  held_after = subst (λ (S : Contents). AreHeldIn S f.holdings.held) (sym was.after) was.figures.holders
+  -- no more than what is named is touched
+  pub touched_at : IsTouchedAt P R places
+  touched_at = record {
+    moved = record { places = places; moved = moved_on; among = λ i has. has };
+    ascend = was.places.ascend;
+    within = was.places.within;
+    same = known_after;
+  }
+
+  -- the columns have a row for each operation and each occurrence still
+  pub sized_after : AreSizedBy R l
+  sized_after = record {
+    kept = was.columns.kept.size ∙ sym moved_on.size;
+    standings = was.columns.standings.size ∙ sym moved_on.size;
+    statuses = was.columns.statuses.size ∙ sym moved_on.size;
+    tallies = was.columns.tallies.size ∙ ap (λ cs. length (entries cs)) (sym moved_on.occurrences);
+  }
+
+  -- what they have where it is named leads back to them
+  pub named_back : (n : Columns) → AreColumnsOf R n → (x : Excerpt) → IsExcerptOf R places l x → MakesOf x n l
+  named_back n are x is = leads_back P R was.sound.valid sound_after.valid places touched_at l n was.columns are x is

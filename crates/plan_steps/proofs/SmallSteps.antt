@@ -8,17 +8,15 @@ use Rattle.plan_kept.proofs.Frame.{frame_stays, moves_follow}
 use Rattle.plan_kept.specs.Edits.{ArePlacesOf}
 use Rattle.plan_kept.specs.plan_model.specs.Contents.{Contents}
 use Rattle.plan_kept.specs.plan_model.specs.Ready.{IsChosen, named}
-use Rattle.plan_kept.specs.plan_model.specs.Valid.{IsSound}
 use Rattle.plan_kept.specs.plan_moves.specs.Moves.{IsMovedAt}
-use Rattle.plan_kept.specs.plan_state.specs.Figures.{AreFigures, KeepsFrame}
-use Rattle.plan_kept.specs.plan_state.specs.declared.figures.Figures.{Figures}
+use Rattle.plan_kept.specs.plan_state.specs.Figures.{KeepsFrame}
 use Rattle.plan_rows.specs.Touched.{StaysBeside}
 use Rattle.plan_rows.specs.declared.notes.Beside.{Beside}
 use Rattle.plan_rows.specs.declared.notes.Beside.TheVariants as kind
 use Rattle.plan_rows.specs.declared.notes.Notes.{Notes}
 use Rattle.plan_steps.proofs.Alike.{touched_shown}
 use Rattle.plan_steps.proofs.KnownAlike.{row_stays}
-use Rattle.plan_steps.proofs.NamedFigures.{named_alike, naming_moved}
+use Rattle.plan_steps.proofs.NamedFigures.{naming_moved}
 use Rattle.plan_steps.specs.Edits.{ArePlacesIn, ArePlacesWith}
 use Rattle.plan_steps.specs.Naming.{AreNotesOf, AreStepNotes}
 use Rattle.plan_steps.specs.Touched.{AreKnownAlike, IsTouchedAt}
@@ -40,7 +38,7 @@ module _ (P Q : Contents) (edits : List ℕ) (moved : IsMovedAt P Q edits) (m : 
       let second = frame_stays Q (named os Q) places later in
       record { graph = λ g is. second.graph g (first.graph g is); latest = λ starts is. second.latest starts (first.latest starts is) }
 
-  module _ (sound : IsSound Q) (f : Figures) (figures : AreFigures Q f) (edited touched : List ℕ) (first : ArePlacesWith Q edits edited) (same : AreKnownAlike P Q edited)
+  module _ (known : AreKnownAlike Q (named os Q) places) (edited touched : List ℕ) (first : ArePlacesWith Q edits edited) (same : AreKnownAlike P Q edited)
       (ascend : IsStrictlySortedBy nat_cmp touched) (both : (i : ℕ) → Contains touched i ↔ (Contains edited i ⊎ Contains places i)) where
     moved_on : IsMovedAt P (named os Q) touched
     moved_on = moves_follow P Q (named os Q) edits places touched moved later (λ i some. elim some [ inl at ↦ (both i).1 (inl (first.among i at)) | inr at ↦ (both i).1 (inr at) ])
@@ -53,7 +51,6 @@ module _ (P Q : Contents) (edits : List ℕ) (moved : IsMovedAt P Q edits) (m : 
 
     same_after : AreKnownAlike P (named os Q) touched
     same_after i out o op at =
-        let known = named_alike Q m os chosen places are sound f.kept.items figures.kept f.standings.items figures.standings in
         let once = same i (λ has. out ((both i).1 (inl has))) o op at in
         let twice = known i (λ has. out ((both i).1 (inr has))) o op (row_stays P Q edits moved i o op at (λ has. out ((both i).1 (inl (first.among i has))))) in
         (λ s is. twice.0 s (once.0 s is), λ s is. twice.1 s (once.1 s is))

@@ -10,5 +10,9 @@ pub use Rattle.plan_kept.specs.plan_state
 pub mod EditedKeys
 pub mod Revisions
 pub mod Edits
-pub mod Naming
 pub mod Touched
+pub mod Values
+pub mod Columns
+pub mod Shifts
+pub mod Groundworks
+pub mod Naming

@@ -1,24 +1,21 @@
-// What follows from an edit that is written.
+// What is named once an edit is written and the figures have moved on, and what is noted then.
 ghost use Rattle.std.specs.Prelude.{◌≡◌, ℕ, IfErr, IfOk};
 ghost use Rattle.plan_basics.specs.declared.Refusal.{Refusal};
 ghost use Rattle.plan_kept.specs.plan_choice.specs.Choices.{AreLatestStarts};
-ghost use Rattle.plan_kept.specs.plan_model.specs.Contents.{Contents};
 ghost use Rattle.plan_kept.specs.plan_model.specs.Ready.{named as named_in};
-ghost use Rattle.plan_kept.specs.plan_state.specs.Figures.{AreFigures};
-ghost use Rattle.plan_steps.specs.Edits.{ArePlacesIn, WasEdited};
-ghost use Rattle.plan_steps.specs.Naming.{AreNotesOf, IsNaming};
-ghost use Rattle.plan_steps.specs.Touched.{IsTouchedAt};
+ghost use Rattle.plan_steps.specs.Columns.{AreAlike, AreColumnsOf, IsStockOf};
+ghost use Rattle.plan_steps.specs.Edits.{ArePlacesIn};
+ghost use Rattle.plan_steps.specs.Naming.{AreBoth, AreNotesOf, IsNaming, IsStepOf};
+ghost use Rattle.plan_steps.specs.Shifts.{HasColumnsAt};
 
-use super::edits::Edit;
-use super::moving::move_figures;
+use super::columns::{Columns, Stock};
 use super::naming::{Naming, name};
-use super::noting::note;
+use super::noting::{Noted, note};
 use super::places::joined;
+use super::shifting::Shift;
 use super::writing::{with_markings, with_named};
 use latest_start::Latest;
-use operation_graph::Graph;
 use plan_basics::{Moment, OpKey, Refusal};
-use plan_kept::Figures;
 use plan_rows::{Beside, Notes};
 use plan_status::SoundContents;
 use std::alloc::Global;
@@ -36,49 +33,50 @@ pub struct Followed {
 pub struct SmallStep {
     /// The operations that are named, in order.
     pub named: Vec<OpKey>,
-    /// What is kept of the plan once they are.
-    pub figures: Figures,
+    /// What changes in the figures of the plan.
+    pub shift: Shift,
     /// The rows of all that is touched.
     pub notes: Notes,
 }
 
-/// What is named at a moment once an edit has made these contents of a plan's, and what is touched. The error is always `Memory`.
-pub fn follow(
+// What is named at a moment, and what is touched by that and by an edit that touched these places. The error is always `Memory`.
+fn follow(
     alloc: Global,
-    graph: &Graph,
-    latest: &Latest,
-    after: &SoundContents,
-    edit: &Edit,
-    figures: &Figures,
+    contents: &SoundContents,
+    stock: Stock,
+    edited: &[usize],
     at: Moment,
 ) -> Result<Followed, Refusal>
-    requires { (P : Contents) × WasEdited P after.now edit.now graph.now latest.now.starts figures.now }
-    ensures naming { IfOk result (λ f. IsNaming after.now at f.naming) }
-    ensures touched { IfOk result (λ f. (P : Contents) → WasEdited P after.now edit.now graph.now latest.now.starts figures.now → IsTouchedAt P (named_in f.naming.named.items after.now) f.touched.items) }
+    requires { IsStockOf contents.now stock }
+    ensures naming { IfOk result (λ f. IsNaming contents.now at f.naming) }
+    ensures touched { IfOk result (λ f. AreBoth edited.now f.naming.places.items f.touched.items) }
     ensures refused { IfErr result (λ r. r ≡ Refusal.Memory) }
 {
-    let mut figures = figures.try_clone(alloc)?;
-    let edited = move_figures(alloc, graph, latest, after, edit, &mut figures)?;
-    let naming = name(alloc, after, figures, at)?;
-    let touched = joined(alloc, &edited, &naming.places)?;
+    let naming = name(alloc, contents, stock, at)?;
+    let touched = joined(alloc, edited, &naming.places)?;
     Ok(Followed { naming, touched })
 }
 
-/// What is noted of the contents once what follows is named. It gives the same contents back. The error is always `Memory`.
-pub fn note_step(
+// What is noted of the contents once what follows is named. It gives the same contents back, and leaves the columns. The error is
+// always `Memory`.
+fn note_step(
     alloc: Global,
     contents: SoundContents,
     latest: &Latest,
+    columns: &mut Columns,
     followed: Followed,
     beside: Beside,
 ) -> (SoundContents, Result<SmallStep, Refusal>)
     requires latest { AreLatestStarts contents latest.now.starts }
+    requires columns { AreColumnsOf contents columns.old }
     requires naming { (at : ℕ) × IsNaming contents at followed.naming }
     requires touched { ArePlacesIn contents followed.touched.items }
     ensures contents { result.0 ≡ contents }
+    ensures unchanged { AreAlike columns.new columns.old }
     ensures named { IfOk result.1 (λ s. s.named ≡ followed.naming.named) }
-    ensures figures { IfOk result.1 (λ s. AreFigures (named_in s.named.items contents) s.figures) }
-    ensures notes { IfOk result.1 (λ s. AreNotesOf (named_in s.named.items contents) beside followed.touched.items s.notes) }
+    ensures stock { IfOk result.1 (λ s. IsStockOf (named_in followed.naming.named.items contents) s.shift.stock) }
+    ensures columns_then { IfOk result.1 (λ s. HasColumnsAt (named_in followed.naming.named.items contents) followed.touched.items s.shift.columns) }
+    ensures notes { IfOk result.1 (λ s. AreNotesOf (named_in followed.naming.named.items contents) beside followed.touched.items s.notes) }
     ensures refused { IfErr result.1 (λ r. r ≡ Refusal.Memory) }
 {
     let Followed { naming, touched } = followed;
@@ -86,28 +84,58 @@ pub fn note_step(
         named,
         places,
         marks,
-        mut figures,
+        mut stock,
     } = naming;
     let after = with_named(contents, &named);
     let noted = note(
         alloc,
         &after,
         latest,
-        &mut figures,
+        columns,
+        &mut stock.ready,
         &places,
         beside,
         &touched,
     );
     let contents = with_markings(after, &named, &marks);
     match noted {
-        Ok(notes) => {
+        Ok(noted) => {
+            let Noted { notes, columns } = noted;
+            let shift = Shift { columns, stock };
             let step = SmallStep {
                 named,
-                figures,
+                shift,
                 notes,
             };
             (contents, Ok(step))
         }
+        Err(refusal) => (contents, Err(refusal)),
+    }
+}
+
+/// What follows in contents that an edit made, which touched these places, with these figures. It gives the same contents back, and
+/// leaves the columns. The error is always `Memory`.
+pub fn named_step(
+    alloc: Global,
+    contents: SoundContents,
+    latest: &Latest,
+    columns: &mut Columns,
+    stock: Stock,
+    edited: &[usize],
+    beside: Beside,
+    at: Moment,
+) -> (SoundContents, Result<SmallStep, Refusal>)
+    requires latest { AreLatestStarts contents latest.now.starts }
+    requires columns { AreColumnsOf contents columns.old }
+    requires stock { IsStockOf contents stock }
+    requires edited { ArePlacesIn contents edited.now }
+    ensures contents { result.0 ≡ contents }
+    ensures unchanged { AreAlike columns.new columns.old }
+    ensures step { IfOk result.1 (IsStepOf contents at edited.now beside) }
+    ensures refused { IfErr result.1 (λ r. r ≡ Refusal.Memory) }
+{
+    match follow(alloc, &contents, stock, edited, at) {
+        Ok(followed) => note_step(alloc, contents, latest, columns, followed, beside),
         Err(refusal) => (contents, Err(refusal)),
     }
 }

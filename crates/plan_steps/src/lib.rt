@@ -1,18 +1,25 @@
 //! What a small request leads to: one by which only marks and flags change, which special resources are available, or when
 //! workstations are open. It is written into the plan's own contents, what follows is worked out and noted there, and then all is
-//! put back. What is kept of the plan moves with it, from the operations that the request edits and those that are named.
+//! put back. What is kept of the plan moves with it, from the operations that the request edits and those that are named, and is
+//! put back too.
 #![tactic(auto)]
 
+mod columns;
 mod counting;
 mod edits;
+mod excerpts;
 mod following;
+mod groundwork;
 mod moving;
 mod naming;
 mod noting;
 mod places;
 mod requests;
 mod revisions;
+mod shifting;
 mod steps;
+mod trying;
+mod values;
 mod writing;
 
 pub use edits::{Edit, edit_of};
@@ -23,5 +30,6 @@ pub use plan_kept::{
 };
 pub use plan_rows::{Notes, PlanShown, Shown, changes_between, noted_changes};
 pub use revisions::Revision;
+pub use shifting::{Shift, shifted};
 pub use steps::small_step;
 pub use writing::stepped;

@@ -1,56 +1,44 @@
-// The figures of a plan, moved on to those of the plan after an edit.
-ghost use Rattle.std.specs.Prelude.{◌≡◌, IfErr, IfOk, OnOk};
+// What is kept by place, moved on to that of the plan after an edit.
+ghost use Rattle.std.specs.Prelude.{◌≡◌, ℕ, List, IfErr, OnOk};
 ghost use Rattle.plan_basics.specs.declared.Refusal.{Refusal};
+ghost use Rattle.plan_kept.specs.plan_choice.specs.Choices.{AreReadyEntries};
 ghost use Rattle.plan_kept.specs.plan_model.specs.Contents.{Contents};
-ghost use Rattle.plan_kept.specs.plan_state.specs.Figures.{AreFigures};
-ghost use Rattle.plan_steps.specs.Edits.{ArePlacesWith, WasEdited};
-ghost use Rattle.plan_steps.specs.Touched.{AreKnownAlike};
+ghost use Rattle.plan_steps.specs.Columns.{AreColumnsOf, MakesOf};
+ghost use Rattle.plan_steps.specs.Groundworks.{HasGroundwork};
 
-use super::counting::recount;
-use super::edits::Edit;
+use super::columns::Columns;
+use super::groundwork::Groundwork;
+use super::values::put_at;
 use latest_start::Latest;
-use operation_graph::Graph;
 use plan_basics::Refusal;
-use plan_kept::Figures;
 use plan_restating::{restand, restate};
 use plan_status::SoundContents;
-use plan_takings::retake;
-use std::alloc::Global;
+use ready_list::ReadyList;
 
-/// Moves the figures of a plan on to those of the plan after an edit, and tells which places were touched, ascending. The error is
-/// always `Memory`: then the figures may be moved in part.
-pub fn move_figures(
-    alloc: Global,
-    graph: &Graph,
+/// Moves columns and the ready list on to those of the plan after an edit of which this was worked out. The error is always
+/// `Memory`; then as on success what stood there leads back.
+pub fn move_columns(
+    contents: &SoundContents,
     latest: &Latest,
-    after: &SoundContents,
-    edit: &Edit,
-    figures: &mut Figures,
-) -> Result<Vec<usize>, Refusal>
-    requires { (P : Contents) × WasEdited P after.now edit.now graph.now latest.now.starts figures.old }
-    ensures figures { OnOk result (AreFigures after.now figures.new) }
-    ensures touched { IfOk result (λ touched. ArePlacesWith after.now edit.now.places.items touched.items) }
-    ensures same { IfOk result (λ touched. (P : Contents) → WasEdited P after.now edit.now graph.now latest.now.starts figures.old → AreKnownAlike P after.now touched.items) }
+    columns: &mut Columns,
+    ready: &mut ReadyList,
+    groundwork: &Groundwork,
+) -> Result<(), Refusal>
+    requires { (P : Contents) × (edits : List ℕ) × HasGroundwork P contents.now edits latest.now.starts columns.old ready.old.entries groundwork.now }
+    ensures columns { OnOk result (AreColumnsOf contents.now columns.new) }
+    ensures ready { OnOk result (AreReadyEntries contents.now ready.new.entries) }
+    ensures back { MakesOf groundwork.now.old columns.new columns.old }
     ensures refused { IfErr result (λ r. r ≡ Refusal.Memory) }
 {
-    let contents = after.valid();
-    let touched = recount(alloc, graph, after, edit, &mut figures.kept)?;
-    restand(&mut figures.standings, &figures.kept, &touched);
+    put_at(&mut columns.kept, &groundwork.kept);
+    restand(&mut columns.standings, &columns.kept, &groundwork.touched);
     restate(
-        after,
-        latest,
-        &figures.standings,
-        &mut figures.statuses,
-        &mut figures.tallies,
-        &mut figures.ready,
-        &touched,
-    )?;
-    retake(
         contents,
-        &mut figures.given,
-        &mut figures.holdings,
-        &edit.places,
-        &edit.marks,
-    )?;
-    Ok(touched)
+        latest,
+        &columns.standings,
+        &mut columns.statuses,
+        &mut columns.tallies,
+        ready,
+        &groundwork.touched,
+    )
 }

@@ -1,12 +1,13 @@
 // What is named at a moment.
 ghost use Rattle.std.specs.Prelude.{◌≡◌, ℕ, IfErr, IfOk};
 ghost use Rattle.plan_basics.specs.declared.Refusal.{Refusal};
-ghost use Rattle.plan_kept.specs.plan_state.specs.Figures.{AreFigures};
+ghost use Rattle.plan_steps.specs.Columns.{IsStockOf};
 ghost use Rattle.plan_steps.specs.Naming.{IsNaming};
 
+use super::columns::Stock;
 use plan_basics::{Moment, OpKey, Refusal};
 use plan_changes::markings_of;
-use plan_kept::{Choice, Figures, chosen_with, places_of};
+use plan_kept::{Choice, chosen_with, places_of};
 use plan_moves::Marking;
 use plan_status::SoundContents;
 use std::alloc::Global;
@@ -20,30 +21,26 @@ pub struct Naming {
     pub places: Vec<usize>,
     /// The markings that they have before, in the order of the operations.
     pub marks: Vec<Marking>,
-    /// The figures, with what is given out and held once they are named.
-    pub figures: Figures,
+    /// What is given out and held once they are named, and what was ready.
+    pub stock: Stock,
 }
 
 /// What is named at a moment. The error is always `Memory`.
 pub fn name(
     alloc: Global,
     contents: &SoundContents,
-    figures: Figures,
+    stock: Stock,
     at: Moment,
 ) -> Result<Naming, Refusal>
-    requires { AreFigures contents.now figures }
+    requires { IsStockOf contents.now stock }
     ensures naming { IfOk result (IsNaming contents.now at) }
     ensures refused { IfErr result (λ r. r ≡ Refusal.Memory) }
 {
-    let Figures {
-        kept,
-        standings,
-        statuses,
-        tallies,
+    let Stock {
         given,
         holdings,
         ready,
-    } = figures;
+    } = stock;
     let Choice {
         named,
         given,
@@ -51,11 +48,7 @@ pub fn name(
     } = chosen_with(contents, &ready, at, given, holdings)?;
     let places = places_of(alloc, contents, &named)?;
     let marks = markings_of(alloc, contents.rows(), &named)?;
-    let figures = Figures {
-        kept,
-        standings,
-        statuses,
-        tallies,
+    let stock = Stock {
         given,
         holdings,
         ready,
@@ -64,6 +57,6 @@ pub fn name(
         named,
         places,
         marks,
-        figures,
+        stock,
     })
 }

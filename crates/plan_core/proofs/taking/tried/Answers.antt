@@ -11,6 +11,6 @@ returns-clause-trial c =
     let e = c.args.edit.now in
     let parts = c.into_parts-contents in
     let told = c.small_step-contents.ensures in
-    if_ok c.small_step-contents.result.1
+    if_ok c.small_step-contents.result.2
     (λ s trial P is. subst (λ (Q : Contents). IsTrialOf Q e c.args.at s) (parts.ensures.contents ∙ same_Some c.unwrap.result P (sym c.unwrap.ensures ∙ c.take.ensures.value ∙ is)) trial)
-    (trial_of parts.result.contents e c.args.at c.small_step-contents.result.1 told.chosen told.figures told.frame told.notes)
+    (trial_of parts.result.contents e c.args.at c.small_step-contents.result.2 told.chosen told.shift told.frame told.notes)

@@ -27,13 +27,7 @@ returns-clause-naming c =
       chosen = c.in_ok-named.ensures.chosen;
       places = subst (λ ks. ArePlacesOf P ks c.in_ok-places.places.items) c.deref.ensures.value c.in_ok-places.ensures;
       marked = subst (λ ks. WereMarked P ks c.in_ok-marks.marks.items) c.deref-2.ensures.value (subst (λ (R : Contents). WereMarked R c.deref-2.result.now c.in_ok-marks.marks.items) c.rows.ensures.contents c.in_ok-marks.ensures);
-      figures = record {
-        kept = were.kept;
-        standings = were.standings;
-        statuses = were.statuses;
-        tallies = were.tallies;
-        given = c.in_ok-named.ensures.given;
-        holders = c.in_ok-named.ensures.held;
-        ready = were.ready;
-      };
+      given = c.in_ok-named.ensures.given;
+      holders = c.in_ok-named.ensures.held;
+      ready = were.ready;
     }

@@ -1,76 +1,16 @@
-use Rattle.std.proofs.Common.{◌≡◌, sym, subst, ap, ◌∙◌, IfOk}
-use Rattle.plan_changes.proofs.Answered.{if_ok}
-use Rattle.plan_kept.specs.plan_model.specs.Contents.{Contents}
-use Rattle.plan_kept.specs.plan_model.specs.Ready.{IsChosen, named}
-use Rattle.plan_kept.specs.plan_model.specs.Valid.{IsSound}
-use Rattle.plan_kept.specs.plan_state.specs.Figures.{AreFigures, KeepsFrame}
+use Rattle.std.proofs.Common.{sym, subst}
+use Rattle.plan_kept.specs.plan_state.specs.Figures.{AreFigures}
+use Rattle.plan_steps.proofs.ColumnParts.{are_columns, are_figures, columns_alike, is_stock}
 use Rattle.plan_steps.proofs.steps.small_step.Goals as goal
-use Rattle.plan_steps.proofs.steps.small_step.Goals.{After-with_revision-after}
-use Rattle.plan_steps.specs.Edits.{IsEditOf, WasEdited, edited}
-use Rattle.plan_steps.specs.Naming.{AreStepNotes}
-use Rattle.plan_steps.specs.Revisions.{HasPlaceFor, written}
 
-pub with_revision-after-requires-clause-has_place : goal.with_revision-after-requires-clause-has_place
-with_revision-after-requires-clause-has_place c = subst (HasPlaceFor c.args.contents) (sym c.in-Ok.ensures.forth) c.requires.edit.has_place
+pub tried_step-contents-requires-clause-figures : goal.tried_step-contents-requires-clause-figures
+tried_step-contents-requires-clause-figures c = subst (AreFigures c.args.contents) (sym c.parts_of-columns.ensures) c.requires.figures
 
-pub with_revision-after-requires-clause-sound : goal.with_revision-after-requires-clause-sound
-with_revision-after-requires-clause-sound c =
-    subst (λ ks. IsSound (written ks c.in-Ok.trial.forth c.args.contents)) (sym c.deref.ensures.value)
-    (subst (λ x. IsSound (written c.args.edit.now.keys.items x c.args.contents)) (sym c.in-Ok.ensures.forth) c.requires.edit.sound_after)
-
--- what was written makes the edited plan
-is_edited : (c : After-with_revision-after) → c.with_revision-after.result ≡ edited c.args.edit.now c.args.contents
-is_edited c =
-    c.with_revision-after.ensures
-    ∙ ap (λ ks. written ks c.in-Ok.trial.forth c.args.contents) c.deref.ensures.value
-    ∙ ap (λ x. written c.args.edit.now.keys.items x c.args.contents) c.in-Ok.ensures.forth
-
--- of which the edit was made
-was_edited : (c : After-with_revision-after) → WasEdited c.args.contents c.with_revision-after.result c.args.edit.now c.args.graph.now c.args.latest.now.starts c.args.figures.now
-was_edited c =
+pub returns-clause-figures : goal.returns-clause-figures
+returns-clause-figures c =
     let P = c.args.contents in
-    let e = c.args.edit.now in
-    record {
-      sound = c.requires.edit.sound;
-      sound_after = subst IsSound (sym (is_edited c)) c.requires.edit.sound_after;
-      edit = subst (λ (Q : Contents). IsEditOf P Q e) (sym (is_edited c)) c.requires.edit.edit;
-      after = is_edited c;
-      graph = c.requires.graph;
-      latest = c.requires.latest;
-      figures = c.requires.figures;
-    }
-
-pub step_after-same-requires : goal.step_after-same-requires
-step_after-same-requires c = (c.args.contents, was_edited (goal.at.step_after-same-requires c).After-with_revision-after)
-
-pub without_edit-requires : goal.without_edit-requires
-without_edit-requires c =
-    let is = is_edited (goal.at.without_edit-requires c).After-with_revision-after in
-    (c.args.contents, record { edit = c.requires.edit; puts_back = c.in-Ok.ensures.back; after = c.step_after-same.ensures.contents ∙ is })
-
-pub returns-in-Ok-clause-contents : goal.returns-in-Ok-clause-contents
-returns-in-Ok-clause-contents c =
-    let is = is_edited (goal.at.returns-in-Ok-clause-contents c).After-with_revision-after in
-    c.without_edit.ensures c.args.contents (record { edit = c.requires.edit; puts_back = c.in-Ok.ensures.back; after = c.step_after-same.ensures.contents ∙ is })
-
-pub returns-in-Ok-clause-chosen : goal.returns-in-Ok-clause-chosen
-returns-in-Ok-clause-chosen c =
-    let is = is_edited (goal.at.returns-in-Ok-clause-chosen c).After-with_revision-after in
-    subst (λ (Q : Contents). IfOk c.step_after-same.result.1 (λ s. IsChosen Q c.args.at s.named.items)) is c.step_after-same.ensures.chosen
-
-pub returns-in-Ok-clause-figures : goal.returns-in-Ok-clause-figures
-returns-in-Ok-clause-figures c =
-    let is = is_edited (goal.at.returns-in-Ok-clause-figures c).After-with_revision-after in
-    subst (λ (Q : Contents). IfOk c.step_after-same.result.1 (λ s. AreFigures (named s.named.items Q) s.figures)) is c.step_after-same.ensures.figures
-
-pub returns-in-Ok-clause-frame : goal.returns-in-Ok-clause-frame
-returns-in-Ok-clause-frame c =
-    let here = (goal.at.returns-in-Ok-clause-frame c).After-with_revision-after in
-    let P = c.args.contents in
-    if_ok c.step_after-same.result.1 (λ s keeps. subst (λ (Q : Contents). KeepsFrame P (named s.named.items Q)) (is_edited here) (keeps P (was_edited here))) c.step_after-same.ensures.frame
-
-pub returns-in-Ok-clause-notes : goal.returns-in-Ok-clause-notes
-returns-in-Ok-clause-notes c =
-    let here = (goal.at.returns-in-Ok-clause-notes c).After-with_revision-after in
-    let P = c.args.contents in
-    if_ok c.step_after-same.result.1 (λ s notes. subst (λ (Q : Contents). AreStepNotes P (named s.named.items Q) s.notes) (is_edited here) (notes P (was_edited here))) c.step_after-same.ensures.notes
+    let l = c.parts_of-columns.result.0 in
+    let s = c.parts_of-columns.result.1 in
+    let new = c.tried_step-contents.new.columns in
+    let are = subst (AreFigures P) (sym c.parts_of-columns.ensures) c.requires.figures in
+    subst (AreFigures P) (sym c.figures_with.ensures) (are_figures P new s (columns_alike P new l c.tried_step-contents.ensures.unchanged (are_columns P l s are)) (is_stock P l s are))

@@ -4,7 +4,10 @@ use Rattle.plan_steps.proofs.steps.trial_of.Goals as goal
 use Rattle.plan_steps.specs.Revisions.{HasPlaceFor, PutsBack}
 
 pub standing-requires : goal.standing-requires
-standing-requires c = subst (λ (P : Contents). HasPlaceFor P c.args.edit.now.revision) (sym c.rows.ensures.contents) c.requires.has_place
+standing-requires c = subst (λ (P : Contents). HasPlaceFor P c.args.edit.now.revision) (sym c.rows.ensures.contents) c.requires.edit.has_place
 
 pub returns-clause-back : goal.returns-clause-back
 returns-clause-back c = subst (λ (P : Contents). PutsBack P c.args.edit.now.revision c.in_ok-back.back) c.rows.ensures.contents c.in_ok-back.ensures
+
+pub returns-clause-stock : goal.returns-clause-stock
+returns-clause-stock c = c.in_ok-stock.ensures.stock c.args.contents.now c.requires.stock

@@ -1,0 +1,60 @@
+-- Figures in two parts, and columns that are alike.
+use Rattle.std.proofs.Common.{◌≡◌, refl, sym, subst, ◌∙◌, Vec, Global}
+use Rattle.plan_cascade.specs.declared.kept.Kept.{Kept}
+use Rattle.plan_kept.specs.plan_drafts.specs.Places.{AreStatuses}
+use Rattle.plan_kept.specs.plan_model.specs.Contents.{Contents}
+use Rattle.plan_kept.specs.plan_state.specs.Figures.{AreFigures}
+use Rattle.plan_kept.specs.plan_waiting.specs.Kept.{AreKept}
+use Rattle.plan_status.specs.Standings.{AreStandings, AreTallies}
+use Rattle.plan_steps.specs.Columns.{AreAlike, AreColumnsOf, AreSizedBy, IsStockOf, MakesOf, figures_of}
+use Rattle.plan_steps.specs.Values.{LeadsTo}
+use Rattle.plan_steps.specs.declared.columns.Columns.{Columns}
+use Rattle.plan_steps.specs.declared.columns.Stock.{Stock}
+use Rattle.plan_steps.specs.declared.excerpts.Excerpt.{Excerpt}
+
+pub alike_itself : (l : Columns) → AreAlike l l
+alike_itself l = record { kept = refl; standings = refl; statuses = refl; tallies = refl }
+
+pub alike_on : (l m n : Columns) → AreAlike l m → AreAlike m n → AreAlike l n
+alike_on l m n x y = record { kept = x.kept ∙ y.kept; standings = x.standings ∙ y.standings; statuses = x.statuses ∙ y.statuses; tallies = x.tallies ∙ y.tallies }
+
+-- columns are alike where what is kept has the same
+pub kept_alike : (l : Columns) (kept : Vec Kept Global) → kept.items ≡ l.kept.items → AreAlike (record l { kept = kept }) l
+kept_alike l kept same = record { kept = same; standings = refl; statuses = refl; tallies = refl }
+
+pub columns_alike : (P : Contents) (l m : Columns) → AreAlike l m → AreColumnsOf P m → AreColumnsOf P l
+columns_alike P l m same are = record {
+  kept = subst (AreKept P) (sym same.kept) are.kept;
+  standings = subst (AreStandings P) (sym same.standings) are.standings;
+  statuses = subst (AreStatuses P) (sym same.statuses) are.statuses;
+  tallies = subst (AreTallies P) (sym same.tallies) are.tallies;
+}
+
+pub are_columns : (P : Contents) (l : Columns) (s : Stock) → AreFigures P (figures_of l s) → AreColumnsOf P l
+are_columns P l s are = record { kept = are.kept; standings = are.standings; statuses = are.statuses; tallies = are.tallies }
+
+pub is_stock : (P : Contents) (l : Columns) (s : Stock) → AreFigures P (figures_of l s) → IsStockOf P s
+is_stock P l s are = record { given = are.given; holders = are.holders; ready = are.ready }
+
+pub are_figures : (P : Contents) (l : Columns) (s : Stock) → AreColumnsOf P l → IsStockOf P s → AreFigures P (figures_of l s)
+are_figures P l s are stock = record {
+  kept = are.kept;
+  standings = are.standings;
+  statuses = are.statuses;
+  tallies = are.tallies;
+  given = stock.given;
+  holders = stock.holders;
+  ready = stock.ready;
+}
+
+pub sized : (P : Contents) (l : Columns) → AreColumnsOf P l → AreSizedBy P l
+sized P l are = record { kept = are.kept.size; standings = are.standings.size; statuses = are.statuses.size; tallies = are.tallies.size }
+
+-- what makes columns of some makes them of others that are alike
+pub makes_alike : (x : Excerpt) (l m to : Columns) → AreAlike l m → MakesOf x m to → MakesOf x l to
+makes_alike x l m to same makes = record {
+  kept = subst (λ ks. LeadsTo x.kept.items ks to.kept.items) (sym same.kept) makes.kept;
+  standings = subst (λ ss. LeadsTo x.standings.items ss to.standings.items) (sym same.standings) makes.standings;
+  statuses = subst (λ ss. LeadsTo x.statuses.items ss to.statuses.items) (sym same.statuses) makes.statuses;
+  tallies = subst (λ ns. LeadsTo x.tallies.items ns to.tallies.items) (sym same.tallies) makes.tallies;
+}

@@ -1,0 +1,36 @@
+use Rattle.std.proofs.Common.{◌≡◌, ◌<◌, inr, sym, subst, ap, ◌∙◌, ℕ, All, length, map, Contains}
+use Rattle.plan_cascade.specs.declared.kept.Kept.{Kept}
+use Rattle.plan_steps.proofs.KeptThen.{moved_on, placed}
+use Rattle.plan_steps.proofs.StepParts.{all_below}
+use Rattle.plan_steps.proofs.counting.counted.Goals as goal
+use Rattle.plan_steps.specs.Edits.{ArePlacesWith, IsKeptBeside}
+use Rattle.plan_steps.specs.Values.{AreValuesAt}
+
+pub values_at-requires : goal.values_at-requires
+values_at-requires c =
+    let Q = c.args.after.now in
+    let e = c.args.edit.now in
+    let told = c.in_ok-touched.ensures in
+    let touched = c.in_ok-touched.touched.items in
+    let new = c.cascade.new.kept in
+    let noted : c.deref-3.result.now ≡ map (λ (e : ℕ × Kept). e.0) c.cascade.new.journal.items = c.deref-3.ensures.value ∙ c.in_ok-noted.ensures ∙ ap (map (λ (e : ℕ × Kept). e.0)) c.deref.ensures.value in
+    let there : ArePlacesWith Q e.places.items touched =
+    placed c.requires.before.0 Q e c.args.graph.now c.args.kept.now c.requires.before.1 (map (λ (e : ℕ × Kept). e.0) c.cascade.new.journal.items) c.deref-2.result.now c.deref-3.result.now touched
+    c.in_ok-cascade.ensures.within c.deref-2.ensures.value noted told.ascend told.both in
+    subst (All (λ i. i < length new)) (sym c.deref-4.ensures.value) (all_below (length new) touched (λ i has. subst (λ n. i < n) (sym c.in_ok-cascade.ensures.kept.size) (there.within i has)))
+
+pub returns-clause-kept_then : goal.returns-clause-kept_then
+returns-clause-kept_then c =
+    let Q = c.args.after.now in
+    let e = c.args.edit.now in
+    let told = c.in_ok-touched.ensures in
+    let touched = c.in_ok-touched.touched.items in
+    let kept = c.args.kept.now in
+    let new = c.cascade.new.kept in
+    let values = c.in_ok-kept.kept.items in
+    let noted : c.deref-3.result.now ≡ map (λ (e : ℕ × Kept). e.0) c.cascade.new.journal.items = c.deref-3.ensures.value ∙ c.in_ok-noted.ensures ∙ ap (map (λ (e : ℕ × Kept). e.0)) c.deref.ensures.value in
+    let there : ArePlacesWith Q e.places.items touched =
+    placed c.requires.before.0 Q e c.args.graph.now kept c.requires.before.1 (map (λ (e : ℕ × Kept). e.0) c.cascade.new.journal.items) c.deref-2.result.now c.deref-3.result.now touched
+    c.in_ok-cascade.ensures.within c.deref-2.ensures.value noted told.ascend told.both in
+    let beside : IsKeptBeside touched kept new = λ i out. c.in_ok-cascade.ensures.noted i (λ has. out ((told.both i).1 (inr (subst (λ ps. Contains ps i) (sym noted) has)))) in
+    moved_on Q e.places.items touched values kept new there c.in_ok-cascade.ensures.kept c.cascade.ensures.journaled.size beside (subst (λ ps. AreValuesAt new (Contains ps) values) c.deref-4.ensures.value c.in_ok-kept.ensures)

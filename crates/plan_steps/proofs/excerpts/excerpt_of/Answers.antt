@@ -1,0 +1,16 @@
+use Rattle.std.proofs.Common.{sym, subst, Contains}
+use Rattle.plan_steps.proofs.Overwritten.{meant_too}
+use Rattle.plan_steps.proofs.excerpts.excerpt_of.Goals as goal
+use Rattle.plan_steps.specs.Values.{AreValuesAt}
+use Rattle.plan_rows.specs.Touched.{HasOneOf}
+
+pub returns : goal.returns
+returns c =
+    let places = c.args.places.now in
+    record {
+      kept = subst (λ xs. AreValuesAt xs (Contains places) c.in_ok-values_at.field-0.items) c.deref.ensures.value c.in_ok-values_at.ensures;
+      standings = subst (λ xs. AreValuesAt xs (Contains places) c.in_ok-values_at-2.field-0.items) c.deref-2.ensures.value c.in_ok-values_at-2.ensures;
+      statuses = subst (λ xs. AreValuesAt xs (Contains places) c.in_ok-values_at-3.field-0.items) c.deref-3.ensures.value c.in_ok-values_at-3.ensures;
+      tallies = meant_too c.args.columns.now.tallies.items c.deref-4.result.now (Contains c.deref-5.result.now) (HasOneOf c.args.contents.now places) c.in_ok-values_at-4.field-0.items c.deref-4.ensures.value
+          (λ p has. subst (λ ps. Contains ps p) (sym c.deref-5.ensures.value) (c.in_ok-occurrences.ensures.each p has)) c.in_ok-values_at-4.ensures;
+    }

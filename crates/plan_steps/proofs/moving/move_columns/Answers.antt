@@ -1,0 +1,136 @@
+use Rattle.std.proofs.Common.{◌≡◌, sym, subst, ap, ◌∙◌, arith, ◌<◌, length, All}
+use Rattle.std.proofs.lemmas.List.{with_items_is}
+use Rattle.std.specs.FinMap.{entries}
+use Rattle.std.specs.Vec.{with_items}
+use Rattle.plan_kept.proofs.Frame.{frame_stays}
+use Rattle.plan_kept.specs.plan_drafts.specs.Places.{AreStatuses}
+use Rattle.plan_kept.specs.plan_waiting.specs.Kept.{AreKept}
+use Rattle.plan_restating.specs.Before.{KeepStatus}
+use Rattle.plan_restating.specs.Restanding.{AreCounters, StayElsewhere}
+use Rattle.plan_status.specs.Standings.{AreStandings, AreTallies}
+use Rattle.plan_steps.proofs.MovedColumns.{makes_back, then, then_known}
+use Rattle.plan_steps.proofs.Overwritten.{same_on_err, vector_overwritten}
+use Rattle.plan_steps.proofs.StepParts.{all_below, both_on_ok, counters, keep_status, restood}
+use Rattle.plan_steps.proofs.moving.move_columns.Goals as goal
+use Rattle.plan_steps.proofs.moving.move_columns.Goals.{After-restand}
+
+pub restand-requires-clause-within : goal.restand-requires-clause-within
+restand-requires-clause-within c =
+    let has = c.requires.2 in
+    let n = length c.deref_mut-2.result.now in
+    let size : n ≡ length (entries c.requires.0.operations) = ap length c.deref_mut-2.ensures.value ∙ has.columns.standings.size in
+    subst (All (λ i. i < n)) (sym c.deref-3.ensures.value)
+    (all_below n c.args.groundwork.now.touched.items (λ i at. subst (λ m. i < m) (sym size) (subst (λ m. i < m) has.moved.size (has.worked_out.moved_on.touched.within i at))))
+
+pub restand-requires-clause-counters : goal.restand-requires-clause-counters
+restand-requires-clause-counters c =
+    let Q = c.args.contents.now in
+    let l = c.args.columns.now in
+    let g = c.args.groundwork.now in
+    let has = c.requires.2 in
+    let kept = c.deref-2.ensures.value ∙ vector_overwritten g.kept.items l.kept c.deref.result.now c.deref_mut.result.now c.put_at.new.list c.deref.ensures.value c.deref_mut.ensures.value c.put_at.ensures in
+    (Q, has.sound_after.valid, subst (AreCounters Q) (sym kept) (counters Q (then c.requires.0 Q c.requires.1 c.args.latest.now.starts l c.args.ready.now.entries g has) has.worked_out.moved_on.kept_then))
+
+pub restate-requires-clause-within : goal.restate-requires-clause-within
+restate-requires-clause-within c =
+    let n = length (entries c.args.contents.now.operations) in
+    subst (All (λ i. i < n)) (sym c.deref-5.ensures.value) (all_below n c.args.groundwork.now.touched.items c.requires.2.worked_out.moved_on.touched.within)
+
+-- the kept ones are those then
+kept_is : (c : After-restand) → c.deref-2.result.now ≡ then c.requires.0 c.args.contents.now c.requires.1 c.args.latest.now.starts c.args.columns.now c.args.ready.now.entries c.args.groundwork.now c.requires.2
+kept_is c =
+    let l = c.args.columns.now in
+    let g = c.args.groundwork.now in
+    c.deref-2.ensures.value ∙ vector_overwritten g.kept.items l.kept c.deref.result.now c.deref_mut.result.now c.put_at.new.list c.deref.ensures.value c.deref_mut.ensures.value c.put_at.ensures
+
+-- the standings are those of the plan then
+stands : (c : After-restand) → AreStandings c.args.contents.now c.restand.new.standings
+stands c =
+    let P = c.requires.0 in
+    let Q = c.args.contents.now in
+    let l = c.args.columns.now in
+    let g = c.args.groundwork.now in
+    let has = c.requires.2 in
+    let on = has.worked_out.moved_on in
+    restood P Q c.requires.1 has.moved has.sound_after.valid l.kept.items (then P Q c.requires.1 c.args.latest.now.starts l c.args.ready.now.entries g has) has.columns.kept on.kept_then
+    l.standings.items has.columns.standings g.touched.items on.beside c.deref_mut-2.result.now c.deref-2.result.now c.deref-3.result.now
+    c.deref_mut-2.ensures.value (kept_is c) c.deref-3.ensures.value c.restand.new.standings c.restand.ensures.right
+
+-- and so in the columns
+stands_back : (c : After-restand) → (with_items c.args.columns.now.standings c.restand.new.standings).items ≡ c.restand.new.standings
+stands_back c =
+    let l = c.args.columns.now in
+    let has = c.requires.2 in
+    let right = stands c in
+    with_items_is l.standings c.restand.new.standings (omega (arith, right.size, has.columns.standings.size, has.moved.size, l.standings.ok.0))
+
+pub restate-requires-clause-standings : goal.restate-requires-clause-standings
+restate-requires-clause-standings c =
+    let k : After-restand = (goal.at.restate-requires-clause-standings c).After-restand in
+    subst (AreStandings c.args.contents.now) (sym (c.deref-4.ensures.value ∙ stands_back k)) (stands k)
+
+pub restate-requires-clause-latest : goal.restate-requires-clause-latest
+restate-requires-clause-latest c = (frame_stays c.requires.0 c.args.contents.now c.requires.1 c.requires.2.moved).latest c.args.latest.now.starts c.requires.2.latest
+
+pub restate-requires-clause-before : goal.restate-requires-clause-before
+restate-requires-clause-before c =
+    let P = c.requires.0 in
+    let Q = c.args.contents.now in
+    let edits = c.requires.1 in
+    let has = c.requires.2 in
+    let touched = c.args.groundwork.now.touched.items in (
+      P,
+      edits,
+      has.moved,
+      record {
+        latest = has.latest;
+        statuses = subst (AreStatuses P) (sym c.deref_mut-3.ensures.value) has.columns.statuses;
+        tallies = subst (AreTallies P) (sym c.deref_mut-4.ensures.value) has.columns.tallies;
+        ready = has.ready;
+      },
+      subst (KeepStatus P Q) (sym c.deref-5.ensures.value) (keep_status P Q edits has.moved touched (then_known P Q edits c.args.latest.now.starts c.args.columns.now c.args.ready.now.entries c.args.groundwork.now has)),
+    )
+
+pub returns-clause-columns : goal.returns-clause-columns
+returns-clause-columns c =
+    let k : After-restand = (goal.at.returns-clause-columns c).After-restand in
+    let P = c.requires.0 in
+    let Q = c.args.contents.now in
+    let l = c.args.columns.now in
+    let g = c.args.groundwork.now in
+    let has = c.requires.2 in
+    let groups : length (entries Q.occurrences) ≡ length (entries P.occurrences) = ap (λ os. length (entries os)) has.moved.occurrences in
+    let kept = vector_overwritten g.kept.items l.kept c.deref.result.now c.deref_mut.result.now c.put_at.new.list c.deref.ensures.value c.deref_mut.ensures.value c.put_at.ensures in
+    both_on_ok c.restate.result (λ statuses tallies. record {
+      kept = subst (AreKept Q) (sym kept) has.worked_out.moved_on.kept_then;
+      standings = subst (AreStandings Q) (sym (stands_back k)) (stands k);
+      statuses = subst (AreStatuses Q) (sym (with_items_is l.statuses c.restate.new.statuses (omega (arith, statuses.size, has.columns.statuses.size, has.moved.size, l.statuses.ok.0)))) statuses;
+      tallies = subst (AreTallies Q) (sym (with_items_is l.tallies c.restate.new.tallies (omega (arith, tallies.size, has.columns.tallies.size, groups, l.tallies.ok.0)))) tallies;
+    }) c.restate.ensures.statuses c.restate.ensures.tallies
+
+pub returns-clause-back : goal.returns-clause-back
+returns-clause-back c =
+    let k : After-restand = (goal.at.returns-clause-back c).After-restand in
+    let P = c.requires.0 in
+    let Q = c.args.contents.now in
+    let edits = c.requires.1 in
+    let starts = c.args.latest.now.starts in
+    let l = c.args.columns.now in
+    let es = c.args.ready.now.entries in
+    let g = c.args.groundwork.now in
+    let has = c.requires.2 in
+    let right = stands k in
+    let kept = vector_overwritten g.kept.items l.kept c.deref.result.now c.deref_mut.result.now c.put_at.new.list c.deref.ensures.value c.deref_mut.ensures.value c.put_at.ensures in
+    let groups : length (entries Q.occurrences) ≡ length (entries P.occurrences) = ap (λ os. length (entries os)) has.moved.occurrences in
+    let stay : StayElsewhere l.standings.items c.restand.new.standings g.touched.items =
+    subst (λ xs. StayElsewhere xs c.restand.new.standings g.touched.items) c.deref_mut-2.ensures.value (subst (λ ts. StayElsewhere c.deref_mut-2.result.now c.restand.new.standings ts) c.deref-3.ensures.value c.restand.ensures.elsewhere) in
+    makes_back P Q edits starts l es g has c.restate.result _ kept
+    (subst (λ xs. StayElsewhere l.standings.items xs g.touched.items) (sym (stands_back k)) stay)
+    (ap length (stands_back k) ∙ right.size ∙ has.moved.size ∙ sym has.columns.standings.size)
+    (both_on_ok c.restate.result (λ statuses tallies. record {
+      kept = subst (AreKept Q) (sym kept) has.worked_out.moved_on.kept_then;
+      standings = subst (AreStandings Q) (sym (stands_back k)) right;
+      statuses = subst (AreStatuses Q) (sym (with_items_is l.statuses c.restate.new.statuses (omega (arith, statuses.size, has.columns.statuses.size, has.moved.size, l.statuses.ok.0)))) statuses;
+      tallies = subst (AreTallies Q) (sym (with_items_is l.tallies c.restate.new.tallies (omega (arith, tallies.size, has.columns.tallies.size, groups, l.tallies.ok.0)))) tallies;
+    }) c.restate.ensures.statuses c.restate.ensures.tallies)
+    (same_on_err _ c.restate.result l.statuses l.tallies c.deref_mut-3.result.now c.deref_mut-4.result.now c.restate.new.statuses c.restate.new.tallies c.deref_mut-3.ensures.value c.deref_mut-4.ensures.value c.restate.ensures.unchanged)

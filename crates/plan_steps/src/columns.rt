@@ -1,0 +1,95 @@
+// The figures of a plan in two parts: what is kept by place, and what is short.
+ghost use Rattle.std.specs.Prelude.{◌≡◌, IfErr, IfOk};
+ghost use Rattle.plan_basics.specs.declared.Refusal.{Refusal};
+ghost use Rattle.plan_kept.specs.plan_model.specs.Contents.{Contents};
+ghost use Rattle.plan_steps.specs.Columns.{IsStockOf, figures_of};
+
+use plan_basics::Refusal;
+use plan_cascade::Kept;
+use plan_kept::Figures;
+use plan_status::Standing;
+use ready_list::ReadyList;
+use special_resources::Holdings;
+use status_rules::{Counts, Status};
+use std::alloc::Global;
+use workstations::Capacity;
+
+/// What is kept of each operation and each occurrence, in the order of their keys.
+#[derive(Drop)]
+pub struct Columns {
+    /// Of each operation, whether it is satisfied, and how many predecessors it waits for.
+    pub kept: Vec<Kept>,
+    /// Of each operation, what is known of its predecessors.
+    pub standings: Vec<Standing>,
+    /// The status of each operation.
+    pub statuses: Vec<Status>,
+    /// The numbers of each occurrence's operations, by status.
+    pub tallies: Vec<Counts>,
+}
+
+/// What is given out, held and ready.
+#[derive(Drop)]
+pub struct Stock {
+    /// What each workstation has given out, in the order of their keys.
+    pub given: Vec<Capacity>,
+    /// Who holds what of special resources.
+    pub holdings: Holdings,
+    /// What is ready, in the order in which it is to start.
+    pub ready: ReadyList,
+}
+
+impl Stock {
+    /// A copy. The error is always `Memory`.
+    pub fn try_clone(&self, alloc: Global) -> Result<Stock, Refusal>
+        ensures stock { (P : Contents) → IsStockOf P self.now → IfOk result (IsStockOf P) }
+        ensures refused { IfErr result (λ r. r ≡ Refusal.Memory) }
+    {
+        Ok(Stock {
+            given: Vec::from_slice(alloc, &self.given)?,
+            holdings: self.holdings.try_clone()?,
+            ready: self.ready.try_clone()?,
+        })
+    }
+}
+
+/// Both parts of these figures.
+pub fn parts_of(figures: Figures) -> (Columns, Stock)
+    ensures { figures_of result.0 result.1 ≡ figures }
+{
+    let Figures {
+        kept,
+        standings,
+        statuses,
+        tallies,
+        given,
+        holdings,
+        ready,
+    } = figures;
+    let columns = Columns {
+        kept,
+        standings,
+        statuses,
+        tallies,
+    };
+    let stock = Stock {
+        given,
+        holdings,
+        ready,
+    };
+    (columns, stock)
+}
+
+/// The figures of which these are the parts.
+pub fn figures_with(columns: Columns, stock: Stock) -> Figures
+    ensures { result ≡ figures_of columns stock }
+{
+    Figures {
+        kept: columns.kept,
+        standings: columns.standings,
+        statuses: columns.statuses,
+        tallies: columns.tallies,
+        given: stock.given,
+        holdings: stock.holdings,
+        ready: stock.ready,
+    }
+}

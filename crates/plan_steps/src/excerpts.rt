@@ -1,0 +1,52 @@
+// Excerpts of what is kept by place.
+ghost use Rattle.std.specs.Prelude.{◌≡◌, ◌<◌, All, IfOk, length};
+ghost use Rattle.std.specs.FinMap.{entries};
+ghost use Rattle.plan_steps.specs.Columns.{AreAlike, AreSizedBy, IsExcerptOf, MakesOf};
+ghost use Rattle.plan_steps.specs.declared.columns.Columns.{Columns as ColumnsValue};
+
+use super::columns::Columns;
+use super::values::{occurrences_at, put_at, values_at};
+use plan_cascade::Kept;
+use plan_status::{SoundContents, Standing};
+use status_rules::{Counts, Status};
+use std::alloc::{AllocError, Global};
+
+/// What columns have at some places of operations, and at those of their occurrences.
+#[derive(Drop)]
+pub struct Excerpt {
+    pub kept: Vec<(usize, Kept)>,
+    pub standings: Vec<(usize, Standing)>,
+    pub statuses: Vec<(usize, Status)>,
+    pub tallies: Vec<(usize, Counts)>,
+}
+
+/// What the columns, which have a row for each operation and each occurrence of the plan, have at these places.
+pub fn excerpt_of(
+    alloc: Global,
+    contents: &SoundContents,
+    columns: &Columns,
+    places: &[usize],
+) -> Result<Excerpt, AllocError>
+    requires sized { AreSizedBy contents.now columns.now }
+    requires within { All (λ i. i < length (entries contents.now.operations)) places.now }
+    ensures { IfOk result (IsExcerptOf contents.now places.now columns.now) }
+{
+    let occurrences = occurrences_at(alloc, contents, places)?;
+    Ok(Excerpt {
+        kept: values_at(alloc, &columns.kept, places)?,
+        standings: values_at(alloc, &columns.standings, places)?,
+        statuses: values_at(alloc, &columns.statuses, places)?,
+        tallies: values_at(alloc, &columns.tallies, &occurrences)?,
+    })
+}
+
+/// Writes an excerpt into columns. It takes no memory.
+pub fn put_excerpt(columns: &mut Columns, excerpt: &Excerpt)
+    requires { (to : ColumnsValue) × MakesOf excerpt.now columns.old to }
+    ensures { (to : ColumnsValue) → MakesOf excerpt.now columns.old to → AreAlike columns.new to }
+{
+    put_at(&mut columns.kept, &excerpt.kept);
+    put_at(&mut columns.standings, &excerpt.standings);
+    put_at(&mut columns.statuses, &excerpt.statuses);
+    put_at(&mut columns.tallies, &excerpt.tallies);
+}

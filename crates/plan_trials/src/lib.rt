@@ -1,0 +1,95 @@
+//! What an empty plan answers to a load, for whom nothing of the plan is kept: no row of the tables is worked out, and nothing
+//! is marked.
+#![tactic(auto)]
+
+ghost use Rattle.std.specs.Prelude.{◌≡◌, ◌⊎◌, pos, IfErr, IfOk, OnOk};
+ghost use Rattle.plan_basics.specs.Refusals.{NoneRefuses};
+ghost use Rattle.plan_basics.specs.declared.Refusal.{Refusal};
+ghost use Rattle.plan_core.specs.plan_model.specs.Plan.{Plan, no_plan};
+ghost use Rattle.plan_core.specs.plan_model.specs.Ready.{IsChosen};
+ghost use Rattle.plan_records.specs.Acceptance.{MayBeAccepted};
+ghost use Rattle.plan_records.specs.Answer.{accepted, answer_of, refused};
+ghost use Rattle.plan_records.specs.Step.{Step};
+ghost use Rattle.plan_core.specs.plan_drafts.specs.Drafts.{IsDraft};
+ghost use Rattle.plan_status.specs.Standings.{AreStandings};
+ghost use Rattle.plan_steps.specs.plan_choice.specs.Choices.{AreLatestStarts};
+ghost use Rattle.plan_trials.specs.Trials.{IsAnswerAlone, load_at};
+
+use latest_start::Latest;
+use plan_basics::{Moment, OpKey, Refusal};
+use plan_records::{PlanDraft, Reply};
+use plan_status::{SoundContents, Standing, graph_for, standings_of, statuses_of};
+use plan_steps::{check_load, chosen, latest_of, ready_of};
+use std::alloc::Global;
+
+// The moment of a load into an empty plan that may be accepted; else the least refusal that applies.
+fn check(at: i64, draft: &Option<PlanDraft>) -> Result<Moment, Refusal>
+    ensures at { IfOk result (λ m. at ≡ pos m) }
+    ensures ok { OnOk result (NoneRefuses (MayBeAccepted no_plan (load_at at draft.now))) }
+    ensures refused { IfErr result (λ r. Step no_plan (load_at at draft.now) (refused r) no_plan) }
+{
+    if at < 0 {
+        return Err(Refusal::Past);
+    }
+    let moment = Moment::new(at).ok_or(Refusal::MomentRange)?;
+    check_load(false, draft)?;
+    Ok(moment)
+}
+
+// What is named at a moment, by the standings and the latest starts of the operations. The error is always `Memory`.
+fn named_by(
+    alloc: Global,
+    contents: &SoundContents,
+    standings: &[Standing],
+    latest: &Latest,
+    at: Moment,
+) -> Result<Vec<OpKey>, Refusal>
+    requires standings { AreStandings contents.now standings.now }
+    requires latest { AreLatestStarts contents.now latest.now.starts }
+    ensures chosen { IfOk result (λ keys. IsChosen contents.now at keys.items) }
+    ensures refused { IfErr result (λ r. r ≡ Refusal.Memory) }
+{
+    let statuses = statuses_of(alloc, contents, standings)?;
+    let ready = ready_of(alloc, contents, &statuses, latest)?;
+    chosen(alloc, contents, &ready, at)
+}
+
+// What is named at a moment in these contents. The error is always `Memory`.
+fn named_at(alloc: Global, contents: &SoundContents, at: Moment) -> Result<Vec<OpKey>, Refusal>
+    ensures chosen { IfOk result (λ keys. IsChosen contents.now at keys.items) }
+    ensures refused { IfErr result (λ r. r ≡ Refusal.Memory) }
+{
+    let graph = graph_for(alloc, contents.valid())?;
+    let standings = standings_of(alloc, contents.valid(), &graph)?;
+    let latest = latest_of(alloc, contents, &graph)?;
+    named_by(alloc, contents, &standings, &latest, at)
+}
+
+// The contents of a draft, which are sound.
+fn contents_of(draft: PlanDraft) -> SoundContents
+    ensures contents { result ≡ draft }
+    ensures draft { IsDraft draft }
+{
+    SoundContents::of(draft.into_contents())
+}
+
+// The operations that an empty plan names where a draft is loaded into it at a minute; or why it isn't.
+fn named_alone(alloc: Global, at: i64, draft: Option<PlanDraft>) -> Result<Vec<OpKey>, Refusal>
+    ensures named { IfOk result (λ keys. (P : Plan) × Step no_plan (load_at at draft) (accepted keys.items) P) }
+    ensures refused { IfErr result (λ r. (r ≡ Refusal.Memory) ⊎ Step no_plan (load_at at draft) (refused r) no_plan) }
+{
+    let moment = check(at, &draft)?;
+    let contents = contents_of(draft.unwrap());
+    named_at(alloc, &contents, moment)
+}
+
+/// What an empty plan answers to the load of a draft at a minute, `None` for a text that denotes none: as it does by
+/// `Plan::prepare` and `Plan::apply`, but no plan is left.
+pub fn answer_alone(alloc: Global, at: i64, draft: Option<PlanDraft>) -> Reply
+    ensures { IsAnswerAlone at draft (answer_of result) }
+{
+    match named_alone(alloc, at, draft) {
+        Ok(named) => Reply::Accepted { named },
+        Err(refusal) => Reply::Refused(refusal),
+    }
+}
