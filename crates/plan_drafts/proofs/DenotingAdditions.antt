@@ -5,7 +5,7 @@ use Rattle.plan_model.specs.Contents.{AddedParts}
 use Rattle.plan_items.specs.declared.Item.{Item}
 use Rattle.plan_items.specs.Items.{Fields, Says}
 use Rattle.plan_drafts.specs.declared.contents.AdditionParts.{AdditionParts}
-use Rattle.plan_drafts.specs.Contents.{added_of, AreAdditionParts}
+use Rattle.plan_drafts.specs.Contents.{added_of}
 use Rattle.plan_drafts.specs.AdditionItems.{CanComeIn, ArePartsOf}
 use Rattle.plan_drafts.specs.Records.{StandsInAdded, IsItemOf, AreItems, DenotesAddition}
 use Rattle.plan_drafts.proofs.Denoting.{same_items, items_legal}
@@ -13,9 +13,6 @@ use Rattle.plan_drafts.proofs.MadeAdditions as made_of
 use Rattle.plan_drafts.proofs.NeededAdditions.{needed_addition}
 
 module _ (records : List Fields) (items : List Item) (said : AllZip Says records items) where
-  pub are_addition_parts : (n : AdditionParts) → ArePartsOf items n → AreAdditionParts n
-  are_addition_parts n made = made_of.are_addition_parts items n (items_legal records items said) made
-
   pub addition_denoted : (n : AdditionParts) → ArePartsOf items n → DenotesAddition records (added_of n)
   addition_denoted n made =
       let legal = items_legal records items said in

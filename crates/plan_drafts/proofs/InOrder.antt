@@ -8,7 +8,7 @@ use Rattle.std.specs.FinMap.{get, contains_key, entries, from_entries, keys}
 use Rattle.std.specs.FinSet as set
 use Rattle.std.specs.Ordering.{eq_by_cmp}
 use Rattle.std.proofs.lemmas.List.Elements.{All-contains, All-head, All-tail, All-weaker}
-use Rattle.std.proofs.lemmas.List.Sorted.{IsPermutation-sym, Contains-permutation, list_any-IsPermutation}
+use Rattle.std.proofs.lemmas.List.Sorted.{IsPermutation-map, IsPermutation-sym, Contains-permutation, list_any-IsPermutation}
 use Rattle.plan_basics.specs.declared.limits.TheConstants.{MOST_NEEDS, MOST_OPERATIONS, MOST_PAIRS}
 use Rattle.plan_basics.specs.declared.keys.OccKey.{OccKey}
 use Rattle.plan_basics.specs.declared.keys.OpKey.{OpKey}
@@ -17,13 +17,13 @@ use Rattle.plan_model.specs.special_resources.specs.declared.Need.{Need}
 use Rattle.plan_model.specs.special_resources.specs.Needs.{Usages, usages_of}
 use Rattle.plan_model.specs.status_rules.specs.declared.Mark.TheVariants.{Unmarked}
 use Rattle.plan_model.specs.Contents.{Contents, Operation, IsPairOf, pair_cmp}
-use Rattle.plan_model.proofs.Entries.{entries_are}
+use Rattle.plan_model.proofs.Entries.{entries_are, keys_of-entries, rows_in_order}
 use Rattle.plan_model.specs.Valid.{IsAcyclic}
 use Rattle.plan_model.specs.declared.Occurrence.{Occurrence}
 use Rattle.plan_drafts.specs.PlanGraphs.{AreAmong, JoinOperations}
 use Rattle.plan_items.specs.declared.OperationItem.{OperationItem}
 use Rattle.plan_drafts.specs.PlanItems.{Fits, IsOneOf, BelongsTo, AreOperations, EachHasOperation, AreRowsOf, IsPairIn, ArePairs, ArePairsInOrder, keys_said, needs_of, occurrence_of, operation_of, row_of, terms_of}
-use Rattle.plan_drafts.proofs.Keyed.{key_to_row, row_to_key, said_apart}
+use Rattle.plan_drafts.proofs.Keyed.{key_to_row, made_apart, row_to_key, said_apart}
 use Rattle.plan_drafts.proofs.Lists.{all_by_members, contains_cases, contains_head, contains_none, in_map, from_map}
 use Rattle.plan_drafts.proofs.Pairs.{pair_cmp_total, pair_cmp-IsAntisymmetric}
 use Rattle.plan_drafts.proofs.RowPlaces.{get_at}
@@ -122,6 +122,24 @@ has_over :
 has_over ks ls occurrences all has = All-weaker (λ row. Contains (map occurrence_of ks) row.0) (λ row. Contains (map occurrence_of ls) row.0)
     (λ row is. let r = from_map occurrence_of ks row.0 is in subst (Contains (map occurrence_of ls)) r.2 (in_map occurrence_of ls r.0 (all r.0 r.1))) occurrences has
 
+-- what is so of each is so of each in another order
+pub permuted_all : {X : Type 0} (P : X → Type 0) (xs ys : List X) → IsPermutation xs ys → All P xs → All P ys
+permuted_all P xs ys same all = all_by_members P ys (λ y has. All-contains P xs y all (Contains-permutation ys xs y (IsPermutation-sym xs ys same) has))
+
+rows_keys : (occurrences : Terms) (needs : Wants) (said : List OperationItem) → keys_of (map (row_of occurrences needs) said) ≡ map (λ (s : OperationItem). s.key) said
+rows_keys occurrences needs [] = refl
+rows_keys occurrences needs (s ∷ said) = ap (λ ks. s.key ∷ ks) (rows_keys occurrences needs said)
+
+-- the rows of operations in key order are in key order
+pub rows_ordered :
+    (occurrences : Terms) (needs : Wants) (said sorted : List OperationItem) (rows : List (OpKey × Operation)) → AreInKeyOrder operation_cmp (λ (s : OperationItem). s.key) said sorted →
+    rows ≡ map (row_of occurrences needs) sorted → AreInKeyOrder operation_cmp (λ row. row.0) (map (row_of occurrences needs) said) rows
+rows_ordered occurrences needs said sorted rows ordered made = record {
+  distinct = made_apart (λ (s : OperationItem). s.key) (operation_in occurrences needs) said ordered.distinct;
+  same = subst (IsPermutation (map (row_of occurrences needs) said)) (sym made) (IsPermutation-map (row_of occurrences needs) said sorted ordered.same);
+  in_order = subst (IsStrictlySortedBy operation_cmp) (sym (ap keys_of made ∙ rows_keys occurrences needs sorted)) ordered.in_order;
+}
+
 pub rows_are :
     (names : List Name) (occurrences : Terms) (needs : Wants) (said : List OperationItem) (rows : List (OpKey × Operation)) → length said ≤ MOST_OPERATIONS →
     All (Fits names occurrences needs) said → AreInKeyOrder operation_cmp (λ row. row.0) (map (row_of occurrences needs) said) rows →
@@ -138,6 +156,10 @@ rows_are names occurrences needs said rows few fit ordered has =
       same = ordered.same;
       in_order = ordered.in_order;
     }
+
+-- the keys of a plan with these rows are theirs
+pub row_keys : (rows : List (OpKey × Operation)) → IsStrictlySortedBy operation_cmp (keys_of rows) → keys (from_entries {R = operation_cmp} rows) ≡ keys_of rows
+row_keys rows up = keys_of-entries operation_cmp (from_entries {R = operation_cmp} rows) ∙ ap keys_of (rows_in_order operation_cmp_total rows up)
 
 -- where the rows' keys leave out an occurrence, so do those that are said
 pub none_has :

@@ -3,6 +3,7 @@ ghost use Rattle.std.specs.Prelude.{◌≡◌, List, IfOk, MatchOption};
 ghost use Rattle.std.specs.List.{AllZip, filter_map};
 ghost use Rattle.plan_items.specs.declared.Item.{Item};
 ghost use Rattle.plan_items.specs.Items.{Says};
+ghost use Rattle.plan_drafts.specs.PlanGraphs.{IsGraphFor};
 ghost use Rattle.plan_drafts.specs.Records.{records_of};
 ghost use Rattle.plan_drafts.specs.PlanItems.{as_workstation, as_interval, as_occurrence, as_operation, as_pair, as_resource, as_need, CanBeLoaded, AreContentsOf};
 
@@ -13,7 +14,7 @@ use super::key_order::keys;
 use super::needs::{are_needs_in, needs_in_order, resources_in_order};
 use plan_basics::{Attr, Interval, OccKey, OpKey, ResName, WsName};
 use plan_items::{Item, OperationItem, read_item};
-use plan_model::{Need, Occurrence};
+use plan_model::{Graph, Need, Occurrence};
 use std::alloc::{AllocError, Global};
 
 /// The ten fields of one record of a plan's text.
@@ -152,9 +153,16 @@ pub fn needs(alloc: Global, items: &[Item]) -> Result<Vec<(OpKey, Need)>, AllocE
     items.iter().filter_map(need_of).collect(alloc)
 }
 
-/// The contents of the plan whose items these are; `None` where they are those of no plan.
-pub fn contents_of(alloc: Global, items: &[Item]) -> Result<Option<PlanContents>, AllocError>
-    ensures { IfOk result (λ found. MatchOption found (¬ CanBeLoaded items.now) (λ c. AreContentsOf items.now c)) }
+/// What a plan holds, and the graph of its operations and pairs.
+#[derive(Drop)]
+pub struct DraftParts {
+    pub contents: PlanContents,
+    pub graph: Graph,
+}
+
+/// The contents of the plan whose items these are, with their graph; `None` where they are those of no plan.
+pub fn parts_of_plan(alloc: Global, items: &[Item]) -> Result<Option<DraftParts>, AllocError>
+    ensures { IfOk result (λ found. MatchOption found (¬ CanBeLoaded items.now) (λ p. AreContentsOf items.now p.contents × IsGraphFor p.contents p.graph)) }
 {
     let intervals = intervals(alloc, items)?;
     let Some(workstations) = workstations_in_order(alloc, workstations(alloc, items)?, &intervals)?
@@ -171,7 +179,7 @@ pub fn contents_of(alloc: Global, items: &[Item]) -> Result<Option<PlanContents>
         return Ok(None);
     };
     let said = operations(alloc, items)?;
-    let Some(operations) = operations_in_order(alloc, &workstations, &occurrences, &needs, &said)?
+    let Some(operations) = operations_in_order(alloc, &workstations, &occurrences, &needs, said)?
     else {
         return Ok(None);
     };
@@ -179,8 +187,10 @@ pub fn contents_of(alloc: Global, items: &[Item]) -> Result<Option<PlanContents>
     if !are_needs_in(&keys, &resources, &needs) {
         return Ok(None);
     }
-    let Some(pairs) = pairs_in_order(alloc, &keys, pairs(alloc, items)?)? else {
+    let Some(joined) = pairs_in_order(alloc, &keys, pairs(alloc, items)?)? else {
         return Ok(None);
     };
-    Ok(Some(PlanContents::of_rows(workstations, resources, occurrences, operations, pairs)))
+    let (pairs, graph) = joined;
+    let contents = PlanContents::of_rows(workstations, resources, occurrences, operations, pairs);
+    Ok(Some(DraftParts { contents, graph }))
 }

@@ -4,16 +4,26 @@ ghost use Rattle.std.specs.List.{AllZip};
 ghost use Rattle.plan_drafts.specs.Drafts.{IsDraft};
 ghost use Rattle.plan_drafts.specs.Contents.{added_parts, AreAdditionParts};
 ghost use Rattle.plan_items.specs.Items.{Fields, IsItem, Says};
+ghost use Rattle.plan_drafts.specs.PlanGraphs.{IsGraphFor};
 ghost use Rattle.plan_drafts.specs.Records.{records_of, AreItemsOf, Denotes, DenotesAddition};
 ghost use Rattle.plan_model.specs.Contents.{Contents, AddedParts};
 
 use super::additions::parts_of;
-use super::builder::{Record, contents_of, read_items};
+use super::builder::{DraftParts, Record, parts_of_plan, read_items};
 use super::contents::{AdditionParts, PlanContents};
 use plan_basics::Refusal;
 use plan_items::Item;
 use std::alloc::{AllocError, Global};
+use std::fmt;
 use std::marker::Model;
+
+// The contents of the plan whose items these are, with their graph.
+fn parts_of_items(alloc: Global, items: &[Item]) -> Result<Option<DraftParts>, AllocError>
+    requires { All IsItem items.now }
+    ensures { IfOk result (λ found. MatchOption found ((P : Contents) → ¬ AreItemsOf items.now P) (λ p. AreItemsOf items.now p.contents × IsGraphFor p.contents p.graph)) }
+{
+    parts_of_plan(alloc, items)
+}
 
 /// The contents of the plan whose items these are, in any order; `None` where they are those of no plan. It is valid,
 /// it may be without workstation or occurrence, and nothing is reported of its operations.
@@ -21,27 +31,38 @@ pub fn contents_of_items(alloc: Global, items: &[Item]) -> Result<Option<PlanCon
     requires { All IsItem items.now }
     ensures { IfOk result (λ found. MatchOption found ((P : Contents) → ¬ AreItemsOf items.now P) (λ c. AreItemsOf items.now c)) }
 {
-    contents_of(alloc, items)
+    match parts_of_items(alloc, items)? {
+        Some(parts) => Ok(Some(parts.contents)),
+        None => Ok(None),
+    }
 }
 
-/// What the plan holds that a text denotes. Contracts see it as those contents.
-#[derive(Debug, Drop)]
+/// What the plan holds that a text denotes, with the graph of its operations and pairs. Contracts see it as those contents.
+#[derive(Drop)]
 pub struct PlanDraft {
-    contents: PlanContents,
+    parts: DraftParts,
+}
+
+/// Writes what it holds.
+impl fmt::Debug for PlanDraft {
+    fn fmt<W: fmt::Write>(&self, f: &mut fmt::Formatter<W>) -> fmt::Result {
+        fmt::Debug::fmt(&self.parts.contents, f)
+    }
 }
 
 impl Model for PlanDraft {
     ghost use Rattle.plan_model.specs.Contents.{Contents};
     ghost use Rattle.plan_model.specs.Code.{contents_code};
     ghost use Rattle.plan_drafts.specs.Drafts.{IsDraft};
+    ghost use Rattle.plan_drafts.specs.PlanGraphs.{IsGraphFor};
 
     ghost Value = { Contents };
 
     ghost coded = { contents_code };
 
-    ghost view = { λ d. d.contents };
+    ghost view = { λ d. d.parts.contents };
 
-    ghost invariant = { λ d. IsDraft d.contents };
+    ghost invariant = { λ d. IsDraft d.parts.contents × IsGraphFor d.parts.contents d.parts.graph };
 }
 
 impl PlanDraft {
@@ -69,13 +90,13 @@ impl PlanDraft {
         ensures denoted { IfOk result (λ found. (records : List Fields) → AllZip Says records items.now → MatchOption found ((P : Contents) → ¬ Denotes records P) (λ draft. Denotes records draft)) }
         ensures memory { IfErr result (λ r. r ≡ Refusal.Memory) }
     {
-        let Some(contents) = contents_of_items(alloc, items)? else {
+        let Some(parts) = parts_of_items(alloc, items)? else {
             return Ok(None);
         };
-        if contents.workstations().is_empty() || contents.occurrences().is_empty() {
+        if parts.contents.workstations().is_empty() || parts.contents.occurrences().is_empty() {
             return Ok(None);
         }
-        Ok(Some(PlanDraft { contents }))
+        Ok(Some(PlanDraft { parts }))
     }
 
     /// What it holds, so that it need not be copied.
@@ -83,7 +104,16 @@ impl PlanDraft {
         ensures contents { result ≡ self }
         ensures draft { IsDraft self }
     {
-        self.contents
+        self.parts.contents
+    }
+
+    /// What it holds and its graph, so that neither need be made again.
+    pub fn into_parts(self) -> DraftParts
+        ensures contents { result.contents ≡ self }
+        ensures graph { IsGraphFor self result.graph }
+        ensures draft { IsDraft self }
+    {
+        self.parts
     }
 
     /// What it holds.
@@ -91,7 +121,7 @@ impl PlanDraft {
         ensures view { result.now ≡ self.now }
         ensures draft { IsDraft self.now }
     {
-        &self.contents
+        &self.parts.contents
     }
 }
 
@@ -128,7 +158,17 @@ impl Addition {
         let Some(items) = read_items(alloc, &records)? else {
             return Ok(None);
         };
-        let Some(parts) = parts_of(alloc, &items)? else {
+        Addition::of_items(alloc, &items)
+    }
+
+    /// The addition that records denote which say these items, one item each, as `build` makes it of the records; `None` where they
+    /// denote none. The error is always `Memory`.
+    pub fn of_items(alloc: Global, items: &[Item]) -> Result<Option<Addition>, Refusal>
+        requires { All IsItem items.now }
+        ensures denoted { IfOk result (λ found. (records : List Fields) → AllZip Says records items.now → MatchOption found ((s : AddedParts) → ¬ DenotesAddition records s) (λ a. DenotesAddition records a)) }
+        ensures memory { IfErr result (λ r. r ≡ Refusal.Memory) }
+    {
+        let Some(parts) = parts_of(alloc, items)? else {
             return Ok(None);
         };
         Ok(Some(Addition { parts }))

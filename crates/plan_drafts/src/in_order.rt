@@ -8,7 +8,7 @@ ghost use Rattle.plan_basics.specs.declared.limits.TheConstants.{MOST_NEEDS};
 ghost use Rattle.plan_basics.specs.Keys.{name_cmp, occurrence_cmp, operation_cmp};
 ghost use Rattle.plan_model.specs.Contents.{pair_cmp};
 ghost use Rattle.plan_model.specs.Valid.{IsAcyclic};
-ghost use Rattle.plan_drafts.specs.PlanGraphs.{AreAmong};
+ghost use Rattle.plan_drafts.specs.PlanGraphs.{AreAmong, IsGraphOf};
 ghost use Rattle.plan_drafts.specs.AdditionItems.{new_row};
 ghost use Rattle.plan_drafts.specs.PlanItems.{row_of, occurrence_of, need_cmp, need_key, needs_of, IsOneOf, BelongsTo, AreOccurrenceRows, AreOccurrencesInOrder, AreOperations, EachHasOperation, AreRowsOf, ArePairs, ArePairsInOrder};
 
@@ -20,7 +20,7 @@ use super::places::row_place;
 use plan_basics::limits::{MOST_OCCURRENCES, MOST_OPERATIONS, MOST_PAIRS};
 use plan_basics::{OccKey, OpKey};
 use plan_items::OperationItem;
-use plan_model::{Mark, Need, Occurrence, OperationRecord, Workstation};
+use plan_model::{Graph, Mark, Need, Occurrence, OperationRecord, Workstation};
 use std::alloc::{AllocError, Global};
 
 // The occurrences in key order, where there are no more than a plan may hold, and none is repeated.
@@ -95,7 +95,7 @@ pub fn rows(
     requires needs { IsStrictlySortedBy need_cmp (map need_key needs.now) }
     ensures { IfOk result (λ found. MatchOption found (¬ All (BelongsTo occurrences.now needs.now) said.now) (λ v. All (BelongsTo occurrences.now needs.now) said.now × (v.items ≡ map (row_of occurrences.now needs.now) said.now))) }
 {
-    let mut rows = Vec::new(alloc);
+    let mut rows = Vec::with_capacity(alloc, said.len())?;
     for said in said {
         let Some(row) = row(occurrences, needs, said) else {
             return Ok(None);
@@ -131,29 +131,30 @@ fn each_has_operation(keys: &[OpKey], occurrences: &[(OccKey, Occurrence)]) -> b
     occurrences.iter().all(|row| has_operation(keys, &row.0))
 }
 
-// The operations' rows in key order, where they are few enough, each fits, none is repeated, each occurrence has one.
+// The operations' rows in key order, where they are few enough, each fits, none is repeated, each occurrence has one. What is said is
+// put in order, since a row is some ten times as long.
 pub fn operations_in_order(
     alloc: Global,
     workstations: &[Workstation],
     occurrences: &[(OccKey, Occurrence)],
     needs: &[(OpKey, Need)],
-    said: &[OperationItem],
+    said: Vec<OperationItem>,
 ) -> Result<Option<Vec<(OpKey, OperationRecord)>>, AllocError>
     requires named { IsStrictlySortedBy name_cmp (keys_of workstations.now) }
     requires in_order { IsStrictlySortedBy occurrence_cmp (keys_of occurrences.now) }
     requires needs { IsStrictlySortedBy need_cmp (map need_key needs.now) }
-    ensures { IfOk result (λ found. MatchOption found (¬ AreOperations (keys_of workstations.now) occurrences.now needs.now said.now) (λ v. AreRowsOf (keys_of workstations.now) occurrences.now needs.now said.now v.items)) }
+    ensures { IfOk result (λ found. MatchOption found (¬ AreOperations (keys_of workstations.now) occurrences.now needs.now said.items) (λ v. AreRowsOf (keys_of workstations.now) occurrences.now needs.now said.items v.items)) }
 {
     if said.len() > MOST_OPERATIONS {
         return Ok(None);
     }
-    if !are_named(workstations, said) {
+    if !are_named(workstations, &said) {
         return Ok(None);
     }
-    let Some(rows) = rows(alloc, occurrences, needs, said)? else {
+    let Some(said) = in_key_order(said, |said| said.key)? else {
         return Ok(None);
     };
-    let Some(rows) = in_key_order(rows, |row| row.0)? else {
+    let Some(rows) = rows(alloc, occurrences, needs, &said)? else {
         return Ok(None);
     };
     let keys = keys(alloc, &rows)?;
@@ -186,15 +187,15 @@ pub fn are_pairs_acyclic(
     Ok(graph.is_some())
 }
 
-// The pairs by predecessor and then successor, where each is between these keys, none is repeated and no path of them
-// returns to its start.
+// The pairs by predecessor and then successor, and their graph, where each is between these keys, none is repeated and no path of
+// them returns to its start.
 pub fn pairs_in_order(
     alloc: Global,
     keys: &[OpKey],
     pairs: Vec<(OpKey, OpKey)>,
-) -> Result<Option<Vec<(OpKey, OpKey)>>, AllocError>
+) -> Result<Option<(Vec<(OpKey, OpKey)>, Graph)>, AllocError>
     requires { IsStrictlySortedBy operation_cmp keys.now }
-    ensures { IfOk result (λ found. MatchOption found (¬ ArePairs keys.now pairs.items) (λ v. ArePairsInOrder keys.now pairs.items v.items)) }
+    ensures { IfOk result (λ found. MatchOption found (¬ ArePairs keys.now pairs.items) (λ v. ArePairsInOrder keys.now pairs.items v.0.items × IsGraphOf keys.now (from_list v.0.items) v.1)) }
 {
     if pairs.len() > MOST_PAIRS {
         return Ok(None);
@@ -205,6 +206,5 @@ pub fn pairs_in_order(
     let Some(graph) = graph_among(alloc, keys, &pairs)? else {
         return Ok(None);
     };
-    let _ = graph;
-    Ok(Some(pairs))
+    Ok(Some((pairs, graph)))
 }

@@ -17,7 +17,7 @@ mod key_order;
 mod needs;
 mod places;
 
-pub use builder::Record;
+pub use builder::{DraftParts, Record};
 pub use contents::{AdditionParts, PlanContents, copies_of};
 pub use drafts::{Addition, PlanDraft, contents_of_items};
 pub use graphs::{graph_among, graph_of, is_acyclic};

@@ -1,2 +1,3 @@
 pub mod Rows
-pub mod Plans
+pub mod Saying
+pub mod Fields

@@ -1,13 +1,10 @@
--- What one turn of the reader adds to the records read so far.
-use Rattle.std.proofs.Common.{◌≡◌, ◌∙◌, sym, refl, ℕ, List, [], ◌∷◌, ◌++◌, Option, Some, None, IfSome}
+-- Records that bytes read as, and the next one.
+use Rattle.std.proofs.Common.{◌≡◌, ◌∙◌, sym, refl, ℕ, List, [], ◌∷◌, ◌++◌, Some, None}
 use Rattle.std.specs.List.{AllByRecursion}
 use Rattle.csv.specs.Machine.{Read, next_record}
-use Rattle.csv.specs.Reading.{AreRecords, Reached, default_config}
+use Rattle.csv.specs.Reading.{AreRecords, Reached}
 use Rattle.csv.specs.declared.parser.Config.{Config}
 use Rattle.csv.specs.declared.parser.State.{State}
-use Rattle.csv.specs.declared.parser.State.TheVariants as st
-use Rattle.csv.proofs.ReadFacts.{reached-more}
-use Rattle.plan_import.specs.Records.{IsTen, IsReadingOf}
 
 pub all-more : (P : List (List ℕ) → Type 0) (xs : List (List (List ℕ))) (x : List (List ℕ)) → AllByRecursion P xs → P x → AllByRecursion P (xs ++ x ∷ [])
 all-more P [] x h p = (p, tt)
@@ -18,57 +15,25 @@ pub single : (cfg : Config) (s s2 : State) (xs z : List ℕ) (f : List (List ℕ
 unfolding Reached
 single cfg s s2 xs z f h = rw (h.2, ← h.3.0, ← h.3.1) h.1
 
--- where a next record has not ten fields, no list of records of ten fields is all of them
-pub other-none : (cfg : Config) (s s2 : State) (xs ys : List ℕ) (rows other : List (List (List ℕ))) (p : Read)
-    → Reached cfg s xs rows s2 ys → next_record cfg s2 [] [] ys ≡ Some p → ¬ IsTen p.0
-    → AreRecords cfg s xs other → AllByRecursion IsTen other → ⊥
+-- where a next record isn't so, no list of records that are is all of them
+pub other-none : (P : List (List ℕ) → Type 0) (cfg : Config) (s s2 : State) (xs ys : List ℕ) (rows other : List (List (List ℕ))) (p : Read)
+    → Reached cfg s xs rows s2 ys → next_record cfg s2 [] [] ys ≡ Some p → ¬ P p.0
+    → AreRecords cfg s xs other → AllByRecursion P other → ⊥
 unfolding Reached
-other-none cfg s s2 xs ys [] [] p h e not_ten a ten =
+other-none P cfg s s2 xs ys [] [] p h e not_ten a ten =
     let here : next_record cfg s [] [] xs ≡ Some p = rw (h.0, h.1) e in
     let gone : next_record cfg s [] [] xs ≡ None = rw (a.2.0, a.2.1) a.3 in
     cc (sym gone ∙ here)
-other-none cfg s s2 xs ys [] (q ∷ qs) p h e not_ten a ten =
+other-none P cfg s s2 xs ys [] (q ∷ qs) p h e not_ten a ten =
     let here : next_record cfg s [] [] xs ≡ Some p = rw (h.0, h.1) e in
     let same : a.2.0 ≡ p = cc (sym a.2.1 ∙ here) in
     not_ten (rw (← same, ← a.2.2) ten.0)
-other-none cfg s s2 xs ys (r ∷ rs) [] p h e not_ten a ten =
+other-none P cfg s s2 xs ys (r ∷ rs) [] p h e not_ten a ten =
     let gone : next_record cfg s [] [] xs ≡ None = rw (a.2.0, a.2.1) a.3 in
     cc (sym gone ∙ h.1)
-other-none cfg s s2 xs ys (r ∷ rs) (q ∷ qs) p h e not_ten a ten =
+other-none P cfg s s2 xs ys (r ∷ rs) (q ∷ qs) p h e not_ten a ten =
     let same : h.0 ≡ a.2.0 = cc (sym h.1 ∙ a.2.1) in
-    other-none cfg h.0.1 s2 h.0.2 ys rs qs p h.3 e not_ten (a.0, a.1, rw same a.2.3, a.3) ten.1
-
-pub begins : (o : Option (List ℕ)) (s : State) → s ≡ st.StartRecord
-    → IfSome o (λ bytes. (y : List ℕ) × (o ≡ Some y) × Reached default_config st.StartRecord bytes [] s y)
-unfolding Reached
-begins None s e = tt
-begins (Some bytes) s e = (bytes, refl, (sym e, refl))
-
-pub goes : (o a b : Option (List ℕ)) (s s2 : State) (rows : List (List (List ℕ))) (f : List (List ℕ))
-    → IfSome o (λ bytes. (y : List ℕ) × (a ≡ Some y) × Reached default_config st.StartRecord bytes rows s y)
-    → ((y : List ℕ) → a ≡ Some y → (rest : List ℕ) × (b ≡ Some rest) × (next_record default_config s [] [] y ≡ Some (f, s2, rest)))
-    → IfSome o (λ bytes. (y : List ℕ) × (b ≡ Some y) × Reached default_config st.StartRecord bytes (rows ++ f ∷ []) s2 y)
-goes None a b s s2 rows f h turn = tt
-goes (Some bytes) a b s s2 rows f h turn =
-    let t = turn h.0 h.1 in
-    (t.0, t.1, reached-more default_config st.StartRecord s bytes h.0 rows (f, s2, t.0) h.2 t.2)
-
-pub ends : (o a : Option (List ℕ)) (s : State) (rows : List (List (List ℕ)))
-    → IfSome o (λ bytes. (y : List ℕ) × (a ≡ Some y) × Reached default_config st.StartRecord bytes rows s y)
-    → AllByRecursion IsTen rows
-    → ((y : List ℕ) → a ≡ Some y → next_record default_config s [] [] y ≡ None)
-    → IfSome o (λ bytes. IsReadingOf bytes (Some rows))
-ends None a s rows h ten turn = tt
-ends (Some bytes) a s rows h ten turn = ((s, h.0, h.2, turn h.0 h.1), ten)
-
-pub fails : (o a : Option (List ℕ)) (s : State) (rows : List (List (List ℕ)))
-    → IfSome o (λ bytes. (y : List ℕ) × (a ≡ Some y) × Reached default_config st.StartRecord bytes rows s y)
-    → ((y : List ℕ) → a ≡ Some y → (p : Read) × (next_record default_config s [] [] y ≡ Some p) × ¬ IsTen p.0)
-    → IfSome o (λ bytes. IsReadingOf bytes None)
-fails None a s rows h turn = tt
-fails (Some bytes) a s rows h turn = λ (other, (all, ten)).
-    let t = turn h.0 h.1 in
-    other-none default_config st.StartRecord s bytes h.0 rows other t.0 h.2 t.1 t.2 all ten
+    other-none P cfg h.0.1 s2 h.0.2 ys rs qs p h.3 e not_ten (a.0, a.1, rw same a.2.3, a.3) ten.1
 
 -- bytes have one list of records
 pub one_reading : (cfg : Config) (s : State) (xs : List ℕ) (rows other : List (List (List ℕ))) → AreRecords cfg s xs rows → AreRecords cfg s xs other → rows ≡ other

@@ -1,14 +1,15 @@
 -- Which records bytes read as, by the reader of comma-separated fields without a header row, without trimming and with records of one length.
 use Rattle.std.specs.Prelude.{◌≡◌, ℕ, List, [], Option, Some, None, false, length, IfSome}
-use Rattle.std.specs.List.{AllByRecursion}
+use Rattle.std.specs.List.{AllByRecursion, AllZip}
 use Rattle.csv.specs.Machine.{Read, next_record}
 use Rattle.csv.specs.Reading.{AreRecords, Ready, default_config, source_of, reader_config, reader_trim, reader_state, is_flexible, expected_len}
 use Rattle.csv.specs.declared.reader.Reader.{Reader}
 use Rattle.csv.specs.declared.reader.Trim.TheVariants as trim
 use Rattle.csv.specs.declared.parser.State.TheVariants as st
-use Rattle.plan_records.specs.plan_items.specs.Items.{Fields, fields_of}
-use Rattle.plan_import.specs.declared.Turn.{Turn}
-use Rattle.plan_import.specs.declared.Turn.TheVariants as turn
+use Rattle.plan_records.specs.plan_items.specs.Items.{Fields, Says}
+use Rattle.plan_records.specs.plan_items.specs.declared.Item.{Item}
+use Rattle.plan_import.specs.declared.Said.{Said}
+use Rattle.plan_import.specs.declared.Said.TheVariants as said
 
 -- a record of ten fields
 abbrev pub IsTen : Fields → Type 0
@@ -18,10 +19,14 @@ IsTen fields = length fields ≡ 10
 abbrev pub AreOfTen : List ℕ → List Fields → Type 0
 AreOfTen bytes records = AreRecords default_config st.StartRecord bytes records × AllByRecursion IsTen records
 
--- the bytes' records are these, each of ten fields; or, as nothing, no such list is theirs
-abbrev pub IsReadingOf : List ℕ → Option (List Fields) → Type 0
-IsReadingOf bytes (Some records) = AreOfTen bytes records
-IsReadingOf bytes None = ¬ ((records : List Fields) × AreOfTen bytes records)
+-- the bytes' records, each of ten fields, say these items; or, as nothing, they say no such list
+abbrev pub IsSaidIn : List ℕ → Option (List Item) → Type 0
+IsSaidIn bytes (Some items) = (records : List Fields) × AreOfTen bytes records × AllZip Says records items
+IsSaidIn bytes None = ¬ ((records : List Fields) × AreOfTen bytes records × (items : List Item) × AllZip Says records items)
+
+-- a record of ten fields that says something
+abbrev pub SaysSome : Fields → Type 0
+SaysSome fields = IsTen fields × (item : Item) × Says fields item
 
 -- a reader as it is set up here: no trimming, no header row, records of one length, which is ten once one was read
 pub record IsPlain {R : Type 0} (text : Reader R) : Type 0 where
@@ -35,9 +40,9 @@ pub record IsPlain {R : Type 0} (text : Reader R) : Type 0 where
 abbrev pub next_of : {R : Type 0} → Reader R → List ℕ → Option Read
 next_of text bytes = next_record default_config (reader_state text) [] [] bytes
 
--- what a turn says of the reader before and after it, where its bytes are known: the next record, one of another length, or the end
-abbrev pub TurnsTo : {R : Type 0} → (R → Option (List ℕ)) → Reader R → Reader R → Turn → Type 0
-TurnsTo remaining old new (turn.Record fields) = IsPlain new × IsTen (fields_of fields)
-    × ((bytes : List ℕ) → source_of remaining old ≡ Some bytes → (rest : List ℕ) × (source_of remaining new ≡ Some rest) × (next_of old bytes ≡ Some (fields_of fields, reader_state new, rest)))
-TurnsTo remaining old new turn.Malformed = (bytes : List ℕ) → source_of remaining old ≡ Some bytes → (p : Read) × (next_of old bytes ≡ Some p) × ¬ IsTen p.0
-TurnsTo remaining old new turn.End = (bytes : List ℕ) → source_of remaining old ≡ Some bytes → next_of old bytes ≡ None
+-- what the next record says, of the reader before and after it, where its bytes are known: an item, or nothing, as a record of another length does, or the end
+abbrev pub SaysNext : {R : Type 0} → (R → Option (List ℕ)) → Reader R → Reader R → Said → Type 0
+SaysNext remaining old new (said.Item item) = IsPlain new × (fields : Fields) × IsTen fields × Says fields item
+    × ((bytes : List ℕ) → source_of remaining old ≡ Some bytes → (rest : List ℕ) × (source_of remaining new ≡ Some rest) × (next_of old bytes ≡ Some (fields, reader_state new, rest)))
+SaysNext remaining old new said.Nothing = (bytes : List ℕ) → source_of remaining old ≡ Some bytes → (p : Read) × (next_of old bytes ≡ Some p) × ¬ SaysSome p.0
+SaysNext remaining old new said.End = (bytes : List ℕ) → source_of remaining old ≡ Some bytes → next_of old bytes ≡ None

@@ -1,20 +1,20 @@
 //! Plans, and occurrences to be added, from texts of comma-separated fields, over any reader of bytes.
 #![tactic(auto)]
 
-ghost use Rattle.std.specs.Prelude.{◌≡◌, ◌↔◌, IfOk, IfSome, MatchOption, Err, true, false, option_map};
+ghost use Rattle.std.specs.Prelude.{◌≡◌, ◌↔◌, All, IfOk, IfSome, OnOk, length, MatchOption, Err, true, false, option_map};
 ghost use Rattle.csv.specs.Records.{fields_of as row_fields};
 ghost use Rattle.csv.specs.Reading.{strip_bom, source_of, reader_state, stops_reader, error_kind};
 ghost use Rattle.csv.specs.declared.parser.State.TheVariants as st;
 ghost use Rattle.plan_records.specs.plan_model.specs.Contents.{Contents, AddedParts};
-ghost use Rattle.plan_records.specs.plan_items.specs.Items.{fields_of};
-ghost use Rattle.plan_records.specs.plan_drafts.specs.Records.{records_of};
-ghost use Rattle.plan_import.specs.Records.{IsReadingOf, IsPlain, TurnsTo};
+ghost use Rattle.plan_records.specs.plan_items.specs.Items.{IsItem, Says, fields_of};
+ghost use Rattle.plan_import.specs.Records.{IsPlain, IsSaidIn, IsTen, SaysNext, SaysSome};
 ghost use Rattle.plan_import.specs.Texts.{TextDenotes, TextDenotesAddition};
 ghost use Rattle.plan_basics.specs.Watched.{inner_of, failed_of};
 
 use csv::{ByteRecord, ErrorKind, Reader, ReaderBuilder};
 use plan_basics::Watched;
-use plan_records::{Addition, PlanDraft, Record};
+use plan_items::{Item, read_item};
+use plan_records::{Addition, PlanDraft};
 use std::alloc::{AllocError, AllocFailed, Global};
 use std::io::Read;
 
@@ -49,30 +49,6 @@ impl<T: Drop> From<AllocFailed<T>> for ImportFault {
     }
 }
 
-/// The fields of a record, each in a vector of its own.
-fn own_fields(alloc: Global, row: &ByteRecord) -> Result<Vec<Vec<u8>>, AllocError>
-    ensures { IfOk result (λ v. fields_of v.items ≡ row_fields row.now) }
-{
-    let mut fields = Vec::with_capacity(alloc, row.len())?;
-    for i in 0..row.len() {
-        if let Some(field) = row.get(i) {
-            fields.push(field.to_vec(alloc)?)?;
-        }
-    }
-    Ok(fields)
-}
-
-/// What a text goes on with.
-#[derive(Drop)]
-enum Turn {
-    /// A record of ten fields.
-    Record(Record),
-    /// A record of another number of fields.
-    Malformed,
-    /// Nothing more.
-    End,
-}
-
 /// The fault of a reader of records, exactly where it has stopped; none where it goes on, after a record of another length.
 fn fault_of(error: &csv::Error) -> Option<ImportFault>
     ensures { MatchOption result (stops_reader (error_kind error.now) ≡ false) (λ _. stops_reader (error_kind error.now) ≡ true) }
@@ -84,95 +60,159 @@ fn fault_of(error: &csv::Error) -> Option<ImportFault>
     }
 }
 
-/// The next record, or that it hasn't ten fields, or that the text has ended.
-fn next_turn<R: Read>(
-    alloc: Global,
+/// What a text goes on with.
+#[derive(Drop)]
+enum Said {
+    /// What the record says.
+    Item(Item),
+    /// A record that says nothing.
+    Nothing,
+    /// Nothing more.
+    End,
+}
+
+/// Puts a text in the place of another one.
+fn put(field: &mut Vec<u8>, text: &[u8]) -> Result<(), AllocError>
+    ensures { OnOk result (field.new.items ≡ text.now) }
+{
+    field.clear();
+    field.extend_from_slice(text)
+}
+
+/// Puts the fields of a record in the place of as many others.
+fn refill(fields: &mut Vec<Vec<u8>>, row: &ByteRecord) -> Result<(), AllocError>
+    requires { length fields.old.items ≡ length (row_fields row.now) }
+    ensures { OnOk result (fields_of fields.new.items ≡ row_fields row.now) }
+{
+    for i in 0..fields.len() {
+        if let Some(text) = row.get(i) {
+            put(&mut fields[i], text)?;
+        }
+    }
+    Ok(())
+}
+
+/// What a record says, if it says something. Its fields are put in the place of those of the one before, so that few take memory.
+fn item_of(row: &ByteRecord, fields: &mut Vec<Vec<u8>>) -> Result<Option<Item>, AllocError>
+    requires { length fields.old.items ≡ 10 }
+    ensures said { IfOk result (λ found. MatchOption found (¬ SaysSome (row_fields row.now)) (λ item. IsTen (row_fields row.now) × Says (row_fields row.now) item)) }
+    ensures ten { OnOk result (length fields.new.items ≡ 10) }
+{
+    if row.len() != fields.len() {
+        return Ok(None);
+    }
+    refill(fields, row)?;
+    let record: &[Vec<u8>; 10] = fields.as_slice().as_array().unwrap();
+    Ok(read_item(record))
+}
+
+/// What the next record says, or that it says nothing, or that the text has ended. The record isn't kept.
+fn next_said<R: Read>(
     text: &mut Reader<R>,
     row: &mut ByteRecord,
-) -> Result<Turn, ImportFault>
-    requires { IsPlain text.old }
-    ensures { IfOk result (TurnsTo R.remaining text.old text.new) }
+    fields: &mut Vec<Vec<u8>>,
+) -> Result<Said, ImportFault>
+    requires plain { IsPlain text.old }
+    requires fields { length fields.old.items ≡ 10 }
+    ensures said { IfOk result (SaysNext R.remaining text.old text.new) }
+    ensures ten { OnOk result (length fields.new.items ≡ 10) }
 {
     match text.read_byte_record(row) {
-        Ok(true) => match Record::try_from(own_fields(alloc, row)?) {
-            Ok(fields) => Ok(Turn::Record(fields)),
-            Err(_) => Ok(Turn::Malformed),
+        Ok(true) => match item_of(row, fields)? {
+            Some(item) => Ok(Said::Item(item)),
+            None => Ok(Said::Nothing),
         },
-        Ok(false) => Ok(Turn::End),
+        Ok(false) => Ok(Said::End),
         Err(e) => match fault_of(&e) {
             Some(fault) => Err(fault),
-            None => Ok(Turn::Malformed),
+            None => Ok(Said::Nothing),
         },
     }
 }
 
-/// The records from here to the end of the text.
-fn records_left<R: Read>(
+/// Ten empty fields.
+fn no_fields(alloc: Global) -> Result<Vec<Vec<u8>>, AllocError>
+    ensures { IfOk result (λ fields. length fields.items ≡ 10) }
+{
+    let mut fields = Vec::with_capacity(alloc, 10)?;
+    for _ in 0..10u32 {
+        fields.push(Vec::new(alloc))?;
+    }
+    Ok(fields)
+}
+
+/// What the records from here to the end of the text say, one item each.
+fn items_left<R: Read>(
     alloc: Global,
     text: &mut Reader<R>,
-) -> Result<Option<Vec<Record>>, ImportFault>
+) -> Result<Option<Vec<Item>>, ImportFault>
     requires plain { IsPlain text.old }
     requires start { reader_state text.old ≡ st.StartRecord }
-    ensures { IfOk result (λ found. IfSome (source_of R.remaining text.old)
-        (λ bytes. IsReadingOf bytes (option_map (λ v. records_of v.items) found))) }
+    ensures said { IfOk result (λ found. IfSome (source_of R.remaining text.old)
+        (λ bytes. IsSaidIn bytes (option_map (λ v. v.items) found))) }
+    ensures legal { IfOk result (λ found. IfSome found (λ items. All IsItem items.items)) }
 {
     let mut row = ByteRecord::new(alloc);
-    let mut records = Vec::new(alloc);
+    let mut fields = no_fields(alloc)?;
+    let mut items = Vec::new(alloc);
     for _ in 0..u64::MAX {
-        match next_turn(alloc, text, &mut row)? {
-            Turn::Record(fields) => records.push(fields)?,
-            Turn::Malformed => return Ok(None),
-            Turn::End => return Ok(Some(records)),
+        match next_said(text, &mut row, &mut fields)? {
+            Said::Item(item) => items.push(item)?,
+            Said::Nothing => return Ok(None),
+            Said::End => return Ok(Some(items)),
         }
     }
     Err(ImportFault::Memory)
 }
 
-/// The records of all that a source gives.
-fn records_of_source<R: Read + Drop>(
+/// What the records of all that a source gives say.
+fn items_of_source<R: Read + Drop>(
     alloc: Global,
     source: R,
-) -> Result<Option<Vec<Record>>, ImportFault>
-    ensures { IfOk result (λ found. IfSome (R.remaining source)
-        (λ text. IsReadingOf (strip_bom text) (option_map (λ v. records_of v.items) found))) }
+) -> Result<Option<Vec<Item>>, ImportFault>
+    ensures said { IfOk result (λ found. IfSome (R.remaining source)
+        (λ text. IsSaidIn (strip_bom text) (option_map (λ v. v.items) found))) }
+    ensures legal { IfOk result (λ found. IfSome found (λ items. All IsItem items.items)) }
 {
     let mut text = ReaderBuilder::new()
         .has_headers(false)
         .from_reader(alloc, source);
-    records_left(alloc, &mut text)
+    items_left(alloc, &mut text)
 }
 
-/// The records that are left of a watched text, of which no fault is known yet.
-fn records_of_watched<R: Read>(
+/// What the records that are left of a watched text say, of which no fault is known yet.
+fn items_of_watched<R: Read>(
     alloc: Global,
     reader: &mut Watched<R>,
-) -> Result<Option<Vec<Record>>, ImportFault>
+) -> Result<Option<Vec<Item>>, ImportFault>
     requires fresh { failed_of reader.old ≡ false }
-    ensures found { IfOk result (λ found. IfSome (R.remaining (inner_of reader.old))
-        (λ text. IsReadingOf (strip_bom text) (option_map (λ v. records_of v.items) found))) }
+    ensures said { IfOk result (λ found. IfSome (R.remaining (inner_of reader.old))
+        (λ text. IsSaidIn (strip_bom text) (option_map (λ v. v.items) found))) }
+    ensures legal { IfOk result (λ found. IfSome found (λ items. All IsItem items.items)) }
     ensures reader_fault { (result ≡ Err ImportFault.Reader) ↔ (failed_of reader.new ≡ true) }
 {
-    let found = records_of_source(alloc, &mut *reader);
+    let found = items_of_source(alloc, &mut *reader);
     if reader.failed() {
         return Err(ImportFault::Reader);
     }
     match found {
-        Ok(records) => Ok(records),
+        Ok(items) => Ok(items),
         Err(_) => Err(ImportFault::Memory),
     }
 }
 
-/// The records of a text, each of ten fields; none where the text reads otherwise. Faults of earlier calls are forgotten.
-fn read_records<R: Read>(
+/// What the records of a text say, one item each; none where a record says nothing. Faults of earlier calls are forgotten.
+fn read_items<R: Read>(
     alloc: Global,
     reader: &mut Watched<R>,
-) -> Result<Option<Vec<Record>>, ImportFault>
-    ensures found { IfOk result (λ found. IfSome (R.remaining (inner_of reader.old))
-        (λ text. IsReadingOf (strip_bom text) (option_map (λ v. records_of v.items) found))) }
+) -> Result<Option<Vec<Item>>, ImportFault>
+    ensures said { IfOk result (λ found. IfSome (R.remaining (inner_of reader.old))
+        (λ text. IsSaidIn (strip_bom text) (option_map (λ v. v.items) found))) }
+    ensures legal { IfOk result (λ found. IfSome found (λ items. All IsItem items.items)) }
     ensures reader_fault { (result ≡ Err ImportFault.Reader) ↔ (failed_of reader.new ≡ true) }
 {
     reader.clear();
-    records_of_watched(alloc, reader)
+    items_of_watched(alloc, reader)
 }
 
 /// The plan that a text denotes, if it denotes one. The text is all that the reader gives: records of ten fields, without
@@ -186,10 +226,10 @@ pub fn read_plan<R: Read>(
         MatchOption found ((P : Contents) → ¬ TextDenotes text P) (λ draft. TextDenotes text draft))) }
     ensures reader_fault { (result ≡ Err ImportFault.Reader) ↔ (failed_of reader.new ≡ true) }
 {
-    let Some(records) = read_records(alloc, reader)? else {
+    let Some(items) = read_items(alloc, reader)? else {
         return Ok(None);
     };
-    match PlanDraft::build(records) {
+    match PlanDraft::of_items(alloc, &items) {
         Ok(draft) => Ok(draft),
         Err(_) => Err(ImportFault::Memory),
     }
@@ -205,10 +245,10 @@ pub fn read_occurrence<R: Read>(
         MatchOption found ((s : AddedParts) → ¬ TextDenotesAddition text s) (λ a. TextDenotesAddition text a))) }
     ensures reader_fault { (result ≡ Err ImportFault.Reader) ↔ (failed_of reader.new ≡ true) }
 {
-    let Some(records) = read_records(alloc, reader)? else {
+    let Some(items) = read_items(alloc, reader)? else {
         return Ok(None);
     };
-    match Addition::build(records) {
+    match Addition::of_items(alloc, &items) {
         Ok(addition) => Ok(addition),
         Err(_) => Err(ImportFault::Memory),
     }

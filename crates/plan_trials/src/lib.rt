@@ -11,14 +11,17 @@ ghost use Rattle.plan_records.specs.Acceptance.{MayBeAccepted};
 ghost use Rattle.plan_records.specs.Answer.{accepted, answer_of, refused};
 ghost use Rattle.plan_records.specs.Step.{Step};
 ghost use Rattle.plan_core.specs.plan_drafts.specs.Drafts.{IsDraft};
+ghost use Rattle.plan_core.specs.plan_drafts.specs.PlanGraphs.{IsGraphFor};
 ghost use Rattle.plan_status.specs.Standings.{AreStandings};
 ghost use Rattle.plan_steps.specs.plan_choice.specs.Choices.{AreLatestStarts};
 ghost use Rattle.plan_trials.specs.Trials.{IsAnswerAlone, load_at};
 
 use latest_start::Latest;
+use operation_graph::Graph;
 use plan_basics::{Moment, OpKey, Refusal};
+use plan_drafts::DraftParts;
 use plan_records::{PlanDraft, Reply};
-use plan_status::{SoundContents, Standing, graph_for, standings_of, statuses_of};
+use plan_status::{SoundContents, Standing, standings_of, statuses_of};
 use plan_steps::{check_load, chosen, latest_of, ready_of};
 use std::alloc::Global;
 
@@ -54,23 +57,30 @@ fn named_by(
     chosen(alloc, contents, &ready, at)
 }
 
-// What is named at a moment in these contents. The error is always `Memory`.
-fn named_at(alloc: Global, contents: &SoundContents, at: Moment) -> Result<Vec<OpKey>, Refusal>
+// What is named at a moment in these contents, with this graph. The error is always `Memory`.
+fn named_at(
+    alloc: Global,
+    contents: &SoundContents,
+    graph: &Graph,
+    at: Moment,
+) -> Result<Vec<OpKey>, Refusal>
+    requires { IsGraphFor contents.now graph.now }
     ensures chosen { IfOk result (λ keys. IsChosen contents.now at keys.items) }
     ensures refused { IfErr result (λ r. r ≡ Refusal.Memory) }
 {
-    let graph = graph_for(alloc, contents.valid())?;
-    let standings = standings_of(alloc, contents.valid(), &graph)?;
-    let latest = latest_of(alloc, contents, &graph)?;
+    let standings = standings_of(alloc, contents.valid(), graph)?;
+    let latest = latest_of(alloc, contents, graph)?;
     named_by(alloc, contents, &standings, &latest, at)
 }
 
-// The contents of a draft, which are sound.
-fn contents_of(draft: PlanDraft) -> SoundContents
-    ensures contents { result ≡ draft }
+// What a draft holds, which is sound, and its graph.
+fn parts_of(draft: PlanDraft) -> (SoundContents, Graph)
+    ensures contents { result.0 ≡ draft }
+    ensures graph { IsGraphFor draft result.1 }
     ensures draft { IsDraft draft }
 {
-    SoundContents::of(draft.into_contents())
+    let DraftParts { contents, graph } = draft.into_parts();
+    (SoundContents::of(contents), graph)
 }
 
 // The operations that an empty plan names where a draft is loaded into it at a minute; or why it isn't.
@@ -79,8 +89,8 @@ fn named_alone(alloc: Global, at: i64, draft: Option<PlanDraft>) -> Result<Vec<O
     ensures refused { IfErr result (λ r. (r ≡ Refusal.Memory) ⊎ Step no_plan (load_at at draft) (refused r) no_plan) }
 {
     let moment = check(at, &draft)?;
-    let contents = contents_of(draft.unwrap());
-    named_at(alloc, &contents, moment)
+    let (contents, graph) = parts_of(draft.unwrap());
+    named_at(alloc, &contents, &graph, moment)
 }
 
 /// What an empty plan answers to the load of a draft at a minute, `None` for a text that denotes none: as it does by

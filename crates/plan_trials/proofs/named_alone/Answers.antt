@@ -20,12 +20,12 @@ returns-clause-named c =
     let at = c.args.at in
     let draft = c.args.draft in
     let m = c.in_ok-moment.moment in
-    let new = c.contents_of-contents.result in
+    let new = c.parts_of-contents.result.0 in
     let fits : FitsSigned w64 at = search rules in
     let same : to_z w64 (of_z w64 at) ≡ at = omega (arith, ints, fits) in
     let is : draft ≡ Some c.unwrap.result = c.unwrap.ensures in
     let allows = subst (λ (z : ℤ). NoneRefuses (MayBeAccepted no_plan (load_at z draft))) same c.in_ok-moment.ensures.ok in
     let minute : at ≡ pos m = subst (λ (z : ℤ). z ≡ pos m) same c.in_ok-moment.ensures.at in
     IfOk-weaker c.named_at.result (λ keys. IsChosen new m keys.items) (λ keys. (P : Plan) × Step no_plan (load_at at draft) (accepted keys.items) P)
-    (λ keys chosen. load_step at draft m c.unwrap.result new keys.items allows minute is c.contents_of-contents.ensures.draft c.contents_of-contents.ensures.contents chosen)
+    (λ keys chosen. load_step at draft m c.unwrap.result new keys.items allows minute is c.parts_of-contents.ensures.draft c.parts_of-contents.ensures.contents chosen)
     c.named_at.ensures.chosen

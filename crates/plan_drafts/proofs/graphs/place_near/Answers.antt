@@ -1,6 +1,4 @@
-use Rattle.std.proofs.Common.{◌≡◌, ◌∙◌, sym}
-use Rattle.std.specs.Ordering.{is_eq}
-use Rattle.plan_basics.specs.Keys.{operation_cmp, operation_cmp_total, operation_cmp-IsAntisymmetric}
+use Rattle.plan_basics.specs.Keys.{operation_cmp_total, operation_cmp-IsAntisymmetric}
 use Rattle.plan_drafts.proofs.KeyPlaces.{tied_at}
 use Rattle.plan_drafts.proofs.graphs.place_near.Goals as goal
 

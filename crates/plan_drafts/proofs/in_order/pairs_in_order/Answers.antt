@@ -3,7 +3,7 @@ use Rattle.std.specs.FinSet.{from_list}
 use Rattle.std.specs.List.Sorted.{IsStrictlySortedBy}
 use Rattle.plan_model.specs.Contents.{pair_cmp}
 use Rattle.plan_model.specs.Valid.{IsAcyclic}
-use Rattle.plan_drafts.specs.PlanGraphs.{AreAmong}
+use Rattle.plan_drafts.specs.PlanGraphs.{AreAmong, IsGraphOf}
 use Rattle.plan_drafts.specs.KeyOrder.{AreInKeyOrder}
 use Rattle.plan_drafts.proofs.InOrder.{no_pairs_in_order, pairs_are, within_in_order}
 use Rattle.plan_drafts.proofs.Orders.{map_same}
@@ -35,7 +35,9 @@ pub returns : goal.returns
 returns c =
     let at = (goal.at.returns c).In-Some in
     let made = rw c.in-Some-2.is at c.in_ok-graph.ensures in
-    let among = subst (AreAmong c.args.keys.now) c.deref.ensures.value made.1 in
-    pairs_are c.args.keys.now c.args.pairs.items c.in-Some.pairs.items (ordered at).same (omega (arith, c.args.pairs.ok.0))
-    (within_in_order c.args.keys.now c.args.pairs.items c.in-Some.pairs.items (ordered at).same among) (ordered at).distinct (up at)
-    (subst (λ ps. IsAcyclic (from_list {R = pair_cmp} ps)) c.deref.ensures.value made.2)
+    let among = subst (AreAmong c.args.keys.now) c.deref.ensures.value made.1 in (
+      pairs_are c.args.keys.now c.args.pairs.items c.in-Some.pairs.items (ordered at).same (omega (arith, c.args.pairs.ok.0))
+          (within_in_order c.args.keys.now c.args.pairs.items c.in-Some.pairs.items (ordered at).same among) (ordered at).distinct (up at)
+          (subst (λ ps. IsAcyclic (from_list {R = pair_cmp} ps)) c.deref.ensures.value made.2),
+      subst (λ ps. IsGraphOf c.args.keys.now (from_list {R = pair_cmp} ps) c.in-Some-2.graph) c.deref.ensures.value made.0,
+    )

@@ -1,19 +1,22 @@
-use Rattle.plan_drafts.specs.Records.{records_of}
-use Rattle.plan_drafts.proofs.Denoting.{said_by}
-use Rattle.plan_drafts.proofs.DenotingAdditions.{are_addition_parts, addition_denoted, no_addition_denoted}
+use Rattle.std.proofs.Common.{MatchOption, List}
+use Rattle.std.proofs.lemmas.Result.{IfOk-weaker}
+use Rattle.std.specs.List.{AllZip}
+use Rattle.plan_items.specs.Items.{Fields, Says}
+use Rattle.plan_model.specs.Contents.{AddedParts}
+use Rattle.plan_drafts.specs.Records.{DenotesAddition, records_of}
+use Rattle.plan_drafts.proofs.Denoting.{items_legal, said_by}
 use Rattle.plan_drafts.proofs.drafts.Addition.build.Goals as goal
 
-pub returns-in_default-2-clause-denoted : goal.returns-in_default-2-clause-denoted
-returns-in_default-2-clause-denoted c =
+pub of_items-requires : goal.of_items-requires
+of_items-requires c =
     let said = said_by c.deref.ensures.value c.deref-2.ensures.value (rw c.in-Some.is at c.in_ok-items.ensures) in
-    no_addition_denoted (records_of c.args.records.items) c.deref-2.result.now said (rw c.in_default-2.is at c.in_ok-parts.ensures)
-
-pub invariant_of-result : goal.invariant_of-result
-invariant_of-result c =
-    let said = said_by c.deref.ensures.value c.deref-2.ensures.value (rw c.in-Some.is at c.in_ok-items.ensures) in
-    are_addition_parts (records_of c.args.records.items) c.deref-2.result.now said c.in-Some-2.parts (rw c.in-Some-2.is at c.in_ok-parts.ensures)
+    items_legal (records_of c.args.records.items) c.deref-2.result.now said
 
 pub returns-clause-denoted : goal.returns-clause-denoted
 returns-clause-denoted c =
+    let records = records_of c.args.records.items in
     let said = said_by c.deref.ensures.value c.deref-2.ensures.value (rw c.in-Some.is at c.in_ok-items.ensures) in
-    addition_denoted (records_of c.args.records.items) c.deref-2.result.now said c.in-Some-2.parts (rw c.in-Some-2.is at c.in_ok-parts.ensures)
+    IfOk-weaker c.of_items.result
+    (λ found. (records : List Fields) → AllZip Says records c.deref-2.result.now → MatchOption found ((s : AddedParts) → ¬ DenotesAddition records s) (λ a. DenotesAddition records a))
+    (λ found. MatchOption found ((s : AddedParts) → ¬ DenotesAddition records s) (λ a. DenotesAddition records a))
+    (λ found h. h records said) c.of_items.ensures.denoted
