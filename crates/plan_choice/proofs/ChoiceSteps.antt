@@ -28,7 +28,7 @@ use Rattle.plan_status.specs.plan_laws.proofs.Kept.{named_none, ready_unmarked}
 use Rattle.plan_status.specs.plan_model.proofs.Looks.{same_key}
 use Rattle.std.proofs.lemmas.Option.{same_Some}
 use Rattle.plan_basics.proofs.Members.{contains_head, contains_later}
-use Rattle.plan_choice.specs.Choices.{AreGivenOut, AreHeldIn, AreReadyEntries}
+use Rattle.plan_choice.specs.Choices.{AreGivenOut, AreHeldIn, AreReadyEntries, HasItsWorkstation}
 use Rattle.plan_choice.specs.StartGates.{Allows, Answers, Counted, IsCountedIn, PassesOver}
 use Rattle.plan_choice.specs.Takings.{CanStart, IsAtMost, most_given_out}
 use Rattle.plan_choice.proofs.Allowed.{can_start, may_start}
@@ -114,6 +114,9 @@ module _ (c : Contents) (m : ℕ) (es : List ReadyEntry) (are : AreReadyEntries 
     operations_split : ready_operations es ≡ ready_operations asked.before ++ e.key.op ∷ ready_operations asked.after
     operations_split = ap operations_of keys_split ∙ map-append (λ (k : ReadyKey). k.op) (keys_of asked.before) (e.key ∷ keys_of asked.after)
 
+    among : Contains es e
+    among = subst (λ xs. Contains xs e) (sym asked.split) (Contains-append_right asked.before (e ∷ asked.after) e (contains_head e asked.after))
+
     ready : IsReady P e.key.op
     ready = all_ready e.key (subst (λ ks. Contains ks e.key) (sym keys_split) (Contains-append_right (keys_of asked.before) (e.key ∷ keys_of asked.after) e.key (contains_head e.key (keys_of asked.after))))
 
@@ -137,7 +140,7 @@ module _ (c : Contents) (m : ℕ) (es : List ReadyEntry) (are : AreReadyEntries 
     counted = counted_in c m os g asked.counted
 
     module _ (k : Counted) where
-      yes : Allows g e.key.op k → allowed os e.key.op × Stands c m (os ++ e.key.op ∷ []) k
+      yes : Allows g e k → allowed os e.key.op × Stands c m (os ++ e.key.op ∷ []) k
       yes a =
           let is = here a.row a.in_plan in
           let can = subst (λ at. CanStart (named os P) e.key.op a.row at) asked.counted.at (a.can (named os P) counted) in
@@ -160,11 +163,11 @@ module _ (c : Contents) (m : ℕ) (es : List ReadyEntry) (are : AreReadyEntries 
             },
           )
 
-      no : PassesOver g e.key.op k → ¬ allowed os e.key.op × Stands c m os k
+      no : PassesOver g e k → ¬ allowed os e.key.op × Stands c m os k
       no a =
           let row = asked.on_automatic in
           let there = ap (λ (d : Contents). get d.operations e.key.op) asked.counted.contents ∙ row.1 in (
-            λ may. a.cannot row.0 there (named os P) counted
+            λ may. a.cannot (subst (λ (d : Contents). HasItsWorkstation d e) (sym asked.counted.contents) (are.workstations e among)) row.0 there (named os P) counted
                 (subst (λ at. CanStart (named os P) e.key.op row.0 at) (sym asked.counted.at) (can_start P m os each_ready e.key.op row.0 row.1 out may)),
             subst (Stands c m os) (sym a.same) asked.counted,
           )
@@ -185,7 +188,7 @@ module _ (c : Contents) (m : ℕ) (es : List ReadyEntry) (are : AreReadyEntries 
   counted_by_gate g stands os last run = (choice_by_answers Answers (Stands P m) automatic allowed es distinct attributes tells g stands os last run).1
 
 -- a gate that refuses with one refusal alone refuses with it in turn
-pub refuses_alone : (only r : Refusal) (os : List OpKey) (g : Counted) → RefusesInTurn Answers (λ _ _ s. s ≡ only) os g r → r ≡ only
+pub refuses_alone : (only r : Refusal) (es : List ReadyEntry) (g : Counted) → RefusesInTurn Answers (λ _ _ s. s ≡ only) es g r → r ≡ only
 refuses_alone only r [] g h = absurd h
-refuses_alone only r (o ∷ os) g (inl is) = is
-refuses_alone only r (o ∷ os) g (inr (yes, k, a, later)) = refuses_alone only r os k later
+refuses_alone only r (e ∷ es) g (inl is) = is
+refuses_alone only r (e ∷ es) g (inr (yes, k, a, later)) = refuses_alone only r es k later

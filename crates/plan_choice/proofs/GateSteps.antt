@@ -1,16 +1,22 @@
 -- What a gate answers of one operation, by the checks on its start.
-use Rattle.std.proofs.Common.{◌≡◌, sym, subst, ◌∙◌, true≢false, ℕ, true, false, slice_get, Result, Ok, Err, Some, IfErr, OnOk, is_err}
-use Rattle.std.specs.FinMap.{entries, get}
+use Rattle.std.proofs.Common.{arith, ◌≡◌, inl, inr, sym, subst, ◌∙◌, true≢false, ℕ, Bool, true, false, List, get_or, slice_get, Result, Ok, Err, Some, IfErr, OnOk, is_err}
+use Rattle.std.specs.FinMap.{entries, get, keys}
+use Rattle.plan_basics.specs.Keys.{name_cmp_total, name_cmp-IsAntisymmetric}
 use Rattle.plan_basics.specs.declared.Refusal.{Refusal}
+use Rattle.plan_basics.specs.declared.Refusal.TheVariants as refusal
 use Rattle.plan_basics.specs.declared.keys.OpKey.{OpKey}
-use Rattle.std.proofs.lemmas.Option.{same_Some}
+use Rattle.std.proofs.lemmas.Option.{same_Some, slice_get-get_or, slice_get_within}
 use Rattle.plan_status.specs.plan_model.specs.Contents.{Contents, Operation}
 use Rattle.plan_status.specs.plan_model.specs.Starts.{MayStart}
 use Rattle.workstations.specs.Workstations.{Workstation}
 use Rattle.workstations.specs.declared.Capacity.{Capacity}
 use Rattle.plan_choice.specs.Choices.{HasTaken, IsStartLine}
+use Rattle.plan_status.proofs.RowKeys.{row_of_key}
+use Rattle.plan_status.specs.plan_drafts.proofs.EntryRows.{row_in}
+use Rattle.plan_choice.specs.Shut.{AreShut}
 use Rattle.plan_choice.specs.StartGates.{Counted, IsCountedIn}
 use Rattle.plan_choice.specs.Takings.{CanStart}
+use Rattle.plan_choice.proofs.StartLines.{no_room}
 
 module _ (g : Counted) (op : Operation) (place : ℕ) (ws : Workstation) (at : slice_get (entries g.contents.workstations) place ≡ Some (op.workstation, ws))
     (taken : Capacity) (there : slice_get g.given place ≡ Some taken) where
@@ -41,3 +47,18 @@ module _ (g : Counted) (op : Operation) (place : ℕ) (ws : Workstation) (at : s
     cannot_start (Ok done) out told found row is P counted can = absurd (true≢false (sym out))
     cannot_start (Err r) out told found row is P counted can =
         told.2 P (has_taken P counted) (subst (λ x. MayStart P o x g.at r) (same_Some row op (sym is ∙ found)) (can r told.1))
+
+-- an operation on a workstation that is shut can't start
+pub cannot_on_shut : (g : Counted) (o : OpKey) (site : ℕ) (shut : List Bool) → AreShut (entries g.contents.workstations) g.at g.given shut → slice_get shut site ≡ Some true
+    → (row : Operation) → slice_get (keys g.contents.workstations) site ≡ Some row.workstation → (P : Contents) → IsCountedIn g P → ¬ CanStart P o row g.at
+cannot_on_shut g o site shut are told row placed P counted can =
+    let rows = entries g.contents.workstations in
+    let at = row_of_key rows site row.workstation placed in
+    let taken = get_or g.given site (record { servers = 0; r1 = 0; r2 = 0 }) in
+    let there : slice_get g.given site ≡ Some taken = slice_get-get_or g.given site _ (omega (arith, are.sized, slice_get_within rows site _ at.1)) in
+    let has = has_taken g row site at.0 at.1 taken there P counted in
+    let found = row_in name_cmp_total name_cmp-IsAntisymmetric g.contents.workstations site row.workstation at.0 at.1 in
+    elim (are.each site (row.workstation, at.0) taken told at.1 there) [
+      | inl closed ↦ no_room g.contents row at.0 found g.at taken g.held P has o refusal.Closed closed (can refusal.Closed tt)
+      | inr full ↦ no_room g.contents row at.0 found g.at taken g.held P has o refusal.NoServer full (can refusal.NoServer tt)
+    ]

@@ -14,3 +14,4 @@ pub mod NamedHolders
 pub mod NeedsTaken
 pub mod Readied
 pub mod ReadyLists
+pub mod Shutting

@@ -1,6 +1,6 @@
 -- What is ready among the rows of loaded contents, row by row.
 use Rattle.std.proofs.Common.{◌≡◌, inl, inr, sym, ap, subst, ◌∙◌, true≢false, arith, ℕ, ◌+◌, ◌≤◌, true, false, List, ◌++◌, ◌∷◌, [], length, slice_get, Some, ℤ}
-use Rattle.std.specs.FinMap.{entries, get}
+use Rattle.std.specs.FinMap.{entries, get, keys}
 use Rattle.std.proofs.lemmas.Option.{slice_get_within}
 use Rattle.plan_basics.specs.declared.Attr.{Attr}
 use Rattle.plan_basics.specs.Keys.{Name, operation_cmp}
@@ -30,17 +30,17 @@ ready_in_plan P o (inr (inr h)) = (h.0, h.1)
 -- ---- row by row
 
 -- with its latest start an operation has this entry
-pub has_entry : (P : Contents) (o : OpKey) (op : Operation) (v : ℤ) → get P.operations o ≡ Some op → {q : OpKey} {latest : ℤ} {duration priority : ℕ} {ws : Name} {attr : Attr}
+pub has_entry : (P : Contents) (o : OpKey) (op : Operation) (v : ℤ) (site : ℕ) → get P.operations o ≡ Some op → {q : OpKey} {latest : ℤ} {duration priority : ℕ} {ws : Name} {attr : Attr}
     → q ≡ o → latest ≡ v → duration ≡ op.duration → (t : Occurrence) × (get P.occurrences o.occurrence ≡ Some t) × (priority ≡ t.priority)
-    → ws ≡ op.workstation → HasAttribute P op.workstation attr
-    → IsLatestStart P o v → IsEntryIn P (record { key = record { latest = latest; priority = priority; duration = duration; op = q }; ws = ws; attr = attr })
-has_entry P o op v found {q} {latest} {duration} {priority} {ws} {attr} is_op is_latest is_duration terms is_ws reports start = (
+    → ws ≡ op.workstation → HasAttribute P op.workstation attr → slice_get (keys P.workstations) site ≡ Some op.workstation
+    → IsLatestStart P o v → IsEntryIn P (record { key = record { latest = latest; priority = priority; duration = duration; op = q }; ws = ws; attr = attr; site = site })
+has_entry P o op v site found {q} {latest} {duration} {priority} {ws} {attr} is_op is_latest is_duration terms is_ws reports placed start = (
   (
     subst (λ z. IsLatestStart P z latest) (sym is_op) (subst (IsLatestStart P o) (sym is_latest) start),
     (op, ap (get P.operations) is_op ∙ found, is_duration),
     (terms.0, ap (λ (z : OpKey). get P.occurrences z.occurrence) is_op ∙ terms.1, terms.2),
   ),
-  (op, ap (get P.operations) is_op ∙ found, (is_ws, reports)),
+  (op, ap (get P.operations) is_op ∙ found, (is_ws, reports, placed)),
 )
 
 module _ (c : Contents) (h : IsValid c) where

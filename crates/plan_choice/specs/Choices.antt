@@ -1,6 +1,6 @@
 -- What is worked out on the way to what starts.
-use Rattle.std.specs.Prelude.{◌≡◌, ◌↔◌, Bool, List, ℤ, Contains, Some}
-use Rattle.std.specs.FinMap.{entries, get}
+use Rattle.std.specs.Prelude.{◌≡◌, ◌↔◌, Bool, List, ℤ, Contains, Some, slice_get}
+use Rattle.std.specs.FinMap.{entries, get, keys}
 use Rattle.plan_basics.specs.Keys.{Name}
 use Rattle.special_resources.specs.declared.Mode.{Mode}
 use Rattle.special_resources.specs.Holdings.{Held}
@@ -21,11 +21,11 @@ use Rattle.workstations.specs.declared.Capacity.{Capacity}
 abbrev pub AreLatestStarts : Contents → List ℤ → Type 0
 AreLatestStarts P latest = AreByPlace (entries P.operations) latest (IsLatestStart P)
 
--- the entry has its operation's workstation, and how that reports
+-- the entry has its operation's workstation, how that reports, and its place
 abbrev pub HasItsWorkstation : Contents → ReadyEntry → Type 0
-HasItsWorkstation P e = Has P e.key.op (λ op. (e.ws ≡ op.workstation) × HasAttribute P op.workstation e.attr)
+HasItsWorkstation P e = Has P e.key.op (λ op. (e.ws ≡ op.workstation) × HasAttribute P op.workstation e.attr × (slice_get (keys P.workstations) e.site ≡ Some op.workstation))
 
--- what is ready, in order, each with its workstation and how that reports
+-- what is ready, in order, each with its workstation, how that reports and its place
 pub record AreReadyEntries (P : Contents) (entries : List ReadyEntry) : Type 0 where
   pub list : IsReadyList P (keys_of entries)
   pub workstations : (e : ReadyEntry) → Contains entries e → HasItsWorkstation P e

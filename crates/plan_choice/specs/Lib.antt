@@ -6,6 +6,7 @@ pub use Rattle.plan_status
 pub use Rattle.workstations
 pub mod Choices
 pub mod ReadyItems
+pub mod Shut
 pub mod StartGates
 pub mod StartItems
 pub mod Takings

@@ -18,11 +18,11 @@ IsKeyIn P k =
     IsLatestStart P k.op k.latest × Has P k.op (λ op. k.duration ≡ op.duration)
     × ((c : Occurrence) × (get P.occurrences k.op.occurrence ≡ Some c) × (k.priority ≡ c.priority))
 
--- the entry of an operation, whether or not it is ready: its key, its workstation and how that reports
+-- the entry of an operation, whether or not it is ready: its key, its workstation, how that reports and its place
 abbrev pub IsEntryIn : Contents → ReadyEntry → Type 0
 IsEntryIn P e = IsKeyIn P e.key × HasItsWorkstation P e
 
--- an operation that is ready, with what its place goes by, its workstation and how that reports
+-- an operation that is ready, with what its place in the list goes by, its workstation, how that reports and the place of that
 abbrev pub IsReadyEntry : Contents → ReadyEntry → Type 0
 IsReadyEntry P e = IsEntry P e.key × HasItsWorkstation P e
 

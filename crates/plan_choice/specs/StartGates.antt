@@ -1,10 +1,9 @@
 -- The gate that allows operations of a plan to start, one after the other.
-use Rattle.std.specs.Prelude.{◌≡◌, ℕ, Bool, true, false, List, Some, length, set, slice_get, refl}
+use Rattle.std.specs.Prelude.{◌≡◌, ℕ, Bool, true, false, List, Some, set, slice_get, refl}
 use Rattle.std.specs.Coded.{Coded, code_by, coded×, coded_ℕ, coded_list}
 use Rattle.std.specs.FinMap.{entries, get}
 use Rattle.std.specs.FinMap as map
 use Rattle.plan_basics.specs.contracts.keys.OpKey as operation_key
-use Rattle.plan_basics.specs.declared.keys.OpKey.{OpKey}
 use Rattle.special_resources.specs.Holdings.{Held}
 use Rattle.special_resources.specs.contracts.Mode as mode
 use Rattle.status_rules.specs.declared.Mark.TheVariants.{Named}
@@ -14,7 +13,8 @@ use Rattle.plan_status.specs.plan_model.specs.Code.{contents_code}
 use Rattle.workstations.specs.Workstations.{Workstation}
 use Rattle.workstations.specs.contracts.Capacity as capacity
 use Rattle.workstations.specs.declared.Capacity.{Capacity}
-use Rattle.plan_choice.specs.Choices.{AreGivenOut, AreHeldIn}
+use Rattle.ready_list.specs.declared.entry.ReadyEntry.{ReadyEntry}
+use Rattle.plan_choice.specs.Choices.{AreGivenOut, AreHeldIn, HasItsWorkstation}
 use Rattle.plan_choice.specs.Takings.{CanStart, HaveTaken, IsAtMost, most_given_out, with_one_more}
 
 -- the plan that is gone through and the moment, and what is given out at each workstation's index and what is held so far
@@ -23,10 +23,6 @@ pub record Counted : Type 0 where
   pub at : ℕ
   pub given : List Capacity
   pub held : Held
-
--- each workstation has its index
-abbrev pub HasEachIndex : Contents → List Capacity → Type 0
-HasEachIndex c given = length given ≡ length (entries c.workstations)
 
 -- the plan has these workstations and special resources, and in it this is given out and held
 pub record IsCountedIn (g : Counted) (P : Contents) : Type 0 where
@@ -41,25 +37,25 @@ pub record GivesOneMore (g : Counted) (op : Operation) (given : List Capacity) :
   pub before : (taken : Capacity) × (slice_get g.given place.0 ≡ Some taken)
   pub after : IsAtMost most_given_out before.0 → given ≡ set g.given place.0 (with_one_more before.0 op)
 
--- o is in the plan, which is valid, and can start, and counts as started then
-pub record Allows (g : Counted) (o : OpKey) (h : Counted) : Type 0 where
+-- the operation of the entry is in the plan, which is valid, and can start, and counts as started then
+pub record Allows (g : Counted) (e : ReadyEntry) (h : Counted) : Type 0 where
   pub valid : IsValid g.contents
   pub row : Operation
-  pub in_plan : get g.contents.operations o ≡ Some row
-  pub can : (P : Contents) → IsCountedIn g P → CanStart P o row g.at
+  pub in_plan : get g.contents.operations e.key.op ≡ Some row
+  pub can : (P : Contents) → IsCountedIn g P → CanStart P e.key.op row g.at
   pub same : (h.contents ≡ g.contents) × (h.at ≡ g.at)
   pub given : GivesOneMore g row h.given
-  pub held : HaveTaken g.held o row.needs Named h.held
+  pub held : HaveTaken g.held e.key.op row.needs Named h.held
 
--- o isn't in the plan or can't start, and nothing more counts then
-pub record PassesOver (g : Counted) (o : OpKey) (h : Counted) : Type 0 where
-  pub cannot : (row : Operation) → get g.contents.operations o ≡ Some row → (P : Contents) → IsCountedIn g P → ¬ CanStart P o row g.at
+-- the operation isn't in the plan or can't start, where the entry has its workstation, and nothing more counts then
+pub record PassesOver (g : Counted) (e : ReadyEntry) (h : Counted) : Type 0 where
+  pub cannot : HasItsWorkstation g.contents e → (row : Operation) → get g.contents.operations e.key.op ≡ Some row → (P : Contents) → IsCountedIn g P → ¬ CanStart P e.key.op row g.at
   pub same : h ≡ g
 
 -- what the gate answers of an operation, and what it counts then
-abbrev pub Answers : Counted → OpKey → Bool → Counted → Type 0
-Answers g o true h = Allows g o h
-Answers g o false h = PassesOver g o h
+abbrev pub Answers : Counted → ReadyEntry → Bool → Counted → Type 0
+Answers g e true h = Allows g e h
+Answers g e false h = PassesOver g e h
 
 -- what is held is stored by resource and operation
 abbrev held_code : Coded Held

@@ -1,15 +1,16 @@
 // What is named to start.
-ghost use Rattle.std.specs.Prelude.{◌≡◌, IfOk, IfErr};
+ghost use Rattle.std.specs.Prelude.{◌≡◌, ◌↔◌, IfOk, IfErr, IsTrue, Some, slice_get, true};
 ghost use Rattle.std.specs.FinMap.{entries};
 ghost use Rattle.plan_basics.specs.declared.Refusal.{Refusal};
 ghost use Rattle.plan_status.specs.plan_model.specs.Ready.{IsChosen, named};
 ghost use Rattle.plan_choice.specs.Choices.{AreGivenOut, AreHeldIn, AreReadyEntries};
 
 use super::holders::{holdings_of, take_needs};
+use super::shut::{is_shut, shut_at};
 use super::taken::{check_start, given_out_of, with_operation};
 use plan_basics::{Moment, OpKey, Refusal};
 use plan_status::SoundContents;
-use ready_list::{Gate, ReadyList};
+use ready_list::{Gate, ReadyEntry, ReadyList};
 use special_resources::Holdings;
 use std::alloc::Global;
 use std::marker::Model;
@@ -23,10 +24,14 @@ struct StartGate<'a> {
     /// What each workstation has given out, at its row's index.
     given: Vec<Capacity>,
     holdings: Holdings,
+    /// Which workstations are closed or have no server left, at its row's index.
+    shut: Vec<bool>,
 }
 
 impl<'a> Model for StartGate<'a> {
-    ghost use Rattle.plan_choice.specs.StartGates.{Counted, HasEachIndex, counted_code};
+    ghost use Rattle.std.specs.FinMap.{entries};
+    ghost use Rattle.plan_choice.specs.Shut.{AreShut};
+    ghost use Rattle.plan_choice.specs.StartGates.{Counted, counted_code};
 
     ghost Value = { Counted };
 
@@ -34,7 +39,17 @@ impl<'a> Model for StartGate<'a> {
 
     ghost view = { λ a. record { contents = a.contents.now; at = a.at; given = a.given.items; held = a.holdings.held } };
 
-    ghost invariant = { λ a. HasEachIndex a.contents.now a.given.items };
+    ghost invariant = { λ a. AreShut (entries a.contents.now.workstations) a.at a.given.items a.shut.items };
+}
+
+// Whether this is told of an index.
+fn is_told_shut(shut: &[bool], place: usize) -> bool
+    ensures { IsTrue result ↔ (slice_get shut.now place ≡ Some true) }
+{
+    match shut.get(place) {
+        Some(is_shut) => *is_shut,
+        None => false,
+    }
 }
 
 impl<'a> Gate for StartGate<'a> {
@@ -46,8 +61,12 @@ impl<'a> Gate for StartGate<'a> {
 
     ghost refuses = { λ _ _ r. r ≡ Refusal.Memory };
 
-    fn name(&mut self, op: &OpKey) -> Result<bool, Refusal> {
+    fn name(&mut self, entry: &ReadyEntry) -> Result<bool, Refusal> {
+        if is_told_shut(&self.shut, entry.site) {
+            return Ok(false);
+        }
         let contents = self.contents;
+        let op = &entry.key.op;
         let Some(operation) = contents.operation(op) else {
             return Ok(false);
         };
@@ -57,7 +76,9 @@ impl<'a> Gate for StartGate<'a> {
             return Ok(false);
         }
         take_needs(&mut self.holdings, op, operation)?;
-        self.given[place] = with_operation(&taken, operation);
+        let taken = with_operation(&taken, operation);
+        self.given[place] = taken;
+        self.shut[place] = is_shut(&contents.workstations()[place], self.at, &taken);
         Ok(true)
     }
 }
@@ -75,6 +96,7 @@ pub struct Choice {
 /// operation on an automatic workstation that is allowed to start once those before it are named; the others are passed over
 /// (IBM OPC/ESA, Planning and Scheduling the Workload). The error is always `Memory`.
 pub fn chosen_with(
+    alloc: Global,
     contents: &SoundContents,
     ready: &ReadyList,
     at: Moment,
@@ -89,11 +111,13 @@ pub fn chosen_with(
     ensures held { IfOk result (λ c. AreHeldIn (named c.named.items contents.now) c.holdings.held) }
     ensures refused { IfErr result (λ r. r ≡ Refusal.Memory) }
 {
+    let shut = shut_at(alloc, contents.workstations(), at, &given)?;
     let mut gate = StartGate {
         contents,
         at,
         given,
         holdings,
+        shut,
     };
     let named = ready.choose(&mut gate)?;
     Ok(Choice {
@@ -118,6 +142,6 @@ pub fn chosen(
 {
     let given = given_out_of(alloc, contents)?;
     let holdings = holdings_of(alloc, contents.valid())?;
-    let choice = chosen_with(contents, ready, at, given, holdings)?;
+    let choice = chosen_with(alloc, contents, ready, at, given, holdings)?;
     Ok(choice.named)
 }

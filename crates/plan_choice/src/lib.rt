@@ -5,6 +5,7 @@ mod choice;
 mod holders;
 mod latest;
 mod ready;
+mod shut;
 mod taken;
 
 pub use choice::{Choice, chosen, chosen_with};

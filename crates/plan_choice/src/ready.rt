@@ -40,6 +40,7 @@ fn entry_with(contents: &SoundContents, row: &(OpKey, OperationRecord), latest: 
         },
         ws: row.1.workstation,
         attr: attribute_of(contents.valid(), &row.1),
+        site: contents.workstation_place_of(&row.1),
     }
 }
 

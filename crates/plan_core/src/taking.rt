@@ -52,12 +52,9 @@ fn with_writing(plan: LoadedPlan, writing: Writing, named: &[OpKey]) -> LoadedPl
         revision,
         shift,
     } = writing;
-    LoadedPlan::of(
-        stepped(contents, &keys, revision, named),
-        graph,
-        latest,
-        shifted(figures, shift),
-    )
+    let contents = stepped(contents, &keys, revision, named);
+    let figures = shifted(&contents, &latest, figures, shift);
+    LoadedPlan::of(contents, graph, latest, figures)
 }
 
 /// Makes of the plan what a request makes of it, with these named. It takes no memory.

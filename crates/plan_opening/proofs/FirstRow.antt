@@ -1,5 +1,5 @@
 -- Before a plan is loaded there is one row.
-use Rattle.std.proofs.Common.{◌≡◌, ◌↔◌, Bool, IsTrue, nat_eq, get_or, sym, ap, subst, ◌∙◌, arith, inl, inr, refl, false, true≢false, List, [], ◌∷◌, length, Contains, option_map}
+use Rattle.std.proofs.Common.{◌≡◌, ◌↔◌, Bool, IsTrue, nat_eq, get_or, sym, ap, subst, ◌∙◌, arith, inl, inr, refl, true≢false, List, [], ◌∷◌, length, Contains, option_map}
 use Rattle.std.specs.Cmp.{unsigned_Decides}
 use Rattle.std.specs.FinMap.{get, get-empty}
 use Rattle.std.specs.FinSet as set

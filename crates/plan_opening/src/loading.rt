@@ -30,7 +30,8 @@ pub fn figures_of(
     let statuses = statuses_of(alloc, contents, &standings)?;
     let kept = kept_of(alloc, &standings, &statuses)?;
     let tallies = tallies_of(alloc, contents, &statuses)?;
-    let ready = ready_of(alloc, contents, &statuses, latest)?;
+    let mut ready = ready_of(alloc, contents, &statuses, latest)?;
+    ready.reserve(contents.operations().len())?;
     let given = given_out_of(alloc, contents)?;
     let holdings = holdings_of(alloc, contents.valid())?;
     Ok(Figures {

@@ -34,7 +34,7 @@ use Rattle.plan_restating.proofs.Exchanged.{ready_after, ready_already, ready_be
 abbrev its_key : ReadyEntry → ReadyKey
 its_key e = e.key
 
-by_entry : (es : Entries) → IsInOrder es → IsStrictlySortedBy entry_cmp es
+pub by_entry : (es : Entries) → IsInOrder es → IsStrictlySortedBy entry_cmp es
 by_entry es in_order = sorted_by_keys its_key ready_cmp es in_order
 
 in_order_without : (k : ReadyKey) (es : Entries) → IsInOrder es → IsInOrder (without k es)

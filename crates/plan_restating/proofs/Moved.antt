@@ -13,6 +13,7 @@ use Rattle.status_rules.specs.Classes.{is_live}
 use Rattle.status_rules.specs.declared.Mark.{Mark}
 use Rattle.status_rules.specs.declared.Mark.TheVariants as mark
 use Rattle.plan_model.specs.Contents.{Contents, HasAttribute, IsPairOf, LivePredecessor, Operation, Workstations, attribute_at}
+use Rattle.plan_choice.specs.workstations.specs.Timetables.{NamedWorkstation}
 use Rattle.plan_choice.specs.workstations.specs.Workstations.{Workstation}
 use Rattle.latest_start.proofs.Placed.{same_places}
 use Rattle.plan_choice.specs.plan_drafts.proofs.RowPlaces.{row_at}
@@ -39,7 +40,14 @@ live_is m h = refl
 live_told : (m : Mark) → is_live m ≡ true → m ≢ mark.Deleted
 live_told m t e = true≢false (sym t ∙ ap is_live e)
 
+names_told : (ws : List NamedWorkstation) → keys_of (reporting ws) ≡ keys_of ws
+names_told [] = refl
+names_told (w ∷ ws) = ap (λ ns. w.0 ∷ ns) (names_told ws)
+
 module _ (P Q : Contents) (moved_at : List ℕ) (moved : IsMovedAt P Q moved_at) where
+  pub same_workstations : keys Q.workstations ≡ keys P.workstations
+  same_workstations = sym (names_told (entries Q.workstations)) ∙ ap keys_of moved.workstations ∙ names_told (entries P.workstations)
+
   pub same_keys : keys Q.operations ≡ keys P.operations
   same_keys = same_places (keys_of (entries Q.operations)) (keys_of (entries P.operations)) (omega (arith, as_long)) (λ i lt.
       let key = row_at (keys_of (entries Q.operations)) i (omega (arith, lt, as_long)) in
@@ -94,3 +102,29 @@ module _ (P Q : Contents) (moved_at : List ℕ) (moved : IsMovedAt P Q moved_at)
   nonreporting_before p h =
       let b = row_before p h.0 h.1 in
       (b.0, b.1, attribute_before b.0.workstation Nonreporting (subst (λ w. HasAttribute Q w Nonreporting) (ap (λ (x : Operation). x.workstation) b.2.rest) h.2))
+
+-- ---- the way back
+
+remarked_back : (a b : Operation) → IsRemarked a b → IsRemarked b a
+remarked_back a b h = record { rest = sym (ap (λ (x : Operation). record x { mark = a.mark; held = a.held; nop = a.nop }) h.rest); live = sym h.live }
+
+-- where Q differs from P in marks and flags alone, P differs so from Q
+pub moved_back : (P Q : Contents) (moved_at : List ℕ) → IsMovedAt P Q moved_at → IsMovedAt Q P moved_at
+moved_back P Q moved_at moved = record {
+  workstations = sym moved.workstations;
+  occurrences = sym moved.occurrences;
+  pairs = sym moved.pairs;
+  size = sym moved.size;
+  rows = λ i o op row.
+      let now : OpKey × Operation = get_or (entries Q.operations) i (o, op) in
+      let within = slice_get_within (entries P.operations) i (o, op) row in
+      let here : slice_get (entries Q.operations) i ≡ Some now = slice_get-get_or (entries Q.operations) i (o, op) (omega (arith, within, moved.size)) in
+      let was = moved.rows i now.0 now.1 here in
+      let parts = some_pair_parts o now.0 op was.before (sym row ∙ was.was) in
+      record {
+        before = now.1;
+        was = subst (λ k. slice_get (entries Q.operations) i ≡ Some (k, now.1)) (sym parts.0) here;
+        remarked = subst (λ b. IsRemarked now.1 b) (sym parts.1) (remarked_back was.before now.1 was.remarked);
+        elsewhere = λ out. parts.1 ∙ sym (was.elsewhere out);
+      };
+}

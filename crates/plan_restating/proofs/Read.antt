@@ -1,5 +1,5 @@
 -- Statuses that are those of a plan: what goes by them is what is read off the plan.
-use Rattle.std.proofs.Common.{◌≡◌, inl, inr, refl, sym, ap, subst, ◌∙◌, arith, ℕ, List, get_or, slice_get, Some, Contains, ℤ, pos}
+use Rattle.std.proofs.Common.{◌≡◌, inl, inr, refl, sym, ap, subst, ◌∙◌, arith, ℕ, List, get_or, slice_get, Some, IsSome, Contains, ℤ, pos}
 use Rattle.std.proofs.lemmas.Option.{slice_get-get_or, slice_get_within}
 use Rattle.std.specs.FinMap.{entries, get, keys}
 use Rattle.plan_basics.specs.declared.keys.OccKey.{OccKey}
@@ -32,7 +32,15 @@ use Rattle.plan_restating.specs.Before.{AreReadOff}
 use Rattle.plan_choice.specs.ReadyItems.{IsKeyIn}
 use Rattle.plan_restating.specs.ByStatuses.{AreEntriesBy, AreInLine, AreTalliesBy, BelongsBy, CountsAsStarted, HasListed, IsReadyBy, IsTallyBy}
 use Rattle.plan_restating.proofs.Entering.{one_key}
-use Rattle.plan_restating.proofs.Moved.{attribute_after, row_after, same_keys}
+use Rattle.plan_restating.proofs.Moved.{attribute_after, moved_back, row_after, same_keys, same_workstations}
+
+-- an operation of the plan has a latest start
+some_start : (P : Contents) (starts : List ℤ) → AreLatestStarts P starts → (o : OpKey) (op : Operation) → get P.operations o ≡ Some op → (v : ℤ) × IsLatestStart P o v
+some_start P starts latest o op is =
+    let at = row_of P o op is in
+    let within = slice_get_within (entries P.operations) at.0 (o, op) at.1 in
+    let v : ℤ = get_or starts at.0 (pos 0) in
+    (v, latest.each at.0 o op v at.1 (slice_get-get_or starts at.0 (pos 0) (omega (arith, within, latest.size))))
 
 module _ (P : Contents) (acyclic : IsAcyclic P.pairs) (statuses : List Status) (are : AreStatuses P statuses) where
   abbrev ks : List OpKey
@@ -134,6 +142,73 @@ module _ (P : Contents) (acyclic : IsAcyclic P.pairs) (statuses : List Status) (
     workstations = λ e has. (all.each e has).0.1;
   }
 
+  -- where each operation has its occurrence and its latest start, what the plan's ready list has
+  module _ (have_occurrences : (o : OpKey) (op : Operation) → get P.operations o ≡ Some op → IsSome (get P.occurrences o.occurrence)) (starts : List ℤ) (latest : AreLatestStarts P starts)
+      (es : List ReadyEntry) (ready : AreReadyEntries P es) where
+    -- what is ready has an entry
+    some_entry : (o : OpKey) → IsReady P o → (e : ReadyEntry) × Contains es e × (e.key.op ≡ o)
+    some_entry o is =
+        let found = ready_in_plan P o is in
+        let start = some_start P starts latest o found.0 found.1 in
+        let terms = is_found (get P.occurrences o.occurrence) (have_occurrences o found.0 found.1) in
+        let k : ReadyKey = record { latest = start.0; priority = terms.0.priority; duration = found.0.duration; op = o } in
+        let entry : IsEntry P k = (is, start.1, (found.0, found.1, refl), (terms.0, terms.1, refl)) in
+        let one = (in_keys es k).0 ((ready.list.has_all k).1 entry) in
+        (one.0, one.1, ap (λ (z : ReadyKey). z.op) one.2)
+
+    pub entries_by : AreEntriesBy P statuses es
+    entries_by = record {
+      in_order = ready.list.ascends;
+      each = λ e has.
+          let entry = (ready.list.has_all e.key).0 ((in_keys es e.key).1 (e, has, refl)) in
+          (((entry.1, entry.2, entry.3), ready.workstations e has), ready_listed e.key.op entry.0);
+      every = λ o is. some_entry o (listed_ready o is);
+    }
+
+-- ---- what goes by the same statuses in a plan that differs in marks and flags alone
+
+module _ (P Q : Contents) (moved_at : List ℕ) (moved : IsMovedAt P Q moved_at) (starts : List ℤ) (before : AreLatestStarts P starts) (after : AreLatestStarts Q starts) where
+  start_after : (o : OpKey) → IsInPlan P o → (v : ℤ) → IsLatestStart P o v → IsLatestStart Q o v
+  start_after o h v is =
+      let now = row_after P Q moved_at moved o h.0 h.1 in
+      let at = row_of P o h.0 h.1 in
+      let within = slice_get_within (entries P.operations) at.0 (o, h.0) at.1 in
+      let w : ℤ = get_or starts at.0 (pos 0) in
+      let here : slice_get starts at.0 ≡ Some w = slice_get-get_or starts at.0 (pos 0) (omega (arith, within, before.size)) in
+      let key = row_of_key (entries Q.operations) at.0 o (subst (λ ks. slice_get ks at.0 ≡ Some o) (sym (same_keys P Q moved_at moved)) (key_of_row (entries P.operations) at.0 o h.0 at.1)) in
+      subst (IsLatestStart Q o) (one_latest_start P o w v (before.each at.0 o h.0 w at.1 here) is) (after.each at.0 o key.0 w key.1 here)
+
+  key_after : (k : ReadyKey) → IsKeyIn P k → IsKeyIn Q k
+  key_after k key =
+      let found = key.1 in
+      let now = row_after P Q moved_at moved k.op found.0 found.1 in
+      let terms = key.2 in (
+        start_after k.op (found.0, found.1, tt) k.latest key.0,
+        (now.0, now.1, found.2 ∙ sym (ap (λ (x : Operation). x.duration) now.2.rest)),
+        (terms.0, ap (λ occurrences. get occurrences k.op.occurrence) moved.occurrences ∙ terms.1, terms.2),
+      )
+
+  workstation_after : (e : ReadyEntry) → HasItsWorkstation P e → HasItsWorkstation Q e
+  workstation_after e on =
+      let now = row_after P Q moved_at moved e.key.op on.0 on.1 in
+      let same = ap (λ (x : Operation). x.workstation) now.2.rest in
+      let placed = subst (λ ks. slice_get ks e.site ≡ Some now.0.workstation) (sym (same_workstations P Q moved_at moved)) (on.2.2 ∙ ap Some (sym same)) in
+      (now.0, now.1, (on.2.0 ∙ sym same, attribute_after P Q moved_at moved now.0.workstation e.attr (subst (λ w. HasAttribute P w e.attr) (sym same) on.2.1), placed))
+
+  pub entries_after : (statuses : List Status) (es : List ReadyEntry) → AreEntriesBy P statuses es → AreEntriesBy Q statuses es
+  entries_after statuses es are =
+      let keys_back = sym (same_keys P Q moved_at moved) in
+      record {
+        in_order = are.in_order;
+        each = λ e has. let it = are.each e has in ((key_after e.key it.0.0, workstation_after e it.0.1), subst (λ ks. IsReadyBy ks statuses e.key.op) keys_back it.1);
+        every = λ o ready. are.every o (subst (λ ks. IsReadyBy ks statuses o) (same_keys P Q moved_at moved) ready);
+      }
+
+-- the way back
+pub entries_back : (P Q : Contents) (moved_at : List ℕ) → IsMovedAt P Q moved_at → (starts : List ℤ) → AreLatestStarts P starts → AreLatestStarts Q starts → (statuses : List Status) (es : List ReadyEntry)
+    → AreEntriesBy Q statuses es → AreEntriesBy P statuses es
+entries_back P Q moved_at moved starts before after = entries_after Q P moved_at (moved_back P Q moved_at moved) starts after before
+
 -- ---- what was read off the plan before
 
 module _ (P Q : Contents) (moved_at : List ℕ) (moved : IsMovedAt P Q moved_at) (valid : IsValid Q) (starts : List ℤ) (after : AreLatestStarts Q starts)
@@ -146,57 +221,15 @@ module _ (P Q : Contents) (moved_at : List ℕ) (moved : IsMovedAt P Q moved_at)
       subst (λ ks. AreByPlace (entries Q.occurrences) tallies (IsTallyBy ks statuses)) (sym (same_keys P Q moved_at moved))
       (subst (λ occurrences. AreByPlace (entries occurrences) tallies (IsTallyBy (keys P.operations) statuses)) (sym moved.occurrences) (tallies_by P acyclic statuses before.statuses tallies before.tallies))
 
-  -- the latest start of an operation of the plan
-  start_of : (o : OpKey) → IsInPlan P o → (v : ℤ) × IsLatestStart P o v × IsLatestStart Q o v
-  start_of o h =
-      let at = row_of P o h.0 h.1 in
-      let within = slice_get_within (entries P.operations) at.0 (o, h.0) at.1 in
-      let v : ℤ = get_or starts at.0 (pos 0) in
-      let is : slice_get starts at.0 ≡ Some v = slice_get-get_or starts at.0 (pos 0) (omega (arith, within, before.latest.size)) in
-      let now = row_after P Q moved_at moved o h.0 h.1 in
-      let key = row_of_key (entries Q.operations) at.0 o (subst (λ ks. slice_get ks at.0 ≡ Some o) (sym (same_keys P Q moved_at moved)) (key_of_row (entries P.operations) at.0 o h.0 at.1)) in
-      (v, before.latest.each at.0 o h.0 v at.1 is, after.each at.0 o key.0 v key.1 is)
-
-  key_after : (k : ReadyKey) → IsEntry P k → IsKeyIn Q k
-  key_after k entry =
-      let found = entry.2 in
-      let start = start_of k.op (found.0, found.1, tt) in
-      let now = row_after P Q moved_at moved k.op found.0 found.1 in
-      let terms = entry.3 in (
-        subst (IsLatestStart Q k.op) (one_latest_start P k.op start.0 k.latest start.1 entry.1) start.2,
-        (now.0, now.1, found.2 ∙ sym (ap (λ (x : Operation). x.duration) now.2.rest)),
-        (terms.0, ap (λ occurrences. get occurrences k.op.occurrence) moved.occurrences ∙ terms.1, terms.2),
-      )
-
-  workstation_after : (e : ReadyEntry) → HasItsWorkstation P e → HasItsWorkstation Q e
-  workstation_after e on =
-      let now = row_after P Q moved_at moved e.key.op on.0 on.1 in
-      let same = ap (λ (x : Operation). x.workstation) now.2.rest in
-      (now.0, now.1, (on.2.0 ∙ sym same, attribute_after P Q moved_at moved now.0.workstation e.attr (subst (λ w. HasAttribute P w e.attr) (sym same) on.2.1)))
-
-  -- what is ready has an entry
-  some_entry : (o : OpKey) → IsReady P o → (e : ReadyEntry) × Contains es e × (e.key.op ≡ o)
-  some_entry o ready =
-      let found = ready_in_plan P o ready in
-      let start = start_of o (found.0, found.1, tt) in
-      let now = row_after P Q moved_at moved o found.0 found.1 in
-      let terms = is_found (get Q.occurrences o.occurrence) (its_occurrence Q valid o now.0 now.1) in
-      let k : ReadyKey = record { latest = start.0; priority = terms.0.priority; duration = found.0.duration; op = o } in
-      let entry : IsEntry P k = (ready, start.1, (found.0, found.1, refl), (terms.0, ap (λ occurrences. get occurrences o.occurrence) (sym moved.occurrences) ∙ terms.1, refl)) in
-      let one = (in_keys es k).0 ((before.ready.list.has_all k).1 entry) in
-      (one.0, one.1, ap (λ (z : ReadyKey). z.op) one.2)
-
-  entries_before : AreEntriesBy Q statuses es
-  entries_before = record {
-    in_order = before.ready.list.ascends;
-    each = λ e has.
-        let entry = (before.ready.list.has_all e.key).0 ((in_keys es e.key).1 (e, has, refl)) in (
-          (key_after e.key entry, workstation_after e (before.ready.workstations e has)),
-          subst (λ ks. IsReadyBy ks statuses e.key.op) (sym (same_keys P Q moved_at moved)) (ready_listed P acyclic statuses before.statuses e.key.op entry.0),
-        );
-    every = λ o ready. some_entry o (listed_ready P acyclic statuses before.statuses o (subst (λ ks. IsReadyBy ks statuses o) (same_keys P Q moved_at moved) ready));
-  }
+  have_occurrences : (o : OpKey) (op : Operation) → get P.operations o ≡ Some op → IsSome (get P.occurrences o.occurrence)
+  have_occurrences o op is =
+      let now = row_after P Q moved_at moved o op is in
+      subst (λ occurrences. IsSome (get occurrences o.occurrence)) moved.occurrences (its_occurrence Q valid o now.0 now.1)
 
   -- it goes by the statuses in the changed plan too
   pub in_line_before : AreInLine Q statuses tallies es
-  in_line_before = record { size = before.statuses.size ∙ sym moved.size; tallies = tallies_before; ready = entries_before }
+  in_line_before = record {
+    size = before.statuses.size ∙ sym moved.size;
+    tallies = tallies_before;
+    ready = entries_after P Q moved_at moved starts before.latest after statuses es (entries_by P acyclic statuses before.statuses have_occurrences starts before.latest es before.ready);
+  }

@@ -1,5 +1,5 @@
 -- What goes by the statuses of a plan's operations, whether or not these are the right ones: the numbers of occurrences' operations, and the ready list.
-use Rattle.std.specs.Prelude.{◌≡◌, ◌⊎◌, ℕ, ◌<◌, true, List, Some, length, slice_get, Contains}
+use Rattle.std.specs.Prelude.{◌≡◌, ◌⊎◌, ℕ, ◌+◌, ◌<◌, ◌≤◌, true, List, Some, length, slice_get, Contains}
 use Rattle.std.specs.FinMap.{entries, keys}
 use Rattle.plan_basics.specs.declared.keys.OccKey.{OccKey}
 use Rattle.plan_basics.specs.declared.keys.OpKey.{OpKey}
@@ -7,7 +7,7 @@ use Rattle.status_rules.specs.Classes.{is_ready}
 use Rattle.status_rules.specs.declared.Counts.{Counts}
 use Rattle.status_rules.specs.declared.Status.{Status}
 use Rattle.status_rules.specs.declared.Status.TheVariants as status
-use Rattle.ready_list.specs.Entries.{IsInOrder}
+use Rattle.ready_list.specs.Entries.{IsInOrder, ReadyEntries}
 use Rattle.ready_list.specs.declared.entry.ReadyEntry.{ReadyEntry}
 use Rattle.plan_model.specs.Contents.{Contents}
 use Rattle.plan_choice.specs.plan_drafts.specs.Places.{AreByPlace}
@@ -61,6 +61,10 @@ pub record AreEntriesBy (P : Contents) (statuses : List Status) (es : List Ready
   pub in_order : IsInOrder es
   pub each : (e : ReadyEntry) → Contains es e → IsEntryIn P e × IsReadyBy (keys P.operations) statuses e.key.op
   pub every : (o : OpKey) → IsReadyBy (keys P.operations) statuses o → (e : ReadyEntry) × Contains es e × (e.key.op ≡ o)
+
+-- with those that there are, there is room for one of each operation
+abbrev pub HasRoomForAll : Contents → ReadyEntries → Type 0
+HasRoomForAll P ready = length (entries P.operations) ≤ length ready.entries + ready.room
 
 -- ---- both
 

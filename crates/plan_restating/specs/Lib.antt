@@ -1,3 +1,4 @@
 pub mod Restanding
 pub mod ByStatuses
 pub mod Before
+pub mod Overwritten

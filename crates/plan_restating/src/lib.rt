@@ -7,5 +7,6 @@ mod restanding;
 mod restating;
 mod retallying;
 
+pub use relisting::relist_all;
 pub use restanding::restand;
 pub use restating::restate;

@@ -1,5 +1,5 @@
 -- What is kept of a plan.
-use Rattle.std.specs.Prelude.{ℤ, List}
+use Rattle.std.specs.Prelude.{ℤ, ◌+◌, ◌≤◌, List, length}
 use Rattle.std.specs.FinMap.{entries}
 use Rattle.operation_graph.specs.Graphs.{Digraph}
 use Rattle.plan_choice.specs.Choices.{AreGivenOut, AreHeldIn, AreLatestStarts, AreReadyEntries}
@@ -10,7 +10,7 @@ use Rattle.plan_state.specs.declared.figures.Figures.{Figures}
 use Rattle.plan_choice.specs.plan_status.specs.Standings.{AreStandings, AreTallies}
 use Rattle.plan_waiting.specs.Kept.{AreKept}
 
--- they are this plan's: each is what the plan's own definition of it says
+-- they are this plan's: each is what the plan's own definition of it says, and the ready list has room for an entry of each operation
 pub record AreFigures (P : Contents) (f : Figures) : Type 0 where
   pub kept : AreKept P f.kept.items
   pub standings : AreStandings P f.standings.items
@@ -19,6 +19,7 @@ pub record AreFigures (P : Contents) (f : Figures) : Type 0 where
   pub given : AreGivenOut P (entries P.workstations) f.given.items
   pub holders : AreHeldIn P f.holdings.held
   pub ready : AreReadyEntries P f.ready.entries
+  pub room : length (entries P.operations) ≤ length f.ready.entries + f.ready.room
 
 -- what is the graph of the one, and its latest starts, is so of the other too
 pub record KeepsFrame (P Q : Contents) : Type 0 where

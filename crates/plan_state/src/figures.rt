@@ -22,6 +22,6 @@ pub struct Figures {
     pub given: Vec<Capacity>,
     /// Who holds what of special resources.
     pub holdings: Holdings,
-    /// What is ready, in the order in which it is to start.
+    /// What is ready, in the order in which it is to start, with room for all operations.
     pub ready: ReadyList,
 }

@@ -1,4 +1,4 @@
--- Figures in two parts, and columns that are alike.
+-- Figures in parts, and columns that are alike.
 use Rattle.std.proofs.Common.{◌≡◌, refl, sym, subst, ◌∙◌, Vec, Global}
 use Rattle.plan_cascade.specs.declared.kept.Kept.{Kept}
 use Rattle.plan_kept.specs.plan_drafts.specs.Places.{AreStatuses}
@@ -6,11 +6,12 @@ use Rattle.plan_kept.specs.plan_model.specs.Contents.{Contents}
 use Rattle.plan_kept.specs.plan_state.specs.Figures.{AreFigures}
 use Rattle.plan_kept.specs.plan_waiting.specs.Kept.{AreKept}
 use Rattle.plan_status.specs.Standings.{AreStandings, AreTallies}
-use Rattle.plan_steps.specs.Columns.{AreAlike, AreColumnsOf, AreSizedBy, IsStockOf, MakesOf, figures_of}
+use Rattle.plan_steps.specs.Columns.{AreAlike, AreColumnsOf, AreSizedBy, AreSharesOf, IsReadyListOf, MakesOf, figures_of}
 use Rattle.plan_steps.specs.Values.{LeadsTo}
 use Rattle.plan_steps.specs.declared.columns.Columns.{Columns}
-use Rattle.plan_steps.specs.declared.columns.Stock.{Stock}
+use Rattle.plan_steps.specs.declared.columns.Shares.{Shares}
 use Rattle.plan_steps.specs.declared.excerpts.Excerpt.{Excerpt}
+use Rattle.ready_list.specs.Entries.{ReadyEntries}
 
 pub alike_itself : (l : Columns) → AreAlike l l
 alike_itself l = record { kept = refl; standings = refl; statuses = refl; tallies = refl }
@@ -30,22 +31,27 @@ columns_alike P l m same are = record {
   tallies = subst (AreTallies P) (sym same.tallies) are.tallies;
 }
 
-pub are_columns : (P : Contents) (l : Columns) (s : Stock) → AreFigures P (figures_of l s) → AreColumnsOf P l
-are_columns P l s are = record { kept = are.kept; standings = are.standings; statuses = are.statuses; tallies = are.tallies }
+module _ (P : Contents) (l : Columns) (r : ReadyEntries) (s : Shares) where
+  pub are_columns : AreFigures P (figures_of l r s) → AreColumnsOf P l
+  are_columns are = record { kept = are.kept; standings = are.standings; statuses = are.statuses; tallies = are.tallies }
 
-pub is_stock : (P : Contents) (l : Columns) (s : Stock) → AreFigures P (figures_of l s) → IsStockOf P s
-is_stock P l s are = record { given = are.given; holders = are.holders; ready = are.ready }
+  pub is_list : AreFigures P (figures_of l r s) → IsReadyListOf P r
+  is_list are = record { listed = are.ready; room = are.room }
 
-pub are_figures : (P : Contents) (l : Columns) (s : Stock) → AreColumnsOf P l → IsStockOf P s → AreFigures P (figures_of l s)
-are_figures P l s are stock = record {
-  kept = are.kept;
-  standings = are.standings;
-  statuses = are.statuses;
-  tallies = are.tallies;
-  given = stock.given;
-  holders = stock.holders;
-  ready = stock.ready;
-}
+  pub are_shares : AreFigures P (figures_of l r s) → AreSharesOf P s
+  are_shares are = record { given = are.given; holders = are.holders }
+
+  pub are_figures : AreColumnsOf P l → IsReadyListOf P r → AreSharesOf P s → AreFigures P (figures_of l r s)
+  are_figures are list shares = record {
+    kept = are.kept;
+    standings = are.standings;
+    statuses = are.statuses;
+    tallies = are.tallies;
+    given = shares.given;
+    holders = shares.holders;
+    ready = list.listed;
+    room = list.room;
+  }
 
 pub sized : (P : Contents) (l : Columns) → AreColumnsOf P l → AreSizedBy P l
 sized P l are = record { kept = are.kept.size; standings = are.standings.size; statuses = are.statuses.size; tallies = are.tallies.size }

@@ -15,3 +15,4 @@ pub mod Belonging
 pub mod KeptThen
 pub mod MovedColumns
 pub mod MadeSteps
+pub mod Listing

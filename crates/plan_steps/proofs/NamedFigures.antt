@@ -21,7 +21,7 @@ use Rattle.plan_cascade.specs.declared.kept.Kept.{Kept}
 use Rattle.plan_steps.specs.Edits.{ArePlacesIn}
 use Rattle.plan_steps.specs.Naming.{WasNamed}
 use Rattle.plan_steps.specs.declared.columns.Columns.{Columns}
-use Rattle.ready_list.specs.declared.entry.ReadyEntry.{ReadyEntry}
+use Rattle.ready_list.specs.Entries.{ReadyEntries}
 use Rattle.plan_status.proofs.Naming.{naming_keeps_standings}
 use Rattle.plan_status.specs.Standings.{AreStandings, IsStanding}
 use Rattle.plan_status.specs.declared.standings.Standing.{Standing}
@@ -62,7 +62,7 @@ module _ (P : Contents) (m : ℕ) (os : List OpKey) (chosen : IsChosen P m os) w
 
 -- ---- what is chosen was named
 
-module _ (P R : Contents) (os : List OpKey) (places : List ℕ) (starts : List ℤ) (l : Columns) (es : List ReadyEntry) (was : WasNamed P R os places starts l es) where
+module _ (P R : Contents) (os : List OpKey) (places : List ℕ) (starts : List ℤ) (l : Columns) (r : ReadyEntries) (was : WasNamed P R os places starts l r) where
   abbrev m : ℕ
   m = was.chosen.0
 

@@ -1,12 +1,13 @@
 -- Values written at their places, and put back.
-use Rattle.std.proofs.Common.{◌≡◌, ◌≢◌, inl, inr, refl, sym, ap, subst, ◌∙◌, arith, ℕ, zero, suc, ◌<◌, List, [], ◌∷◌, length, ◌++◌, map, set, slice_get, Contains, Some, length-set, ◌⊎◌, All, Vec, Global, Result, Ok, Err, OnErr}
+use Rattle.std.proofs.Common.{◌≡◌, ◌≢◌, inl, inr, refl, sym, ap, subst, ◌∙◌, arith, ℕ, zero, suc, ◌<◌, List, [], ◌∷◌, length, ◌++◌, map, set, slice_get, Contains, Some, length-set, ◌⊎◌, All, Vec, Global}
 use Rattle.std.proofs.lemmas.Bool.{cases_eq}
 use Rattle.std.proofs.lemmas.List.{map-append, with_items_is}
 use Rattle.std.proofs.lemmas.Option.{slice_get_within, same_Some}
 use Rattle.std.proofs.lemmas.List.Elements.{Contains-append_left, Contains-push, Contains-push_cases}
 use Rattle.std.specs.Vec.{with_items}
 use Rattle.plan_basics.proofs.Members.{all_by_members, contains_cases, contains_head, contains_later, contains_none}
-use Rattle.plan_steps.specs.Values.{AreValuesAt, LeadsTo, overwritten}
+use Rattle.plan_restating.specs.Overwritten.{overwritten}
+use Rattle.plan_steps.specs.Values.{AreValuesAt, LeadsTo}
 
 -- two lists with the same at each index are one
 pub same_lists : {X : Type 0} (xs ys : List X) → ((i : ℕ) → slice_get xs i ≡ slice_get ys i) → xs ≡ ys
@@ -101,6 +102,12 @@ vector_overwritten values v vs xs new v_is x_is is =
     let same : length new ≡ length v.items = ap length made ∙ length-overwritten values v.items in
     with_items_is v new (omega (arith, same, v.ok.0)) ∙ made
 
+-- it holds what was made of what was lent of it
+pub vector_written : {X : Type 0} (values : List (ℕ × X)) (v : Vec X Global) (vs : List (ℕ × X)) (xs new : List X) → vs ≡ values → xs ≡ v.items → new ≡ overwritten vs xs → (with_items v new).items ≡ new
+vector_written values v vs xs new v_is x_is is =
+    let same : length new ≡ length v.items = ap length is ∙ length-overwritten vs xs ∙ ap length x_is in
+    with_items_is v new (omega (arith, same, v.ok.0))
+
 -- it holds the other list
 pub led_there : {X : Type 0} (values : List (ℕ × X)) (v : Vec X Global) (to : List X) → LeadsTo values v.items to → (vs : List (ℕ × X)) (xs new : List X) → vs ≡ values → xs ≡ v.items → new ≡ overwritten vs xs → (with_items v new).items ≡ to
 led_there values v to leads vs xs new v_is x_is is = vector_overwritten values v vs xs new v_is x_is is ∙ leads_there values v.items to leads
@@ -108,18 +115,6 @@ led_there values v to leads vs xs new v_is x_is is = vector_overwritten values v
 -- what is read off what is lent of a list is so of the list, and where fewer are meant
 pub meant_too : {X : Type 0} (list xs : List X) (is_meant also : ℕ → Type 0) (values : List (ℕ × X)) → xs ≡ list → ((i : ℕ) → also i → is_meant i) → AreValuesAt xs is_meant values → AreValuesAt list also values
 meant_too list xs is_meant also values same f are = record { there = λ e has. subst (λ ys. slice_get ys e.0 ≡ Some e.1) same (are.there e has); all = λ i has. are.all i (f i has) }
-
--- two vectors into which nothing else was written where there was an error
-pub same_on_err : {T E X Y : Type 0} (A : Type 0) (r : Result T E) (v : Vec X Global) (w : Vec Y Global) (xs : List X) (ys : List Y) (new : List X) (fresh : List Y) → xs ≡ v.items → ys ≡ w.items
-    → OnErr r ((new ≡ xs) × (fresh ≡ ys) × A) → OnErr r (((with_items v new).items ≡ v.items) × ((with_items w fresh).items ≡ w.items))
-same_on_err A (Ok t) v w xs ys new fresh x y h = tt
-same_on_err A (Err e) v w xs ys new fresh x y h = (
-  with_same v new (h.0 ∙ x),
-  with_same w fresh (h.1 ∙ y),
-)
-  where
-    with_same : {Z : Type 0} (u : Vec Z Global) (zs : List Z) → zs ≡ u.items → (with_items u zs).items ≡ u.items
-    with_same u zs is = let same : length zs ≡ length u.items = ap length is in with_items_is u zs (omega (arith, same, u.ok.0)) ∙ is
 
 -- a vector into which the same was written
 pub vector_unchanged : {X : Type 0} (v : Vec X Global) (xs new : List X) → xs ≡ v.items → new ≡ xs → (with_items v new).items ≡ v.items

@@ -27,11 +27,6 @@ pub on_ok : {T E : Type 0} {A : Type 0} (r : Result T E) → A → OnOk r A
 on_ok (Ok x) a = a
 on_ok (Err e) a = tt
 
--- what follows from two that hold where it is ok holds there
-pub both_on_ok : {T E : Type 0} {A B C : Type 0} (r : Result T E) → (A → B → C) → OnOk r A → OnOk r B → OnOk r C
-both_on_ok (Ok x) f a b = f a b
-both_on_ok (Err e) f a b = tt
-
 pub all_below : (n : ℕ) (places : List ℕ) → AreBelow n places → All (λ i. i < n) places
 all_below n places below = λ k d lt. below (slice_index_or places k d) (All-contains_itself places k d lt)
 

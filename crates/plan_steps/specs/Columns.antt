@@ -1,21 +1,24 @@
--- The figures of a plan in two parts, and excerpts of what is kept by place.
-use Rattle.std.specs.Prelude.{◌≡◌, ℕ, List, length, Contains}
+-- The figures of a plan in parts, and excerpts of what is kept by place.
+use Rattle.std.specs.Prelude.{◌≡◌, ℕ, ◌+◌, ◌≤◌, List, length, Contains}
 use Rattle.std.specs.FinMap.{entries}
 use Rattle.plan_kept.specs.plan_choice.specs.Choices.{AreGivenOut, AreHeldIn, AreReadyEntries}
 use Rattle.plan_kept.specs.plan_drafts.specs.Places.{AreStatuses}
 use Rattle.plan_kept.specs.plan_model.specs.Contents.{Contents}
 use Rattle.plan_kept.specs.plan_state.specs.declared.figures.Figures.{Figures}
 use Rattle.plan_kept.specs.plan_waiting.specs.Kept.{AreKept}
+use Rattle.plan_restating.specs.ByStatuses.{AreEntriesBy, HasRoomForAll}
 use Rattle.plan_rows.specs.Touched.{HasOneOf}
 use Rattle.plan_status.specs.Standings.{AreStandings, AreTallies}
 use Rattle.plan_steps.specs.Values.{AreValuesAt, LeadsTo}
 use Rattle.plan_steps.specs.declared.columns.Columns.{Columns}
-use Rattle.plan_steps.specs.declared.columns.Stock.{Stock}
+use Rattle.plan_steps.specs.declared.columns.Shares.{Shares}
 use Rattle.plan_steps.specs.declared.excerpts.Excerpt.{Excerpt}
+use Rattle.ready_list.specs.Entries.{ReadyEntries}
+use Rattle.status_rules.specs.declared.Status.{Status}
 
 -- the figures of which these are the parts
-abbrev pub figures_of : Columns → Stock → Figures
-figures_of l s = record { kept = l.kept; standings = l.standings; statuses = l.statuses; tallies = l.tallies; given = s.given; holdings = s.holdings; ready = s.ready }
+abbrev pub figures_of : Columns → ReadyEntries → Shares → Figures
+figures_of l r s = record { kept = l.kept; standings = l.standings; statuses = l.statuses; tallies = l.tallies; given = s.given; holdings = s.holdings; ready = r }
 
 -- the columns are this plan's
 pub record AreColumnsOf (P : Contents) (l : Columns) : Type 0 where
@@ -24,11 +27,21 @@ pub record AreColumnsOf (P : Contents) (l : Columns) : Type 0 where
   pub statuses : AreStatuses P l.statuses.items
   pub tallies : AreTallies P l.tallies.items
 
--- so is what is given out, held and ready
-pub record IsStockOf (P : Contents) (s : Stock) : Type 0 where
+-- so is what is given out and held
+pub record AreSharesOf (P : Contents) (s : Shares) : Type 0 where
   pub given : AreGivenOut P (entries P.workstations) s.given.items
   pub holders : AreHeldIn P s.holdings.held
-  pub ready : AreReadyEntries P s.ready.entries
+
+-- so is the ready list, which has room for an entry of each operation
+pub record IsReadyListOf (P : Contents) (r : ReadyEntries) : Type 0 where
+  pub listed : AreReadyEntries P r.entries
+  pub room : length (entries P.operations) ≤ length r.entries + r.room
+
+-- the ready list goes by these statuses of the plan's operations, whether or not these are the right ones, and has room for an entry of each
+pub record GoesByStatuses (P : Contents) (statuses : List Status) (r : ReadyEntries) : Type 0 where
+  pub size : length statuses ≡ length (entries P.operations)
+  pub listed : AreEntriesBy P statuses r.entries
+  pub room : HasRoomForAll P r
 
 -- both columns have the same at each place
 pub record AreAlike (l m : Columns) : Type 0 where

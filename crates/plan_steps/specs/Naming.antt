@@ -1,12 +1,11 @@
 -- What is named, and what is kept of a plan on the way there.
 use Rattle.std.specs.Prelude.{◌≡◌, ◌↔◌, ◌⊎◌, ℕ, ℤ, List, Some, Contains}
-use Rattle.std.specs.FinMap.{entries}
 use Rattle.std.specs.List.Sorted.{IsStrictlySortedBy}
 use Rattle.std.specs.Ordering.{nat_cmp}
 use Rattle.plan_basics.specs.declared.keys.OpKey.{OpKey}
 use Rattle.plan_changes.specs.Markings.{WereMarked}
 use Rattle.plan_kept.specs.Edits.{ArePlacesOf}
-use Rattle.plan_kept.specs.plan_choice.specs.Choices.{AreGivenOut, AreHeldIn, AreLatestStarts, AreReadyEntries}
+use Rattle.plan_kept.specs.plan_choice.specs.Choices.{AreLatestStarts}
 use Rattle.plan_kept.specs.plan_model.specs.Contents.{Contents}
 use Rattle.plan_kept.specs.plan_model.specs.Ready.{IsChosen, named}
 use Rattle.plan_kept.specs.plan_model.specs.Valid.{IsSound}
@@ -15,14 +14,14 @@ use Rattle.plan_rows.specs.Shown.{IsShown}
 use Rattle.plan_rows.specs.declared.notes.Beside.{Beside}
 use Rattle.plan_rows.specs.declared.notes.Notes.{Notes}
 use Rattle.plan_rows.specs.declared.shown.Shown.{Shown}
-use Rattle.plan_steps.specs.Columns.{AreColumnsOf, IsStockOf}
+use Rattle.plan_steps.specs.Columns.{AreColumnsOf, AreSharesOf, IsReadyListOf}
 use Rattle.plan_steps.specs.Shifts.{HasColumnsAt}
 use Rattle.plan_steps.specs.Touched.{IsTouchedAt}
 use Rattle.plan_steps.specs.declared.columns.Columns.{Columns}
 use Rattle.plan_steps.specs.declared.following.SmallStep.{SmallStep}
 use Rattle.plan_steps.specs.declared.naming.Naming.{Naming}
 use Rattle.plan_steps.specs.declared.noting.Noted.{Noted}
-use Rattle.ready_list.specs.declared.entry.ReadyEntry.{ReadyEntry}
+use Rattle.ready_list.specs.Entries.{ReadyEntries}
 
 -- this is named at m of the sound plan P, at these places, where these markings stand; what is given out and held is so once it is
 pub record IsNaming (P : Contents) (m : ℕ) (n : Naming) : Type 0 where
@@ -30,18 +29,16 @@ pub record IsNaming (P : Contents) (m : ℕ) (n : Naming) : Type 0 where
   pub chosen : IsChosen P m n.named.items
   pub places : ArePlacesOf P n.named.items n.places.items
   pub marked : WereMarked P n.named.items n.marks.items
-  pub given : AreGivenOut (named n.named.items P) (entries (named n.named.items P).workstations) n.stock.given.items
-  pub holders : AreHeldIn (named n.named.items P) n.stock.holdings.held
-  pub ready : AreReadyEntries P n.stock.ready.entries
+  pub shares : AreSharesOf (named n.named.items P) n.shares
 
--- what is chosen at these places of the sound plan P was named, which made R of it; these are its latest starts, its columns and its ready entries
-pub record WasNamed (P R : Contents) (os : List OpKey) (indices : List ℕ) (starts : List ℤ) (l : Columns) (es : List ReadyEntry) : Type 0 where
+-- what is chosen at these places of the sound plan P was named, which made R of it; these are its latest starts, its columns and its ready list
+pub record WasNamed (P R : Contents) (os : List OpKey) (indices : List ℕ) (starts : List ℤ) (l : Columns) (r : ReadyEntries) : Type 0 where
   pub sound : IsSound P
   pub chosen : (m : ℕ) × IsChosen P m os
   pub places : ArePlacesOf P os indices
   pub latest : AreLatestStarts P starts
   pub columns : AreColumnsOf P l
-  pub ready : AreReadyEntries P es
+  pub ready : IsReadyListOf P r
   pub after : R ≡ named os P
 
 -- they note what is shown of a plan that holds R
@@ -75,4 +72,4 @@ pub record IsStepOf (Q : Contents) (m : ℕ) (edited : List ℕ) (b : Beside) (s
   pub joined : AreBoth edited places touched
   pub notes : AreNotesOf (named s.named.items Q) b touched s.notes
   pub columns : HasColumnsAt (named s.named.items Q) touched s.shift.columns
-  pub stock : IsStockOf (named s.named.items Q) s.shift.stock
+  pub shares : AreSharesOf (named s.named.items Q) s.shift.shares

@@ -2,7 +2,7 @@
 use Rattle.std.specs.Prelude.{ℕ, List}
 use Rattle.plan_kept.specs.plan_model.specs.Contents.{Contents}
 use Rattle.plan_kept.specs.plan_model.specs.Valid.{IsSound}
-use Rattle.plan_steps.specs.Columns.{AreColumnsOf, IsExcerptOf, IsStockOf}
+use Rattle.plan_steps.specs.Columns.{AreColumnsOf, IsExcerptOf, AreSharesOf}
 use Rattle.plan_steps.specs.Touched.{IsTouchedAt}
 use Rattle.plan_steps.specs.declared.columns.Columns.{Columns}
 use Rattle.plan_steps.specs.declared.excerpts.Excerpt.{Excerpt}
@@ -21,4 +21,4 @@ pub record IsShift (P R : Contents) (s : Shift) : Type 0 where
   pub touched : List ℕ
   pub at_touched : IsTouchedAt P R touched
   pub columns : HasColumnsAt R touched s.columns
-  pub stock : IsStockOf R s.stock
+  pub shares : AreSharesOf R s.shares

@@ -1,10 +1,5 @@
 -- What lists have at some places.
-use Rattle.std.specs.Prelude.{◌≡◌, ℕ, List, [], ◌∷◌, length, map, slice_get, slice_set, Contains, Some}
-
--- a list once each of these values is written at its place, the first one first
-abbrev pub overwritten : {X : Type 0} → List (ℕ × X) → List X → List X
-overwritten [] list = list
-overwritten (e ∷ values) list = overwritten values (slice_set list e.0 e.1)
+use Rattle.std.specs.Prelude.{◌≡◌, ℕ, List, length, map, slice_get, Contains, Some}
 
 -- the list has these values at their places, and all places that are meant are among these
 pub record AreValuesAt {X : Type 0} (list : List X) (is_meant : ℕ → Type 0) (values : List (ℕ × X)) : Type 0 where

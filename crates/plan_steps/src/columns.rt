@@ -1,8 +1,8 @@
-// The figures of a plan in two parts: what is kept by place, and what is short.
+// The figures of a plan in three parts: what is kept by place, what is ready, and what is short.
 ghost use Rattle.std.specs.Prelude.{◌≡◌, IfErr, IfOk};
 ghost use Rattle.plan_basics.specs.declared.Refusal.{Refusal};
 ghost use Rattle.plan_kept.specs.plan_model.specs.Contents.{Contents};
-ghost use Rattle.plan_steps.specs.Columns.{IsStockOf, figures_of};
+ghost use Rattle.plan_steps.specs.Columns.{AreSharesOf, figures_of};
 
 use plan_basics::Refusal;
 use plan_cascade::Kept;
@@ -27,34 +27,31 @@ pub struct Columns {
     pub tallies: Vec<Counts>,
 }
 
-/// What is given out, held and ready.
+/// What is given out and held.
 #[derive(Drop)]
-pub struct Stock {
+pub struct Shares {
     /// What each workstation has given out, in the order of their keys.
     pub given: Vec<Capacity>,
     /// Who holds what of special resources.
     pub holdings: Holdings,
-    /// What is ready, in the order in which it is to start.
-    pub ready: ReadyList,
 }
 
-impl Stock {
+impl Shares {
     /// A copy. The error is always `Memory`.
-    pub fn try_clone(&self, alloc: Global) -> Result<Stock, Refusal>
-        ensures stock { (P : Contents) → IsStockOf P self.now → IfOk result (IsStockOf P) }
+    pub fn try_clone(&self, alloc: Global) -> Result<Shares, Refusal>
+        ensures shares { (P : Contents) → AreSharesOf P self.now → IfOk result (AreSharesOf P) }
         ensures refused { IfErr result (λ r. r ≡ Refusal.Memory) }
     {
-        Ok(Stock {
+        Ok(Shares {
             given: Vec::from_slice(alloc, &self.given)?,
             holdings: self.holdings.try_clone()?,
-            ready: self.ready.try_clone()?,
         })
     }
 }
 
-/// Both parts of these figures.
-pub fn parts_of(figures: Figures) -> (Columns, Stock)
-    ensures { figures_of result.0 result.1 ≡ figures }
+/// The parts of these figures.
+pub fn parts_of(figures: Figures) -> (Columns, ReadyList, Shares)
+    ensures { figures_of result.0 result.1 result.2 ≡ figures }
 {
     let Figures {
         kept,
@@ -71,25 +68,21 @@ pub fn parts_of(figures: Figures) -> (Columns, Stock)
         statuses,
         tallies,
     };
-    let stock = Stock {
-        given,
-        holdings,
-        ready,
-    };
-    (columns, stock)
+    let shares = Shares { given, holdings };
+    (columns, ready, shares)
 }
 
 /// The figures of which these are the parts.
-pub fn figures_with(columns: Columns, stock: Stock) -> Figures
-    ensures { result ≡ figures_of columns stock }
+pub fn figures_with(columns: Columns, ready: ReadyList, shares: Shares) -> Figures
+    ensures { result ≡ figures_of columns ready shares }
 {
     Figures {
         kept: columns.kept,
         standings: columns.standings,
         statuses: columns.statuses,
         tallies: columns.tallies,
-        given: stock.given,
-        holdings: stock.holdings,
-        ready: stock.ready,
+        given: shares.given,
+        holdings: shares.holdings,
+        ready,
     }
 }

@@ -1,13 +1,17 @@
 // Excerpts of what is kept by place.
 ghost use Rattle.std.specs.Prelude.{◌≡◌, ◌<◌, All, IfOk, length};
 ghost use Rattle.std.specs.FinMap.{entries};
-ghost use Rattle.plan_steps.specs.Columns.{AreAlike, AreSizedBy, IsExcerptOf, MakesOf};
+ghost use Rattle.plan_kept.specs.plan_choice.specs.Choices.{AreLatestStarts};
+ghost use Rattle.plan_steps.specs.Columns.{AreAlike, AreSizedBy, GoesByStatuses, IsExcerptOf, MakesOf};
 ghost use Rattle.plan_steps.specs.declared.columns.Columns.{Columns as ColumnsValue};
 
 use super::columns::Columns;
 use super::values::{occurrences_at, put_at, values_at};
+use latest_start::Latest;
 use plan_cascade::Kept;
+use plan_restating::relist_all;
 use plan_status::{SoundContents, Standing};
+use ready_list::ReadyList;
 use status_rules::{Counts, Status};
 use std::alloc::{AllocError, Global};
 
@@ -40,13 +44,28 @@ pub fn excerpt_of(
     })
 }
 
-/// Writes an excerpt into columns. It takes no memory.
-pub fn put_excerpt(columns: &mut Columns, excerpt: &Excerpt)
-    requires { (to : ColumnsValue) × MakesOf excerpt.now columns.old to }
-    ensures { (to : ColumnsValue) → MakesOf excerpt.now columns.old to → AreAlike columns.new to }
+/// Writes an excerpt into columns; the ready list, which goes by the statuses, follows. It takes no memory.
+pub fn put_excerpt(
+    contents: &SoundContents,
+    latest: &Latest,
+    columns: &mut Columns,
+    ready: &mut ReadyList,
+    excerpt: &Excerpt,
+)
+    requires makes { (to : ColumnsValue) × MakesOf excerpt.now columns.old to }
+    requires latest { AreLatestStarts contents.now latest.now.starts }
+    requires ready { GoesByStatuses contents.now columns.old.statuses.items ready.old }
+    ensures alike { (to : ColumnsValue) → MakesOf excerpt.now columns.old to → AreAlike columns.new to }
+    ensures ready { GoesByStatuses contents.now columns.new.statuses.items ready.new }
 {
     put_at(&mut columns.kept, &excerpt.kept);
     put_at(&mut columns.standings, &excerpt.standings);
-    put_at(&mut columns.statuses, &excerpt.statuses);
+    relist_all(
+        contents,
+        latest,
+        &mut columns.statuses,
+        ready,
+        &excerpt.statuses,
+    );
     put_at(&mut columns.tallies, &excerpt.tallies);
 }

@@ -1,14 +1,13 @@
 // What is worked out of an edit before the figures are written.
 ghost use Rattle.std.specs.Prelude.{◌≡◌, ℤ, List, IfErr, IfOk, OnOk};
-ghost use Rattle.std.specs.FinMap.{entries};
 ghost use Rattle.plan_basics.specs.declared.Refusal.{Refusal};
-ghost use Rattle.plan_kept.specs.plan_choice.specs.Choices.{AreGivenOut, AreHeldIn};
 ghost use Rattle.plan_kept.specs.plan_model.specs.Contents.{Contents};
-ghost use Rattle.plan_steps.specs.Columns.{AreAlike, figures_of};
+ghost use Rattle.plan_steps.specs.Columns.{AreAlike, AreSharesOf, figures_of};
 ghost use Rattle.plan_steps.specs.Edits.{WasEdited};
 ghost use Rattle.plan_steps.specs.Groundworks.{IsGroundwork};
+ghost use Rattle.ready_list.specs.Entries.{ReadyEntries};
 
-use super::columns::{Columns, Stock};
+use super::columns::{Columns, Shares};
 use super::counting::{KeptThen, recount};
 use super::edits::Edit;
 use super::excerpts::{Excerpt, excerpt_of};
@@ -38,22 +37,20 @@ pub fn groundwork_of(
     after: &SoundContents,
     edit: &Edit,
     columns: &mut Columns,
-    stock: &mut Stock,
+    shares: &mut Shares,
 ) -> Result<Groundwork, Refusal>
-    requires { (P : Contents) × (starts : List ℤ) × WasEdited P after.now edit.now graph.now starts (figures_of columns.old stock.old) }
+    requires { (P : Contents) × (starts : List ℤ) × (ready : ReadyEntries) × WasEdited P after.now edit.now graph.now starts (figures_of columns.old ready shares.old) }
     ensures unchanged { AreAlike columns.new columns.old }
     ensures groundwork { IfOk result (IsGroundwork after.now edit.now.places.items columns.new) }
-    ensures given { OnOk result (AreGivenOut after.now (entries after.now.workstations) stock.new.given.items) }
-    ensures held { OnOk result (AreHeldIn after.now stock.new.holdings.held) }
-    ensures ready { stock.new.ready ≡ stock.old.ready }
+    ensures shares { OnOk result (AreSharesOf after.now shares.new) }
     ensures refused { IfErr result (λ r. r ≡ Refusal.Memory) }
 {
     let contents = after.valid();
     let KeptThen { touched, kept } = recount(alloc, graph, after, edit, &mut columns.kept)?;
     retake(
         contents,
-        &mut stock.given,
-        &mut stock.holdings,
+        &mut shares.given,
+        &mut shares.holdings,
         &edit.places,
         &edit.marks,
     )?;

@@ -1,10 +1,10 @@
 // What a plan in which what is chosen is named has at the places that were touched.
-ghost use Rattle.std.specs.Prelude.{◌≡◌, List, IfErr, IfOk, OnErr, OnOk};
+ghost use Rattle.std.specs.Prelude.{◌≡◌, List, IfErr, IfOk};
 ghost use Rattle.plan_basics.specs.declared.Refusal.{Refusal};
 ghost use Rattle.plan_basics.specs.declared.keys.OpKey.{OpKey};
-ghost use Rattle.plan_kept.specs.plan_choice.specs.Choices.{AreLatestStarts, AreReadyEntries};
+ghost use Rattle.plan_kept.specs.plan_choice.specs.Choices.{AreLatestStarts};
 ghost use Rattle.plan_kept.specs.plan_model.specs.Contents.{Contents};
-ghost use Rattle.plan_steps.specs.Columns.{AreAlike, AreColumnsOf};
+ghost use Rattle.plan_steps.specs.Columns.{AreAlike, AreColumnsOf, IsReadyListOf};
 ghost use Rattle.plan_steps.specs.Edits.{ArePlacesIn};
 ghost use Rattle.plan_steps.specs.Naming.{IsNotedOf, WasNamed};
 
@@ -27,20 +27,18 @@ pub struct Noted {
     pub columns: Excerpt,
 }
 
-// Moves columns and the ready list on to those of the contents, in which the operations at these places are named. The error is
-// always `Memory`, and then nothing has changed.
+// Moves columns and the ready list on to those of the contents, in which the operations at these places are named. It takes no
+// memory.
 fn settle(
     contents: &SoundContents,
     latest: &Latest,
     columns: &mut Columns,
     ready: &mut ReadyList,
     places: &[usize],
-) -> Result<(), Refusal>
-    requires { (P : Contents) × (os : List OpKey) × WasNamed P contents.now os places.now latest.now.starts columns.old ready.old.entries }
-    ensures columns { OnOk result (AreColumnsOf contents.now columns.new) }
-    ensures ready { OnOk result (AreReadyEntries contents.now ready.new.entries) }
-    ensures unchanged { OnErr result (AreAlike columns.new columns.old) }
-    ensures refused { IfErr result (λ r. r ≡ Refusal.Memory) }
+)
+    requires { (P : Contents) × (os : List OpKey) × WasNamed P contents.now os places.now latest.now.starts columns.old ready.old }
+    ensures columns { AreColumnsOf contents.now columns.new }
+    ensures ready { IsReadyListOf contents.now ready.new }
 {
     restate(
         contents,
@@ -50,7 +48,7 @@ fn settle(
         &mut columns.tallies,
         ready,
         places,
-    )
+    );
 }
 
 // What is noted of contents that have these columns. The error is always `Memory`.
@@ -81,7 +79,8 @@ fn noted_of(
 }
 
 /// What is noted at the places that were touched, once columns and the ready list are moved on to those of the contents, in which
-/// the operations at these other places are named. The columns are then as they were. The error is always `Memory`.
+/// the operations at these other places are named. The columns are then as they were, and the ready list is that of the contents
+/// before. The error is always `Memory`.
 pub fn note(
     alloc: Global,
     contents: &SoundContents,
@@ -92,16 +91,16 @@ pub fn note(
     beside: Beside,
     touched: &[usize],
 ) -> Result<Noted, Refusal>
-    requires named { (P : Contents) × (os : List OpKey) × WasNamed P contents.now os places.now latest.now.starts columns.old ready.old.entries }
+    requires named { (P : Contents) × (os : List OpKey) × WasNamed P contents.now os places.now latest.now.starts columns.old ready.old }
     requires touched { ArePlacesIn contents.now touched.now }
     ensures unchanged { AreAlike columns.new columns.old }
-    ensures ready { OnOk result (AreReadyEntries contents.now ready.new.entries) }
+    ensures ready { (P : Contents) (os : List OpKey) → WasNamed P contents.now os places.now latest.now.starts columns.old ready.old → IsReadyListOf P ready.new }
     ensures noted { IfOk result (IsNotedOf contents.now beside touched.now) }
     ensures refused { IfErr result (λ r. r ≡ Refusal.Memory) }
 {
     let old = excerpt_of(alloc, contents, columns, places)?;
-    settle(contents, latest, columns, ready, places)?;
+    settle(contents, latest, columns, ready, places);
     let noted = noted_of(alloc, contents, latest, columns, beside, touched);
-    put_excerpt(columns, &old);
+    put_excerpt(contents, latest, columns, ready, &old);
     noted
 }

@@ -6,13 +6,13 @@ ghost use Rattle.plan_kept.specs.plan_drafts.specs.PlanGraphs.{IsGraphFor};
 ghost use Rattle.plan_kept.specs.plan_model.specs.Contents.{Contents};
 ghost use Rattle.plan_kept.specs.plan_model.specs.Ready.{IsChosen, named as named_in};
 ghost use Rattle.plan_kept.specs.plan_state.specs.Figures.{AreFigures, KeepsFrame};
-ghost use Rattle.plan_steps.specs.Columns.{AreAlike, IsStockOf, figures_of};
+ghost use Rattle.plan_steps.specs.Columns.{AreAlike, AreSharesOf, IsReadyListOf, figures_of};
 ghost use Rattle.plan_steps.specs.Edits.{IsEditFor, WasEdited, edited};
 ghost use Rattle.plan_steps.specs.Naming.{AreStepNotes};
 ghost use Rattle.plan_steps.specs.Revisions.{PutsBack};
 ghost use Rattle.plan_steps.specs.Shifts.{IsShift};
 
-use super::columns::{Columns, Stock, figures_with, parts_of};
+use super::columns::{Columns, Shares, figures_with, parts_of};
 use super::edits::Edit;
 use super::following::SmallStep;
 use super::revisions::{Revision, standing};
@@ -23,64 +23,78 @@ use operation_graph::Graph;
 use plan_basics::{Moment, Refusal};
 use plan_kept::Figures;
 use plan_status::SoundContents;
+use ready_list::ReadyList;
 use std::alloc::Global;
 
-// What is written for a trial, what puts back what stood beside operations, and what is given out, held and ready.
+// What is written for a trial, what puts back what stood beside operations, and what is given out and held.
 #[derive(Drop)]
 struct Trial {
     forth: Revision,
     back: Revision,
-    stock: Stock,
+    shares: Shares,
 }
 
 // All that it takes to write an edit and to take it back. The error is always `Memory`.
 fn trial_of(
     alloc: Global,
     contents: &SoundContents,
-    stock: &Stock,
+    shares: &Shares,
     edit: &Edit,
 ) -> Result<Trial, Refusal>
     requires edit { IsEditFor contents.now edit.now }
-    requires stock { IsStockOf contents.now stock.now }
+    requires shares { AreSharesOf contents.now shares.now }
     ensures forth { IfOk result (λ t. t.forth ≡ edit.now.revision) }
     ensures back { IfOk result (λ t. PutsBack contents.now edit.now.revision t.back) }
-    ensures stock { IfOk result (λ t. IsStockOf contents.now t.stock) }
+    ensures shares { IfOk result (λ t. AreSharesOf contents.now t.shares) }
     ensures refused { IfErr result (λ r. r ≡ Refusal.Memory) }
 {
     let forth = edit.revision.try_clone()?;
     let back = standing(contents.rows(), &edit.revision)?;
-    let stock = stock.try_clone(alloc)?;
-    Ok(Trial { forth, back, stock })
+    let shares = shares.try_clone(alloc)?;
+    Ok(Trial {
+        forth,
+        back,
+        shares,
+    })
 }
 
-// What an edit leads to, with these columns, which stay. It gives the same contents back. The error is always `Memory`.
+// What an edit leads to, with these columns, which stay. It gives the same contents back, and the ready list is that of these still.
+// The error is always `Memory`.
 fn tried_step(
     alloc: Global,
     contents: SoundContents,
     graph: &Graph,
     latest: &Latest,
     columns: &mut Columns,
-    stock: &Stock,
+    ready: &mut ReadyList,
+    shares: &Shares,
     edit: &Edit,
     at: Moment,
 ) -> (SoundContents, Result<SmallStep, Refusal>)
     requires graph { IsGraphFor contents graph.now }
     requires latest { AreLatestStarts contents latest.now.starts }
-    requires figures { AreFigures contents (figures_of columns.old stock.now) }
+    requires figures { AreFigures contents (figures_of columns.old ready.old shares.now) }
     requires edit { IsEditFor contents edit.now }
     ensures contents { result.0 ≡ contents }
     ensures unchanged { AreAlike columns.new columns.old }
+    ensures ready { IsReadyListOf contents ready.new }
     ensures chosen { IfOk result.1 (λ s. IsChosen (edited edit.now contents) at s.named.items) }
     ensures shift { IfOk result.1 (λ s. IsShift contents (named_in s.named.items (edited edit.now contents)) s.shift) }
     ensures frame { IfOk result.1 (λ s. KeepsFrame contents (named_in s.named.items (edited edit.now contents))) }
     ensures notes { IfOk result.1 (λ s. AreStepNotes contents (named_in s.named.items (edited edit.now contents)) s.notes) }
     ensures refused { IfErr result.1 (λ r. r ≡ Refusal.Memory) }
 {
-    match trial_of(alloc, &contents, stock, edit) {
+    match trial_of(alloc, &contents, shares, edit) {
         Ok(trial) => {
-            let Trial { forth, back, stock } = trial;
+            let Trial {
+                forth,
+                back,
+                shares,
+            } = trial;
             let after = with_revision(contents, &edit.keys, forth);
-            let (same, step) = step_after(alloc, after, graph, latest, columns, stock, edit, at);
+            let (same, step) = step_after(
+                alloc, after, graph, latest, columns, ready, shares, edit, at,
+            );
             (without_edit(same, edit, back), step)
         }
         Err(refusal) => (contents, Err(refusal)),
@@ -111,16 +125,17 @@ pub fn small_step(
     ensures notes { IfOk result.2 (λ s. AreStepNotes contents (named_in s.named.items (edited edit.now contents)) s.notes) }
     ensures refused { IfErr result.2 (λ r. r ≡ Refusal.Memory) }
 {
-    let (mut columns, stock) = parts_of(figures);
+    let (mut columns, mut ready, shares) = parts_of(figures);
     let (contents, step) = tried_step(
         alloc,
         contents,
         graph,
         latest,
         &mut columns,
-        &stock,
+        &mut ready,
+        &shares,
         edit,
         at,
     );
-    (contents, figures_with(columns, stock), step)
+    (contents, figures_with(columns, ready, shares), step)
 }

@@ -2,7 +2,8 @@
 ghost use Rattle.std.specs.Prelude.{◌≡◌, ◌<◌, ℕ, All, Contains, IfOk, length};
 ghost use Rattle.std.specs.FinMap.{entries};
 ghost use Rattle.plan_rows.specs.Touched.{BelongsAt, HasOneOf};
-ghost use Rattle.plan_steps.specs.Values.{AreValuesAt, overwritten};
+ghost use Rattle.plan_restating.specs.Overwritten.{overwritten};
+ghost use Rattle.plan_steps.specs.Values.{AreValuesAt};
 
 use plan_status::SoundContents;
 use std::alloc::{AllocError, Global};

@@ -11,17 +11,19 @@ use std::alloc::{AllocError, Global};
 
 /// Says which operations of a ready list are allowed to start, asked of one after the other.
 pub trait Gate {
+    ghost use Rattle.ready_list.specs.declared.entry.ReadyEntry.{ReadyEntry};
+
     /// In this state it answers so of the operation, and is in that state then.
-    ghost answers: { Self → OpKey → Bool → Self → Type 0 };
+    ghost answers: { Self → ReadyEntry → Bool → Self → Type 0 };
 
     /// In this state it may refuse so to answer of the operation.
-    ghost refuses: { Self → OpKey → Refusal → Type 0 };
+    ghost refuses: { Self → ReadyEntry → Refusal → Type 0 };
 
-    /// Whether the operation is allowed, with those counted as started of which it said so before. It is asked once of
-    /// each. Where it can't answer, the refusal ends the choice.
-    fn name(&mut self, op: &OpKey) -> Result<bool, Refusal>
-        ensures answered { IfOk result (λ yes. answers self.old op.now yes self.new) }
-        ensures refused { IfErr result (refuses self.old op.now) };
+    /// Whether the operation of an entry is allowed, with those counted as started of which it said so before. It is asked
+    /// once of each. Where it can't answer, the refusal ends the choice.
+    fn name(&mut self, entry: &ReadyEntry) -> Result<bool, Refusal>
+        ensures answered { IfOk result (λ yes. answers self.old entry.now yes self.new) }
+        ensures refused { IfErr result (refuses self.old entry.now) };
 }
 
 /// Whether the desk starts operations on a workstation of this attribute.
@@ -52,7 +54,7 @@ pub fn named_by<G: Gate>(
 {
     let mut named = Vec::new(alloc);
     for entry in entries {
-        if starts_operations(entry.attr) && gate.name(&entry.key.op)? {
+        if starts_operations(entry.attr) && gate.name(entry)? {
             add(&mut named, entry.key.op)?;
         }
     }

@@ -21,13 +21,18 @@ fn entry(rt: &impl Abort, row: &Row) -> ReadyEntry {
         op,
     };
     let ws = workstation(rt, ws);
-    ReadyEntry { key, ws, attr }
+    ReadyEntry {
+        key,
+        ws,
+        attr,
+        site: 0,
+    }
 }
 
 // Puts an entry in, with room made for it.
 fn put(rt: &impl Abort, list: &mut ReadyList, entry: &ReadyEntry) {
     list.reserve(1).expect(rt, "room");
-    list.insert(entry.key, entry.ws, entry.attr);
+    list.insert(*entry);
 }
 
 // The entry at an index.
@@ -229,8 +234,8 @@ impl Gate for Servers {
 
     ghost refuses = { λ _ _ r. r ≢ Refusal.Memory };
 
-    fn name(&mut self, op: &OpKey) -> Result<bool, Refusal> {
-        if self.closed == Some(op.number) || self.asked == u32::MAX {
+    fn name(&mut self, entry: &ReadyEntry) -> Result<bool, Refusal> {
+        if self.closed == Some(entry.key.op.number) || self.asked == u32::MAX {
             return Err(Refusal::Closed);
         }
         self.asked += 1;

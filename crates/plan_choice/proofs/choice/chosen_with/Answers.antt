@@ -1,4 +1,4 @@
-use Rattle.std.proofs.Common.{◌≡◌, inl, inr, refl, sym, subst}
+use Rattle.std.proofs.Common.{◌≡◌, ◌∙◌, inl, inr, refl, ap, sym, subst, length}
 use Rattle.std.specs.FinMap.{entries}
 use Rattle.std.proofs.lemmas.Result.{err_from_is_err_and}
 use Rattle.plan_basics.specs.declared.Refusal.TheVariants.{Memory}
@@ -12,8 +12,11 @@ use Rattle.plan_choice.proofs.GivenPlaces.{AreAt}
 use Rattle.plan_choice.proofs.choice.chosen_with.Goals as goal
 use Rattle.plan_choice.proofs.choice.chosen_with.Goals.{Start, In_ok-named}
 
+pub shut_at-requires : goal.shut_at-requires
+shut_at-requires c = ap length c.deref.ensures.value ∙ c.requires.given.size ∙ ap length (sym c.workstations.ensures.rows)
+
 pub invariant_of-gate : goal.invariant_of-gate
-invariant_of-gate c = c.requires.given.size
+invariant_of-gate c = rw (← c.workstations.ensures.rows, ← c.deref.ensures.value) c.in_ok-shut.ensures
 
 -- what counts before any is named
 abbrev first : Start → Counted
@@ -45,7 +48,7 @@ returns-clause-held c =
 pub returns-in_err-named-clause-refused : goal.returns-in_err-named-clause-refused
 returns-in_err-named-clause-refused c =
     let p = (goal.at.returns-in_err-named-clause-refused c).Start in
-    let told = err_from_is_err_and c.from_residual.result c.from_residual.ensures.1 in
+    let told = err_from_is_err_and c.from_residual-in_err-named.result c.from_residual-in_err-named.ensures.1 in
     let why : c.in_err-named.field-0.0 ≡ Memory = elim c.in_err-named.ensures.refused [
       | inl is ↦ is
       | inr in_turn ↦ refuses_alone Memory c.in_err-named.field-0.0 (on_automatic c.args.ready.now.entries) (first p) in_turn

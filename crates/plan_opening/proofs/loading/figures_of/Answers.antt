@@ -1,5 +1,5 @@
-use Rattle.std.proofs.Common.{sym, subst}
-use Rattle.plan_rows.specs.plan_choice.specs.Choices.{AreHeldIn}
+use Rattle.std.proofs.Common.{arith, sym, subst, ap, length}
+use Rattle.plan_rows.specs.plan_choice.specs.Choices.{AreHeldIn, AreReadyEntries}
 use Rattle.plan_rows.specs.plan_drafts.specs.Places.{AreStatuses}
 use Rattle.plan_rows.specs.plan_model.specs.Contents.{Contents}
 use Rattle.plan_rows.specs.plan_status.specs.Standings.{AreStandings}
@@ -18,5 +18,6 @@ returns-clause-figures c =
       tallies = c.in_ok-tallies.ensures;
       given = c.in_ok-given.ensures;
       holders = subst (λ (Q : Contents). AreHeldIn Q c.in_ok-holdings.holdings.held) c.valid.ensures.contents c.in_ok-holdings.ensures.held;
-      ready = c.in_ok-ready.ensures.list;
+      ready = subst (AreReadyEntries P) (sym c.in_ok-reserve.ensures.entries) c.in_ok-ready.ensures.list;
+      room = omega (arith, c.in_ok-reserve.ensures.ok, ap length c.operations.ensures.rows);
     }

@@ -1,4 +1,4 @@
-use Rattle.std.proofs.Common.{◌≡◌, ◌∙◌, sym, ap, subst, true≢false, Some}
+use Rattle.std.proofs.Common.{◌≡◌, ◌∙◌, sym, subst, true≢false, Some}
 use Rattle.std.proofs.lemmas.Option.{none-some, same_Some}
 use Rattle.plan_rows.specs.plan_model.specs.Plan.{plan_held}
 use Rattle.plan_rows.specs.plan_model.specs.Valid.{IsSound}

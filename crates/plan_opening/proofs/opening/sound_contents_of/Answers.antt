@@ -1,4 +1,4 @@
-use Rattle.std.proofs.Common.{◌∙◌, sym, Some}
+use Rattle.std.proofs.Common.{◌∙◌}
 use Rattle.std.proofs.lemmas.Option.{same_Some}
 use Rattle.plan_opening.proofs.Opened.{if_judged}
 use Rattle.plan_opening.proofs.opening.sound_contents_of.Goals as goal

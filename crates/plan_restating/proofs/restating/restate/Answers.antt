@@ -1,13 +1,11 @@
-use Rattle.std.proofs.Common.{arith, ◌≡◌, ◌≤◌, sym, subst, List, length, take, get_or, slice_get, Some}
+use Rattle.std.proofs.Common.{◌≡◌, ◌≤◌, refl, sym, subst, ◌∙◌, length, take, get_or, slice_get, Some}
 use Rattle.std.specs.FinMap.{entries}
 use Rattle.std.proofs.lemmas.List.{take_all, take_more}
 use Rattle.plan_basics.specs.declared.keys.OpKey.{OpKey}
-use Rattle.ready_list.specs.declared.entry.ReadyEntry.{ReadyEntry}
 use Rattle.plan_model.specs.Contents.{Contents, Operation}
 use Rattle.plan_model.specs.Status.{HasStatus}
 use Rattle.plan_choice.specs.plan_drafts.specs.Places.{AreStatuses}
 use Rattle.plan_choice.specs.plan_status.specs.Standings.{AreStandings}
-use Rattle.plan_restating.specs.ByStatuses.{AreInLine}
 use Rattle.plan_restating.proofs.Read.{entries_are, in_line_before, tallies_are}
 use Rattle.plan_restating.proofs.Restated.{AreRestatedAt, all_restated, none_restated, one_restated}
 use Rattle.plan_restating.proofs.restating.restate.Goals as goal
@@ -18,10 +16,9 @@ loop-place-init c =
     let Q = c.args.contents.now in
     let b = c.requires.before in
     record {
-      in_line = subst (λ (es : List ReadyEntry). AreInLine Q c.args.statuses.now c.args.tallies.now es) (sym c.in_ok-reserve.ensures.entries)
-          (in_line_before b.0 Q b.1 b.2 c.valid-valid.ensures.sound.valid c.args.latest.now.starts c.requires.latest c.args.statuses.now c.args.tallies.now c.args.ready.now.entries b.3);
+      in_line = in_line_before b.0 Q b.1 b.2 c.valid-valid.ensures.sound.valid c.args.latest.now.starts c.requires.latest c.args.statuses.now c.args.tallies.now c.args.ready.now.entries b.3;
       restated = none_restated Q c.args.statuses.now;
-      room = omega (arith, c.in_ok-reserve.ensures.ok);
+      room = refl;
     }
 
 pub status_at-status-requires-clause-standings : goal.status_at-status-requires-clause-standings
@@ -38,7 +35,7 @@ loop-place-preserved c =
       restated = rw (take_more places n 0 c.loop-place-test.true, c.restate_at.ensures.statuses)
           (one_restated Q (take n places) c.args.statuses.now c.loop-place.statuses p c.status_at-status.result c.loop-place.invariant.restated
           (subst (λ (R : Contents). (o : OpKey) (op : Operation) → slice_get (entries R.operations) p ≡ Some (o, op) → HasStatus R o c.status_at-status.result) c.valid-valid.ensures.contents c.status_at-status.ensures));
-      room = omega (arith, c.loop-place.invariant.room, c.restate_at.ensures.room);
+      room = c.restate_at.ensures.room ∙ c.loop-place.invariant.room;
     }
 
 -- after the last place the statuses are right

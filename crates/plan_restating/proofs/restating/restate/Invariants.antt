@@ -1,4 +1,4 @@
-use Rattle.std.proofs.Common.{◌+◌, ◌≤◌, length, take}
+use Rattle.std.proofs.Common.{◌≡◌, ◌+◌, length, take}
 use Rattle.plan_restating.specs.ByStatuses.{AreInLine}
 use Rattle.plan_restating.proofs.Restated.{AreRestatedAt}
 use Rattle.plan_restating.proofs.restating.restate.Given as goal
@@ -8,5 +8,5 @@ abbrev pub invariant-loop-place : goal.invariant-loop-place
 invariant-loop-place l = record {
   in_line : AreInLine l.contents l.statuses l.tallies l.ready.entries;
   restated : AreRestatedAt l.contents (take l.place-index l.places) l.fn.statuses l.statuses;
-  room : length l.places ≤ l.ready.room + l.place-index;
+  room : length l.ready.entries + l.ready.room ≡ length l.fn.ready.entries + l.fn.ready.room;
 }

@@ -1,33 +1,59 @@
-use Rattle.plan_steps.proofs.Overwritten.{led_there, lent_within}
+use Rattle.std.proofs.Common.{◌≡◌, sym, ap, subst, ◌∙◌, arith, length}
+use Rattle.std.specs.Vec.{with_items}
+use Rattle.plan_restating.specs.ByStatuses.{AreEntriesBy}
+use Rattle.plan_steps.proofs.Overwritten.{led_there, length-overwritten, lent_within, vector_overwritten, vector_written}
 use Rattle.plan_steps.proofs.excerpts.put_excerpt.Goals as goal
+use Rattle.plan_steps.proofs.excerpts.put_excerpt.Goals.{After-relist_all}
 
 pub put_at-requires : goal.put_at-requires
 put_at-requires c =
-    let to = c.requires.0 in
-    lent_within c.args.excerpt.now.kept.items c.args.columns.now.kept.items to.kept.items c.requires.1.kept c.deref.result.now c.deref_mut.result.now c.deref.ensures.value c.deref_mut.ensures.value
+    let to = c.requires.makes.0 in
+    lent_within c.args.excerpt.now.kept.items c.args.columns.now.kept.items to.kept.items c.requires.makes.1.kept c.deref.result.now c.deref_mut.result.now c.deref.ensures.value c.deref_mut.ensures.value
 
 pub put_at-requires-2 : goal.put_at-requires-2
 put_at-requires-2 c =
-    let to = c.requires.0 in
-    lent_within c.args.excerpt.now.standings.items c.args.columns.now.standings.items to.standings.items c.requires.1.standings c.deref-2.result.now c.deref_mut-2.result.now c.deref-2.ensures.value c.deref_mut-2.ensures.value
+    let to = c.requires.makes.0 in
+    lent_within c.args.excerpt.now.standings.items c.args.columns.now.standings.items to.standings.items c.requires.makes.1.standings c.deref-2.result.now c.deref_mut-2.result.now c.deref-2.ensures.value c.deref_mut-2.ensures.value
+
+pub relist_all-requires-clause-size : goal.relist_all-requires-clause-size
+relist_all-requires-clause-size c = ap length c.deref_mut-3.ensures.value ∙ c.requires.ready.size
+
+pub relist_all-requires-clause-within : goal.relist_all-requires-clause-within
+relist_all-requires-clause-within c =
+    let to = c.requires.makes.0 in
+    lent_within c.args.excerpt.now.statuses.items c.args.columns.now.statuses.items to.statuses.items c.requires.makes.1.statuses c.deref-3.result.now c.deref_mut-3.result.now c.deref-3.ensures.value c.deref_mut-3.ensures.value
+
+pub relist_all-requires-clause-listed : goal.relist_all-requires-clause-listed
+relist_all-requires-clause-listed c = subst (λ ss. AreEntriesBy c.args.contents.now ss c.args.ready.now.entries) (sym c.deref_mut-3.ensures.value) c.requires.ready.listed
 
 pub put_at-requires-3 : goal.put_at-requires-3
 put_at-requires-3 c =
-    let to = c.requires.0 in
-    lent_within c.args.excerpt.now.statuses.items c.args.columns.now.statuses.items to.statuses.items c.requires.1.statuses c.deref-3.result.now c.deref_mut-3.result.now c.deref-3.ensures.value c.deref_mut-3.ensures.value
+    let to = c.requires.makes.0 in
+    lent_within c.args.excerpt.now.tallies.items c.args.columns.now.tallies.items to.tallies.items c.requires.makes.1.tallies c.deref-4.result.now c.deref_mut-4.result.now c.deref-4.ensures.value c.deref_mut-4.ensures.value
 
-pub put_at-requires-4 : goal.put_at-requires-4
-put_at-requires-4 c =
-    let to = c.requires.0 in
-    lent_within c.args.excerpt.now.tallies.items c.args.columns.now.tallies.items to.tallies.items c.requires.1.tallies c.deref-4.result.now c.deref_mut-4.result.now c.deref-4.ensures.value c.deref_mut-4.ensures.value
+-- the statuses that are written stand in the columns
+written : (c : After-relist_all) → (with_items c.args.columns.now.statuses c.relist_all.new.statuses).items ≡ c.relist_all.new.statuses
+written c = vector_written c.args.excerpt.now.statuses.items c.args.columns.now.statuses c.deref-3.result.now c.deref_mut-3.result.now c.relist_all.new.statuses c.deref-3.ensures.value c.deref_mut-3.ensures.value c.relist_all.ensures.statuses
 
-pub returns : goal.returns
-returns c to makes =
+pub returns-clause-ready : goal.returns-clause-ready
+returns-clause-ready c =
+    let stand = written (goal.at.returns-clause-ready c).After-relist_all in
+    let Q = c.args.contents.now in
+    let l = c.args.columns.now in
+    let size = ap length (vector_overwritten c.args.excerpt.now.statuses.items l.statuses c.deref-3.result.now c.deref_mut-3.result.now c.relist_all.new.statuses c.deref-3.ensures.value c.deref_mut-3.ensures.value c.relist_all.ensures.statuses) ∙ length-overwritten c.args.excerpt.now.statuses.items l.statuses.items in
+    record {
+      size = size ∙ c.requires.ready.size;
+      listed = subst (λ ss. AreEntriesBy Q ss c.relist_all.new.ready.entries) (sym stand) c.relist_all.ensures.listed;
+      room = omega (arith, c.requires.ready.room, c.relist_all.ensures.room);
+    }
+
+pub returns-clause-alike : goal.returns-clause-alike
+returns-clause-alike c to makes =
     let x = c.args.excerpt.now in
     let l = c.args.columns.now in
     record {
       kept = led_there x.kept.items l.kept to.kept.items makes.kept c.deref.result.now c.deref_mut.result.now c.put_at.new.list c.deref.ensures.value c.deref_mut.ensures.value c.put_at.ensures;
       standings = led_there x.standings.items l.standings to.standings.items makes.standings c.deref-2.result.now c.deref_mut-2.result.now c.put_at-2.new.list c.deref-2.ensures.value c.deref_mut-2.ensures.value c.put_at-2.ensures;
-      statuses = led_there x.statuses.items l.statuses to.statuses.items makes.statuses c.deref-3.result.now c.deref_mut-3.result.now c.put_at-3.new.list c.deref-3.ensures.value c.deref_mut-3.ensures.value c.put_at-3.ensures;
-      tallies = led_there x.tallies.items l.tallies to.tallies.items makes.tallies c.deref-4.result.now c.deref_mut-4.result.now c.put_at-4.new.list c.deref-4.ensures.value c.deref_mut-4.ensures.value c.put_at-4.ensures;
+      statuses = led_there x.statuses.items l.statuses to.statuses.items makes.statuses c.deref-3.result.now c.deref_mut-3.result.now c.relist_all.new.statuses c.deref-3.ensures.value c.deref_mut-3.ensures.value c.relist_all.ensures.statuses;
+      tallies = led_there x.tallies.items l.tallies to.tallies.items makes.tallies c.deref-4.result.now c.deref_mut-4.result.now c.put_at-3.new.list c.deref-4.ensures.value c.deref_mut-4.ensures.value c.put_at-3.ensures;
     }

@@ -12,4 +12,4 @@ returns-in-Ok-clause-step c =
     let f = c.in-Ok.followed in
     let told = c.note_step.ensures in
     step_of c.args.contents c.args.at f.naming c.in-Ok.ensures.naming c.args.columns.now c.requires.columns c.args.edited.now f.touched.items c.in-Ok.ensures.touched c.args.beside c.note_step.result.1
-    told.named told.stock told.columns_then told.notes
+    told.named told.shares told.columns_then told.notes

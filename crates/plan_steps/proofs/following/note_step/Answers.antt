@@ -3,7 +3,6 @@ use Rattle.plan_changes.proofs.Remarks.{marking}
 use Rattle.plan_changes.specs.Markings.{DifferInMarks, WereMarked}
 use Rattle.plan_kept.specs.plan_model.specs.Contents.{Contents}
 use Rattle.plan_kept.specs.plan_model.specs.Ready.{IsChosen, named}
-use Rattle.plan_kept.specs.plan_choice.specs.Choices.{AreReadyEntries}
 use Rattle.plan_steps.proofs.NamedFigures.{places_in_after}
 use Rattle.plan_steps.proofs.following.note_step.Goals as goal
 use Rattle.plan_steps.proofs.following.note_step.Goals.{After-with_named-after}
@@ -16,7 +15,7 @@ pub with_named-after-requires : goal.with_named-after-requires
 with_named-after-requires c = (c.requires.naming.0, subst (IsChosen c.args.contents c.requires.naming.0) (sym c.deref.ensures.value) c.requires.naming.1.chosen)
 
 -- what is chosen was named
-was_named : (c : After-with_named-after) → WasNamed c.args.contents c.with_named-after.result c.args.followed.naming.named.items c.args.followed.naming.places.items c.args.latest.now.starts c.args.columns.now c.args.followed.naming.stock.ready.entries
+was_named : (c : After-with_named-after) → WasNamed c.args.contents c.with_named-after.result c.args.followed.naming.named.items c.args.followed.naming.places.items c.args.latest.now.starts c.args.columns.now c.args.ready.now
 was_named c =
     let P = c.args.contents in
     let naming = c.requires.naming.1 in
@@ -26,7 +25,7 @@ was_named c =
       places = naming.places;
       latest = c.requires.latest;
       columns = c.requires.columns;
-      ready = naming.ready;
+      ready = c.requires.ready;
       after = c.with_named-after.ensures ∙ ap (λ ks. named ks P) c.deref.ensures.value;
     }
 
@@ -36,7 +35,7 @@ note-noted-requires-clause-named c =
     let R = c.with_named-after.result in
     let n = c.args.followed.naming in
     let was = was_named (goal.at.note-noted-requires-clause-named c).After-with_named-after in
-    (P, n.named.items, subst (λ ps. WasNamed P R n.named.items ps c.args.latest.now.starts c.args.columns.now n.stock.ready.entries) (sym c.deref-2.ensures.value) was)
+    (P, n.named.items, subst (λ ps. WasNamed P R n.named.items ps c.args.latest.now.starts c.args.columns.now c.args.ready.now) (sym c.deref-2.ensures.value) was)
 
 pub note-noted-requires-clause-touched : goal.note-noted-requires-clause-touched
 note-noted-requires-clause-touched c =
@@ -44,7 +43,7 @@ note-noted-requires-clause-touched c =
     let R = c.with_named-after.result in
     let n = c.args.followed.naming in
     let was = was_named (goal.at.note-noted-requires-clause-touched c).After-with_named-after in
-    subst (ArePlacesIn R) (sym c.deref-3.ensures.value) (places_in_after P R n.named.items n.places.items c.args.latest.now.starts c.args.columns.now n.stock.ready.entries was c.args.followed.touched.items c.requires.touched)
+    subst (ArePlacesIn R) (sym c.deref-3.ensures.value) (places_in_after P R n.named.items n.places.items c.args.latest.now.starts c.args.columns.now c.args.ready.now was c.args.followed.touched.items c.requires.touched)
 
 pub with_markings-contents-requires : goal.with_markings-contents-requires
 with_markings-contents-requires c =
@@ -75,12 +74,21 @@ returns-clause-contents c =
     (subst (DifferInMarks P c.with_named-after.result) (sym c.deref-4.ensures.value) (subst (λ (R : Contents). DifferInMarks P R os) (sym is) (marking P os mark.Named)))
     (subst (λ ks. WereMarked P ks c.deref-5.result.now) (sym c.deref-4.ensures.value) (subst (WereMarked P os) (sym c.deref-5.ensures.value) c.requires.naming.1.marked))
 
-pub returns-in-Ok-clause-stock : goal.returns-in-Ok-clause-stock
-returns-in-Ok-clause-stock c =
+pub returns-in-Ok-clause-ready : goal.returns-in-Ok-clause-ready
+returns-in-Ok-clause-ready c =
     let P = c.args.contents in
-    let naming = c.requires.naming.1 in
-    let is = c.with_named-after.ensures ∙ ap (λ ks. named ks P) c.deref.ensures.value in
-    record { given = naming.given; holders = naming.holders; ready = subst (λ (S : Contents). AreReadyEntries S c.note-noted.new.ready.entries) is c.in-Ok.ensures.ready }
+    let R = c.with_named-after.result in
+    let n = c.args.followed.naming in
+    let was = was_named (goal.at.returns-in-Ok-clause-ready c).After-with_named-after in
+    c.note-noted.ensures.ready P n.named.items (subst (λ ps. WasNamed P R n.named.items ps c.args.latest.now.starts c.args.columns.now c.args.ready.now) (sym c.deref-2.ensures.value) was)
+
+pub returns-clause-ready : goal.returns-clause-ready
+returns-clause-ready c =
+    let P = c.args.contents in
+    let R = c.with_named-after.result in
+    let n = c.args.followed.naming in
+    let was = was_named (goal.at.returns-clause-ready c).After-with_named-after in
+    c.note-noted.ensures.ready P n.named.items (subst (λ ps. WasNamed P R n.named.items ps c.args.latest.now.starts c.args.columns.now c.args.ready.now) (sym c.deref-2.ensures.value) was)
 
 pub returns-in-Ok-clause-columns_then : goal.returns-in-Ok-clause-columns_then
 returns-in-Ok-clause-columns_then c =

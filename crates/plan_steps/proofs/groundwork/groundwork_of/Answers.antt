@@ -20,7 +20,7 @@ use Rattle.plan_takings.specs.Before.{HasPlanBefore}
 
 pub recount-requires : goal.recount-requires
 recount-requires c =
-    let was = c.requires.2 in (
+    let was = c.requires.3 in (
       c.requires.0,
       subst (IsKeptBefore c.requires.0 c.args.after.now c.args.edit.now c.args.graph.now) (sym c.deref_mut.ensures.value) (record { edit = was.edit; graph = was.graph; kept = was.figures.kept }),
     )
@@ -30,18 +30,18 @@ kept_back : (c : After-recount) → (with_items c.args.columns.now.kept c.recoun
 kept_back c = vector_unchanged c.args.columns.now.kept c.deref_mut.result.now c.recount.new.kept c.deref_mut.ensures.value c.recount.ensures.unchanged
 
 pub retake-requires-clause-ascending : goal.retake-requires-clause-ascending
-retake-requires-clause-ascending c = subst (IsStrictlySortedBy nat_cmp) (sym c.deref.ensures.value) c.requires.2.edit.ascend
+retake-requires-clause-ascending c = subst (IsStrictlySortedBy nat_cmp) (sym c.deref.ensures.value) c.requires.3.edit.ascend
 
 pub retake-requires-clause-within : goal.retake-requires-clause-within
 retake-requires-clause-within c = λ i has.
     subst (λ (R : Contents). i < length (entries R.operations)) (sym c.valid-contents.ensures.contents)
-    (subst (λ n. i < n) (sym c.requires.2.edit.moved.size) (c.requires.2.edit.within i (subst (λ ps. Contains ps i) c.deref.ensures.value has)))
+    (subst (λ n. i < n) (sym c.requires.3.edit.moved.size) (c.requires.3.edit.within i (subst (λ ps. Contains ps i) c.deref.ensures.value has)))
 
 pub retake-requires-clause-before : goal.retake-requires-clause-before
 retake-requires-clause-before c =
     let P = c.requires.0 in
-    let was = c.requires.2 in
-    let held = c.args.stock.now.holdings.held in
+    let was = c.requires.3 in
+    let held = c.args.shares.now.holdings.held in
     subst (λ (R : Contents). HasPlanBefore R c.deref.result.now c.deref-2.result.now c.deref_mut-2.result.now held) (sym c.valid-contents.ensures.contents)
     (subst (λ ps. HasPlanBefore c.args.after.now ps c.deref-2.result.now c.deref_mut-2.result.now held) (sym c.deref.ensures.value)
     (subst (λ ms. HasPlanBefore c.args.after.now c.args.edit.now.places.items ms c.deref_mut-2.result.now held) (sym c.deref-2.ensures.value)
@@ -51,7 +51,7 @@ retake-requires-clause-before c =
 pub excerpt_of-requires-clause-sized : goal.excerpt_of-requires-clause-sized
 excerpt_of-requires-clause-sized c =
     let k : After-recount = (goal.at.excerpt_of-requires-clause-sized c).After-recount in
-    let was = c.requires.2 in
+    let was = c.requires.3 in
     let moved = was.edit.moved in
     record {
       kept = ap length (kept_back k) ∙ was.figures.kept.size ∙ sym moved.size;
@@ -80,17 +80,17 @@ returns-clause-unchanged c =
     let k : After-recount = (goal.at.returns-clause-unchanged c).After-recount in
     kept_alike c.args.columns.now (with_items c.args.columns.now.kept c.recount.new.kept) (kept_back k)
 
-pub returns-clause-given : goal.returns-clause-given
-returns-clause-given c =
+pub returns-clause-shares : goal.returns-clause-shares
+returns-clause-shares c =
     let P = c.requires.0 in
     let Q = c.args.after.now in
-    let moved = c.requires.2.edit.moved in
-    let s = c.args.stock.now in
-    let were = c.requires.2.figures.given in
+    let moved = c.requires.3.edit.moved in
+    let s = c.args.shares.now in
+    let were = c.requires.3.figures.given in
     let retaken : AreGivenOut Q (entries Q.workstations) c.retake.new.given = subst (λ (R : Contents). AreGivenOut R (entries R.workstations) c.retake.new.given) c.valid-contents.ensures.contents c.in_ok-retake.ensures.given in
     let open_at : length (entries Q.workstations) ≡ length (entries P.workstations) =
     sym (length_map (λ (w : NamedWorkstation). (w.0, w.1.attribute)) (entries Q.workstations)) ∙ ap length moved.workstations ∙ length_map (λ (w : NamedWorkstation). (w.0, w.1.attribute)) (entries P.workstations) in
-    subst (AreGivenOut Q (entries Q.workstations)) (sym (with_items_is s.given c.retake.new.given (omega (arith, retaken.size, were.size, open_at, s.given.ok.0)))) retaken
-
-pub returns-clause-held : goal.returns-clause-held
-returns-clause-held c = subst (λ (R : Contents). AreHeldIn R c.retake.new.holdings.held) c.valid-contents.ensures.contents c.in_ok-retake.ensures.held
+    record {
+      given = subst (AreGivenOut Q (entries Q.workstations)) (sym (with_items_is s.given c.retake.new.given (omega (arith, retaken.size, were.size, open_at, s.given.ok.0)))) retaken;
+      holders = subst (λ (R : Contents). AreHeldIn R c.retake.new.holdings.held) c.valid-contents.ensures.contents c.in_ok-retake.ensures.held;
+    }

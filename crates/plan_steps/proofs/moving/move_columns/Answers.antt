@@ -6,13 +6,16 @@ use Rattle.plan_kept.proofs.Frame.{frame_stays}
 use Rattle.plan_kept.specs.plan_drafts.specs.Places.{AreStatuses}
 use Rattle.plan_kept.specs.plan_waiting.specs.Kept.{AreKept}
 use Rattle.plan_restating.specs.Before.{KeepStatus}
-use Rattle.plan_restating.specs.Restanding.{AreCounters, StayElsewhere}
+use Rattle.plan_restating.specs.Restanding.{AreCounters}
 use Rattle.plan_status.specs.Standings.{AreStandings, AreTallies}
 use Rattle.plan_steps.proofs.MovedColumns.{makes_back, then, then_known}
-use Rattle.plan_steps.proofs.Overwritten.{same_on_err, vector_overwritten}
-use Rattle.plan_steps.proofs.StepParts.{all_below, both_on_ok, counters, keep_status, restood}
+use Rattle.plan_steps.proofs.Listing.{room_after}
+use Rattle.plan_steps.proofs.Overwritten.{vector_overwritten}
+use Rattle.plan_steps.proofs.StepParts.{all_below, counters, keep_status, restood}
 use Rattle.plan_steps.proofs.moving.move_columns.Goals as goal
-use Rattle.plan_steps.proofs.moving.move_columns.Goals.{After-restand}
+use Rattle.plan_steps.specs.Columns.{AreColumnsOf}
+use Rattle.plan_steps.specs.declared.columns.Columns.{Columns}
+use Rattle.plan_steps.proofs.moving.move_columns.Goals.{After-restand, After-restate}
 
 pub restand-requires-clause-within : goal.restand-requires-clause-within
 restand-requires-clause-within c =
@@ -29,7 +32,7 @@ restand-requires-clause-counters c =
     let g = c.args.groundwork.now in
     let has = c.requires.2 in
     let kept = c.deref-2.ensures.value ∙ vector_overwritten g.kept.items l.kept c.deref.result.now c.deref_mut.result.now c.put_at.new.list c.deref.ensures.value c.deref_mut.ensures.value c.put_at.ensures in
-    (Q, has.sound_after.valid, subst (AreCounters Q) (sym kept) (counters Q (then c.requires.0 Q c.requires.1 c.args.latest.now.starts l c.args.ready.now.entries g has) has.worked_out.moved_on.kept_then))
+    (Q, has.sound_after.valid, subst (AreCounters Q) (sym kept) (counters Q (then c.requires.0 Q c.requires.1 c.args.latest.now.starts l c.args.ready.now g has) has.worked_out.moved_on.kept_then))
 
 pub restate-requires-clause-within : goal.restate-requires-clause-within
 restate-requires-clause-within c =
@@ -37,7 +40,7 @@ restate-requires-clause-within c =
     subst (All (λ i. i < n)) (sym c.deref-5.ensures.value) (all_below n c.args.groundwork.now.touched.items c.requires.2.worked_out.moved_on.touched.within)
 
 -- the kept ones are those then
-kept_is : (c : After-restand) → c.deref-2.result.now ≡ then c.requires.0 c.args.contents.now c.requires.1 c.args.latest.now.starts c.args.columns.now c.args.ready.now.entries c.args.groundwork.now c.requires.2
+kept_is : (c : After-restand) → c.deref-2.result.now ≡ then c.requires.0 c.args.contents.now c.requires.1 c.args.latest.now.starts c.args.columns.now c.args.ready.now c.args.groundwork.now c.requires.2
 kept_is c =
     let l = c.args.columns.now in
     let g = c.args.groundwork.now in
@@ -52,7 +55,7 @@ stands c =
     let g = c.args.groundwork.now in
     let has = c.requires.2 in
     let on = has.worked_out.moved_on in
-    restood P Q c.requires.1 has.moved has.sound_after.valid l.kept.items (then P Q c.requires.1 c.args.latest.now.starts l c.args.ready.now.entries g has) has.columns.kept on.kept_then
+    restood P Q c.requires.1 has.moved has.sound_after.valid l.kept.items (then P Q c.requires.1 c.args.latest.now.starts l c.args.ready.now g has) has.columns.kept on.kept_then
     l.standings.items has.columns.standings g.touched.items on.beside c.deref_mut-2.result.now c.deref-2.result.now c.deref-3.result.now
     c.deref_mut-2.ensures.value (kept_is c) c.deref-3.ensures.value c.restand.new.standings c.restand.ensures.right
 
@@ -63,6 +66,9 @@ stands_back c =
     let has = c.requires.2 in
     let right = stands c in
     with_items_is l.standings c.restand.new.standings (omega (arith, right.size, has.columns.standings.size, has.moved.size, l.standings.ok.0))
+
+standings_then : (c : After-restand) → AreStandings c.args.contents.now (with_items c.args.columns.now.standings c.restand.new.standings).items
+standings_then c = subst (AreStandings c.args.contents.now) (sym (stands_back c)) (stands c)
 
 pub restate-requires-clause-standings : goal.restate-requires-clause-standings
 restate-requires-clause-standings c =
@@ -86,14 +92,23 @@ restate-requires-clause-before c =
         latest = has.latest;
         statuses = subst (AreStatuses P) (sym c.deref_mut-3.ensures.value) has.columns.statuses;
         tallies = subst (AreTallies P) (sym c.deref_mut-4.ensures.value) has.columns.tallies;
-        ready = has.ready;
+        ready = has.ready.listed;
       },
-      subst (KeepStatus P Q) (sym c.deref-5.ensures.value) (keep_status P Q edits has.moved touched (then_known P Q edits c.args.latest.now.starts c.args.columns.now c.args.ready.now.entries c.args.groundwork.now has)),
+      subst (KeepStatus P Q) (sym c.deref-5.ensures.value) (keep_status P Q edits has.moved touched (then_known P Q edits c.args.latest.now.starts c.args.columns.now c.args.ready.now c.args.groundwork.now has)),
     )
 
-pub returns-clause-columns : goal.returns-clause-columns
-returns-clause-columns c =
-    let k : After-restand = (goal.at.returns-clause-columns c).After-restand in
+pub restate-requires-clause-room : goal.restate-requires-clause-room
+restate-requires-clause-room c = room_after c.requires.0 c.args.contents.now c.requires.1 c.requires.2.moved c.args.ready.now c.requires.2.ready
+
+-- the columns then
+abbrev columns_then : After-restate → Columns
+columns_then c =
+    let l = c.args.columns.now in
+    record l { kept = with_items l.kept c.put_at.new.list; standings = with_items l.standings c.restand.new.standings; statuses = with_items l.statuses c.restate.new.statuses; tallies = with_items l.tallies c.restate.new.tallies }
+
+-- they are those of the plan
+moved_columns : (c : After-restate) → AreStandings c.args.contents.now (columns_then c).standings.items → AreColumnsOf c.args.contents.now (columns_then c)
+moved_columns c standings =
     let P = c.requires.0 in
     let Q = c.args.contents.now in
     let l = c.args.columns.now in
@@ -101,36 +116,25 @@ returns-clause-columns c =
     let has = c.requires.2 in
     let groups : length (entries Q.occurrences) ≡ length (entries P.occurrences) = ap (λ os. length (entries os)) has.moved.occurrences in
     let kept = vector_overwritten g.kept.items l.kept c.deref.result.now c.deref_mut.result.now c.put_at.new.list c.deref.ensures.value c.deref_mut.ensures.value c.put_at.ensures in
-    both_on_ok c.restate.result (λ statuses tallies. record {
+    let statuses = c.restate.ensures.statuses in
+    let tallies = c.restate.ensures.tallies in
+    record {
       kept = subst (AreKept Q) (sym kept) has.worked_out.moved_on.kept_then;
-      standings = subst (AreStandings Q) (sym (stands_back k)) (stands k);
+      standings = standings;
       statuses = subst (AreStatuses Q) (sym (with_items_is l.statuses c.restate.new.statuses (omega (arith, statuses.size, has.columns.statuses.size, has.moved.size, l.statuses.ok.0)))) statuses;
       tallies = subst (AreTallies Q) (sym (with_items_is l.tallies c.restate.new.tallies (omega (arith, tallies.size, has.columns.tallies.size, groups, l.tallies.ok.0)))) tallies;
-    }) c.restate.ensures.statuses c.restate.ensures.tallies
+    }
+
+pub returns-clause-columns : goal.returns-clause-columns
+returns-clause-columns c = moved_columns (goal.at.returns-clause-columns c).After-restate (standings_then (goal.at.returns-clause-columns c).After-restand)
+
+pub returns-clause-ready : goal.returns-clause-ready
+returns-clause-ready c =
+    let Q = c.args.contents.now in
+    let room = room_after c.requires.0 Q c.requires.1 c.requires.2.moved c.args.ready.now c.requires.2.ready in
+    record { listed = c.restate.ensures.ready; room = omega (arith, room, c.restate.ensures.room) }
 
 pub returns-clause-back : goal.returns-clause-back
 returns-clause-back c =
-    let k : After-restand = (goal.at.returns-clause-back c).After-restand in
-    let P = c.requires.0 in
-    let Q = c.args.contents.now in
-    let edits = c.requires.1 in
-    let starts = c.args.latest.now.starts in
-    let l = c.args.columns.now in
-    let es = c.args.ready.now.entries in
-    let g = c.args.groundwork.now in
-    let has = c.requires.2 in
-    let right = stands k in
-    let kept = vector_overwritten g.kept.items l.kept c.deref.result.now c.deref_mut.result.now c.put_at.new.list c.deref.ensures.value c.deref_mut.ensures.value c.put_at.ensures in
-    let groups : length (entries Q.occurrences) ≡ length (entries P.occurrences) = ap (λ os. length (entries os)) has.moved.occurrences in
-    let stay : StayElsewhere l.standings.items c.restand.new.standings g.touched.items =
-    subst (λ xs. StayElsewhere xs c.restand.new.standings g.touched.items) c.deref_mut-2.ensures.value (subst (λ ts. StayElsewhere c.deref_mut-2.result.now c.restand.new.standings ts) c.deref-3.ensures.value c.restand.ensures.elsewhere) in
-    makes_back P Q edits starts l es g has c.restate.result _ kept
-    (subst (λ xs. StayElsewhere l.standings.items xs g.touched.items) (sym (stands_back k)) stay)
-    (ap length (stands_back k) ∙ right.size ∙ has.moved.size ∙ sym has.columns.standings.size)
-    (both_on_ok c.restate.result (λ statuses tallies. record {
-      kept = subst (AreKept Q) (sym kept) has.worked_out.moved_on.kept_then;
-      standings = subst (AreStandings Q) (sym (stands_back k)) right;
-      statuses = subst (AreStatuses Q) (sym (with_items_is l.statuses c.restate.new.statuses (omega (arith, statuses.size, has.columns.statuses.size, has.moved.size, l.statuses.ok.0)))) statuses;
-      tallies = subst (AreTallies Q) (sym (with_items_is l.tallies c.restate.new.tallies (omega (arith, tallies.size, has.columns.tallies.size, groups, l.tallies.ok.0)))) tallies;
-    }) c.restate.ensures.statuses c.restate.ensures.tallies)
-    (same_on_err _ c.restate.result l.statuses l.tallies c.deref_mut-3.result.now c.deref_mut-4.result.now c.restate.new.statuses c.restate.new.tallies c.deref_mut-3.ensures.value c.deref_mut-4.ensures.value c.restate.ensures.unchanged)
+    makes_back c.requires.0 c.args.contents.now c.requires.1 c.args.latest.now.starts c.args.columns.now c.args.ready.now c.args.groundwork.now c.requires.2 _
+    (moved_columns (goal.at.returns-clause-back c).After-restate (standings_then (goal.at.returns-clause-back c).After-restand))

@@ -21,13 +21,10 @@ pub returns-clause-naming : goal.returns-clause-naming
 returns-clause-naming c =
     let P = c.args.contents.now in
     let os = c.in_ok-named.field-0.named.items in
-    let were = c.requires in
     record {
       sound = c.rows.ensures.sound;
       chosen = c.in_ok-named.ensures.chosen;
       places = subst (λ ks. ArePlacesOf P ks c.in_ok-places.places.items) c.deref.ensures.value c.in_ok-places.ensures;
       marked = subst (λ ks. WereMarked P ks c.in_ok-marks.marks.items) c.deref-2.ensures.value (subst (λ (R : Contents). WereMarked R c.deref-2.result.now c.in_ok-marks.marks.items) c.rows.ensures.contents c.in_ok-marks.ensures);
-      given = c.in_ok-named.ensures.given;
-      holders = c.in_ok-named.ensures.held;
-      ready = were.ready;
+      shares = record { given = c.in_ok-named.ensures.given; holders = c.in_ok-named.ensures.held };
     }

@@ -4,19 +4,20 @@ use Rattle.std.specs.FinMap.{entries}
 use Rattle.plan_kept.specs.plan_drafts.specs.Places.{AreStatuses}
 use Rattle.plan_status.specs.Standings.{AreStandings, AreTallies}
 use Rattle.plan_steps.proofs.NamedFigures.{kept_after, known_after, latest_after, moved_on, places_after, standings_after}
-use Rattle.plan_steps.proofs.StepParts.{all_below, both_on_ok, keep_status}
+use Rattle.plan_steps.proofs.Listing.{room_after}
+use Rattle.plan_steps.proofs.StepParts.{all_below, keep_status}
 use Rattle.plan_steps.proofs.noting.settle.Goals as goal
 
 pub restate-requires-clause-within : goal.restate-requires-clause-within
 restate-requires-clause-within c =
-    all_below (length (entries c.args.contents.now.operations)) c.args.places.now (places_after c.requires.0 c.args.contents.now c.requires.1 c.args.places.now c.args.latest.now.starts c.args.columns.now c.args.ready.now.entries c.requires.2)
+    all_below (length (entries c.args.contents.now.operations)) c.args.places.now (places_after c.requires.0 c.args.contents.now c.requires.1 c.args.places.now c.args.latest.now.starts c.args.columns.now c.args.ready.now c.requires.2)
 
 pub restate-requires-clause-standings : goal.restate-requires-clause-standings
 restate-requires-clause-standings c =
-    subst (AreStandings c.args.contents.now) (sym c.deref.ensures.value) (standings_after c.requires.0 c.args.contents.now c.requires.1 c.args.places.now c.args.latest.now.starts c.args.columns.now c.args.ready.now.entries c.requires.2)
+    subst (AreStandings c.args.contents.now) (sym c.deref.ensures.value) (standings_after c.requires.0 c.args.contents.now c.requires.1 c.args.places.now c.args.latest.now.starts c.args.columns.now c.args.ready.now c.requires.2)
 
 pub restate-requires-clause-latest : goal.restate-requires-clause-latest
-restate-requires-clause-latest c = latest_after c.requires.0 c.args.contents.now c.requires.1 c.args.places.now c.args.latest.now.starts c.args.columns.now c.args.ready.now.entries c.requires.2
+restate-requires-clause-latest c = latest_after c.requires.0 c.args.contents.now c.requires.1 c.args.places.now c.args.latest.now.starts c.args.columns.now c.args.ready.now c.requires.2
 
 pub restate-requires-clause-before : goal.restate-requires-clause-before
 restate-requires-clause-before c =
@@ -24,7 +25,7 @@ restate-requires-clause-before c =
     let R = c.args.contents.now in
     let places = c.args.places.now in
     let was = c.requires.2 in
-    let moved = moved_on P R c.requires.1 places c.args.latest.now.starts c.args.columns.now c.args.ready.now.entries was in (
+    let moved = moved_on P R c.requires.1 places c.args.latest.now.starts c.args.columns.now c.args.ready.now was in (
       P,
       places,
       moved,
@@ -32,10 +33,14 @@ restate-requires-clause-before c =
         latest = was.latest;
         statuses = subst (AreStatuses P) (sym c.deref_mut.ensures.value) was.columns.statuses;
         tallies = subst (AreTallies P) (sym c.deref_mut-2.ensures.value) was.columns.tallies;
-        ready = was.ready;
+        ready = was.ready.listed;
       },
-      keep_status P R places moved places (known_after P R c.requires.1 places c.args.latest.now.starts c.args.columns.now c.args.ready.now.entries was),
+      keep_status P R places moved places (known_after P R c.requires.1 places c.args.latest.now.starts c.args.columns.now c.args.ready.now was),
     )
+
+pub restate-requires-clause-room : goal.restate-requires-clause-room
+restate-requires-clause-room c =
+    room_after c.requires.0 c.args.contents.now c.args.places.now (moved_on c.requires.0 c.args.contents.now c.requires.1 c.args.places.now c.args.latest.now.starts c.args.columns.now c.args.ready.now c.requires.2) c.args.ready.now c.requires.2.ready
 
 pub returns-clause-columns : goal.returns-clause-columns
 returns-clause-columns c =
@@ -45,13 +50,20 @@ returns-clause-columns c =
     let places = c.args.places.now in
     let starts = c.args.latest.now.starts in
     let l = c.args.columns.now in
-    let es = c.args.ready.now.entries in
+    let r = c.args.ready.now in
     let was = c.requires.2 in
-    let moved = moved_on P R os places starts l es was in
+    let moved = moved_on P R os places starts l r was in
     let groups : length (entries R.occurrences) ≡ length (entries P.occurrences) = ap (λ cs. length (entries cs)) moved.occurrences in
-    both_on_ok c.restate.result (λ statuses tallies. record {
-      kept = kept_after P R os places starts l es was;
-      standings = standings_after P R os places starts l es was;
+    let statuses = c.restate.ensures.statuses in
+    let tallies = c.restate.ensures.tallies in
+    record {
+      kept = kept_after P R os places starts l r was;
+      standings = standings_after P R os places starts l r was;
       statuses = subst (AreStatuses R) (sym (with_items_is l.statuses c.restate.new.statuses (omega (arith, statuses.size, was.columns.statuses.size, moved.size, l.statuses.ok.0)))) statuses;
       tallies = subst (AreTallies R) (sym (with_items_is l.tallies c.restate.new.tallies (omega (arith, tallies.size, was.columns.tallies.size, groups, l.tallies.ok.0)))) tallies;
-    }) c.restate.ensures.statuses c.restate.ensures.tallies
+    }
+
+pub returns-clause-ready : goal.returns-clause-ready
+returns-clause-ready c =
+    let room = room_after c.requires.0 c.args.contents.now c.args.places.now (moved_on c.requires.0 c.args.contents.now c.requires.1 c.args.places.now c.args.latest.now.starts c.args.columns.now c.args.ready.now c.requires.2) c.args.ready.now c.requires.2.ready in
+    record { listed = c.restate.ensures.ready; room = omega (arith, room, c.restate.ensures.room) }

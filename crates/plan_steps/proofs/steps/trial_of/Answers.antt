@@ -9,5 +9,5 @@ standing-requires c = subst (λ (P : Contents). HasPlaceFor P c.args.edit.now.re
 pub returns-clause-back : goal.returns-clause-back
 returns-clause-back c = subst (λ (P : Contents). PutsBack P c.args.edit.now.revision c.in_ok-back.back) c.rows.ensures.contents c.in_ok-back.ensures
 
-pub returns-clause-stock : goal.returns-clause-stock
-returns-clause-stock c = c.in_ok-stock.ensures.stock c.args.contents.now c.requires.stock
+pub returns-clause-shares : goal.returns-clause-shares
+returns-clause-shares c = c.in_ok-shares.ensures.shares c.args.contents.now c.requires.shares

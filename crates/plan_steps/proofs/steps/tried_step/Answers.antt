@@ -4,7 +4,7 @@ use Rattle.plan_kept.specs.plan_model.specs.Contents.{Contents}
 use Rattle.plan_kept.specs.plan_model.specs.Ready.{IsChosen, named}
 use Rattle.plan_kept.specs.plan_model.specs.Valid.{IsSound}
 use Rattle.plan_kept.specs.plan_state.specs.Figures.{KeepsFrame}
-use Rattle.plan_steps.proofs.ColumnParts.{are_columns, are_figures, is_stock}
+use Rattle.plan_steps.proofs.ColumnParts.{are_columns, are_figures, are_shares, is_list}
 use Rattle.plan_steps.proofs.steps.tried_step.Goals as goal
 use Rattle.plan_steps.proofs.steps.tried_step.Goals.{After-with_revision-after}
 use Rattle.plan_steps.specs.Columns.{figures_of}
@@ -13,8 +13,8 @@ use Rattle.plan_steps.specs.Edits.{IsEditOf, WasEdited, edited}
 use Rattle.plan_steps.specs.Naming.{AreStepNotes}
 use Rattle.plan_steps.specs.Revisions.{HasPlaceFor, written}
 
-pub trial_of-requires-clause-stock : goal.trial_of-requires-clause-stock
-trial_of-requires-clause-stock c = is_stock c.args.contents c.args.columns.now c.args.stock.now c.requires.figures
+pub trial_of-requires-clause-shares : goal.trial_of-requires-clause-shares
+trial_of-requires-clause-shares c = are_shares c.args.contents c.args.columns.now c.args.ready.now c.args.shares.now c.requires.figures
 
 pub with_revision-after-requires-clause-has_place : goal.with_revision-after-requires-clause-has_place
 with_revision-after-requires-clause-has_place c = subst (HasPlaceFor c.args.contents) (sym c.in-Ok.ensures.forth) c.requires.edit.has_place
@@ -32,7 +32,7 @@ is_edited c =
     ∙ ap (λ x. written c.args.edit.now.keys.items x c.args.contents) c.in-Ok.ensures.forth
 
 -- of which the edit was made
-was_edited : (c : After-with_revision-after) → WasEdited c.args.contents c.with_revision-after.result c.args.edit.now c.args.graph.now c.args.latest.now.starts (figures_of c.args.columns.now c.in-Ok.trial.stock)
+was_edited : (c : After-with_revision-after) → WasEdited c.args.contents c.with_revision-after.result c.args.edit.now c.args.graph.now c.args.latest.now.starts (figures_of c.args.columns.now c.args.ready.now c.in-Ok.trial.shares)
 was_edited c =
     let P = c.args.contents in
     let e = c.args.edit.now in
@@ -43,7 +43,7 @@ was_edited c =
       after = is_edited c;
       graph = c.requires.graph;
       latest = c.requires.latest;
-      figures = are_figures P c.args.columns.now c.in-Ok.trial.stock (are_columns P c.args.columns.now c.args.stock.now c.requires.figures) c.in-Ok.ensures.stock;
+      figures = are_figures P c.args.columns.now c.args.ready.now c.in-Ok.trial.shares (are_columns P c.args.columns.now c.args.ready.now c.args.shares.now c.requires.figures) (is_list P c.args.columns.now c.args.ready.now c.args.shares.now c.requires.figures) c.in-Ok.ensures.shares;
     }
 
 pub step_after-same-requires : goal.step_after-same-requires
@@ -58,6 +58,12 @@ pub returns-in-Ok-clause-contents : goal.returns-in-Ok-clause-contents
 returns-in-Ok-clause-contents c =
     let is = is_edited (goal.at.returns-in-Ok-clause-contents c).After-with_revision-after in
     c.without_edit.ensures c.args.contents (record { edit = c.requires.edit; puts_back = c.in-Ok.ensures.back; after = c.step_after-same.ensures.contents ∙ is })
+
+pub returns-in-Ok-clause-ready : goal.returns-in-Ok-clause-ready
+returns-in-Ok-clause-ready c = c.step_after-same.ensures.ready c.args.contents (was_edited (goal.at.returns-in-Ok-clause-ready c).After-with_revision-after)
+
+pub returns-in-Err-clause-ready : goal.returns-in-Err-clause-ready
+returns-in-Err-clause-ready c = is_list c.args.contents c.args.columns.now c.args.ready.now c.args.shares.now c.requires.figures
 
 pub returns-in-Ok-clause-chosen : goal.returns-in-Ok-clause-chosen
 returns-in-Ok-clause-chosen c =

@@ -21,12 +21,12 @@ loop-entry-preserved g c =
     elim c.if-starts_operations.branch [
       | then-starts_operations+in_ok-name+then-branch+in_ok-add w ↦
           let on : is_automatic e.attr ≡ true = sym c.starts_operations.ensures ∙ w.if-starts_operations.true in
-          let said : answers now e.key.op true w.name.new.self = subst (λ b. answers now e.key.op b w.name.new.self) w.if-branch.true w.in_ok-name.ensures.answered in
+          let said : answers now e true w.name.new.self = subst (λ b. answers now e b w.name.new.self) w.if-branch.true w.in_ok-name.ensures.answered in
           rw (w.gate-is, w.named-is, w.in_ok-add.ensures) (names answers refuses all start e left now named so_far on w.name.new.self said)
       | else-starts_operations w ↦ elim w.else-starts_operations.branch [
         | else-starts_operations-via-then-starts_operations+in_ok-name+else-branch w' ↦
             let on : is_automatic e.attr ≡ true = sym c.starts_operations.ensures ∙ w'.if-starts_operations.true in
-            let said : answers now e.key.op false w'.name.new.self = subst (λ b. answers now e.key.op b w'.name.new.self) w'.if-branch.false w'.in_ok-name.ensures.answered in
+            let said : answers now e false w'.name.new.self = subst (λ b. answers now e b w'.name.new.self) w'.if-branch.false w'.in_ok-name.ensures.answered in
             rw (w.gate-is, w.named-is, w'.gate-is) (passes answers refuses all start e left now named so_far on w'.name.new.self said)
         | else-starts_operations-via-else-starts_operations w' ↦
             let off : is_automatic e.attr ≡ false = sym c.starts_operations.ensures ∙ w'.if-starts_operations.false in

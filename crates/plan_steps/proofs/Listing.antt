@@ -1,0 +1,46 @@
+-- A ready list that goes by statuses, and that of a plan.
+use Rattle.std.proofs.Common.{sym, subst, ◌∙◌, ℕ, ℤ, ◌+◌, ◌≤◌, List, length}
+use Rattle.plan_kept.proofs.Frame.{frame_stays}
+use Rattle.plan_kept.specs.plan_choice.specs.Choices.{AreLatestStarts}
+use Rattle.plan_kept.specs.plan_drafts.specs.Places.{AreStatuses}
+use Rattle.plan_kept.specs.plan_model.specs.Contents.{Contents}
+use Rattle.plan_kept.specs.plan_model.specs.Valid.{IsSound}
+use Rattle.plan_kept.specs.plan_moves.specs.Moves.{IsMovedAt}
+use Rattle.plan_restating.proofs.Moved.{moved_back}
+use Rattle.plan_restating.proofs.Read.{entries_after, entries_are, entries_by}
+use Rattle.plan_restating.specs.ByStatuses.{HasRoomForAll}
+use Rattle.plan_status.proofs.LoadedRows.{its_occurrence}
+use Rattle.plan_steps.specs.Columns.{GoesByStatuses, IsReadyListOf}
+use Rattle.ready_list.specs.Entries.{ReadyEntries}
+use Rattle.status_rules.specs.declared.Status.{Status}
+
+module _ (P : Contents) (sound : IsSound P) (statuses : List Status) (are : AreStatuses P statuses) (r : ReadyEntries) where
+  -- the ready list of a plan goes by the plan's statuses
+  pub goes_by : (starts : List ℤ) → AreLatestStarts P starts → IsReadyListOf P r → GoesByStatuses P statuses r
+  goes_by starts latest list = record {
+    size = are.size;
+    listed = entries_by P sound.valid.acyclic statuses are (its_occurrence P sound.valid) starts latest r.entries list.listed;
+    room = list.room;
+  }
+
+  -- and one that goes by these is the plan's
+  pub list_is : GoesByStatuses P statuses r → IsReadyListOf P r
+  list_is goes = record { listed = entries_are P sound.valid.acyclic statuses are r.entries goes.listed; room = goes.room }
+
+-- it goes by them in a plan too that differs in marks and flags alone
+pub goes_after : (P Q : Contents) (moved_at : List ℕ) → IsMovedAt P Q moved_at → (starts : List ℤ) → AreLatestStarts P starts → (statuses : List Status) (r : ReadyEntries)
+    → GoesByStatuses P statuses r → GoesByStatuses Q statuses r
+goes_after P Q moved_at moved starts latest statuses r goes = record {
+  size = goes.size ∙ sym moved.size;
+  listed = entries_after P Q moved_at moved starts latest ((frame_stays P Q moved_at moved).latest starts latest) statuses r.entries goes.listed;
+  room = subst (λ n. n ≤ length r.entries + r.room) (sym moved.size) goes.room;
+}
+
+-- so it does in the one before
+pub goes_before : (P Q : Contents) (moved_at : List ℕ) → IsMovedAt P Q moved_at → (starts : List ℤ) → AreLatestStarts Q starts → (statuses : List Status) (r : ReadyEntries)
+    → GoesByStatuses Q statuses r → GoesByStatuses P statuses r
+goes_before P Q moved_at moved = goes_after Q P moved_at (moved_back P Q moved_at moved)
+
+-- there is room for as many operations as there were
+pub room_after : (P Q : Contents) (moved_at : List ℕ) → IsMovedAt P Q moved_at → (r : ReadyEntries) → IsReadyListOf P r → HasRoomForAll Q r
+room_after P Q moved_at moved r list = subst (λ n. n ≤ length r.entries + r.room) (sym moved.size) list.room
