@@ -30,3 +30,36 @@ pub fn filled(mut text: String) -> Result<String, AllocError> {
     }
     Ok(text)
 }
+
+// Puts behind a text an occurrence of 255 operations of one minute, each after the one before it.
+fn push_chain(text: &mut String, number: u8) -> Result<(), AllocError> {
+    let (tens, units) = (number / 10, number % 10);
+    writeln!(
+        text,
+        "O,J{tens}{units},2024-03-01T22:00,5,2024-03-02T05:00,,,,,"
+    )?;
+    writeln!(text, "P,J{tens}{units},2024-03-01T22:00,1,SETP,1,0,0,,")?;
+    for later in 2..256u16 {
+        let earlier = later - 1;
+        writeln!(
+            text,
+            "P,J{tens}{units},2024-03-01T22:00,{later},SETP,1,0,0,,"
+        )?;
+        writeln!(
+            text,
+            "D,J{tens}{units},2024-03-01T22:00,{earlier},J{tens}{units},2024-03-01T22:00,{later},,,"
+        )?;
+    }
+    Ok(())
+}
+
+/// A plan of 20 occurrences, J01 to J20, each a chain of 255 operations on SETP, where an operator reports starts and 20
+/// servers stand ready for the night.
+pub fn chains(alloc: Global) -> Result<String, AllocError> {
+    let mut text = String::from_str(alloc, "W,SETP,S,,,,,,,\n")?;
+    writeln!(text, "I,SETP,2024-03-01T22:00,2024-03-02T06:00,20,0,0,,,")?;
+    for number in 1..21 {
+        push_chain(&mut text, number)?;
+    }
+    Ok(text)
+}

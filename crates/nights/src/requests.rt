@@ -1,5 +1,5 @@
 // What the words of a turn ask.
-use super::crowds::{crowd, filled};
+use super::crowds::{chains, crowd, filled};
 use super::names::{minute, moment, occurrence, operation, resource, workstation};
 use super::sections::joined;
 use super::words::cut;
@@ -26,6 +26,7 @@ fn what(alloc: Global, word: &str, rest: &str) -> Option<What> {
         "tick" => tick(rest),
         "load" => load(alloc, &joined(alloc, rest)?),
         "load-crowd" => load(alloc, &crowd(alloc, rest.parse().ok()?).ok()?),
+        "load-chains" => load(alloc, &chains(alloc).ok()?),
         "load-filled" => load(alloc, &filled(joined(alloc, rest)?).ok()?),
         "add" => add(alloc, &joined(alloc, rest)?),
         "open" => open(alloc, rest),

@@ -1,6 +1,7 @@
 -- What a rerun takes back, step by step, and what is left to settle after it.
-use Rattle.std.proofs.Common.{◌≡◌, ◌≢◌, ◌↔◌, ◌⊎◌, inl, inr, refl, sym, ap, subst, ◌∙◌, true≢false, arith, ℕ, ◌+◌, ◌<◌, true, false, List, [], ◌∷◌, length, set, Contains, length-set}
+use Rattle.std.proofs.Common.{◌≡◌, ◌≢◌, ◌↔◌, ◌⊎◌, inl, inr, refl, sym, ap, subst, ◌∙◌, true≢false, arith, ℕ, ◌+◌, ◌<◌, ◌≤◌, true, false, List, [], ◌∷◌, length, set, Contains, length-set}
 use Rattle.std.proofs.lemmas.Bool.{cases_eq, cases_Bool}
+use Rattle.std.specs.FinSet.{contains}
 use Rattle.operation_graph.specs.Adjacency.{count_of}
 use Rattle.operation_graph.specs.Graphs.{Digraph, HasEdge, AreExactly, IsGraph}
 use Rattle.operation_graph.proofs.Counts.{count_head, count_other, contains_counted, counted_contains}
@@ -8,9 +9,9 @@ use Rattle.plan_basics.proofs.Members.{contains_cases, contains_head, contains_l
 use Rattle.status_rules.specs.LeastSet.{by_given, by_all_before}
 use Rattle.plan_cascade.specs.declared.kept.Kept.{Kept}
 use Rattle.plan_cascade.specs.declared.kept.Rule.{Rule}
-use Rattle.plan_cascade.specs.Counters.{AreRight, IsCascade, IsSatisfiedBy, is_satisfied_at, rule_at, waiting_at}
-use Rattle.plan_cascade.specs.Changes.{IsClearing, IsRerun, IsUpward}
-use Rattle.plan_cascade.proofs.Counting.{kept_there, kept_else, unset_same, unset_less, unset_at_most, set_if_none, listed_is_one}
+use Rattle.plan_cascade.specs.Counters.{AreRight, IsCascade, IsSatisfiedBy, edge_count, is_satisfied_at, kept_at, rule_at, waiting_at, waiting_count}
+use Rattle.plan_cascade.specs.Changes.{HoldFollowers, IsClearing, IsRerun, IsUpward}
+use Rattle.plan_cascade.proofs.Counting.{fewer_waiting, free_is_none, none_if_set, no_edge_is_none, satisfied_is_none, unset_same_but, waiting_alike, kept_there, kept_else, unset_same, unset_less, unset_at_most, set_if_none, listed_is_one}
 
 module _ (g : Digraph) (start : List Kept) where
   pub begun : (rules : List Rule) → AreRight g rules start → IsClearing g start [] start []
@@ -128,6 +129,39 @@ module _ (g : Digraph) (before after : List Rule) (reached : List ℕ) (h : IsRe
     ];
     counts = λ n in_g. omega (arith, c.counts n in_g);
   }
+
+  -- an edge from what is cleared leads to no node that wasn't satisfied and isn't reached
+  leads_nowhere : (start : List Kept) → AreRight g before start → (p n : ℕ) → n < g.nodes → Contains reached p → ¬ Contains reached n → is_satisfied_at start n ≡ false → edge_count g p n ≡ 0
+  leads_nowhere start right p n in_g has out off = elim (cases_Bool (contains g.edges (p, n))) [
+    | inl edge ↦ elim (h.follow p n has edge) [
+      | inl in_reached ↦ absurd (out in_reached)
+      | inr given ↦ absurd (true≢false (sym ((right.satisfied n in_g).1 (by_given given)) ∙ off))
+    ]
+    | inr none ↦ no_edge_is_none g p n none
+  ]
+
+  -- once all that is reached is cleared, no other node has come to wait than what is reached and has a predecessor
+  pub waiting_cleared : (start kept : List Kept) (gone followers : List ℕ) → AreRight g before start → ((n : ℕ) → Contains gone n ↔ Contains reached n) → IsClearing g start gone kept []
+      → HoldFollowers g reached followers → waiting_count kept ≤ waiting_count start + length followers
+  waiting_cleared start kept gone followers right all c hold = fewer_waiting kept start followers (c.size ∙ sym right.size) (λ n lt out.
+      let in_g : n < g.nodes = omega (arith, lt, c.size) in
+      elim (member_or_not reached n) [
+        | inl has ↦
+            let none = none_if_set g kept g.nodes n (λ p below edge. absurd (out (hold n p has edge))) in
+            omega (arith, free_is_none (kept_at kept n) (omega (arith, c.counts n in_g, none)))
+        | inr away ↦
+            let flag : is_satisfied_at kept n ≡ is_satisfied_at start n = c.others n (λ has. away ((all n).0 has)) in
+            elim (cases_Bool (is_satisfied_at start n)) [
+              | inl on ↦ omega (arith, satisfied_is_none (kept_at kept n) (flag ∙ on))
+              | inr off ↦
+                  let before_it = unset_same_but g kept start g.nodes n (λ p below. elim (member_or_not gone p) [
+                    | inl has ↦ inr (leads_nowhere start right p n in_g ((all p).0 has) away off)
+                    | inr not ↦ inl (c.others p not)
+                  ]) in
+                  let counter : waiting_at kept n ≡ waiting_at start n = omega (arith, c.counts n in_g, right.counts n in_g, before_it) in
+                  omega (arith, waiting_alike (kept_at kept n) (kept_at start n) flag counter)
+            ]
+      ])
 
 -- ---- a change by which none stops being satisfied
 

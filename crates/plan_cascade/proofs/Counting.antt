@@ -1,12 +1,13 @@
 -- How many predecessors aren't satisfied, and what one node's flag changes of it.
-use Rattle.std.proofs.Common.{◌≡◌, ◌≢◌, inl, inr, refl, sym, ap, subst, ◌∙◌, true≢false, arith, ℕ, zero, suc, ◌+◌, ◌<◌, ◌≤◌, true, false, cond, List, [], ◌∷◌, ◌++◌, length, get_or, set, Contains, get_or-set_same, get_or-set_other}
-use Rattle.std.proofs.lemmas.Bool.{cases_eq, cases_Bool}
+use Rattle.std.proofs.Common.{Bool, ◌⊎◌, ◌≡◌, ◌≢◌, inl, inr, refl, sym, ap, subst, ◌∙◌, true≢false, arith, ℕ, zero, suc, eqb, leb, ◌+◌, ◌<◌, ◌≤◌, true, false, cond, List, [], ◌∷◌, ◌++◌, length, get_or, set, Contains, get_or-set_same, get_or-set_other, ap₂}
+use Rattle.std.proofs.lemmas.Bool.{cases_eq, cases_lt, cases_Bool}
+use Rattle.std.proofs.lemmas.Bool.Decides.{nat_tests}
 use Rattle.std.specs.FinSet.{contains}
 use Rattle.operation_graph.specs.Adjacency.{count_of}
 use Rattle.operation_graph.specs.Graphs.{Digraph, HasEdge, AreExactly, AreDifferent}
-use Rattle.operation_graph.proofs.Counts.{count_head, count_other, contains_counted, counted_contains}
+use Rattle.operation_graph.proofs.Counts.{count_head, count_other, contains_counted, counted_contains, eqb_same, eqb_other}
 use Rattle.plan_cascade.specs.declared.kept.Kept.{Kept}
-use Rattle.plan_cascade.specs.Counters.{kept_at, is_satisfied_at, edge_count, unsatisfied_below, unsatisfied_count, leading_count, nothing_kept}
+use Rattle.plan_cascade.specs.Counters.{kept_at, is_satisfied_at, edge_count, one_if_waiting, unsatisfied_below, unsatisfied_count, waiting_count, leading_count, nothing_kept}
 
 -- ---- what is kept after a write
 
@@ -38,6 +39,17 @@ unset_same g a b zero n same = refl
 unset_same g a b (suc p) n same =
     let head : cond {A = ℕ} (is_satisfied_at a p) 0 (edge_count g p n) ≡ cond {A = ℕ} (is_satisfied_at b p) 0 (edge_count g p n) = ap (λ f. cond {A = ℕ} f 0 (edge_count g p n)) (same p (omega arith)) in
     omega (arith, head, unset_same g a b p n (λ q lt. same q (omega (arith, lt))))
+
+-- and by those of its predecessors
+pub unset_same_but : (g : Digraph) (a b : List Kept) (m n : ℕ) → ((p : ℕ) → p < m → (is_satisfied_at a p ≡ is_satisfied_at b p) ⊎ (edge_count g p n ≡ 0)) → unsatisfied_below g a m n ≡ unsatisfied_below g b m n
+unset_same_but g a b zero n same = refl
+unset_same_but g a b (suc p) n same =
+    let none : (f : Bool) → edge_count g p n ≡ 0 → cond {A = ℕ} f 0 (edge_count g p n) ≡ 0 = λ f e. ap (cond {A = ℕ} f 0) e ∙ elim f as (λ b. cond {A = ℕ} b 0 0 ≡ 0) [ true ↦ refl | false ↦ refl ] in
+    let head : cond {A = ℕ} (is_satisfied_at a p) 0 (edge_count g p n) ≡ cond {A = ℕ} (is_satisfied_at b p) 0 (edge_count g p n) = elim (same p (omega arith)) [
+      | inl flag ↦ ap (λ f. cond {A = ℕ} f 0 (edge_count g p n)) flag
+      | inr e ↦ none (is_satisfied_at a p) e ∙ sym (none (is_satisfied_at b p) e)
+    ] in
+    omega (arith, head, unset_same_but g a b p n (λ q lt. same q (omega (arith, lt))))
 
 -- b has s satisfied, a hasn't, and else they agree
 pub unset_less : (g : Digraph) (a b : List Kept) (s m n : ℕ) → s < m → is_satisfied_at a s ≡ false → is_satisfied_at b s ≡ true → ((p : ℕ) → p ≢ s → is_satisfied_at a p ≡ is_satisfied_at b p)
@@ -143,3 +155,96 @@ pub unsatisfied_count_same : (kept : List Kept) (s : ℕ) (v : Kept) → v.satis
 unsatisfied_count_same [] s v same = refl
 unsatisfied_count_same (k ∷ kept) zero v same = ap (λ f. cond {A = ℕ} f 0 1 + unsatisfied_count kept) same
 unsatisfied_count_same (k ∷ kept) (suc s) v same = ap (λ m. cond {A = ℕ} k.satisfied 0 1 + m) (unsatisfied_count_same kept s v same)
+
+-- ---- how many wait
+
+pub satisfied_is_none : (k : Kept) → k.satisfied ≡ true → one_if_waiting k ≡ 0
+satisfied_is_none k on = ap (λ f. cond {A = ℕ} f 0 (cond {A = ℕ} (eqb k.waiting 0) 0 1)) on
+
+unsatisfied_is : (k : Kept) → k.satisfied ≡ false → one_if_waiting k ≡ cond {A = ℕ} (eqb k.waiting 0) 0 1
+unsatisfied_is k off = ap (λ f. cond {A = ℕ} f 0 (cond {A = ℕ} (eqb k.waiting 0) 0 1)) off
+
+pub free_is_none : (k : Kept) → k.waiting ≡ 0 → one_if_waiting k ≡ 0
+free_is_none k free = elim (cases_Bool k.satisfied) [
+  | inl on ↦ satisfied_is_none k on
+  | inr off ↦ unsatisfied_is k off ∙ ap (λ b. cond {A = ℕ} b 0 1) (eqb_same k.waiting 0 free)
+]
+
+pub waiting_is_one : (k : Kept) → k.satisfied ≡ false → 0 < k.waiting → one_if_waiting k ≡ 1
+waiting_is_one k off waits = unsatisfied_is k off ∙ ap (λ b. cond {A = ℕ} b 0 1) (eqb_other k.waiting 0 (λ e. omega (arith, e, waits)))
+
+pub one_if_waiting_at_most : (k : Kept) → one_if_waiting k ≤ 1
+one_if_waiting_at_most k = elim (cases_Bool k.satisfied) [
+  | inl on ↦ omega (arith, satisfied_is_none k on)
+  | inr off ↦ elim (cases_eq k.waiting 0) [
+    | inl free ↦ omega (arith, free_is_none k free)
+    | inr waits ↦ omega (arith, waiting_is_one k off (omega (arith, waits)))
+  ]
+]
+
+pub waiting_alike : (a b : Kept) → a.satisfied ≡ b.satisfied → a.waiting ≡ b.waiting → one_if_waiting a ≡ one_if_waiting b
+waiting_alike a b same_flag same_waiting = ap₂ (λ f n. cond {A = ℕ} f 0 (cond {A = ℕ} (eqb n 0) 0 1)) same_flag same_waiting
+
+-- a write takes away what stood there and adds what stands there now
+pub waiting_count_set : (kept : List Kept) (s : ℕ) (v : Kept) → s < length kept → waiting_count (set kept s v) + one_if_waiting (kept_at kept s) ≡ waiting_count kept + one_if_waiting v
+waiting_count_set [] s v lt = absurd (omega (arith, lt))
+waiting_count_set (k ∷ kept) zero v lt = omega arith
+waiting_count_set (k ∷ kept) (suc s) v lt = omega (arith, waiting_count_set kept s v (omega (arith, lt)))
+
+-- how many of these numbers are at least k
+abbrev count_from : ℕ → List ℕ → ℕ
+count_from k [] = 0
+count_from k (x ∷ xs) = cond {A = ℕ} (leb k x) 1 0 + count_from k xs
+
+from_at_most : (k : ℕ) (xs : List ℕ) → count_from k xs ≤ length xs
+from_at_most k [] = omega arith
+from_at_most k (x ∷ xs) = elim (cases_Bool (leb k x)) [
+  | inl on ↦ omega (arith, ap (λ b. cond {A = ℕ} b 1 0) on, from_at_most k xs)
+  | inr off ↦ omega (arith, ap (λ b. cond {A = ℕ} b 1 0) off, from_at_most k xs)
+]
+
+leb_yes : (m n : ℕ) → m ≤ n → leb m n ≡ true
+leb_yes m n le = grind (arith, nat_tests)
+
+leb_no : (m n : ℕ) → n < m → leb m n ≡ false
+leb_no m n lt = grind (arith, nat_tests)
+
+from_next : (k : ℕ) (xs : List ℕ) → count_from (k + 1) xs + count_of k xs ≤ count_from k xs
+from_next k [] = omega arith
+from_next k (x ∷ xs) = elim (cases_eq x k) [
+  | inl same ↦
+      let next : cond {A = ℕ} (leb (k + 1) x) 1 0 ≡ 0 = ap (λ b. cond {A = ℕ} b 1 0) (leb_no (k + 1) x (omega (arith, same))) in
+      let this : cond {A = ℕ} (leb k x) 1 0 ≡ 1 = ap (λ b. cond {A = ℕ} b 1 0) (leb_yes k x (omega (arith, same))) in
+      omega (arith, next, this, count_head x k xs same, from_next k xs)
+  | inr other ↦
+      let fewer : cond {A = ℕ} (leb (k + 1) x) 1 0 ≤ cond {A = ℕ} (leb k x) 1 0 = elim (cases_lt k x) [
+        | inl less ↦ omega (arith, ap (λ b. cond {A = ℕ} b 1 0) (leb_yes (k + 1) x (omega (arith, less))), ap (λ b. cond {A = ℕ} b 1 0) (leb_yes k x (omega (arith, less))))
+        | inr more ↦ omega (arith, ap (λ b. cond {A = ℕ} b 1 0) (leb_no (k + 1) x (omega (arith, more))))
+      ] in
+      omega (arith, fewer, count_other x k xs other, from_next k xs)
+]
+
+-- more wait by no more than there are nodes where more may
+pub fewer_waiting : (a b : List Kept) (xs : List ℕ) → length a ≡ length b → ((n : ℕ) → n < length a → ¬ Contains xs n → one_if_waiting (kept_at a n) ≤ one_if_waiting (kept_at b n)) → waiting_count a ≤ waiting_count b + length xs
+fewer_waiting a b xs size each = let some = go 0 a b size (λ n lt out. each n lt (subst (λ m. ¬ Contains xs m) (plain n) out)) in omega (arith, some, from_at_most 0 xs)
+  where
+    plain : (n : ℕ) → 0 + n ≡ n
+    plain n = omega arith
+
+    go : (k : ℕ) (a b : List Kept) → length a ≡ length b → ((n : ℕ) → n < length a → ¬ Contains xs (k + n) → one_if_waiting (kept_at a n) ≤ one_if_waiting (kept_at b n)) → waiting_count a ≤ waiting_count b + count_from k xs
+    go k [] b size each = omega arith
+    go k (x ∷ a) [] size each = absurd (omega (arith, size))
+    go k (x ∷ a) (y ∷ b) size each =
+        let rest = go (k + 1) a b (omega (arith, size)) (λ n lt out. each (suc n) (omega (arith, lt)) (subst (λ m. ¬ Contains xs m) (moved k n) out)) in
+        elim (cases_eq (count_of k xs) 0) [
+          | inl none ↦
+              let here : one_if_waiting x ≤ one_if_waiting y = each 0 (omega arith) (λ has. omega (arith, none, contains_counted k xs (subst (Contains xs) (first k) has))) in
+              omega (arith, rest, here, from_next k xs)
+          | inr some ↦ omega (arith, rest, some, from_next k xs, one_if_waiting_at_most x)
+        ]
+      where
+        moved : (k n : ℕ) → (k + 1) + n ≡ k + suc n
+        moved k n = omega arith
+
+        first : (k : ℕ) → k + 0 ≡ k
+        first k = omega arith

@@ -2,4 +2,5 @@ pub mod Journals
 pub mod Counting
 pub mod Cascades
 pub mod Clearings
+pub mod Lowerings
 pub mod OneEdge

@@ -1,5 +1,5 @@
 -- What is kept of a graph's nodes: which are satisfied, and how many predecessors of each aren't.
-use Rattle.std.specs.Prelude.{◌≡◌, ◌⊎◌, ◌↔◌, ℕ, zero, suc, ◌+◌, ◌<◌, Bool, true, false, List, [], ◌∷◌, length, slice_index_or, slice_set, Contains, if◌then◌else◌}
+use Rattle.std.specs.Prelude.{◌≡◌, ◌⊎◌, ◌↔◌, ℕ, zero, suc, ◌+◌, ◌<◌, Bool, true, false, List, [], ◌∷◌, length, slice_index_or, slice_set, Contains, if◌then◌else◌, ◌==◌}
 use Rattle.std.specs.FinSet.{contains}
 use Rattle.operation_graph.specs.Adjacency.{count_of}
 use Rattle.operation_graph.specs.Graphs.{Digraph, HasEdge}
@@ -64,6 +64,15 @@ unsatisfied_before g kept n = unsatisfied_below g kept g.nodes n
 abbrev pub unsatisfied_count : List Kept → ℕ
 unsatisfied_count [] = 0
 unsatisfied_count (k ∷ kept) = (if k.satisfied then 0 else 1) + unsatisfied_count kept
+
+-- one where a node isn't satisfied and waits for some predecessor, else nothing
+abbrev pub one_if_waiting : Kept → ℕ
+one_if_waiting k = if k.satisfied then 0 else (if k.waiting == 0 then 0 else 1)
+
+-- how many nodes aren't satisfied and wait for some predecessor
+abbrev pub waiting_count : List Kept → ℕ
+waiting_count [] = 0
+waiting_count (k ∷ kept) = one_if_waiting k + waiting_count kept
 
 -- how many of the nodes at work lead to n
 abbrev pub leading_count : Digraph → List ℕ → ℕ → ℕ

@@ -1,8 +1,8 @@
 // What a change satisfies, and what follows from that.
 ghost use Rattle.std.specs.Prelude.{◌≡◌, ◌⊎◌, ◌+◌, ◌*◌, ◌<◌, ◌≤◌, ℕ, [], ◌∷◌, List, All, length, vec_len, true, false, OnOk, Decides};
 ghost use Rattle.operation_graph.specs.Graphs.{Digraph, IsGraph};
-ghost use Rattle.plan_cascade.specs.Counters.{AreRight, IsCascade, IsPassing, waiting_at, unsatisfied_count};
-ghost use Rattle.plan_cascade.specs.Changes.{IsUpward};
+ghost use Rattle.plan_cascade.specs.Counters.{AreRight, IsCascade, IsPassing, waiting_at, waiting_count, unsatisfied_count};
+ghost use Rattle.plan_cascade.specs.Changes.{IsLowering, IsUpward};
 ghost use Rattle.plan_cascade.specs.declared.kept.Rule.{Rule as RuleValue};
 ghost use Rattle.plan_cascade.specs.Journal.{IsJournaled};
 
@@ -31,6 +31,10 @@ fn take_up<R: Rules>(
     requires rules { length (R.listed rules.old) ≡ length kept.old }
     ensures step { OnOk result ((g : Digraph) (pending : List ℕ) → IsGraph g → IsCascade g (R.listed rules.old) (node ∷ pending) kept.old work.old.items [] → IsCascade g (R.listed rules.old) pending kept.new work.new.items []) }
     ensures rules { R.listed rules.new ≡ R.listed rules.old }
+    ensures source { R.source rules.new ≡ R.source rules.old }
+    ensures fewest { R.looks rules.old ≤ R.looks rules.new }
+    ensures most { OnOk result (R.looks rules.new + waiting_count kept.new ≤ R.looks rules.old + 1 + waiting_count kept.old) }
+    ensures places { OnOk result (IsLowering (node ∷ []) kept.old journal.old.items kept.new journal.new.items) }
     ensures journaled { IsJournaled kept.old journal.old.items kept.new journal.new.items }
 {
     let old = kept[node];
@@ -55,7 +59,10 @@ fn passes_now<R: Rules>(rules: &mut R, node: usize, satisfied: bool, waiting: us
     requires node { node < length (R.listed rules.old) }
     ensures passes { Decides result ((satisfied ≡ false) × (waiting ≡ 0) × IsPassing (R.listed rules.old) node) }
     ensures rules { R.listed rules.new ≡ R.listed rules.old }
-    ensures looks { (satisfied ≡ true) ⊎ (0 < waiting) → R.looks rules.new ≡ R.looks rules.old }
+    ensures source { R.source rules.new ≡ R.source rules.old }
+    ensures fewest { R.looks rules.old ≤ R.looks rules.new }
+    ensures most { R.looks rules.new ≤ R.looks rules.old + 1 }
+    ensures none { (satisfied ≡ true) ⊎ (0 < waiting) → R.looks rules.new ≡ R.looks rules.old }
 {
     if satisfied || waiting > 0 {
         return false;
@@ -78,6 +85,10 @@ fn lower<R: Rules>(
     ensures step { OnOk result ((g : Digraph) (rest : List ℕ) → IsGraph g → IsCascade g (R.listed rules.old) [] kept.old work.old.items (node ∷ rest) → IsCascade g (R.listed rules.old) [] kept.new work.new.items rest) }
     ensures nearer { OnOk result (2 * unsatisfied_count kept.new + vec_len work.new ≤ 2 * unsatisfied_count kept.old + vec_len work.old) }
     ensures rules { R.listed rules.new ≡ R.listed rules.old }
+    ensures source { R.source rules.new ≡ R.source rules.old }
+    ensures fewest { R.looks rules.old ≤ R.looks rules.new }
+    ensures most { OnOk result (R.looks rules.new + waiting_count kept.new ≤ R.looks rules.old + waiting_count kept.old) }
+    ensures places { OnOk result (IsLowering [] kept.old journal.old.items kept.new journal.new.items) }
     ensures journaled { IsJournaled kept.old journal.old.items kept.new journal.new.items }
 {
     let old = kept[node];
@@ -107,6 +118,10 @@ fn lower_all<R: Rules>(
     ensures step { OnOk result ((g : Digraph) → IsGraph g → IsCascade g (R.listed rules.old) [] kept.old work.old.items nodes.now → IsCascade g (R.listed rules.old) [] kept.new work.new.items []) }
     ensures nearer { OnOk result (2 * unsatisfied_count kept.new + vec_len work.new ≤ 2 * unsatisfied_count kept.old + vec_len work.old) }
     ensures rules { R.listed rules.new ≡ R.listed rules.old }
+    ensures source { R.source rules.new ≡ R.source rules.old }
+    ensures fewest { R.looks rules.old ≤ R.looks rules.new }
+    ensures most { OnOk result (R.looks rules.new + waiting_count kept.new ≤ R.looks rules.old + waiting_count kept.old) }
+    ensures places { OnOk result (IsLowering [] kept.old journal.old.items kept.new journal.new.items) }
     ensures journaled { IsJournaled kept.old journal.old.items kept.new journal.new.items }
 {
     for node in nodes {
@@ -127,6 +142,10 @@ fn spread<R: Rules>(
     requires begun { IsCascade graph.now (R.listed rules.old) [] kept.old work.old.items [] }
     ensures right { OnOk result (AreRight graph.now (R.listed rules.old) kept.new) }
     ensures rules { R.listed rules.new ≡ R.listed rules.old }
+    ensures source { R.source rules.new ≡ R.source rules.old }
+    ensures fewest { R.looks rules.old ≤ R.looks rules.new }
+    ensures most { OnOk result (R.looks rules.new + waiting_count kept.new ≤ R.looks rules.old + waiting_count kept.old) }
+    ensures places { OnOk result (IsLowering [] kept.old journal.old.items kept.new journal.new.items) }
     ensures journaled { IsJournaled kept.old journal.old.items kept.new journal.new.items }
 {
     while let Some(node) = work.pop() {
@@ -139,7 +158,7 @@ fn spread<R: Rules>(
 /// and not be kept so, it is right afterwards.
 ///
 /// Refused where a growth was refused. Then as on success the journal leads back to what stood before. It takes a look at each
-/// changed node that isn't satisfied, and at each other one that comes to wait for no predecessor.
+/// changed node at most, and at each node that comes to wait for no predecessor.
 pub fn settle<R: Rules>(
     alloc: Global,
     graph: &Graph,
@@ -153,6 +172,10 @@ pub fn settle<R: Rules>(
     requires begun { IsCascade graph.now (R.listed rules.old) changed.now kept.old [] [] }
     ensures right { OnOk result (AreRight graph.now (R.listed rules.old) kept.new) }
     ensures rules { R.listed rules.new ≡ R.listed rules.old }
+    ensures source { R.source rules.new ≡ R.source rules.old }
+    ensures fewest { R.looks rules.old ≤ R.looks rules.new }
+    ensures most { OnOk result (R.looks rules.new + waiting_count kept.new ≤ R.looks rules.old + length changed.now + waiting_count kept.old) }
+    ensures places { OnOk result (IsLowering changed.now kept.old journal.old.items kept.new journal.new.items) }
     ensures journaled { IsJournaled kept.old journal.old.items kept.new journal.new.items }
 {
     let mut work = Vec::new(alloc);
@@ -165,7 +188,8 @@ pub fn settle<R: Rules>(
 /// After a change of some nodes' rules by which none stops being satisfied, as where operations are deleted, or one is completed,
 /// released or made a no-operation: what is kept was right by the rules before, and is right by the rules as they are now.
 ///
-/// Refused where a growth was refused. Then as on success the journal leads back to what stood before.
+/// Refused where a growth was refused. Then as on success the journal leads back to what stood before. It takes no more looks than
+/// `settle`.
 pub fn settle_up<R: Rules>(
     alloc: Global,
     graph: &Graph,
@@ -178,6 +202,10 @@ pub fn settle_up<R: Rules>(
     requires up { (before : List RuleValue) × AreRight graph.now before kept.old × IsUpward graph.now before kept.old changed.now (R.listed rules.old) }
     ensures right { OnOk result (AreRight graph.now (R.listed rules.old) kept.new) }
     ensures rules { R.listed rules.new ≡ R.listed rules.old }
+    ensures source { R.source rules.new ≡ R.source rules.old }
+    ensures fewest { R.looks rules.old ≤ R.looks rules.new }
+    ensures most { OnOk result (R.looks rules.new + waiting_count kept.new ≤ R.looks rules.old + length changed.now + waiting_count kept.old) }
+    ensures places { OnOk result (IsLowering changed.now kept.old journal.old.items kept.new journal.new.items) }
     ensures journaled { IsJournaled kept.old journal.old.items kept.new journal.new.items }
 {
     settle(alloc, graph, rules, kept, journal, changed)

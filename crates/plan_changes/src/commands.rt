@@ -1,24 +1,19 @@
 // What operators' commands change of what the plan holds.
 ghost use Rattle.std.specs.Prelude.{◌≡◌, IfOk};
-ghost use Rattle.std.specs.FinMap.{insert};
 ghost use Rattle.std.specs.Fn.{FnReturnsAt};
 ghost use Rattle.std.specs.Ordering.{eq_by_cmp};
 ghost use Rattle.plan_basics.specs.Keys.{occurrence_cmp};
-ghost use Rattle.plan_basics.specs.Refusals.{NoneRefuses};
 ghost use Rattle.plan_basics.specs.declared.keys.OpKey.{OpKey as OpKeyValue};
 ghost use Rattle.plan_records.specs.plan_model.specs.Contents.{IsInPlan, Operation};
 ghost use Rattle.plan_records.specs.ready_list.specs.Choice.{is_among};
-ghost use Rattle.plan_records.specs.Acceptance.{MayBeOpenBy};
 ghost use Rattle.plan_records.specs.Changes.{Changes, is_at, revised};
 ghost use Rattle.plan_records.specs.declared.What.TheVariants as what;
-ghost use Rattle.plan_changes.specs.Intervals.{opened};
 
 use super::mark_rows::with_marks;
-use plan_basics::{Interval, OccKey, OpKey, WsName};
+use plan_basics::{OccKey, OpKey};
 use plan_records::{OperationRecord, PlanContents};
 use status_rules::Mark;
 use std::alloc::{AllocError, Global};
-use workstations::Workstation;
 
 // Makes the operation of a key anew: as f makes it, where each call of the change gives what f gives. A key that has no row is
 // passed over.
@@ -57,24 +52,6 @@ pub fn set_nop(contents: &mut PlanContents, key: &OpKey, nop: bool)
         key,
         |operation| OperationRecord { nop, ..*operation },
     );
-}
-
-/// A workstation of the contents, open in these intervals in place of its own, which are no more than it may have, and of
-/// which no two overlap. To set it opens it in them.
-pub fn workstation_with(
-    alloc: Global,
-    contents: &PlanContents,
-    name: &WsName,
-    intervals: &[Interval],
-) -> Result<Workstation, AllocError>
-    requires { NoneRefuses (MayBeOpenBy contents.now name.now intervals.now) }
-    ensures name { IfOk result (λ workstation. workstation.0 ≡ name.now) }
-    ensures opens { IfOk result (λ workstation. record contents.now { workstations = insert contents.now.workstations workstation.0 workstation.1 } ≡ opened name.now intervals.now contents.now) }
-{
-    let mut workstation = contents.workstation(name).unwrap().try_clone()?;
-    let own = Vec::from_slice(alloc, intervals)?;
-    workstation.replace_intervals(own).unwrap();
-    Ok(workstation)
 }
 
 // The operations of an occurrence.

@@ -8,6 +8,8 @@ mod mark_rows;
 mod markings;
 
 pub use additions::{with_addition, with_pair};
-pub use commands::{deleted, set_held, set_nop, workstation_with};
+pub use commands::{deleted, set_held, set_nop};
 pub use mark_rows::{mark_all, with_marks};
-pub use markings::{markings_differ, markings_of, put_markings};
+pub use markings::{markings_differ, put_markings};
+pub use plan_moves::Marking;
+pub use plan_records::Occurrence;

@@ -1,5 +1,5 @@
 // Markings of some operations, noted and put back.
-ghost use Rattle.std.specs.Prelude.{◌≡◌, true, All, IfOk, Some, length};
+ghost use Rattle.std.specs.Prelude.{◌≡◌, true, All, Some, length};
 ghost use Rattle.std.specs.FinMap.{contains_key, get};
 ghost use Rattle.plan_records.specs.plan_model.specs.Contents.{Contents, IsInPlan};
 ghost use Rattle.plan_changes.specs.Markings.{DifferBothWays, DifferInMarks, DifferencesFollow, HoldingRemarks, MarkingRemarks, NopRemarks, OperationsStayInPlan, RemakingRemarks, WereMarked};
@@ -7,7 +7,6 @@ ghost use Rattle.plan_changes.specs.Markings.{DifferBothWays, DifferInMarks, Dif
 use plan_basics::OpKey;
 use plan_moves::Marking;
 use plan_records::{OperationRecord, PlanContents};
-use std::alloc::{AllocError, Global};
 
 // The operation of a key that has one.
 fn known_operation<'a>(contents: &'a PlanContents, key: &OpKey) -> &'a OperationRecord
@@ -15,27 +14,6 @@ fn known_operation<'a>(contents: &'a PlanContents, key: &OpKey) -> &'a Operation
     ensures { get contents.now.operations key.now ≡ Some result.now }
 {
     contents.operation(key).unwrap()
-}
-
-/// The markings of these operations, in their order.
-pub fn markings_of(
-    alloc: Global,
-    contents: &PlanContents,
-    keys: &[OpKey],
-) -> Result<Vec<Marking>, AllocError>
-    requires { All (IsInPlan contents.now) keys.now }
-    ensures { IfOk result (λ marks. WereMarked contents.now keys.now marks.items) }
-{
-    let mut marks = Vec::with_capacity(alloc, keys.len())?;
-    for key in keys {
-        let operation = known_operation(contents, key);
-        marks.push(Marking {
-            mark: operation.mark,
-            held: operation.held,
-            nop: operation.nop,
-        })?;
-    }
-    Ok(marks)
 }
 
 /// Puts these markings on these operations, one for each. It takes no memory.

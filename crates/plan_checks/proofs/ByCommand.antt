@@ -21,7 +21,7 @@ use Rattle.plan_state.specs.plan_laws.proofs.Classes.{passes, waits_by, waits_to
 use Rattle.plan_checks.specs.Commands.{IsItsUnderWay}
 use Rattle.plan_checks.specs.Bars.{FailsAt, MeetsAll}
 use Rattle.plan_state.specs.Reports.{IsReported}
-use Rattle.plan_state.specs.declared.loaded.Reported.{Reported}
+use Rattle.plan_state.specs.declared.frame.Reported.{Reported}
 use Rattle.plan_state.specs.workstations.specs.Timetables.{MayBeTaken}
 
 module _ (P : Contents) (o : OpKey) where
@@ -99,7 +99,7 @@ module _ (x : Reported) where
 
   -- what a completion asks of it
   abbrev Completes : Contents → OpKey → Refusal → Type 0
-  Completes P o = MayBeCompleted P o x.operation
+  Completes P o = MayBeCompleted P o x.operation.now
 
   before_completed : (P : Contents) (o : OpKey) (lower : Refusal) → number_of lower < 9 → Completes P o lower
   before_completed P o refusal.WrongStatus less = absurd (omega (arith, less))
@@ -110,7 +110,7 @@ module _ (x : Reported) where
   not_completed other P o is = (not_completable P o x.status is.alone other, before_completed P o)
 
   module _ (may : is_completable x.status ≡ true) where
-    pub completed : x.operation.held ≡ false → MeetsAll x Completes
+    pub completed : x.operation.now.held ≡ false → MeetsAll x Completes
     completed free P o is refusal.WrongStatus = completable_by P o x.status is.status may
     completed free P o is refusal.Held = free
     completed free P o is r = tt
@@ -120,7 +120,7 @@ module _ (x : Reported) where
     before_held P o is refusal.Held less = absurd (omega (arith, less))
     before_held P o is r less = tt
 
-    pub held_at_completion : x.operation.held ≡ true → FailsAt x Completes refusal.Held
+    pub held_at_completion : x.operation.now.held ≡ true → FailsAt x Completes refusal.Held
     held_at_completion held P o is = (λ free. true≢false (sym held ∙ free), before_held P o is)
 
 -- ---- the deletion of an occurrence

@@ -1,5 +1,5 @@
 -- What stands in the way of a dependency that is to be added.
-use Rattle.std.proofs.Common.{◌≡◌, ◌≢◌, ◌⊎◌, inl, inr, refl, sym, subst, ℕ, ◌<◌, slice_get, Some, Result, Ok, Err, IfErr}
+use Rattle.std.proofs.Common.{◌≡◌, ◌≢◌, ◌⊎◌, inl, inr, refl, sym, subst, ℕ, ◌<◌, true, false, slice_get, Some, Result, Ok, Err, IfErr}
 use Rattle.std.specs.Result.{IsErrAnd}
 use Rattle.plan_basics.specs.declared.limits.TheConstants.{MOST_PAIRS}
 use Rattle.std.specs.FinMap.{entries}
@@ -13,15 +13,17 @@ use Rattle.plan_basics.specs.Refusals.{IsLeastRefusal, NoneRefuses}
 use Rattle.plan_model.specs.Contents.{Contents, IsInPlan, Operation, Precedes}
 use Rattle.plan_model.specs.Status.{HasStatus, IsWaitingOrReady}
 use Rattle.plan_model.specs.Valid.{IsAcyclic, IsValid, IsWithinLimits}
-use Rattle.plan_records.specs.Acceptance.{MayBeFlagged, MayBePaired}
+use Rattle.plan_records.specs.Acceptance.{MayBePaired}
 use Rattle.plan_records.specs.Changes.{with_pair}
 use Rattle.status_rules.specs.declared.Status.TheVariants as status
 use Rattle.plan_checks.proofs.AdditionLines.{Below, past}
 use Rattle.plan_checks.proofs.PairedPlaces.{acyclic_with, both_known, edge_by_pair, has_no_room, has_room, node_within, pair_by_edge, returning_with}
 use Rattle.plan_checks.specs.Dependencies.{IsFaultAs}
-use Rattle.plan_checks.specs.Bars.{FailsAt, MeetsAll}
-use Rattle.plan_state.specs.Reports.{IsReported}
-use Rattle.plan_state.specs.declared.loaded.Reported.{Reported}
+use Rattle.plan_state.specs.Reports.{IsOfStatus}
+use Rattle.plan_state.specs.plan_laws.proofs.Classes.{waits_by}
+use Rattle.status_rules.specs.Classes.{is_waiting_or_ready}
+use Rattle.status_rules.specs.declared.Status.{Status}
+use Rattle.plan_checks.proofs.ByCommand.{not_waiting_or_ready}
 
 module _ (P : Contents) (p s : OpKey) where
   -- both ends are operations of the plan
@@ -77,28 +79,24 @@ handed_on A (Err y) e same a = subst A (sym same) a
 abbrev pub HasRow : Contents → ℕ → OpKey → Type 0
 HasRow P i o = (op : Operation) × (slice_get (entries P.operations) i ≡ Some (o, op))
 
--- x is what is reported of the operation whose row is at this index
-abbrev pub IsToldAt : Contents → ℕ → Reported → Type 0
-IsToldAt P i x = (o : OpKey) (op : Operation) → slice_get (entries P.operations) i ≡ Some (o, op) → IsReported P o x
+-- this is the status of the operation whose row is at this index
+abbrev pub IsToldAt : Contents → ℕ → Status → Type 0
+IsToldAt P i x = (o : OpKey) (op : Operation) → slice_get (entries P.operations) i ≡ Some (o, op) → IsOfStatus P o x
 
 -- of what a dependency of s on p asks of the plan, r is the least refusal; or no memory was found to decide it
 abbrev pub IsBarredPair : Contents → OpKey → OpKey → Refusal → Type 0
 IsBarredPair P p s r = (r ≡ refusal.Memory) ⊎ IsLeastRefusal (MayBePaired P p s) r
 
-not_flagged : (P : Contents) (o : OpKey) (r : Refusal) → ¬ MayBeFlagged P o r → (r ≡ refusal.WrongStatus) × ¬ IsWaitingOrReady P o
-not_flagged P o refusal.WrongStatus never = (refl, never)
-not_flagged P o r never = absurd (never tt)
-
--- the operations p and s are in the rows i and j of a valid plan with this graph, and x and y are reported of them
-pub record AreFound (P : Contents) (g : Digraph) (i j : ℕ) (p s : OpKey) (x y : Reported) : Type 0 where
+-- the operations p and s are in the rows i and j of a valid plan with this graph, and x and y are their statuses
+pub record AreFound (P : Contents) (g : Digraph) (i j : ℕ) (p s : OpKey) (x y : Status) : Type 0 where
   pub valid : IsValid P
   pub graph : IsGraphFor P g
   pub before : HasRow P i p
   pub after : HasRow P j s
-  pub first : IsReported P p x
-  pub second : IsReported P s y
+  pub first : IsOfStatus P p x
+  pub second : IsOfStatus P s y
 
-module _ {P : Contents} {g : Digraph} {i j : ℕ} {p s : OpKey} {x y : Reported} (found : AreFound P g i j p s x y) where
+module _ {P : Contents} {g : Digraph} {i j : ℕ} {p s : OpKey} {x y : Status} (found : AreFound P g i j p s x y) where
   abbrev a : HasRow P i p
   a = found.before
 
@@ -119,15 +117,13 @@ module _ {P : Contents} {g : Digraph} {i j : ℕ} {p s : OpKey} {x y : Reported}
   barred_by_status r is never = subst (IsLeastRefusal (MayBePaired P p s)) (sym is) (not_joined P p s known never)
 
   -- by the statuses
-  pub barred_by_ends : (r : Refusal) → ((r ≡ refusal.WrongStatus) × (x.status ≡ status.Deleted)) ⊎ FailsAt y MayBeFlagged r → IsBarredPair P p s r
-  barred_by_ends r (inl deleted) = inr (barred_by_status r deleted.0 (λ may. may.0 (subst (HasStatus P p) deleted.1 found.first.status)))
-  barred_by_ends r (inr fails) =
-      let told = not_flagged P s r (fails P s found.second).0 in
-      inr (barred_by_status r told.0 (λ may. told.1 may.1))
+  pub barred_by_ends : (r : Refusal) → (r ≡ refusal.WrongStatus) × ((x ≡ status.Deleted) ⊎ (is_waiting_or_ready y ≡ false)) → IsBarredPair P p s r
+  barred_by_ends r (is, inl deleted) = inr (barred_by_status r is (λ may. may.0 (subst (HasStatus P p) deleted found.first.status)))
+  barred_by_ends r (is, inr other) = inr (barred_by_status r is (λ may. not_waiting_or_ready P s y found.second.alone other may.1))
 
-  module _ (live : x.status ≢ status.Deleted) (clear : MeetsAll y MayBeFlagged) where
+  module _ (live : x ≢ status.Deleted) (waits : is_waiting_or_ready y ≡ true) where
     joined : MayBeJoined P p s
-    joined = (λ deleted. live (sym (found.first.alone status.Deleted deleted)), clear P s found.second refusal.WrongStatus)
+    joined = (λ deleted. live (sym (found.first.alone status.Deleted deleted)), waits_by P s y found.second.status waits)
 
     -- by the graph
     pub barred_by_edge : (r : Refusal) → IsFaultAs g i j r → IsBarredPair P p s r

@@ -21,7 +21,7 @@ use Rattle.plan_state.specs.workstations.specs.declared.Capacity.{Capacity}
 use Rattle.plan_state.specs.plan_choice.specs.Choices.{AreHeldIn, HasTaken, IsStartLine}
 use Rattle.plan_checks.specs.Bars.{FailsAt, MeetsAll}
 use Rattle.plan_state.specs.Reports.{IsReported}
-use Rattle.plan_state.specs.declared.loaded.Reported.{Reported}
+use Rattle.plan_state.specs.declared.frame.Reported.{Reported}
 
 module _ (P : Contents) (o : OpKey) where
   running_by : (s : Status) → HasStatus P o s → holds_server (Some s) ≡ true → HasStatus P o status.Started ⊎ HasStatus P o status.Undecided
@@ -38,10 +38,10 @@ module _ (P : Contents) (o : OpKey) where
     is_running = running_by x.status is.status
 
     -- what may be started where starts are reported
-    pub startable : (m : ℕ) → x.attribute ≡ attribute.StartAndCompletion → is_startable x.status ≡ true → MayStart P o x.operation m refusal.WrongStatus
+    pub startable : (m : ℕ) → x.attribute ≡ attribute.StartAndCompletion → is_startable x.status ≡ true → MayStart P o x.operation.now m refusal.WrongStatus
     startable m on e = elim (startable_by x.status is.status e) [ inl ready ↦ inl ready | inr h ↦ inr (h, is.attribute ∙ ap Some on) ]
 
-    pub startable_told : (m : ℕ) → MayStart P o x.operation m refusal.WrongStatus → is_startable x.status ≡ true
+    pub startable_told : (m : ℕ) → MayStart P o x.operation.now m refusal.WrongStatus → is_startable x.status ≡ true
     startable_told m (inl (inl h)) = passes P o x.status is.alone is_startable status.Arriving refl h
     startable_told m (inl (inr (inl h))) = passes P o x.status is.alone is_startable status.ReadyAfterNonreporting refl h
     startable_told m (inl (inr (inr h))) = passes P o x.status is.alone is_startable status.Ready refl h
@@ -52,7 +52,7 @@ module _ (P : Contents) (o : OpKey) where
 module _ (x : Reported) where
   -- what an end or an error asks of it on a workstation of this attribute
   abbrev EndsOn : Attr → Contents → OpKey → Refusal → Type 0
-  EndsOn a P o = MayBeEnded P o x.operation (Some a)
+  EndsOn a P o = MayBeEnded P o x.operation.now (Some a)
 
   module _ (run : holds_server (Some x.status) ≡ true) where
     ended_on : (a : Attr) → takes (Some a) ≡ true → MeetsAll x (EndsOn a)
@@ -66,12 +66,12 @@ module _ (x : Reported) where
     ended_after_start = ended_on x.attribute
 
   module _ (on : x.attribute ≡ attribute.CompletionOnly) (ready : is_ready x.status ≡ true) where
-    free_at_end : x.operation.held ≡ false → MeetsAll x (EndsOn attribute.CompletionOnly)
+    free_at_end : x.operation.now.held ≡ false → MeetsAll x (EndsOn attribute.CompletionOnly)
     free_at_end free P o is refusal.WrongStatus = ready_by P o x.status is.status ready
     free_at_end free P o is refusal.Held = free
     free_at_end free P o is r = tt
 
-    pub ended_without_start : x.operation.held ≡ false → MeetsAll x (EndsOn x.attribute)
+    pub ended_without_start : x.operation.now.held ≡ false → MeetsAll x (EndsOn x.attribute)
     ended_without_start free = subst (λ a. MeetsAll x (EndsOn a)) (sym on) (free_at_end free)
 
     before_held : (P : Contents) (o : OpKey) → IsReported P o x → (lower : Refusal) → number_of lower < 11 → EndsOn attribute.CompletionOnly P o lower
@@ -79,7 +79,7 @@ module _ (x : Reported) where
     before_held P o is refusal.Held less = absurd (omega (arith, less))
     before_held P o is r less = tt
 
-    pub held_at_end : x.operation.held ≡ true → FailsAt x (EndsOn x.attribute) refusal.Held
+    pub held_at_end : x.operation.now.held ≡ true → FailsAt x (EndsOn x.attribute) refusal.Held
     held_at_end held = subst (λ a. FailsAt x (EndsOn a) refusal.Held) (sym on) (λ P o is. (λ free. true≢false (sym held ∙ free), before_held P o is))
 
   module _ (started : x.status ≡ status.Started) where
@@ -90,17 +90,17 @@ module _ (x : Reported) where
     undecided P o is refusal.WrongStatus = its_start P o is
     undecided P o is r = tt
 
-    pub interrupted : x.attribute ≡ attribute.StartAndCompletion → MeetsAll x (λ P o. MayBeInterrupted P o x.operation)
+    pub interrupted : x.attribute ≡ attribute.StartAndCompletion → MeetsAll x (λ P o. MayBeInterrupted P o x.operation.now)
     interrupted on P o is refusal.WrongStatus = its_start P o is
     interrupted on P o is refusal.WrongWorkstation = is.attribute ∙ ap Some on
     interrupted on P o is r = tt
 
-    before_workstation : (P : Contents) (o : OpKey) → IsReported P o x → (lower : Refusal) → number_of lower < 10 → MayBeInterrupted P o x.operation lower
+    before_workstation : (P : Contents) (o : OpKey) → IsReported P o x → (lower : Refusal) → number_of lower < 10 → MayBeInterrupted P o x.operation.now lower
     before_workstation P o is refusal.WrongStatus less = its_start P o is
     before_workstation P o is refusal.WrongWorkstation less = absurd (omega (arith, less))
     before_workstation P o is r less = tt
 
-    pub not_interrupted : x.attribute ≢ attribute.StartAndCompletion → FailsAt x (λ P o. MayBeInterrupted P o x.operation) refusal.WrongWorkstation
+    pub not_interrupted : x.attribute ≢ attribute.StartAndCompletion → FailsAt x (λ P o. MayBeInterrupted P o x.operation.now) refusal.WrongWorkstation
     not_interrupted other P o is = (λ on. other (same_Some x.attribute attribute.StartAndCompletion (sym is.attribute ∙ on)), before_workstation P o is)
 
 -- what is given out at its workstation, and what is held, in its own plan

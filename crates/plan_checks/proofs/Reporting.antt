@@ -1,5 +1,5 @@
 -- What the lines of a reported operation come to for the request that reports it.
-use Rattle.std.proofs.Common.{◌≡◌, ◌↔◌, ◌⊎◌, inl, inr, sym, subst, ◌∙◌, ℕ, Option, Some, None, Result, IfErr, OnOk}
+use Rattle.std.proofs.Common.{◌≡◌, ◌↔◌, ◌⊎◌, inl, inr, refl, sym, subst, ◌∙◌, arith, ℕ, ◌<◌, Option, Some, None, Result, IfErr, OnOk}
 use Rattle.std.specs.FinMap.{get}
 use Rattle.plan_basics.specs.declared.Attr.{Attr}
 use Rattle.plan_basics.specs.declared.Attr.TheVariants as attribute
@@ -7,16 +7,17 @@ use Rattle.plan_basics.specs.declared.Refusal.{Refusal}
 use Rattle.plan_basics.specs.declared.Refusal.TheVariants as refusal
 use Rattle.plan_basics.specs.declared.keys.OpKey.{OpKey}
 use Rattle.plan_basics.specs.Keys.{Name}
-use Rattle.plan_basics.specs.Refusals.{IsLeastRefusal, NoneRefuses}
-use Rattle.std.proofs.lemmas.Option.{same_Some}
+use Rattle.plan_basics.specs.Refusals.{number_of, IsLeastRefusal, NoneRefuses}
+use Rattle.std.proofs.lemmas.Option.{none-some, same_Some}
 use Rattle.plan_model.specs.Contents.{Contents, Operation, attribute_at}
 use Rattle.plan_records.specs.Acceptance.{MayBeCompleted, MayBeDone, MayBeEnded, MayBeFlagged, MayBeInterrupted, MayBeRerun, MayBeStarted, MayBeUndecided, OfOperation}
 use Rattle.plan_records.specs.declared.What.{What}
 use Rattle.plan_records.specs.declared.What.TheVariants as what
 use Rattle.plan_checks.proofs.Searching.{if_err, if_ok, if_refused}
 use Rattle.plan_checks.specs.Bars.{FailsAt, MeetsAll}
+use Rattle.plan_checks.specs.Commands.{operation_of}
 use Rattle.plan_state.specs.Reports.{IsReported}
-use Rattle.plan_state.specs.declared.loaded.Reported.{Reported}
+use Rattle.plan_state.specs.declared.frame.Reported.{Reported}
 
 -- ---- one operation's lines
 
@@ -50,6 +51,7 @@ KnowsOperation lines = (P : Contents) (o : OpKey) (a : Option Attr) (op : Operat
 
 -- at minute m the request w asks these lines of the operation o
 pub record Asks (m : ℕ) (w : What) (o : OpKey) (lines : AsksOf) : Type 0 where
+  pub about : operation_of w ≡ Some o
   pub knows : KnowsOperation lines
   pub each : (P : Contents) (r : Refusal) → OfOperation P o (λ op. lines P o (attribute_at P op.workstation) op) r ↔ MayBeDone P m w r
 
@@ -90,55 +92,58 @@ end_knows P q (Some attribute.Nonreporting) op = tt
 end_knows P q None op = tt
 
 -- what a request asks by its definition, one that is it asks
-asks_as : {m : ℕ} {v : What} {o : OpKey} (w : What) (lines : AsksOf) → KnowsOperation lines → ((P : Contents) (r : Refusal) → OfOperation P o (λ op. lines P o (attribute_at P op.workstation) op) r ↔ MayBeDone P m w r) → v ≡ w → Asks m v o lines
-asks_as {m} {v} {o} w lines knows each is = subst (λ z. Asks m z o lines) (sym is) (record { knows = knows; each = each })
+asks_as : {m : ℕ} {v : What} {o : OpKey} (w : What) (lines : AsksOf) → operation_of w ≡ Some o → KnowsOperation lines → ((P : Contents) (r : Refusal) → OfOperation P o (λ op. lines P o (attribute_at P op.workstation) op) r ↔ MayBeDone P m w r) → v ≡ w → Asks m v o lines
+asks_as {m} {v} {o} w lines about knows each is = subst (λ z. Asks m z o lines) (sym is) (record { about = about; knows = knows; each = each })
 
 module _ {m : ℕ} {v : What} {o : OpKey} where
   pub asks_start : v ≡ what.Started o → Asks m v o (start m)
-  asks_start = asks_as (what.Started o) (start m) (start_knows m) (λ P r. (λ h. h, λ h. h))
+  asks_start = asks_as (what.Started o) (start m) refl (start_knows m) (λ P r. (λ h. h, λ h. h))
 
   pub asks_end : (v ≡ what.Ended o) ⊎ ((code : Name) × (v ≡ what.Error o code)) → Asks m v o end
-  asks_end (inl is) = asks_as (what.Ended o) end end_knows (λ P r. (λ h. h, λ h. h)) is
-  asks_end (inr (code, is)) = asks_as (what.Error o code) end end_knows (λ P r. (λ h. h, λ h. h)) is
+  asks_end (inl is) = asks_as (what.Ended o) end refl end_knows (λ P r. (λ h. h, λ h. h)) is
+  asks_end (inr (code, is)) = asks_as (what.Error o code) end refl end_knows (λ P r. (λ h. h, λ h. h)) is
 
   pub asks_interruption : v ≡ what.Interrupted o → Asks m v o interruption
-  asks_interruption = asks_as (what.Interrupted o) interruption (λ P q a op. tt) (λ P r. (λ h. h, λ h. h))
+  asks_interruption = asks_as (what.Interrupted o) interruption refl (λ P q a op. tt) (λ P r. (λ h. h, λ h. h))
 
   pub asks_unknown : v ≡ what.Unknown o → Asks m v o unknown
-  asks_unknown = asks_as (what.Unknown o) unknown (λ P q a op. tt) (λ P r. (λ h. h, λ h. h))
+  asks_unknown = asks_as (what.Unknown o) unknown refl (λ P q a op. tt) (λ P r. (λ h. h, λ h. h))
 
   pub asks_flag : (v ≡ what.Hold o) ⊎ (v ≡ what.Release o) ⊎ (v ≡ what.Nop o) ⊎ (v ≡ what.Unnop o) → Asks m v o flag
-  asks_flag (inl is) = asks_as (what.Hold o) flag (λ P q a op. tt) (λ P r. (λ h. h, λ h. h)) is
-  asks_flag (inr (inl is)) = asks_as (what.Release o) flag (λ P q a op. tt) (λ P r. (λ h. h, λ h. h)) is
-  asks_flag (inr (inr (inl is))) = asks_as (what.Nop o) flag (λ P q a op. tt) (λ P r. (λ h. h, λ h. h)) is
-  asks_flag (inr (inr (inr is))) = asks_as (what.Unnop o) flag (λ P q a op. tt) (λ P r. (λ h. h, λ h. h)) is
+  asks_flag (inl is) = asks_as (what.Hold o) flag refl (λ P q a op. tt) (λ P r. (λ h. h, λ h. h)) is
+  asks_flag (inr (inl is)) = asks_as (what.Release o) flag refl (λ P q a op. tt) (λ P r. (λ h. h, λ h. h)) is
+  asks_flag (inr (inr (inl is))) = asks_as (what.Nop o) flag refl (λ P q a op. tt) (λ P r. (λ h. h, λ h. h)) is
+  asks_flag (inr (inr (inr is))) = asks_as (what.Unnop o) flag refl (λ P q a op. tt) (λ P r. (λ h. h, λ h. h)) is
 
   pub asks_rerun : v ≡ what.Rerun o → Asks m v o rerun
-  asks_rerun = asks_as (what.Rerun o) rerun (λ P q a op. tt) (λ P r. (λ h. h, λ h. h))
+  asks_rerun = asks_as (what.Rerun o) rerun refl (λ P q a op. tt) (λ P r. (λ h. h, λ h. h))
 
   pub asks_completion : v ≡ what.Complete o → Asks m v o completion
-  asks_completion = asks_as (what.Complete o) completion (λ P q a op. tt) (λ P r. (λ h. h, λ h. h))
+  asks_completion = asks_as (what.Complete o) completion refl (λ P q a op. tt) (λ P r. (λ h. h, λ h. h))
 
 -- what an answer says of the request v, by this plan at minute m
 abbrev pub Tells : {T : Type 0} → Contents → ℕ → What → Result T Refusal → Type 0
 Tells P m v answer = record { ok : OnOk answer (NoneRefuses (MayBeDone P m v)); refused : IfErr answer (λ r. (r ≡ refusal.Memory) ⊎ IsLeastRefusal (MayBeDone P m v) r) }
 
 -- the request v asks these lines of the operation o, of which x is known
-module _ (P : Contents) (m : ℕ) {v : What} {o : OpKey} {x : Reported} {lines : AsksOf} (asks : Asks m v o lines) (known : IsReported P o x) where
+module _ (P : Contents) (m : ℕ) {v : What} {o : OpKey} {x : Reported} {lines : AsksOf} (asks : Asks m v o lines) (reported : (q : OpKey) → operation_of v ≡ Some q → IsReported P q x) where
+  pub known : IsReported P o x
+  known = reported o asks.about
+
   abbrev rest : Operation → Refusal → Type 0
   rest op = lines P o (attribute_at P op.workstation) op
 
   abbrev its : Contents → OpKey → Refusal → Type 0
-  its Q q = lines Q q (Some x.attribute) x.operation
+  its Q q = lines Q q (Some x.attribute) x.operation.now
 
   permitted : NoneRefuses (its P o) → NoneRefuses (MayBeDone P m v)
-  permitted all = λ r. (asks.each P r).0 (of_found P o rest x.operation known.operation r (subst (λ a. lines P o a x.operation r) (sym known.attribute) (all r)))
+  permitted all = λ r. (asks.each P r).0 (of_found P o rest x.operation.now known.operation r (subst (λ a. lines P o a x.operation.now r) (sym known.attribute) (all r)))
 
   barred : (r : Refusal) → IsLeastRefusal (its P o) r → IsLeastRefusal (MayBeDone P m v) r
   barred r least =
-      let fails = subst (λ a. IsLeastRefusal (lines P o a x.operation) r) (sym known.attribute) least in (
-        λ may. not_of_found P o rest x.operation known.operation (asks.knows P o (attribute_at P x.operation.workstation) x.operation) r fails.0 ((asks.each P r).1 may),
-        λ lower less. (asks.each P lower).0 (of_found P o rest x.operation known.operation lower (fails.1 lower less)),
+      let fails = subst (λ a. IsLeastRefusal (lines P o a x.operation.now) r) (sym known.attribute) least in (
+        λ may. not_of_found P o rest x.operation.now known.operation (asks.knows P o (attribute_at P x.operation.now.workstation) x.operation.now) r fails.0 ((asks.each P r).1 may),
+        λ lower less. (asks.each P lower).0 (of_found P o rest x.operation.now known.operation lower (fails.1 lower less)),
       )
 
   -- what is known of this plan
@@ -148,6 +153,37 @@ module _ (P : Contents) (m : ℕ) {v : What} {o : OpKey} {x : Reported} {lines :
   -- and of all plans
   pub told_anywhere : {T : Type 0} (answer : Result T Refusal) → record { ok : OnOk answer (MeetsAll x its); refused : IfErr answer (FailsAt x its) } → Tells P m v answer
   told_anywhere answer told = told_here answer (record { ok = met_at P o x its known answer told.ok; refused = failed_at P o x its known answer told.refused })
+
+-- ---- an operation that isn't in the plan
+
+module _ (P : Contents) (o : OpKey) (rest : Operation → Refusal → Type 0) (gone : get P.operations o ≡ None) where
+  asked_before : (lower : Refusal) → number_of lower < number_of refusal.UnknownOperation → OfOperation P o rest lower
+  asked_before refusal.UnknownOperation less = absurd (omega (arith, less))
+  asked_before r less = λ op is. absurd (none-some op (sym gone ∙ is))
+
+  not_there : IsLeastRefusal (OfOperation P o rest) refusal.UnknownOperation
+  not_there = (λ there. none-some there.0 (sym gone ∙ there.1), asked_before)
+
+missing : (P : Contents) {m : ℕ} {v : What} {o : OpKey} {lines : AsksOf} → Asks m v o lines → (q : OpKey) → operation_of v ≡ Some q → get P.operations q ≡ None → IsLeastRefusal (MayBeDone P m v) refusal.UnknownOperation
+missing P {m} {v} {o} {lines} asks q about gone =
+    let same : q ≡ o = same_Some q o (sym about ∙ asks.about) in
+    let least = not_there P o (λ op. lines P o (attribute_at P op.workstation) op) (subst (λ z. get P.operations z ≡ None) same gone) in
+    (λ may. least.0 ((asks.each P refusal.UnknownOperation).1 may), λ lower less. (asks.each P lower).0 (least.1 lower less))
+
+-- what is asked of an operation that isn't in the plan is refused so
+pub unknown_operation : (P : Contents) (m : ℕ) (v : What) (q : OpKey) → operation_of v ≡ Some q → get P.operations q ≡ None → IsLeastRefusal (MayBeDone P m v) refusal.UnknownOperation
+unknown_operation P m (what.Started o) = missing P {m = m} (asks_start refl)
+unknown_operation P m (what.Ended o) = missing P {m = m} (asks_end (inl refl))
+unknown_operation P m (what.Error o code) = missing P {m = m} (asks_end (inr (code, refl)))
+unknown_operation P m (what.Interrupted o) = missing P {m = m} (asks_interruption refl)
+unknown_operation P m (what.Unknown o) = missing P {m = m} (asks_unknown refl)
+unknown_operation P m (what.Hold o) = missing P {m = m} (asks_flag (inl refl))
+unknown_operation P m (what.Release o) = missing P {m = m} (asks_flag (inr (inl refl)))
+unknown_operation P m (what.Nop o) = missing P {m = m} (asks_flag (inr (inr (inl refl))))
+unknown_operation P m (what.Unnop o) = missing P {m = m} (asks_flag (inr (inr (inr refl))))
+unknown_operation P m (what.Rerun o) = missing P {m = m} (asks_rerun refl)
+unknown_operation P m (what.Complete o) = missing P {m = m} (asks_completion refl)
+unknown_operation P m v = λ q about. absurd (none-some q about)
 
 -- ---- a request that asks these lines of the plan
 

@@ -1,5 +1,5 @@
 -- Rows of which none has been found so far, and what rows say of the keys that are in them.
-use Rattle.std.proofs.Common.{◌≡◌, ◌⊎◌, inl, inr, sym, ap, subst, ◌∙◌, arith, ℕ, ◌+◌, ◌<◌, true, List, slice_get, Option, Some, IfSome, Result, Ok, Err, IfErr, OnOk}
+use Rattle.std.proofs.Common.{◌≡◌, ◌⊎◌, inl, inr, sym, ap, subst, ◌∙◌, arith, ℕ, ◌+◌, ◌<◌, true, false, true≢false, List, slice_get, Option, Some, None, is_some, MatchOption, IfSome, Result, Ok, Err, IfErr, OnOk}
 use Rattle.std.proofs.lemmas.Bool.{cases_eq}
 use Rattle.std.specs.Cmp.{IsTotalOrder}
 use Rattle.std.specs.FinMap.{IsAntisymmetric, contains_key, from_entries, get}
@@ -53,3 +53,12 @@ if_refused (Err e) (inr a) f = inr (f e a)
 -- what is so of what is found
 pub found_in : {A : Type 0} (x : Option A) (F : A → Type 0) (a : A) → x ≡ Some a → IfSome x F → F a
 found_in x F a is found = subst (λ y. IfSome y F) is found
+
+-- what is told where there is none, and where there is one
+pub none_told : {A N : Type 0} (F : A → Type 0) (x : Option A) → MatchOption x N F → is_some x ≡ false → N
+none_told F (Some a) h e = absurd (true≢false e)
+none_told F None h e = h
+
+pub some_told : {A : Type 0} (N : Type 0) {F : A → Type 0} (x : Option A) → MatchOption x N F → is_some x ≡ true → (a : A) × F a
+some_told N (Some a) h e = (a, h)
+some_told N None h e = absurd (true≢false (sym e))

@@ -1,11 +1,13 @@
 -- What an occurrence that is to be added asks of the plan, pair by pair and operation by operation.
-use Rattle.std.specs.Prelude.{◌≡◌, ◌⊎◌, true, Some}
-use Rattle.std.specs.FinMap.{contains_key, get}
+use Rattle.std.specs.Prelude.{◌≡◌, ◌⊎◌, ℕ, ◌<◌, ◌≤◌, true, Some}
+use Rattle.std.specs.FinMap.{contains_key, get, len}
+use Rattle.plan_basics.specs.declared.limits.TheConstants.{MOST_OCCURRENCES, MOST_OPERATIONS, MOST_PAIRS}
 use Rattle.plan_basics.specs.Keys.{Name}
 use Rattle.plan_basics.specs.declared.keys.OpKey.{OpKey}
 use Rattle.plan_model.specs.Contents.{Contents, Operation, AddedParts}
 use Rattle.plan_model.specs.Status.{HasStatus, IsWaitingOrReady}
 use Rattle.plan_records.specs.Acceptance.{IsNew, IsOld}
+use Rattle.plan_state.specs.Reports.{IsOfStatus}
 use Rattle.plan_state.specs.special_resources.specs.Holders.{Usage}
 use Rattle.status_rules.specs.declared.Status.{Status}
 use Rattle.status_rules.specs.declared.Status.TheVariants as status
@@ -20,7 +22,7 @@ IsKnownPair P s pair = IsKnown P s pair.0 × IsKnown P s pair.1
 
 -- o is an operation of another occurrence of the plan, and has this status alone
 abbrev pub IsOldWith : Contents → AddedParts → OpKey → Status → Type 0
-IsOldWith P s o x = IsOld P s o × HasStatus P o x × ((t : Status) → HasStatus P o t → t ≡ x)
+IsOldWith P s o x = IsOld P s o × IsOfStatus P o x
 
 -- a pair that is added may lead to o: where o is there, it waits or is ready
 abbrev pub MaySucceed : Contents → AddedParts → OpKey → Type 0
@@ -41,3 +43,9 @@ HasWorkstation P op = contains_key P.workstations op.workstation ≡ true
 -- the special resources that the operation needs are in the plan
 abbrev pub HasResources : Contents → Operation → Type 0
 HasResources P op = (r : Name) (usage : Usage) → get op.needs r ≡ Some usage → contains_key P.resources r ≡ true
+
+-- with an occurrence more, and with n operations and e pairs in all, the plan holds no more than it may
+pub record HasRoomFor (P : Contents) (n e : ℕ) : Type 0 where
+  pub occurrences : len P.occurrences < MOST_OCCURRENCES
+  pub operations : n ≤ MOST_OPERATIONS
+  pub pairs : e ≤ MOST_PAIRS

@@ -6,11 +6,11 @@ use Rattle.plan_basics.specs.Refusals.{IsLeastRefusal, NoneRefuses}
 use Rattle.plan_model.specs.Contents.{Contents}
 use Rattle.plan_records.specs.Acceptance.{MayBeStarted}
 use Rattle.plan_state.specs.Reports.{IsReported}
-use Rattle.plan_state.specs.declared.loaded.Reported.{Reported}
+use Rattle.plan_state.specs.declared.frame.Reported.{Reported}
 
 -- what a start at minute m asks of the plan, of an operation that is reported so
 abbrev pub MayBeStartedAt : Reported → ℕ → Contents → OpKey → Refusal → Type 0
-MayBeStartedAt x m P o = MayBeStarted P m o x.operation (Some x.attribute)
+MayBeStartedAt x m P o = MayBeStarted P m o x.operation.now (Some x.attribute)
 
 -- in any plan where it is reported so, none of these lines refuses
 abbrev pub MeetsAll : Reported → (Contents → OpKey → Refusal → Type 0) → Type 0

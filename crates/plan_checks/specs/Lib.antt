@@ -1,3 +1,6 @@
+pub use Rattle.plan_records
+pub use Rattle.plan_state.specs.plan_changes
+pub use Rattle.plan_state.specs.shown_records
 pub use Rattle.plan_state.specs.latest_start
 pub use Rattle.operation_graph
 pub use Rattle.plan_state.specs.plan_choice

@@ -1,9 +1,9 @@
--- Which operations are live, row by row.
-use Rattle.std.specs.Prelude.{Bool}
-use Rattle.plan_basics.specs.declared.keys.OpKey.{OpKey}
-use Rattle.plan_model.specs.Contents.{Operation}
-use Rattle.status_rules.specs.Classes.{is_live}
+-- Which operations are live, by their statuses.
+use Rattle.std.specs.Prelude.{Bool, true, false}
+use Rattle.status_rules.specs.declared.Status.{Status}
+use Rattle.status_rules.specs.declared.Status.TheVariants.{Deleted}
 
--- whether the operation of a row isn't deleted
-abbrev pub is_live_row : OpKey × Operation → Bool
-is_live_row row = is_live row.1.mark
+-- whether an operation of this status isn't deleted
+abbrev pub is_live_status : Status → Bool
+is_live_status Deleted = false
+is_live_status _ = true

@@ -1,10 +1,11 @@
 // What stands in the way of a request.
-ghost use Rattle.std.specs.Prelude.{◌≡◌, ◌⊎◌, ℕ, true, Some, None, IfOk, IfErr, OnOk};
-ghost use Rattle.std.specs.FinMap.{get};
+ghost use Rattle.std.specs.Prelude.{◌≡◌, ◌⊎◌, ℕ, ◌+◌, ◌≤◌, true, Some, None, IsSome, IfErr, OnOk};
 ghost use Rattle.plan_basics.specs.Refusals.{IsLeastRefusal, NoneRefuses};
-ghost use Rattle.plan_basics.specs.declared.keys.OpKey.{OpKey};
+ghost use Rattle.plan_basics.specs.declared.keys.OpKey.{OpKey as OpKeyValue};
+ghost use Rattle.plan_checks.specs.Commands.{operation_of};
 ghost use Rattle.plan_records.specs.Acceptance.{MayBeDone, MayBeEnded, MayBeInterrupted, MayBeUndecided, NeedsPlan};
 ghost use Rattle.plan_checks.specs.Bars.{FailsAt, MayBeStartedAt, MeetsAll};
+ghost use Rattle.plan_state.specs.Frames.{IsFrameOf};
 ghost use Rattle.plan_state.specs.Reports.{IsReported};
 ghost use Rattle.plan_checks.specs.Loads.{MayBeLoadedWhere};
 ghost use Rattle.plan_model.specs.Holdings.{takes};
@@ -17,25 +18,18 @@ use super::commands::{
 use super::dependencies::check_paired;
 use plan_basics::{Attr, Moment, OpKey, Refusal};
 use plan_records::{PlanDraft, What};
-use plan_state::{LoadedPlan, Reported, check_start};
+use plan_state::{Frame, Outline, Reported, Shown, check_start};
 use status_rules::{Mark, Status};
 use std::alloc::Global;
 
-// The operation of a key, if it is in the plan.
-fn reported_of(loaded: &LoadedPlan, key: &OpKey) -> Result<Reported, Refusal>
-    ensures found { IfOk result (IsReported loaded.now key.now) }
-    ensures unknown { IfErr result (λ r. (r ≡ Refusal.UnknownOperation) × (get loaded.now.operations key.now ≡ None)) }
-{
-    loaded.reported(key).ok_or(Refusal::UnknownOperation)
-}
-
 // On an automatic workstation a start may be reported of what is named.
-fn check_started_on_automatic(reported: &Reported) -> Result<(), Refusal>
+fn check_started_on_automatic(reported: &Reported<'_>) -> Result<(), Refusal>
     requires { reported.now.attribute ≡ Attr.Automatic }
     ensures ok { (m : ℕ) → OnOk result (MeetsAll reported.now (MayBeStartedAt reported.now m)) }
     ensures refused { (m : ℕ) → IfErr result (FailsAt reported.now (MayBeStartedAt reported.now m)) }
 {
-    if reported.operation.mark == Mark::Named {
+    let operation = reported.operation;
+    if operation.mark == Mark::Named {
         Ok(())
     } else {
         Err(Refusal::WrongStatus)
@@ -45,39 +39,33 @@ fn check_started_on_automatic(reported: &Reported) -> Result<(), Refusal>
 // What stands in the way of a start: on an automatic workstation one may be reported of what is named; where starts are
 // reported, of what is ready or interrupted, where its workstation and the special resources that it needs are free for it.
 fn check_started(
-    loaded: &LoadedPlan,
+    outline: &Outline<'_>,
     key: &OpKey,
-    reported: &Reported,
+    reported: &Reported<'_>,
     at: Moment,
 ) -> Result<(), Refusal>
-    requires { IsReported loaded.now key.now reported.now }
-    ensures ok { OnOk result (NoneRefuses (MayBeStartedAt reported.now at loaded.now key.now)) }
-    ensures refused { IfErr result (λ r. (r ≡ Refusal.Memory) ⊎ IsLeastRefusal (MayBeStartedAt reported.now at loaded.now key.now) r) }
+    requires { IsReported outline.now key.now reported.now }
+    ensures ok { OnOk result (NoneRefuses (MayBeStartedAt reported.now at outline.now key.now)) }
+    ensures refused { IfErr result (λ r. (r ≡ Refusal.Memory) ⊎ IsLeastRefusal (MayBeStartedAt reported.now at outline.now key.now) r) }
 {
     match reported.attribute {
         Attr::Automatic => check_started_on_automatic(reported),
         Attr::StartAndCompletion if !reported.status.is_startable() => Err(Refusal::WrongStatus),
         Attr::StartAndCompletion => {
-            let taken = loaded.given_out_at(&reported.operation);
-            let contents = loaded.contents();
-            check_start(
-                contents,
-                key,
-                &reported.operation,
-                &taken,
-                loaded.holdings(),
-                at,
-            )
+            let operation = reported.operation;
+            let taken = outline.given_out_at(operation);
+            let beside = outline.beside();
+            check_start(&beside, key, operation, &taken, outline.holdings(), at)
         }
         Attr::CompletionOnly | Attr::Nonreporting => Err(Refusal::WrongWorkstation),
     }
 }
 
 // Where starts are reported, an end or an error may be reported of what is started or undecided.
-fn check_ended_after_start(reported: &Reported) -> Result<(), Refusal>
+fn check_ended_after_start(reported: &Reported<'_>) -> Result<(), Refusal>
     requires { takes (Some reported.now.attribute) ≡ true }
-    ensures ok { OnOk result (MeetsAll reported.now (λ P o. MayBeEnded P o reported.now.operation (Some reported.now.attribute))) }
-    ensures refused { IfErr result (FailsAt reported.now (λ P o. MayBeEnded P o reported.now.operation (Some reported.now.attribute))) }
+    ensures ok { OnOk result (MeetsAll reported.now (λ P o. MayBeEnded P o reported.now.operation.now (Some reported.now.attribute))) }
+    ensures refused { IfErr result (FailsAt reported.now (λ P o. MayBeEnded P o reported.now.operation.now (Some reported.now.attribute))) }
 {
     if reported.status.holds_server() {
         Ok(())
@@ -87,14 +75,15 @@ fn check_ended_after_start(reported: &Reported) -> Result<(), Refusal>
 }
 
 // Where only ends are reported, an end or an error may be reported of what is ready and not held.
-fn check_ended_without_start(reported: &Reported) -> Result<(), Refusal>
+fn check_ended_without_start(reported: &Reported<'_>) -> Result<(), Refusal>
     requires { reported.now.attribute ≡ Attr.CompletionOnly }
-    ensures ok { OnOk result (MeetsAll reported.now (λ P o. MayBeEnded P o reported.now.operation (Some reported.now.attribute))) }
-    ensures refused { IfErr result (FailsAt reported.now (λ P o. MayBeEnded P o reported.now.operation (Some reported.now.attribute))) }
+    ensures ok { OnOk result (MeetsAll reported.now (λ P o. MayBeEnded P o reported.now.operation.now (Some reported.now.attribute))) }
+    ensures refused { IfErr result (FailsAt reported.now (λ P o. MayBeEnded P o reported.now.operation.now (Some reported.now.attribute))) }
 {
+    let operation = reported.operation;
     if !reported.status.is_ready() {
         Err(Refusal::WrongStatus)
-    } else if reported.operation.held {
+    } else if operation.held {
         Err(Refusal::Held)
     } else {
         Ok(())
@@ -102,9 +91,9 @@ fn check_ended_without_start(reported: &Reported) -> Result<(), Refusal>
 }
 
 // What stands in the way of an end or an error.
-fn check_ended(reported: &Reported) -> Result<(), Refusal>
-    ensures ok { OnOk result (MeetsAll reported.now (λ P o. MayBeEnded P o reported.now.operation (Some reported.now.attribute))) }
-    ensures refused { IfErr result (FailsAt reported.now (λ P o. MayBeEnded P o reported.now.operation (Some reported.now.attribute))) }
+fn check_ended(reported: &Reported<'_>) -> Result<(), Refusal>
+    ensures ok { OnOk result (MeetsAll reported.now (λ P o. MayBeEnded P o reported.now.operation.now (Some reported.now.attribute))) }
+    ensures refused { IfErr result (FailsAt reported.now (λ P o. MayBeEnded P o reported.now.operation.now (Some reported.now.attribute))) }
 {
     match reported.attribute {
         Attr::Automatic | Attr::StartAndCompletion => check_ended_after_start(reported),
@@ -114,9 +103,9 @@ fn check_ended(reported: &Reported) -> Result<(), Refusal>
 }
 
 // An interruption may be reported of what is started where starts are reported.
-fn check_interrupted(reported: &Reported) -> Result<(), Refusal>
-    ensures ok { OnOk result (MeetsAll reported.now (λ P o. MayBeInterrupted P o reported.now.operation)) }
-    ensures refused { IfErr result (FailsAt reported.now (λ P o. MayBeInterrupted P o reported.now.operation)) }
+fn check_interrupted(reported: &Reported<'_>) -> Result<(), Refusal>
+    ensures ok { OnOk result (MeetsAll reported.now (λ P o. MayBeInterrupted P o reported.now.operation.now)) }
+    ensures refused { IfErr result (FailsAt reported.now (λ P o. MayBeInterrupted P o reported.now.operation.now)) }
 {
     if reported.status != Status::Started {
         Err(Refusal::WrongStatus)
@@ -128,7 +117,7 @@ fn check_interrupted(reported: &Reported) -> Result<(), Refusal>
 }
 
 // An unknown outcome may be reported of what is started.
-fn check_undecided(reported: &Reported) -> Result<(), Refusal>
+fn check_undecided(reported: &Reported<'_>) -> Result<(), Refusal>
     ensures ok { OnOk result (MeetsAll reported.now MayBeUndecided) }
     ensures refused { IfErr result (FailsAt reported.now MayBeUndecided) }
 {
@@ -139,37 +128,127 @@ fn check_undecided(reported: &Reported) -> Result<(), Refusal>
     }
 }
 
-/// What stands in the way of a request other than a load that is made at a moment, but for that moment; or no memory is
-/// found to decide it.
-pub fn check_request(
+// The operation of which a request reports, or that it commands, if it is about one.
+fn operation_of(what: &What) -> Option<OpKey>
+    ensures { result ≡ operation_of what.now }
+{
+    match what {
+        What::Started(key)
+        | What::Ended(key)
+        | What::Error(key, _)
+        | What::Interrupted(key)
+        | What::Unknown(key)
+        | What::Hold(key)
+        | What::Release(key)
+        | What::Nop(key)
+        | What::Unnop(key)
+        | What::Rerun(key)
+        | What::Complete(key) => Some(*key),
+        _ => None,
+    }
+}
+
+// What stands in the way of a report or a command, where this is reported of its operation.
+fn check_reported(
     alloc: Global,
-    loaded: &LoadedPlan,
+    outline: &Outline<'_>,
+    reported: &Reported<'_>,
     what: &What,
     at: Moment,
 ) -> Result<(), Refusal>
+    requires operation { IsSome (operation_of what.now) }
+    requires reported { (o : OpKeyValue) → operation_of what.now ≡ Some o → IsReported outline.now o reported.now }
+    ensures ok { OnOk result (NoneRefuses (MayBeDone outline.now at what.now)) }
+    ensures refused { IfErr result (λ r. (r ≡ Refusal.Memory) ⊎ IsLeastRefusal (MayBeDone outline.now at what.now) r) }
+{
+    match what {
+        What::Started(key) => check_started(outline, key, reported, at),
+        What::Ended(_) | What::Error(_, _) => check_ended(reported),
+        What::Interrupted(_) => check_interrupted(reported),
+        What::Unknown(_) => check_undecided(reported),
+        What::Hold(_) | What::Release(_) | What::Nop(_) | What::Unnop(_) => check_flagged(reported),
+        What::Rerun(key) => check_rerun(alloc, outline, key, reported),
+        What::Complete(_) => check_completed(reported),
+        What::Load(_)
+        | What::Tick
+        | What::DeleteOccurrence(_)
+        | What::AddOccurrence(_)
+        | What::AddDependency(_, _)
+        | What::SetAvailable(_, _)
+        | What::ReplaceIntervals(_, _) => unreachable!(),
+    }
+}
+
+// What stands in the way of a report or a command, which takes one look: at its operation.
+#[tactic(auto, using(crate::proofs::Reporting::unknown_operation))]
+fn check_operation(
+    alloc: Global,
+    shown: &mut Shown,
+    frame: Frame<'_>,
+    key: &OpKey,
+    what: &What,
+    at: Moment,
+) -> Result<(), Refusal>
+    requires frame { IsFrameOf shown.old.contents frame }
+    requires operation { operation_of what.now ≡ Some key.now }
+    ensures ok { OnOk result (NoneRefuses (MayBeDone shown.old.contents at what.now)) }
+    ensures refused { IfErr result (λ r. (r ≡ Refusal.Memory) ⊎ IsLeastRefusal (MayBeDone shown.old.contents at what.now) r) }
+    ensures contents { shown.new.contents ≡ shown.old.contents }
+    ensures fewest { shown.old.looks ≤ shown.new.looks }
+    ensures most { shown.new.looks ≤ shown.old.looks + 1 }
+{
+    let place = shown
+        .beside()
+        .operation_place(key)
+        .ok_or(Refusal::UnknownOperation)?;
+    let seen = shown.see(place);
+    let outline = Outline::of(seen.beside, frame);
+    let reported = outline.reported(seen.key, seen.operation, place);
+    check_reported(alloc, &outline, &reported, what, at)
+}
+
+// What stands in the way of a request that is about no one operation, which takes no look.
+fn check_unseen(alloc: Global, outline: &Outline<'_>, what: &What) -> Result<(), Refusal>
     requires needs { NeedsPlan what.now }
-    ensures ok { OnOk result (NoneRefuses (MayBeDone loaded.now at what.now)) }
-    ensures refused { IfErr result (λ r. (r ≡ Refusal.Memory) ⊎ IsLeastRefusal (MayBeDone loaded.now at what.now) r) }
+    requires none { operation_of what.now ≡ None }
+    ensures ok { (at : ℕ) → OnOk result (NoneRefuses (MayBeDone outline.now at what.now)) }
+    ensures refused { (at : ℕ) → IfErr result (λ r. (r ≡ Refusal.Memory) ⊎ IsLeastRefusal (MayBeDone outline.now at what.now) r) }
 {
     match what {
         What::Tick => Ok(()),
-        What::Started(key) => check_started(loaded, key, &reported_of(loaded, key)?, at),
-        What::Ended(key) | What::Error(key, _) => check_ended(&reported_of(loaded, key)?),
-        What::Interrupted(key) => check_interrupted(&reported_of(loaded, key)?),
-        What::Unknown(key) => check_undecided(&reported_of(loaded, key)?),
-        What::Hold(key) | What::Release(key) | What::Nop(key) | What::Unnop(key) => {
-            check_flagged(&reported_of(loaded, key)?)
-        }
-        What::Rerun(key) => check_rerun(alloc, loaded, key, &reported_of(loaded, key)?),
-        What::Complete(key) => check_completed(&reported_of(loaded, key)?),
-        What::DeleteOccurrence(key) => check_deleted(loaded, key),
+        What::DeleteOccurrence(key) => check_deleted(outline, key),
         What::AddOccurrence(addition) => {
-            check_added(alloc, loaded, addition.as_ref().ok_or(Refusal::BadPlan)?)
+            check_added(alloc, outline, addition.as_ref().ok_or(Refusal::BadPlan)?)
         }
-        What::AddDependency(predecessor, successor) => check_paired(loaded, predecessor, successor),
-        What::SetAvailable(name, _) => check_available(loaded, name),
-        What::ReplaceIntervals(name, intervals) => check_open_by(alloc, loaded, name, intervals),
-        What::Load(_) => unreachable!(),
+        What::AddDependency(predecessor, successor) => {
+            check_paired(outline, predecessor, successor)
+        }
+        What::SetAvailable(name, _) => check_available(outline, name),
+        What::ReplaceIntervals(name, intervals) => check_open_by(alloc, outline, name, intervals),
+        _ => unreachable!(),
+    }
+}
+
+/// What stands in the way of a request other than a load that is made at a moment, but for that moment; or no memory is
+/// found to decide it. It takes a look at the operation of which it reports, or that it commands, and at no other.
+pub fn check_request(
+    alloc: Global,
+    shown: &mut Shown,
+    frame: Frame<'_>,
+    what: &What,
+    at: Moment,
+) -> Result<(), Refusal>
+    requires frame { IsFrameOf shown.old.contents frame }
+    requires needs { NeedsPlan what.now }
+    ensures ok { OnOk result (NoneRefuses (MayBeDone shown.old.contents at what.now)) }
+    ensures refused { IfErr result (λ r. (r ≡ Refusal.Memory) ⊎ IsLeastRefusal (MayBeDone shown.old.contents at what.now) r) }
+    ensures contents { shown.new.contents ≡ shown.old.contents }
+    ensures fewest { shown.old.looks ≤ shown.new.looks }
+    ensures most { shown.new.looks ≤ shown.old.looks + 1 }
+{
+    match operation_of(what) {
+        Some(key) => check_operation(alloc, shown, frame, &key, what, at),
+        None => check_unseen(alloc, &Outline::of(shown.beside(), frame), what),
     }
 }
 

@@ -11,12 +11,12 @@ ghost use Rattle.plan_state.specs.Reports.{IsReported};
 use super::reach::reached_keys;
 use super::under_way::{is_another_under_way, is_occurrence_under_way};
 use plan_basics::{Interval, OccKey, OpKey, Refusal, ResName, WsName};
-use plan_state::{LoadedPlan, Reported};
+use plan_state::{Outline, Reported};
 use status_rules::OccStatus;
 use std::alloc::Global;
 
 /// A hold, a release, a NOP and its end may be commanded of what waits or is ready.
-pub fn check_flagged(reported: &Reported) -> Result<(), Refusal>
+pub fn check_flagged(reported: &Reported<'_>) -> Result<(), Refusal>
     ensures ok { OnOk result (MeetsAll reported.now MayBeFlagged) }
     ensures refused { IfErr result (FailsAt reported.now MayBeFlagged) }
 {
@@ -28,13 +28,14 @@ pub fn check_flagged(reported: &Reported) -> Result<(), Refusal>
 }
 
 /// A completion may be commanded of what is ready, under way or in error, and not held.
-pub fn check_completed(reported: &Reported) -> Result<(), Refusal>
-    ensures ok { OnOk result (MeetsAll reported.now (λ P o. MayBeCompleted P o reported.now.operation)) }
-    ensures refused { IfErr result (FailsAt reported.now (λ P o. MayBeCompleted P o reported.now.operation)) }
+pub fn check_completed(reported: &Reported<'_>) -> Result<(), Refusal>
+    ensures ok { OnOk result (MeetsAll reported.now (λ P o. MayBeCompleted P o reported.now.operation.now)) }
+    ensures refused { IfErr result (FailsAt reported.now (λ P o. MayBeCompleted P o reported.now.operation.now)) }
 {
+    let operation = reported.operation;
     if !reported.status.is_completable() {
         Err(Refusal::WrongStatus)
-    } else if reported.operation.held {
+    } else if operation.held {
         Err(Refusal::Held)
     } else {
         Ok(())
@@ -45,19 +46,19 @@ pub fn check_completed(reported: &Reported) -> Result<(), Refusal>
 /// under way.
 pub fn check_rerun(
     alloc: Global,
-    loaded: &LoadedPlan,
+    outline: &Outline<'_>,
     key: &OpKey,
-    reported: &Reported,
+    reported: &Reported<'_>,
 ) -> Result<(), Refusal>
-    requires { IsReported loaded.now key.now reported.now }
-    ensures ok { OnOk result (NoneRefuses (MayBeRerun loaded.now key.now)) }
-    ensures refused { IfErr result (λ r. (r ≡ Refusal.Memory) ⊎ IsLeastRefusal (MayBeRerun loaded.now key.now) r) }
+    requires { IsReported outline.now key.now reported.now }
+    ensures ok { OnOk result (NoneRefuses (MayBeRerun outline.now key.now)) }
+    ensures refused { IfErr result (λ r. (r ≡ Refusal.Memory) ⊎ IsLeastRefusal (MayBeRerun outline.now key.now) r) }
 {
     if !reported.status.is_rerunnable() {
         return Err(Refusal::WrongStatus);
     }
-    let reached = reached_keys(alloc, loaded, key)?;
-    if is_another_under_way(loaded, key, &reached) {
+    let reached = reached_keys(alloc, outline, key)?;
+    if is_another_under_way(outline, key, &reached) {
         Err(Refusal::Running)
     } else {
         Ok(())
@@ -65,26 +66,26 @@ pub fn check_rerun(
 }
 
 // The status of the occurrence of a key, if it is in the plan.
-fn occurrence_status_of(loaded: &LoadedPlan, occurrence: &OccKey) -> Result<OccStatus, Refusal>
-    ensures known { OnOk result (contains_key loaded.now.occurrences occurrence.now ≡ true) }
-    ensures found { IfOk result (HasOccurrenceStatus loaded.now occurrence.now) }
-    ensures unknown { IfErr result (λ r. (r ≡ Refusal.UnknownOccurrence) × (get loaded.now.occurrences occurrence.now ≡ None)) }
+fn occurrence_status_of(outline: &Outline<'_>, occurrence: &OccKey) -> Result<OccStatus, Refusal>
+    ensures known { OnOk result (contains_key outline.now.occurrences occurrence.now ≡ true) }
+    ensures found { IfOk result (HasOccurrenceStatus outline.now occurrence.now) }
+    ensures unknown { IfErr result (λ r. (r ≡ Refusal.UnknownOccurrence) × (get outline.now.occurrences occurrence.now ≡ None)) }
 {
-    loaded
+    outline
         .occurrence_status(occurrence)
         .ok_or(Refusal::UnknownOccurrence)
 }
 
 /// The deletion of an occurrence may be commanded where it isn't deleted, and none of its operations is under way.
-pub fn check_deleted(loaded: &LoadedPlan, occurrence: &OccKey) -> Result<(), Refusal>
-    ensures ok { OnOk result (NoneRefuses (MayBeDeleted loaded.now occurrence.now)) }
-    ensures refused { IfErr result (IsLeastRefusal (MayBeDeleted loaded.now occurrence.now)) }
+pub fn check_deleted(outline: &Outline<'_>, occurrence: &OccKey) -> Result<(), Refusal>
+    ensures ok { OnOk result (NoneRefuses (MayBeDeleted outline.now occurrence.now)) }
+    ensures refused { IfErr result (IsLeastRefusal (MayBeDeleted outline.now occurrence.now)) }
 {
-    let status = occurrence_status_of(loaded, occurrence)?;
+    let status = occurrence_status_of(outline, occurrence)?;
     if status == OccStatus::Deleted {
         return Err(Refusal::WrongStatus);
     }
-    if is_occurrence_under_way(loaded, occurrence) {
+    if is_occurrence_under_way(outline, occurrence) {
         Err(Refusal::Running)
     } else {
         Ok(())
@@ -92,11 +93,11 @@ pub fn check_deleted(loaded: &LoadedPlan, occurrence: &OccKey) -> Result<(), Ref
 }
 
 /// Whether a special resource is available may be set for one in the plan.
-pub fn check_available(loaded: &LoadedPlan, name: &ResName) -> Result<(), Refusal>
-    ensures ok { OnOk result (NoneRefuses (MayBeSetAvailable loaded.now name.now)) }
-    ensures refused { IfErr result (IsLeastRefusal (MayBeSetAvailable loaded.now name.now)) }
+pub fn check_available(outline: &Outline<'_>, name: &ResName) -> Result<(), Refusal>
+    ensures ok { OnOk result (NoneRefuses (MayBeSetAvailable outline.now name.now)) }
+    ensures refused { IfErr result (IsLeastRefusal (MayBeSetAvailable outline.now name.now)) }
 {
-    match loaded.contents().resource(name) {
+    match outline.beside().resource(name) {
         Some(_) => Ok(()),
         None => Err(Refusal::UnknownResource),
     }
@@ -105,17 +106,15 @@ pub fn check_available(loaded: &LoadedPlan, name: &ResName) -> Result<(), Refusa
 /// The open intervals may be replaced of a workstation in the plan: by no more than it may have, of which no two overlap.
 pub fn check_open_by(
     alloc: Global,
-    loaded: &LoadedPlan,
+    outline: &Outline<'_>,
     name: &WsName,
     intervals: &[Interval],
 ) -> Result<(), Refusal>
-    ensures ok { OnOk result (NoneRefuses (MayBeOpenBy loaded.now name.now intervals.now)) }
-    ensures refused { IfErr result (λ r. (r ≡ Refusal.Memory) ⊎ IsLeastRefusal (MayBeOpenBy loaded.now name.now intervals.now) r) }
+    ensures ok { OnOk result (NoneRefuses (MayBeOpenBy outline.now name.now intervals.now)) }
+    ensures refused { IfErr result (λ r. (r ≡ Refusal.Memory) ⊎ IsLeastRefusal (MayBeOpenBy outline.now name.now intervals.now) r) }
 {
-    let workstation = loaded
-        .contents()
-        .workstation(name)
-        .ok_or(Refusal::UnknownWorkstation)?;
+    let beside = outline.beside();
+    let workstation = beside.workstation(name).ok_or(Refusal::UnknownWorkstation)?;
     let mut workstation = workstation.try_clone()?;
     workstation.replace_intervals(Vec::from_slice(alloc, intervals)?)
 }

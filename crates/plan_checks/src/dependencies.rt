@@ -1,29 +1,28 @@
 // What stands in the way of a dependency that is to be added.
-ghost use Rattle.std.specs.Prelude.{◌≡◌, ◌≢◌, ◌<◌, ◌⊎◌, IfErr, OnOk};
+ghost use Rattle.std.specs.Prelude.{◌≡◌, ◌≢◌, ◌<◌, ◌⊎◌, true, false, IfErr, OnOk};
 ghost use Rattle.operation_graph.specs.Graphs.{MayTakeEdge};
 ghost use Rattle.plan_basics.specs.declared.Refusal.{Refusal};
 ghost use Rattle.plan_basics.specs.Refusals.{IsLeastRefusal, NoneRefuses};
-ghost use Rattle.plan_records.specs.Acceptance.{MayBeFlagged, MayBePaired};
+ghost use Rattle.plan_records.specs.Acceptance.{MayBePaired};
+ghost use Rattle.status_rules.specs.Classes.{is_waiting_or_ready};
 ghost use Rattle.status_rules.specs.declared.Status.{Status};
 ghost use Rattle.plan_checks.specs.Dependencies.{IsFaultAs};
-ghost use Rattle.plan_checks.specs.Bars.{FailsAt, MeetsAll};
 
-use super::commands::check_flagged;
 use operation_graph::{EdgeFault, Graph};
 use plan_basics::limits::MOST_PAIRS;
 use plan_basics::{OpKey, Refusal};
-use plan_state::{LoadedPlan, Reported};
+use plan_state::Outline;
 use status_rules::Status;
 
 // What a dependency asks of the statuses of its two operations: the first isn't deleted, the second waits or is ready.
-fn check_ends(predecessor: &Reported, successor: &Reported) -> Result<(), Refusal>
-    ensures ok { OnOk result ((predecessor.now.status ≢ Status.Deleted) × MeetsAll successor.now MayBeFlagged) }
-    ensures refused { IfErr result (λ r. ((r ≡ Refusal.WrongStatus) × (predecessor.now.status ≡ Status.Deleted)) ⊎ FailsAt successor.now MayBeFlagged r) }
+fn check_ends(predecessor: Status, successor: Status) -> Result<(), Refusal>
+    ensures ok { OnOk result ((predecessor ≢ Status.Deleted) × (is_waiting_or_ready successor ≡ true)) }
+    ensures refused { IfErr result (λ r. (r ≡ Refusal.WrongStatus) × ((predecessor ≡ Status.Deleted) ⊎ (is_waiting_or_ready successor ≡ false))) }
 {
-    if predecessor.status == Status::Deleted {
+    if predecessor == Status::Deleted || !successor.is_waiting_or_ready() {
         Err(Refusal::WrongStatus)
     } else {
-        check_flagged(successor)
+        Ok(())
     }
 }
 
@@ -46,20 +45,22 @@ fn check_edge(graph: &Graph, before: usize, after: usize) -> Result<(), Refusal>
 /// A dependency may be added between two operations of the plan, of which the first isn't deleted and the second waits
 /// or is ready, where it isn't there, closes no path, and there is room.
 pub fn check_paired(
-    loaded: &LoadedPlan,
+    outline: &Outline<'_>,
     predecessor: &OpKey,
     successor: &OpKey,
 ) -> Result<(), Refusal>
-    ensures ok { OnOk result (NoneRefuses (MayBePaired loaded.now predecessor.now successor.now)) }
-    ensures refused { IfErr result (λ r. (r ≡ Refusal.Memory) ⊎ IsLeastRefusal (MayBePaired loaded.now predecessor.now successor.now) r) }
+    ensures ok { OnOk result (NoneRefuses (MayBePaired outline.now predecessor.now successor.now)) }
+    ensures refused { IfErr result (λ r. (r ≡ Refusal.Memory) ⊎ IsLeastRefusal (MayBePaired outline.now predecessor.now successor.now) r) }
 {
-    let pairs = loaded.contents().pairs();
-    let graph = loaded.graph();
-    let before = loaded
+    let pairs = outline.beside().pairs();
+    let graph = outline.graph();
+    let before = outline
         .place_of(predecessor)
         .ok_or(Refusal::UnknownOperation)?;
-    let after = loaded.place_of(successor).ok_or(Refusal::UnknownOperation)?;
-    check_ends(&loaded.reported_at(before), &loaded.reported_at(after))?;
+    let after = outline
+        .place_of(successor)
+        .ok_or(Refusal::UnknownOperation)?;
+    check_ends(outline.status_at(before), outline.status_at(after))?;
     check_edge(graph, before, after)?;
     if pairs.len() < MOST_PAIRS {
         Ok(())

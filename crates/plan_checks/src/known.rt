@@ -9,92 +9,92 @@ ghost use Rattle.plan_checks.specs.Additions.{HasResources, HasWorkstation, IsKn
 use plan_basics::{OpKey, ResName};
 use plan_model::OperationRecord;
 use plan_records::{AdditionParts, row_place};
-use plan_state::LoadedPlan;
+use plan_state::Outline;
 
 // Whether an operation is added, or is of another occurrence of the plan.
-fn is_known(loaded: &LoadedPlan, parts: &AdditionParts, key: &OpKey) -> bool
+fn is_known(outline: &Outline<'_>, parts: &AdditionParts, key: &OpKey) -> bool
     requires { AreAdditionParts parts.now }
-    ensures { Decides result (IsKnown loaded.now (added_of parts.now) key.now) }
+    ensures { Decides result (IsKnown outline.now (added_of parts.now) key.now) }
 {
     if key.occurrence == parts.key {
         row_place(&parts.operations, key).is_some()
     } else {
-        loaded.place_of(key).is_some()
+        outline.place_of(key).is_some()
     }
 }
 
 // Whether both ends of a pair are added, or are operations of the plan's other occurrences.
-fn is_known_pair(loaded: &LoadedPlan, parts: &AdditionParts, pair: &(OpKey, OpKey)) -> bool
+fn is_known_pair(outline: &Outline<'_>, parts: &AdditionParts, pair: &(OpKey, OpKey)) -> bool
     requires { AreAdditionParts parts.now }
-    ensures { Decides result (IsKnownPair loaded.now (added_of parts.now) pair.now) }
+    ensures { Decides result (IsKnownPair outline.now (added_of parts.now) pair.now) }
 {
-    is_known(loaded, parts, &pair.0) && is_known(loaded, parts, &pair.1)
+    is_known(outline, parts, &pair.0) && is_known(outline, parts, &pair.1)
 }
 
 /// Whether all operations that pairs name are added or are there.
-pub fn are_ends_known(loaded: &LoadedPlan, parts: &AdditionParts) -> bool
+pub fn are_ends_known(outline: &Outline<'_>, parts: &AdditionParts) -> bool
     requires { AreAdditionParts parts.now }
-    ensures { Decides result (MayBeAdded loaded.now (added_of parts.now) Refusal.UnknownOperation) }
+    ensures { Decides result (MayBeAdded outline.now (added_of parts.now) Refusal.UnknownOperation) }
 {
     parts
         .pairs
         .iter()
-        .all(|pair| is_known_pair(loaded, parts, pair))
+        .all(|pair| is_known_pair(outline, parts, pair))
 }
 
 // Whether the operation's workstation is in the plan.
-fn has_workstation(loaded: &LoadedPlan, operation: &OperationRecord) -> bool
-    ensures { Decides result (HasWorkstation loaded.now operation.now) }
+fn has_workstation(outline: &Outline<'_>, operation: &OperationRecord) -> bool
+    ensures { Decides result (HasWorkstation outline.now operation.now) }
 {
-    loaded
-        .contents()
+    outline
+        .beside()
         .workstation(&operation.workstation)
         .is_some()
 }
 
 /// Whether the plan has the workstations of all operations that are added.
-pub fn are_workstations_known(loaded: &LoadedPlan, parts: &AdditionParts) -> bool
+pub fn are_workstations_known(outline: &Outline<'_>, parts: &AdditionParts) -> bool
     requires { AreAdditionParts parts.now }
-    ensures { Decides result (MayBeAdded loaded.now (added_of parts.now) Refusal.UnknownWorkstation) }
+    ensures { Decides result (MayBeAdded outline.now (added_of parts.now) Refusal.UnknownWorkstation) }
 {
     parts
         .operations
         .iter()
-        .all(|row| has_workstation(loaded, &row.1))
+        .all(|row| has_workstation(outline, &row.1))
 }
 
 // Whether the special resource is in the plan.
-fn has_resource(loaded: &LoadedPlan, name: &ResName) -> bool
-    ensures { Decides result (contains_key loaded.now.resources name.now ≡ true) }
+fn has_resource(outline: &Outline<'_>, name: &ResName) -> bool
+    ensures { Decides result (contains_key outline.now.resources name.now ≡ true) }
 {
-    loaded.contents().resource(name).is_some()
+    outline.beside().resource(name).is_some()
 }
 
 // Whether the special resources that the operation needs are in the plan.
-fn has_resources(loaded: &LoadedPlan, operation: &OperationRecord) -> bool
-    ensures { Decides result (HasResources loaded.now operation.now) }
+fn has_resources(outline: &Outline<'_>, operation: &OperationRecord) -> bool
+    ensures { Decides result (HasResources outline.now operation.now) }
 {
     operation
         .needs
         .as_slice()
         .iter()
-        .all(|need| has_resource(loaded, &need.name))
+        .all(|need| has_resource(outline, &need.name))
 }
 
 /// Whether the plan has the special resources that the operations that are added need.
-pub fn are_resources_known(loaded: &LoadedPlan, parts: &AdditionParts) -> bool
+pub fn are_resources_known(outline: &Outline<'_>, parts: &AdditionParts) -> bool
     requires { AreAdditionParts parts.now }
-    ensures { Decides result (MayBeAdded loaded.now (added_of parts.now) Refusal.UnknownResource) }
+    ensures { Decides result (MayBeAdded outline.now (added_of parts.now) Refusal.UnknownResource) }
 {
     parts
         .operations
         .iter()
-        .all(|row| has_resources(loaded, &row.1))
+        .all(|row| has_resources(outline, &row.1))
 }
 
 /// Whether the plan has no occurrence of the key of what is added.
-pub fn is_new_occurrence(loaded: &LoadedPlan, parts: &AdditionParts) -> bool
-    ensures { Decides result (MayBeAdded loaded.now (added_of parts.now) Refusal.Duplicate) }
+pub fn is_new_occurrence(outline: &Outline<'_>, parts: &AdditionParts) -> bool
+    ensures { Decides result (MayBeAdded outline.now (added_of parts.now) Refusal.Duplicate) }
 {
-    loaded.contents().occurrence(&parts.key).is_none()
+    outline.beside().occurrence(&parts.key).is_none()
 }

@@ -5,13 +5,14 @@ mod additions;
 mod checks;
 mod commands;
 mod dependencies;
+mod growth;
 mod known;
 mod reach;
 mod under_way;
 
 pub use checks::{check_load, check_request};
 pub use plan_state::{
-    Choice, Figures, LoadedPlan, Parts, Reported, SoundContents, chosen, chosen_with, latest_of,
-    ready_of, satisfy, unsatisfy,
+    Beside, Choice, Figures, Frame, LoadedPlan, Outline, Parts, Reported, Seen, Shown,
+    SoundContents, chosen, chosen_with, latest_of, ready_of, satisfy, unsatisfy,
 };
 pub use reach::reached_keys;

@@ -6,23 +6,23 @@ ghost use Rattle.plan_model.specs.Contents.{IsInPlan, Operation};
 ghost use Rattle.plan_checks.specs.Commands.{IsItsUnderWay, IsOtherUnderWay};
 
 use plan_basics::{OccKey, OpKey};
-use plan_state::LoadedPlan;
+use plan_state::Outline;
 
 // Whether this is another operation, and under way.
-fn is_other_under_way(loaded: &LoadedPlan, key: &OpKey, other: &OpKey) -> bool
-    requires { IsInPlan loaded.now other.now }
-    ensures { Decides result (IsOtherUnderWay loaded.now key.now other.now) }
+fn is_other_under_way(outline: &Outline<'_>, key: &OpKey, other: &OpKey) -> bool
+    requires { IsInPlan outline.now other.now }
+    ensures { Decides result (IsOtherUnderWay outline.now key.now other.now) }
 {
-    other != key && loaded.reported(other).unwrap().status.is_under_way()
+    other != key && outline.status_of(other).unwrap().is_under_way()
 }
 
 /// Whether one of these operations of the plan, another than this one, is under way.
-pub fn is_another_under_way(loaded: &LoadedPlan, key: &OpKey, others: &[OpKey]) -> bool
-    requires { All (IsInPlan loaded.now) others.now }
-    ensures { Decides result ((q : OpKeyValue) × Contains others.now q × IsOtherUnderWay loaded.now key.now q) }
+pub fn is_another_under_way(outline: &Outline<'_>, key: &OpKey, others: &[OpKey]) -> bool
+    requires { All (IsInPlan outline.now) others.now }
+    ensures { Decides result ((q : OpKeyValue) × Contains others.now q × IsOtherUnderWay outline.now key.now q) }
 {
     for other in others {
-        if is_other_under_way(loaded, key, other) {
+        if is_other_under_way(outline, key, other) {
             return true;
         }
     }
@@ -30,20 +30,20 @@ pub fn is_another_under_way(loaded: &LoadedPlan, key: &OpKey, others: &[OpKey]) 
 }
 
 // Whether the operation at an index is one of the occurrence's, and under way.
-fn is_its_under_way(loaded: &LoadedPlan, occurrence: &OccKey, place: usize) -> bool
-    requires { place < length (entries loaded.now.operations) }
-    ensures { (o : OpKeyValue) → (op : Operation) → slice_get (entries loaded.now.operations) place ≡ Some (o, op) → Decides result (IsItsUnderWay loaded.now occurrence.now o) }
+fn is_its_under_way(outline: &Outline<'_>, occurrence: &OccKey, place: usize) -> bool
+    requires { place < length (entries outline.now.operations) }
+    ensures { (o : OpKeyValue) → (op : Operation) → slice_get (entries outline.now.operations) place ≡ Some (o, op) → Decides result (IsItsUnderWay outline.now occurrence.now o) }
 {
-    let key = loaded.contents().operations()[place].0;
-    key.occurrence == *occurrence && loaded.reported_at(place).status.is_under_way()
+    let key = *outline.beside().operation_key(place);
+    key.occurrence == *occurrence && outline.status_at(place).is_under_way()
 }
 
 /// Whether an operation of the occurrence is under way.
-pub fn is_occurrence_under_way(loaded: &LoadedPlan, occurrence: &OccKey) -> bool
-    ensures { Decides result ((o : OpKeyValue) × IsItsUnderWay loaded.now occurrence.now o) }
+pub fn is_occurrence_under_way(outline: &Outline<'_>, occurrence: &OccKey) -> bool
+    ensures { Decides result ((o : OpKeyValue) × IsItsUnderWay outline.now occurrence.now o) }
 {
-    for place in 0..loaded.contents().operations().len() {
-        if is_its_under_way(loaded, occurrence, place) {
+    for place in 0..outline.beside().operation_count() {
+        if is_its_under_way(outline, occurrence, place) {
             return true;
         }
     }

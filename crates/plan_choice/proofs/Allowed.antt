@@ -5,10 +5,10 @@ use Rattle.plan_basics.specs.declared.Refusal.{Refusal}
 use Rattle.plan_basics.specs.declared.Refusal.TheVariants as refusal
 use Rattle.plan_basics.specs.declared.keys.OpKey.{OpKey}
 use Rattle.ready_list.specs.Choice.{is_among}
-use Rattle.plan_status.specs.plan_model.specs.Contents.{Contents, Operation}
-use Rattle.plan_status.specs.plan_model.specs.Ready.{named}
-use Rattle.plan_status.specs.plan_model.specs.Starts.{IsAllowedToStart, MayStart}
-use Rattle.plan_status.specs.plan_model.specs.Status.{IsReady}
+use Rattle.shown_records.specs.plan_status.specs.plan_model.specs.Contents.{Contents, Operation}
+use Rattle.shown_records.specs.plan_status.specs.plan_model.specs.Ready.{named}
+use Rattle.shown_records.specs.plan_status.specs.plan_model.specs.Starts.{IsAllowedToStart, MayStart}
+use Rattle.shown_records.specs.plan_status.specs.plan_model.specs.Status.{IsReady}
 use Rattle.std.proofs.lemmas.Option.{same_Some}
 use Rattle.plan_choice.specs.Takings.{CanStart}
 use Rattle.plan_choice.proofs.Naming.{ready_still, still}

@@ -1,8 +1,9 @@
 -- The choice from a ready list by the gate that counts what is given out and held.
-use Rattle.std.proofs.Common.{◌≡◌, inl, inr, refl, sym, ap, subst, ◌∙◌, true≢false, arith, ℕ, true, false, List, [], ◌∷◌, ◌++◌, slice_get, Some, Contains}
+use Rattle.std.proofs.Common.{◌≡◌, inl, inr, refl, sym, ap, subst, ◌∙◌, true≢false, arith, ℕ, ◌+◌, ◌≤◌, true, false, List, [], ◌∷◌, ◌++◌, slice_get, Some, Contains, length, not}
 use Rattle.std.specs.FinMap.{entries, get}
 use Rattle.std.specs.Ordering.{eq_by_cmp}
 use Rattle.std.proofs.lemmas.List.{map-append}
+use Rattle.std.proofs.lemmas.List.Filters.{length-filter_both}
 use Rattle.std.proofs.lemmas.List.Elements.{Contains-append_left, Contains-append_right}
 use Rattle.plan_basics.specs.Keys.{Name, name_cmp, operation_cmp}
 use Rattle.plan_basics.specs.declared.Attr.{Attr}
@@ -17,15 +18,15 @@ use Rattle.ready_list.specs.declared.ReadyKey.{ReadyKey}
 use Rattle.ready_list.specs.declared.entry.ReadyEntry.{ReadyEntry}
 use Rattle.ready_list.proofs.ByAnswers.{choice_by_answers}
 use Rattle.ready_list.proofs.Steps.{AreDistinctKeys, chosen_among, not_before}
-use Rattle.plan_status.specs.plan_model.proofs.Entries.{entries_in_order}
-use Rattle.plan_status.specs.plan_model.specs.Holdings.{given_out}
-use Rattle.plan_status.specs.plan_model.specs.Contents.{Contents, HasAttribute, Operation}
-use Rattle.plan_status.specs.plan_model.specs.Ready.{IsChosen, IsOnAutomatic, named}
-use Rattle.plan_status.specs.plan_model.specs.Starts.{IsAllowedToStart}
-use Rattle.plan_status.specs.plan_model.specs.Status.{IsReady}
-use Rattle.plan_status.specs.plan_model.specs.Valid.{IsValid}
-use Rattle.plan_status.specs.plan_laws.proofs.Kept.{named_none, ready_unmarked}
-use Rattle.plan_status.specs.plan_model.proofs.Looks.{same_key}
+use Rattle.shown_records.specs.plan_status.specs.plan_model.proofs.Entries.{entries_in_order}
+use Rattle.shown_records.specs.plan_status.specs.plan_model.specs.Holdings.{given_out}
+use Rattle.shown_records.specs.plan_status.specs.plan_model.specs.Contents.{Contents, HasAttribute, Operation}
+use Rattle.shown_records.specs.plan_status.specs.plan_model.specs.Ready.{IsChosen, IsOnAutomatic, named}
+use Rattle.shown_records.specs.plan_status.specs.plan_model.specs.Starts.{IsAllowedToStart}
+use Rattle.shown_records.specs.plan_status.specs.plan_model.specs.Status.{IsReady}
+use Rattle.shown_records.specs.plan_status.specs.plan_model.specs.Valid.{IsValid}
+use Rattle.shown_records.specs.plan_status.specs.plan_laws.proofs.Kept.{named_none, ready_unmarked}
+use Rattle.shown_records.specs.plan_status.specs.plan_model.proofs.Looks.{same_key}
 use Rattle.std.proofs.lemmas.Option.{same_Some}
 use Rattle.plan_basics.proofs.Members.{contains_head, contains_later}
 use Rattle.plan_choice.specs.Choices.{AreGivenOut, AreHeldIn, AreReadyEntries, HasItsWorkstation}
@@ -59,6 +60,10 @@ stands_first c m g contents at given held = record {
   given = subst (λ P. AreGivenOut P (entries c.workstations) g.given) (sym (named_none c)) given;
   holders = subst (λ P. AreHeldIn P g.held) (sym (named_none c)) held;
 }
+
+-- looks don't count there
+stands_on : (c : Contents) (m : ℕ) (os : List OpKey) (g : Counted) (looks : ℕ) → Stands c m os g → Stands c m os (record g { looks = looks })
+stands_on c m os g looks stands = record { contents = stands.contents; at = stands.at; given = stands.given; holders = stands.holders }
 
 -- what the gate counts is given out and held with these named
 counted_in : (c : Contents) (m : ℕ) (os : List OpKey) (g : Counted) → Stands c m os g → IsCountedIn g (named os c)
@@ -169,7 +174,7 @@ module _ (c : Contents) (m : ℕ) (es : List ReadyEntry) (are : AreReadyEntries 
           let there = ap (λ (d : Contents). get d.operations e.key.op) asked.counted.contents ∙ row.1 in (
             λ may. a.cannot (subst (λ (d : Contents). HasItsWorkstation d e) (sym asked.counted.contents) (are.workstations e among)) row.0 there (named os P) counted
                 (subst (λ at. CanStart (named os P) e.key.op row.0 at) (sym asked.counted.at) (can_start P m os each_ready e.key.op row.0 row.1 out may)),
-            subst (Stands c m os) (sym a.same) asked.counted,
+            subst (Stands c m os) (sym a.same) (stands_on c m os g k.looks asked.counted),
           )
 
   tells : TellsAllowed Answers (Stands c m) automatic allowed es
@@ -192,3 +197,17 @@ pub refuses_alone : (only r : Refusal) (es : List ReadyEntry) (g : Counted) → 
 refuses_alone only r [] g h = absurd h
 refuses_alone only r (e ∷ es) g (inl is) = is
 refuses_alone only r (e ∷ es) g (inr (yes, k, a, later)) = refuses_alone only r es k later
+
+-- there are no more of them than entries
+few_automatic : (es : List ReadyEntry) → length (on_automatic es) ≤ length es
+few_automatic es = omega (arith, length-filter_both (λ (e : ReadyEntry). is_automatic e.attr) (λ (e : ReadyEntry). not (is_automatic e.attr)) (λ e. refl) es)
+
+-- a gate takes a look at each operation that it is asked of, at most
+takes_looks : (es : List ReadyEntry) (g last : Counted) (named : List OpKey) → AnswersInTurn Answers es g named last → (g.looks ≤ last.looks) × (last.looks ≤ g.looks + length es)
+takes_looks [] g last named run = let same = ap (λ (h : Counted). h.looks) run.1 in (omega (arith, same), omega (arith, same))
+takes_looks (e ∷ es) g last named (true, h, rest, answer, is, run) = let later = takes_looks es h last rest run in (omega (arith, later.0, answer.looks.0), omega (arith, later.1, answer.looks.1))
+takes_looks (e ∷ es) g last named (false, h, rest, answer, is, run) = let later = takes_looks es h last rest run in (omega (arith, later.0, answer.looks.0), omega (arith, later.1, answer.looks.1))
+
+-- and no more than there are entries
+pub looks_by_gate : (es : List ReadyEntry) (g last : Counted) (named : List OpKey) → AnswersInTurn Answers (on_automatic es) g named last → (g.looks ≤ last.looks) × (last.looks ≤ g.looks + length es)
+looks_by_gate es g last named run = let so = takes_looks (on_automatic es) g last named run in (so.0, omega (arith, so.1, few_automatic es))

@@ -9,9 +9,9 @@ use Rattle.special_resources.specs.Holdings.{Held, usage_of}
 use Rattle.special_resources.specs.Needs.{AreInNameOrder, usages_of}
 use Rattle.special_resources.specs.declared.Need.{Need}
 use Rattle.special_resources.proofs.MoreNeeds.{need_by_usage, usage_by_need}
-use Rattle.plan_status.specs.plan_model.specs.Holdings.{Holds}
-use Rattle.plan_status.specs.plan_model.specs.Contents.{Contents, Operation, Resources}
-use Rattle.plan_status.specs.plan_model.specs.Starts.{MayStart}
+use Rattle.shown_records.specs.plan_status.specs.plan_model.specs.Holdings.{Holds}
+use Rattle.shown_records.specs.plan_status.specs.plan_model.specs.Contents.{Contents, Operation, Resources}
+use Rattle.shown_records.specs.plan_status.specs.plan_model.specs.Starts.{MayStart}
 use Rattle.plan_choice.specs.Choices.{AreHeldIn}
 use Rattle.plan_choice.specs.Takings.{CanMeetNeeds, CanUse, CanMeetNeed}
 

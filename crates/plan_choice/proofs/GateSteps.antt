@@ -6,13 +6,13 @@ use Rattle.plan_basics.specs.declared.Refusal.{Refusal}
 use Rattle.plan_basics.specs.declared.Refusal.TheVariants as refusal
 use Rattle.plan_basics.specs.declared.keys.OpKey.{OpKey}
 use Rattle.std.proofs.lemmas.Option.{same_Some, slice_get-get_or, slice_get_within}
-use Rattle.plan_status.specs.plan_model.specs.Contents.{Contents, Operation}
-use Rattle.plan_status.specs.plan_model.specs.Starts.{MayStart}
+use Rattle.shown_records.specs.plan_status.specs.plan_model.specs.Contents.{Contents, Operation}
+use Rattle.shown_records.specs.plan_status.specs.plan_model.specs.Starts.{MayStart}
 use Rattle.workstations.specs.Workstations.{Workstation}
 use Rattle.workstations.specs.declared.Capacity.{Capacity}
 use Rattle.plan_choice.specs.Choices.{HasTaken, IsStartLine}
-use Rattle.plan_status.proofs.RowKeys.{row_of_key}
-use Rattle.plan_status.specs.plan_drafts.proofs.EntryRows.{row_in}
+use Rattle.shown_records.specs.plan_status.proofs.RowKeys.{row_of_key}
+use Rattle.shown_records.specs.plan_status.specs.plan_drafts.proofs.EntryRows.{row_in}
 use Rattle.plan_choice.specs.Shut.{AreShut}
 use Rattle.plan_choice.specs.StartGates.{Counted, IsCountedIn}
 use Rattle.plan_choice.specs.Takings.{CanStart}
@@ -35,6 +35,18 @@ module _ (g : Counted) (op : Operation) (place : ℕ) (ws : Workstation) (at : s
         OnOk checked ((P : Contents) → HasTaken P g.contents op taken g.held → (r : Refusal) → IsStartLine r → MayStart P o op g.at r)
         × IfErr checked IsStartLine
         × IfErr checked (λ r. (P : Contents) → HasTaken P g.contents op taken g.held → ¬ MayStart P o op g.at r)
+
+    -- what is told of contents that are these
+    pub checked_alike : (Q : Contents) → Q ≡ g.contents → (checked : Result (Unit {0}) Refusal)
+        → OnOk checked ((P : Contents) → HasTaken P Q op taken g.held → (r : Refusal) → IsStartLine r → MayStart P o op g.at r)
+        × IfErr checked IsStartLine
+        × IfErr checked (λ r. (P : Contents) → HasTaken P Q op taken g.held → ¬ MayStart P o op g.at r)
+        → IsChecked checked
+    checked_alike Q same checked told =
+        subst (λ (R : Contents).
+        OnOk checked ((P : Contents) → HasTaken P R op taken g.held → (r : Refusal) → IsStartLine r → MayStart P o op g.at r)
+        × IfErr checked IsStartLine
+        × IfErr checked (λ r. (P : Contents) → HasTaken P R op taken g.held → ¬ MayStart P o op g.at r)) same told
 
     -- no check fails
     pub can_start : (checked : Result (Unit {0}) Refusal) → is_err checked ≡ false → IsChecked checked → (P : Contents) → IsCountedIn g P → CanStart P o op g.at

@@ -5,9 +5,9 @@ use Rattle.std.proofs.lemmas.Option.{slice_get_read, some_pair_parts}
 use Rattle.std.specs.List.Sorted.{IsStrictlySortedBy}
 use Rattle.std.specs.Map.{keys_of}
 use Rattle.plan_basics.specs.Keys.{Name, name_cmp, name_cmp_total}
-use Rattle.plan_status.specs.plan_model.specs.Contents.{Operation}
-use Rattle.plan_status.specs.plan_drafts.specs.Places.{AreByPlace}
-use Rattle.plan_status.proofs.Ascending.{one_place, set_cases}
+use Rattle.shown_records.specs.plan_status.specs.plan_model.specs.Contents.{Operation}
+use Rattle.shown_records.specs.plan_status.specs.plan_drafts.specs.Places.{AreByPlace}
+use Rattle.shown_records.specs.plan_status.proofs.Ascending.{one_place, set_cases}
 use Rattle.workstations.specs.Timetables.{NamedWorkstation}
 use Rattle.workstations.specs.Workstations.{Workstation}
 use Rattle.workstations.specs.declared.Capacity.{Capacity}

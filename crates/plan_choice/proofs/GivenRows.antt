@@ -3,10 +3,10 @@ use Rattle.std.specs.FinMap.{entries}
 use Rattle.std.proofs.Common.{◌≡◌, sym, ap, subst, ◌∙◌, arith, ℕ, ◌+◌, true, false, List, set, slice_get, take, Some}
 use Rattle.plan_basics.specs.Keys.{Name, name_cmp}
 use Rattle.plan_basics.specs.declared.keys.OpKey.{OpKey}
-use Rattle.plan_status.specs.plan_model.proofs.Entries.{entries_in_order}
-use Rattle.plan_status.specs.plan_model.specs.Holdings.{given_out}
-use Rattle.plan_status.specs.plan_model.specs.Contents.{Contents, Operation}
-use Rattle.plan_status.specs.plan_model.specs.Valid.{IsValid}
+use Rattle.shown_records.specs.plan_status.specs.plan_model.proofs.Entries.{entries_in_order}
+use Rattle.shown_records.specs.plan_status.specs.plan_model.specs.Holdings.{given_out}
+use Rattle.shown_records.specs.plan_status.specs.plan_model.specs.Contents.{Contents, Operation}
+use Rattle.shown_records.specs.plan_status.specs.plan_model.specs.Valid.{IsValid}
 use Rattle.workstations.specs.Workstations.{Workstation}
 use Rattle.workstations.specs.declared.Capacity.{Capacity}
 use Rattle.plan_choice.specs.Choices.{AreGivenOut}

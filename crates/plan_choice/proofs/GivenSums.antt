@@ -11,9 +11,9 @@ use Rattle.plan_basics.specs.declared.limits.TheConstants.{MOST_FIXED, MOST_OPER
 use Rattle.plan_basics.specs.Keys.{Name, name_cmp, name_cmp_total, name_cmp-IsAntisymmetric, operation_cmp, operation_cmp_total, operation_cmp-IsAntisymmetric}
 use Rattle.plan_basics.specs.declared.keys.OpKey.{OpKey}
 use Rattle.status_rules.specs.Table.{marked_status}
-use Rattle.plan_status.specs.plan_model.specs.Holdings.{given_out, holds_server, is_serving, sum_given_out, takes}
-use Rattle.plan_status.specs.plan_model.specs.Contents.{Contents, Operation, attribute_at}
-use Rattle.plan_status.specs.plan_drafts.proofs.MadeEntries.{each_entry, key_of}
+use Rattle.shown_records.specs.plan_status.specs.plan_model.specs.Holdings.{given_out, holds_server, is_serving, sum_given_out, takes}
+use Rattle.shown_records.specs.plan_status.specs.plan_model.specs.Contents.{Contents, Operation, attribute_at}
+use Rattle.shown_records.specs.plan_status.specs.plan_drafts.proofs.MadeEntries.{each_entry, key_of}
 use Rattle.workstations.specs.declared.Capacity.{Capacity}
 use Rattle.plan_choice.specs.Takings.{IsAtMost, most_given_out, takes_server, with_one_more}
 

@@ -8,12 +8,12 @@ use Rattle.plan_basics.specs.declared.keys.OpKey.{OpKey}
 use Rattle.special_resources.specs.Holdings.{Held, holding_cmp}
 use Rattle.special_resources.specs.declared.Mode.{Mode}
 use Rattle.status_rules.specs.Table.{marked_status}
-use Rattle.plan_status.specs.plan_model.proofs.Entries.{entries_in_order}
-use Rattle.plan_status.specs.plan_model.specs.Holdings.{holds_resource, takes}
-use Rattle.plan_status.specs.plan_model.specs.Contents.{Contents, Operation, attribute_at}
-use Rattle.plan_status.specs.plan_model.specs.Valid.{IsValid}
-use Rattle.plan_status.proofs.Ascending.{one_place}
-use Rattle.plan_status.proofs.LoadedRows.{row_found, row_of}
+use Rattle.shown_records.specs.plan_status.specs.plan_model.proofs.Entries.{entries_in_order}
+use Rattle.shown_records.specs.plan_status.specs.plan_model.specs.Holdings.{holds_resource, takes}
+use Rattle.shown_records.specs.plan_status.specs.plan_model.specs.Contents.{Contents, Operation, attribute_at}
+use Rattle.shown_records.specs.plan_status.specs.plan_model.specs.Valid.{IsValid}
+use Rattle.shown_records.specs.plan_status.proofs.Ascending.{one_place}
+use Rattle.shown_records.specs.plan_status.proofs.LoadedRows.{row_found, row_of}
 use Rattle.plan_choice.specs.Choices.{AreHeldIn}
 use Rattle.plan_choice.specs.Takings.{HaveTaken}
 use Rattle.plan_choice.proofs.NeedsTaken.{one_or_two}

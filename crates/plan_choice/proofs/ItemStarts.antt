@@ -10,15 +10,15 @@ use Rattle.latest_start.specs.NodeStarts.{AreLatestStartsOf, IsLiveBy, deadline_
 use Rattle.plan_basics.specs.declared.keys.OpKey.{OpKey}
 use Rattle.status_rules.proofs.Live.{live_mark, mark_live}
 use Rattle.status_rules.specs.declared.Mark.TheVariants as mark
-use Rattle.plan_status.specs.plan_model.specs.Starts.{amount_of}
-use Rattle.plan_status.specs.plan_model.specs.Contents.{Contents, IsLive, Operation}
-use Rattle.plan_status.specs.plan_drafts.specs.PlanGraphs.{CountsAlike, HoldsAlike, JoinsAmong}
-use Rattle.plan_status.specs.plan_drafts.proofs.PlacePaths.{least_starts_alike}
-use Rattle.plan_status.specs.plan_model.specs.Valid.{IsValid}
-use Rattle.plan_status.specs.plan_drafts.specs.PlanGraphs.{IsGraphFor}
-use Rattle.plan_status.proofs.LoadedRows.{known_among, row_found}
+use Rattle.shown_records.specs.plan_status.specs.plan_model.specs.Starts.{amount_of}
+use Rattle.shown_records.specs.plan_status.specs.plan_model.specs.Contents.{Contents, IsLive, Operation}
+use Rattle.shown_records.specs.plan_status.specs.plan_drafts.specs.PlanGraphs.{CountsAlike, HoldsAlike, JoinsAmong}
+use Rattle.shown_records.specs.plan_status.specs.plan_drafts.proofs.PlacePaths.{least_starts_alike}
+use Rattle.shown_records.specs.plan_status.specs.plan_model.specs.Valid.{IsValid}
+use Rattle.shown_records.specs.plan_status.specs.plan_drafts.specs.PlanGraphs.{IsGraphFor}
+use Rattle.shown_records.specs.plan_status.proofs.LoadedRows.{known_among, row_found}
 use Rattle.plan_choice.specs.Choices.{AreLatestStarts}
-use Rattle.plan_status.proofs.RowKeys.{key_of_row, row_of_key}
+use Rattle.shown_records.specs.plan_status.proofs.RowKeys.{key_of_row, row_of_key}
 use Rattle.plan_choice.specs.StartItems.{start_item}
 
 abbrev pub duration_in : Contents → OpKey → ℕ

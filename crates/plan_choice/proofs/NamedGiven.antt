@@ -12,16 +12,16 @@ use Rattle.plan_basics.specs.declared.keys.OpKey.{OpKey}
 use Rattle.status_rules.specs.declared.Mark.TheVariants as mark
 use Rattle.status_rules.specs.Table.{marked_status}
 use Rattle.ready_list.specs.Choice.{is_among}
-use Rattle.plan_status.specs.plan_model.specs.Holdings.{given_out, holds_server, is_serving, sum_given_out, takes}
-use Rattle.plan_status.specs.plan_model.specs.Contents.{Contents, Operation, HasAttribute, attribute_at}
-use Rattle.plan_status.specs.plan_model.specs.Ready.{named, with_mark}
-use Rattle.plan_status.specs.plan_model.specs.Revise.{len-revise}
-use Rattle.plan_status.specs.plan_model.proofs.Looks.{as_named}
-use Rattle.plan_status.specs.plan_drafts.proofs.MadeEntries.{bits_and, each_made, entries-revise, key_of, less_of, not_equal}
+use Rattle.shown_records.specs.plan_status.specs.plan_model.specs.Holdings.{given_out, holds_server, is_serving, sum_given_out, takes}
+use Rattle.shown_records.specs.plan_status.specs.plan_model.specs.Contents.{Contents, Operation, HasAttribute, attribute_at}
+use Rattle.shown_records.specs.plan_status.specs.plan_model.specs.Ready.{named, with_mark}
+use Rattle.shown_records.specs.plan_status.specs.plan_model.specs.Revise.{len-revise}
+use Rattle.shown_records.specs.plan_status.specs.plan_model.proofs.Looks.{as_named}
+use Rattle.shown_records.specs.plan_status.specs.plan_drafts.proofs.MadeEntries.{bits_and, each_made, entries-revise, key_of, less_of, not_equal}
 use Rattle.plan_choice.specs.Takings.{IsAtMost, most_given_out, takes_server, with_one_more}
 use Rattle.plan_choice.proofs.GivenSums.{at_another, at_its_own, given_at_most, same_capacity}
-use Rattle.plan_status.specs.plan_laws.proofs.Kept.{is_among-append}
-use Rattle.plan_status.proofs.Naming.{row_before}
+use Rattle.shown_records.specs.plan_status.specs.plan_laws.proofs.Kept.{is_among-append}
+use Rattle.shown_records.specs.plan_status.proofs.Naming.{row_before}
 use Rattle.std.proofs.Math.Bool.{and-false, or-false}
 use Rattle.std.proofs.lemmas.Bool.{or_right}
 

@@ -12,16 +12,16 @@ use Rattle.special_resources.specs.declared.Mode.{Mode}
 use Rattle.status_rules.specs.Table.{marked_status}
 use Rattle.status_rules.specs.declared.Mark.TheVariants as mark
 use Rattle.ready_list.specs.Choice.{is_among}
-use Rattle.plan_status.specs.plan_model.specs.Holdings.{Holds, holds_resource, takes}
-use Rattle.plan_status.specs.plan_model.specs.Contents.{Contents, HasAttribute, Operation}
-use Rattle.plan_status.specs.plan_model.specs.Ready.{named, with_mark}
-use Rattle.plan_status.specs.plan_model.proofs.Looks.{get-named, same_key}
+use Rattle.shown_records.specs.plan_status.specs.plan_model.specs.Holdings.{Holds, holds_resource, takes}
+use Rattle.shown_records.specs.plan_status.specs.plan_model.specs.Contents.{Contents, HasAttribute, Operation}
+use Rattle.shown_records.specs.plan_status.specs.plan_model.specs.Ready.{named, with_mark}
+use Rattle.shown_records.specs.plan_status.specs.plan_model.proofs.Looks.{get-named, same_key}
 use Rattle.std.proofs.lemmas.Option.{same_Some}
 use Rattle.plan_choice.specs.Choices.{AreHeldIn}
 use Rattle.plan_choice.specs.Takings.{HaveTaken}
 use Rattle.plan_choice.proofs.NamedGiven.{among_more}
 use Rattle.plan_choice.proofs.Naming.{still}
-use Rattle.plan_status.proofs.Naming.{row_after}
+use Rattle.shown_records.specs.plan_status.proofs.Naming.{row_after}
 use Rattle.std.proofs.Math.Bool.{or-false, or-true}
 
 -- two plans with the same workstations, whose operations are alike at a key

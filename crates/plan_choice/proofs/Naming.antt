@@ -7,12 +7,12 @@ use Rattle.status_rules.specs.declared.Mark.TheVariants as mark
 use Rattle.status_rules.specs.declared.Status.{Status}
 use Rattle.status_rules.specs.declared.Status.TheVariants as status
 use Rattle.ready_list.specs.Choice.{is_among}
-use Rattle.plan_status.specs.plan_model.specs.Contents.{Contents, Operation}
-use Rattle.plan_status.specs.plan_model.specs.Ready.{named}
-use Rattle.plan_status.specs.plan_model.specs.Status.{AllPredecessorsSatisfied, FollowsNonreporting, HasStatus, IsReady, UnmarkedStatus}
-use Rattle.plan_status.specs.plan_laws.proofs.Kept.{ready_unmarked}
-use Rattle.plan_status.specs.plan_laws.proofs.Starts.{by_unmarked, never_arriving, never_ready, never_star}
-use Rattle.plan_status.proofs.Naming.{live_after, live_before, nonreporting_after, nonreporting_before, same_row, stays_satisfied, was_satisfied}
+use Rattle.shown_records.specs.plan_status.specs.plan_model.specs.Contents.{Contents, Operation}
+use Rattle.shown_records.specs.plan_status.specs.plan_model.specs.Ready.{named}
+use Rattle.shown_records.specs.plan_status.specs.plan_model.specs.Status.{AllPredecessorsSatisfied, FollowsNonreporting, HasStatus, IsReady, UnmarkedStatus}
+use Rattle.shown_records.specs.plan_status.specs.plan_laws.proofs.Kept.{ready_unmarked}
+use Rattle.shown_records.specs.plan_status.specs.plan_laws.proofs.Starts.{by_unmarked, never_arriving, never_ready, never_star}
+use Rattle.shown_records.specs.plan_status.proofs.Naming.{live_after, live_before, nonreporting_after, nonreporting_before, same_row, stays_satisfied, was_satisfied}
 
 module _ (os : List OpKey) (P : Contents) where
   -- what isn't named is as before

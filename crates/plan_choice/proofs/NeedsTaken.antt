@@ -20,9 +20,9 @@ use Rattle.special_resources.proofs.MoreNeeds.{need_by_usage, usage_by_need}
 use Rattle.special_resources.proofs.Orders.{holding_cmp_total, holding_cmp-IsAntisymmetric}
 use Rattle.status_rules.specs.Table.{marked_status}
 use Rattle.status_rules.specs.declared.Mark.{Mark}
-use Rattle.plan_status.specs.plan_model.specs.Holdings.{holds_resource}
-use Rattle.plan_status.specs.plan_drafts.proofs.Tables.{is_found}
-use Rattle.plan_status.specs.plan_laws.proofs.Sorted.{not_itself}
+use Rattle.shown_records.specs.plan_status.specs.plan_model.specs.Holdings.{holds_resource}
+use Rattle.shown_records.specs.plan_status.specs.plan_drafts.proofs.Tables.{is_found}
+use Rattle.shown_records.specs.plan_status.specs.plan_laws.proofs.Sorted.{not_itself}
 use Rattle.plan_choice.specs.Takings.{HaveTaken}
 
 -- ---- what is held after one more is taken

@@ -8,16 +8,16 @@ use Rattle.plan_basics.specs.declared.keys.OpKey.{OpKey}
 use Rattle.ready_list.specs.declared.entry.ReadyEntry.{ReadyEntry}
 use Rattle.status_rules.specs.declared.Status.{Status}
 use Rattle.status_rules.specs.Classes.{is_ready}
-use Rattle.plan_status.specs.plan_model.proofs.Entries.{entries_in_order}
-use Rattle.plan_status.specs.plan_model.specs.Contents.{Contents, HasAttribute, Operation}
-use Rattle.plan_status.specs.plan_model.specs.Starts.{IsLatestStart}
-use Rattle.plan_status.specs.plan_model.specs.Status.{HasStatus, IsReady}
-use Rattle.plan_status.specs.plan_model.specs.declared.Occurrence.{Occurrence}
-use Rattle.plan_status.specs.plan_model.specs.Valid.{IsValid}
-use Rattle.plan_status.specs.plan_drafts.specs.Places.{AreStatuses}
-use Rattle.plan_status.proofs.LoadedRows.{row_of}
-use Rattle.plan_status.specs.plan_laws.proofs.Classes.{ready_by, ready_told}
-use Rattle.plan_status.specs.plan_laws.proofs.Standing.{one_status}
+use Rattle.shown_records.specs.plan_status.specs.plan_model.proofs.Entries.{entries_in_order}
+use Rattle.shown_records.specs.plan_status.specs.plan_model.specs.Contents.{Contents, HasAttribute, Operation}
+use Rattle.shown_records.specs.plan_status.specs.plan_model.specs.Starts.{IsLatestStart}
+use Rattle.shown_records.specs.plan_status.specs.plan_model.specs.Status.{HasStatus, IsReady}
+use Rattle.shown_records.specs.plan_status.specs.plan_model.specs.declared.Occurrence.{Occurrence}
+use Rattle.shown_records.specs.plan_status.specs.plan_model.specs.Valid.{IsValid}
+use Rattle.shown_records.specs.plan_status.specs.plan_drafts.specs.Places.{AreStatuses}
+use Rattle.shown_records.specs.plan_status.proofs.LoadedRows.{row_of}
+use Rattle.shown_records.specs.plan_status.specs.plan_laws.proofs.Classes.{ready_by, ready_told}
+use Rattle.shown_records.specs.plan_status.specs.plan_laws.proofs.Standing.{one_status}
 use Rattle.plan_choice.specs.ReadyItems.{AreAllReady, IsEntryIn}
 use Rattle.plan_choice.proofs.ReadyLists.{AreReadyBelow, ready_more, ready_pass, ready_rows}
 

@@ -18,19 +18,19 @@ use Rattle.ready_list.specs.Order.{ready_cmp, ready_cmp_total}
 use Rattle.ready_list.specs.declared.ReadyKey.{ReadyKey}
 use Rattle.ready_list.specs.declared.entry.ReadyEntry.{ReadyEntry}
 use Rattle.ready_list.proofs.Steps.{AreDistinctKeys}
-use Rattle.plan_status.specs.plan_model.specs.Contents.{Contents, Operation}
-use Rattle.plan_status.specs.plan_model.specs.Ready.{IsEntry, IsReadyList}
-use Rattle.plan_status.specs.plan_model.specs.Status.{IsReady}
-use Rattle.plan_status.specs.plan_drafts.proofs.KeyPlaces.{one_place}
-use Rattle.plan_status.specs.plan_drafts.proofs.Lists.{from_map, in_map}
-use Rattle.plan_status.specs.plan_drafts.proofs.MadeEntries.{key_of}
+use Rattle.shown_records.specs.plan_status.specs.plan_model.specs.Contents.{Contents, Operation}
+use Rattle.shown_records.specs.plan_status.specs.plan_model.specs.Ready.{IsEntry, IsReadyList}
+use Rattle.shown_records.specs.plan_status.specs.plan_model.specs.Status.{IsReady}
+use Rattle.shown_records.specs.plan_status.specs.plan_drafts.proofs.KeyPlaces.{one_place}
+use Rattle.shown_records.specs.plan_status.specs.plan_drafts.proofs.Lists.{from_map, in_map}
+use Rattle.shown_records.specs.plan_status.specs.plan_drafts.proofs.MadeEntries.{key_of}
 use Rattle.std.proofs.lemmas.Option.{same_Some}
 use Rattle.plan_basics.proofs.Members.{contains_head, contains_later}
-use Rattle.plan_status.specs.plan_laws.proofs.Readying.{one_entry}
-use Rattle.plan_status.specs.plan_laws.proofs.Sorted.{not_itself}
+use Rattle.shown_records.specs.plan_status.specs.plan_laws.proofs.Readying.{one_entry}
+use Rattle.shown_records.specs.plan_status.specs.plan_laws.proofs.Sorted.{not_itself}
 use Rattle.plan_choice.specs.Choices.{AreReadyEntries}
 use Rattle.plan_choice.specs.ReadyItems.{AreAllReady, IsReadyEntry}
-use Rattle.plan_status.proofs.RowKeys.{key_of_row}
+use Rattle.shown_records.specs.plan_status.proofs.RowKeys.{key_of_row}
 
 module _ (P : Contents) where
   apart_from : (x : ReadyKey) → IsEntry P x → (xs : List ReadyKey) → ((k : ReadyKey) → Contains xs k → IsEntry P k)

@@ -3,7 +3,7 @@ use Rattle.std.proofs.Common.{◌≡◌, inl, inr, sym, ap, subst, ◌∙◌, tr
 use Rattle.std.proofs.lemmas.Bool.{cases_lt}
 use Rattle.std.proofs.lemmas.List.{length-replicate, length-set}
 use Rattle.std.proofs.lemmas.Option.{same_Some}
-use Rattle.plan_status.proofs.Ascending.{all_alike, set_cases}
+use Rattle.shown_records.specs.plan_status.proofs.Ascending.{all_alike, set_cases}
 use Rattle.workstations.specs.Timetables.{NamedWorkstation}
 use Rattle.workstations.specs.Workstations.{HasCapacity, Workstation}
 use Rattle.workstations.specs.declared.Capacity.{Capacity}

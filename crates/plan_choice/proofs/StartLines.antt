@@ -7,9 +7,9 @@ use Rattle.plan_basics.specs.declared.Refusal.TheVariants as refusal
 use Rattle.plan_basics.specs.declared.keys.OpKey.{OpKey}
 use Rattle.special_resources.specs.Holdings.{Held}
 use Rattle.std.proofs.lemmas.Option.{same_Some}
-use Rattle.plan_status.specs.plan_model.specs.Holdings.{given_out}
-use Rattle.plan_status.specs.plan_model.specs.Contents.{Contents, Operation}
-use Rattle.plan_status.specs.plan_model.specs.Starts.{FitsAt, MayStart}
+use Rattle.shown_records.specs.plan_status.specs.plan_model.specs.Holdings.{given_out}
+use Rattle.shown_records.specs.plan_status.specs.plan_model.specs.Contents.{Contents, Operation}
+use Rattle.shown_records.specs.plan_status.specs.plan_model.specs.Starts.{FitsAt, MayStart}
 use Rattle.workstations.specs.Workstations.{HasRoom, Workstation}
 use Rattle.workstations.specs.declared.Capacity.{Capacity}
 use Rattle.plan_choice.specs.Choices.{HasTaken, IsStartLine}

@@ -9,11 +9,11 @@ use Rattle.plan_basics.specs.declared.Refusal.TheVariants as refusal
 use Rattle.plan_basics.specs.declared.keys.OpKey.{OpKey}
 use Rattle.ready_list.specs.Entries.{keys_of}
 use Rattle.ready_list.specs.declared.entry.ReadyEntry.{ReadyEntry}
-use Rattle.plan_status.specs.plan_model.specs.Holdings.{given_out, Holds}
-use Rattle.plan_status.specs.plan_model.specs.Contents.{Contents, Operation, Has, HasAttribute}
-use Rattle.plan_status.specs.plan_model.specs.Ready.{IsReadyList}
-use Rattle.plan_status.specs.plan_model.specs.Starts.{IsLatestStart}
-use Rattle.plan_status.specs.plan_drafts.specs.Places.{AreByPlace}
+use Rattle.shown_records.specs.plan_status.specs.plan_model.specs.Holdings.{given_out, Holds}
+use Rattle.shown_records.specs.plan_status.specs.plan_model.specs.Contents.{Contents, Operation, Has, HasAttribute}
+use Rattle.shown_records.specs.plan_status.specs.plan_model.specs.Ready.{IsReadyList}
+use Rattle.shown_records.specs.plan_status.specs.plan_model.specs.Starts.{IsLatestStart}
+use Rattle.shown_records.specs.plan_status.specs.plan_drafts.specs.Places.{AreByPlace}
 use Rattle.workstations.specs.Timetables.{NamedWorkstation}
 use Rattle.workstations.specs.declared.Capacity.{Capacity}
 

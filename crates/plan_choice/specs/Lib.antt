@@ -1,8 +1,12 @@
-pub use Rattle.plan_status.specs.plan_drafts
-pub use Rattle.plan_status.specs.plan_laws
-pub use Rattle.plan_status.specs.plan_model
-pub use Rattle.plan_status.specs.plan_records
-pub use Rattle.plan_status
+pub use Rattle.shown_records
+pub use Rattle.shown_records.specs.plan_cascade
+pub use Rattle.shown_records.specs.plan_changes
+pub use Rattle.shown_records.specs.plan_moves
+pub use Rattle.shown_records.specs.plan_status.specs.plan_drafts
+pub use Rattle.shown_records.specs.plan_status.specs.plan_laws
+pub use Rattle.shown_records.specs.plan_status.specs.plan_model
+pub use Rattle.shown_records.specs.plan_status.specs.plan_records
+pub use Rattle.shown_records.specs.plan_status
 pub use Rattle.workstations
 pub mod Choices
 pub mod ReadyItems

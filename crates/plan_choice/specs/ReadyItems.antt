@@ -5,11 +5,11 @@ use Rattle.std.specs.List.{AllPairs}
 use Rattle.plan_basics.specs.declared.keys.OpKey.{OpKey}
 use Rattle.ready_list.specs.declared.ReadyKey.{ReadyKey}
 use Rattle.ready_list.specs.declared.entry.ReadyEntry.{ReadyEntry}
-use Rattle.plan_status.specs.plan_model.specs.Contents.{Contents, Has}
-use Rattle.plan_status.specs.plan_model.specs.Ready.{IsEntry}
-use Rattle.plan_status.specs.plan_model.specs.Starts.{IsLatestStart}
-use Rattle.plan_status.specs.plan_model.specs.Status.{IsReady}
-use Rattle.plan_status.specs.plan_model.specs.declared.Occurrence.{Occurrence}
+use Rattle.shown_records.specs.plan_status.specs.plan_model.specs.Contents.{Contents, Has}
+use Rattle.shown_records.specs.plan_status.specs.plan_model.specs.Ready.{IsEntry}
+use Rattle.shown_records.specs.plan_status.specs.plan_model.specs.Starts.{IsLatestStart}
+use Rattle.shown_records.specs.plan_status.specs.plan_model.specs.Status.{IsReady}
+use Rattle.shown_records.specs.plan_status.specs.plan_model.specs.declared.Occurrence.{Occurrence}
 use Rattle.plan_choice.specs.Choices.{HasItsWorkstation}
 
 -- what an operation's place in a ready list goes by, whether or not it is ready

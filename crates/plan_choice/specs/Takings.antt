@@ -13,9 +13,9 @@ use Rattle.special_resources.specs.declared.Mode.{Mode}
 use Rattle.special_resources.specs.declared.Need.{Need}
 use Rattle.status_rules.specs.Table.{marked_status}
 use Rattle.status_rules.specs.declared.Mark.{Mark}
-use Rattle.plan_status.specs.plan_model.specs.Holdings.{holds_resource, holds_server, takes}
-use Rattle.plan_status.specs.plan_model.specs.Contents.{Contents, Operation, Resources, attribute_at}
-use Rattle.plan_status.specs.plan_model.specs.Starts.{MayStart}
+use Rattle.shown_records.specs.plan_status.specs.plan_model.specs.Holdings.{holds_resource, holds_server, takes}
+use Rattle.shown_records.specs.plan_status.specs.plan_model.specs.Contents.{Contents, Operation, Resources, attribute_at}
+use Rattle.shown_records.specs.plan_status.specs.plan_model.specs.Starts.{MayStart}
 use Rattle.workstations.specs.declared.Capacity.{Capacity}
 use Rattle.plan_choice.specs.Choices.{IsStartLine}
 

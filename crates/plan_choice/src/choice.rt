@@ -1,25 +1,63 @@
 // What is named to start.
-ghost use Rattle.std.specs.Prelude.{◌≡◌, ◌↔◌, IfOk, IfErr, IsTrue, Some, slice_get, true};
+ghost use Rattle.std.specs.Prelude.{◌≡◌, ◌↔◌, ◌+◌, ◌<◌, ◌≤◌, IfOk, IfErr, IsTrue, Some, length, slice_get, true};
 ghost use Rattle.std.specs.FinMap.{entries};
+ghost use Rattle.shown_records.specs.plan_status.specs.plan_model.specs.Contents.{Operation};
 ghost use Rattle.plan_basics.specs.declared.Refusal.{Refusal};
-ghost use Rattle.plan_status.specs.plan_model.specs.Ready.{IsChosen, named};
+ghost use Rattle.shown_records.specs.plan_status.specs.plan_model.specs.Ready.{IsChosen, named};
 ghost use Rattle.plan_choice.specs.Choices.{AreGivenOut, AreHeldIn, AreReadyEntries};
+ghost use Rattle.plan_choice.specs.Shut.{AreShut};
+ghost use Rattle.plan_choice.specs.StartGates.{Answers, counted};
+ghost use Rattle.ready_list.specs.declared.entry.ReadyEntry.{ReadyEntry as ReadyEntryValue};
 
 use super::holders::{holdings_of, take_needs};
 use super::shut::{is_shut, shut_at};
 use super::taken::{check_start, given_out_of, with_operation};
 use plan_basics::{Moment, OpKey, Refusal};
-use plan_status::SoundContents;
 use ready_list::{Gate, ReadyEntry, ReadyList};
+use shown_records::{PlanContents, Seen, Shown, SoundContents};
 use special_resources::Holdings;
 use std::alloc::Global;
 use std::marker::Model;
 use workstations::Capacity;
 
+// Whether the operation at a place is allowed to start at a moment, where this is given out and held; where it is, it counts as
+// started from now on. The error is always `Memory`.
+fn name_at(
+    shown: &mut Shown,
+    given: &mut [Capacity],
+    holdings: &mut Holdings,
+    shut: &mut [bool],
+    place: usize,
+    at: Moment,
+) -> Result<bool, Refusal>
+    requires within { place < length (entries shown.old.contents.operations) }
+    requires shut { AreShut (entries shown.old.contents.workstations) at given.old shut.old }
+    ensures answered { IfOk result (λ yes. (e : ReadyEntryValue) (op : Operation) → slice_get (entries shown.old.contents.operations) place ≡ Some (e.key.op, op) → Answers (counted shown.old at given.old holdings.old.held) e yes (counted shown.new at given.new holdings.new.held)) }
+    ensures shut { AreShut (entries shown.new.contents.workstations) at given.new shut.new }
+    ensures refused { IfErr result (λ r. r ≡ Refusal.Memory) }
+    ensures contents { shown.new.contents ≡ shown.old.contents }
+{
+    let Seen {
+        key,
+        operation,
+        beside,
+    } = shown.see(place);
+    let station = beside.workstation_place_of(operation);
+    let taken = given[station];
+    if check_start(&beside, key, operation, &taken, holdings, at).is_err() {
+        return Ok(false);
+    }
+    take_needs(holdings, key, operation)?;
+    let taken = with_operation(&taken, operation);
+    given[station] = taken;
+    shut[station] = is_shut(&beside.workstations()[station], at, &taken);
+    Ok(true)
+}
+
 /// Allows operations of a plan to start at a moment, one after the other, and counts those as started that it allowed.
 #[derive(Drop)]
-struct StartGate<'a> {
-    contents: &'a SoundContents,
+struct StartGate {
+    shown: Shown,
     at: Moment,
     /// What each workstation has given out, at its row's index.
     given: Vec<Capacity>,
@@ -28,7 +66,7 @@ struct StartGate<'a> {
     shut: Vec<bool>,
 }
 
-impl<'a> Model for StartGate<'a> {
+impl Model for StartGate {
     ghost use Rattle.std.specs.FinMap.{entries};
     ghost use Rattle.plan_choice.specs.Shut.{AreShut};
     ghost use Rattle.plan_choice.specs.StartGates.{Counted, counted_code};
@@ -37,9 +75,9 @@ impl<'a> Model for StartGate<'a> {
 
     ghost coded = { counted_code };
 
-    ghost view = { λ a. record { contents = a.contents.now; at = a.at; given = a.given.items; held = a.holdings.held } };
+    ghost view = { λ a. record { contents = a.shown.contents; looks = a.shown.looks; at = a.at; given = a.given.items; held = a.holdings.held } };
 
-    ghost invariant = { λ a. AreShut (entries a.contents.now.workstations) a.at a.given.items a.shut.items };
+    ghost invariant = { λ a. AreShut (entries a.shown.contents.workstations) a.at a.given.items a.shut.items };
 }
 
 // Whether this is told of an index.
@@ -52,10 +90,14 @@ fn is_told_shut(shut: &[bool], place: usize) -> bool
     }
 }
 
-impl<'a> Gate for StartGate<'a> {
+impl Gate for StartGate {
     ghost use Rattle.std.specs.Prelude.{◌≡◌};
     ghost use Rattle.plan_basics.specs.declared.Refusal.{Refusal};
     ghost use Rattle.plan_choice.specs.StartGates.{Answers};
+
+    type Source = PlanContents;
+
+    ghost source = { λ g. g.contents };
 
     ghost answers = { Answers };
 
@@ -65,21 +107,19 @@ impl<'a> Gate for StartGate<'a> {
         if is_told_shut(&self.shut, entry.site) {
             return Ok(false);
         }
-        let contents = self.contents;
-        let op = &entry.key.op;
-        let Some(operation) = contents.operation(op) else {
+        let Some(place) = self.shown.beside().operation_place(&entry.key.op) else {
             return Ok(false);
         };
-        let place = contents.workstation_place_of(operation);
-        let taken = self.given[place];
-        if check_start(contents, op, operation, &taken, &self.holdings, self.at).is_err() {
-            return Ok(false);
-        }
-        take_needs(&mut self.holdings, op, operation)?;
-        let taken = with_operation(&taken, operation);
-        self.given[place] = taken;
-        self.shut[place] = is_shut(&contents.workstations()[place], self.at, &taken);
-        Ok(true)
+        let given = self.given.as_mut_slice();
+        let shut = self.shut.as_mut_slice();
+        name_at(
+            &mut self.shown,
+            given,
+            &mut self.holdings,
+            shut,
+            place,
+            self.at,
+        )
     }
 }
 
@@ -92,56 +132,153 @@ pub struct Choice {
     pub holdings: Holdings,
 }
 
-/// What is named to start at a moment, in order, where this is given out and held: from the front of the ready list, each
-/// operation on an automatic workstation that is allowed to start once those before it are named; the others are passed over
-/// (IBM OPC/ESA, Planning and Scheduling the Workload). The error is always `Memory`.
-pub fn chosen_with(
-    alloc: Global,
-    contents: &SoundContents,
+// What is named to start at a moment, in order, where this is given out and held, and these workstations are told to be shut. The
+// error is always `Memory`.
+fn named_with(
+    shown: Shown,
     ready: &ReadyList,
     at: Moment,
     given: Vec<Capacity>,
     holdings: Holdings,
-) -> Result<Choice, Refusal>
-    requires ready { AreReadyEntries contents.now ready.now.entries }
-    requires given { AreGivenOut contents.now (entries contents.now.workstations) given.items }
-    requires held { AreHeldIn contents.now holdings.held }
-    ensures chosen { IfOk result (λ c. IsChosen contents.now at c.named.items) }
-    ensures given { IfOk result (λ c. let after = named c.named.items contents.now in AreGivenOut after (entries after.workstations) c.given.items) }
-    ensures held { IfOk result (λ c. AreHeldIn (named c.named.items contents.now) c.holdings.held) }
-    ensures refused { IfErr result (λ r. r ≡ Refusal.Memory) }
+    shut: Vec<bool>,
+) -> (Shown, Result<Choice, Refusal>)
+    requires ready { AreReadyEntries shown.contents ready.now.entries }
+    requires given { AreGivenOut shown.contents (entries shown.contents.workstations) given.items }
+    requires held { AreHeldIn shown.contents holdings.held }
+    requires shut { AreShut (entries shown.contents.workstations) at given.items shut.items }
+    ensures contents { result.0.contents ≡ shown.contents }
+    ensures fewest { IfOk result.1 (λ c. shown.looks ≤ result.0.looks) }
+    ensures most { IfOk result.1 (λ c. result.0.looks ≤ shown.looks + length ready.now.entries) }
+    ensures chosen { IfOk result.1 (λ c. IsChosen shown.contents at c.named.items) }
+    ensures given { IfOk result.1 (λ c. let after = named c.named.items shown.contents in AreGivenOut after (entries after.workstations) c.given.items) }
+    ensures held { IfOk result.1 (λ c. AreHeldIn (named c.named.items shown.contents) c.holdings.held) }
+    ensures refused { IfErr result.1 (λ r. r ≡ Refusal.Memory) }
 {
-    let shut = shut_at(alloc, contents.workstations(), at, &given)?;
     let mut gate = StartGate {
-        contents,
+        shown,
         at,
         given,
         holdings,
         shut,
     };
-    let named = ready.choose(&mut gate)?;
-    Ok(Choice {
-        named,
-        given: gate.given,
-        holdings: gate.holdings,
-    })
+    let named = ready.choose(&mut gate);
+    let StartGate {
+        shown,
+        at: _,
+        given,
+        holdings,
+        shut: _,
+    } = gate;
+    match named {
+        Ok(named) => {
+            let choice = Choice {
+                named,
+                given,
+                holdings,
+            };
+            (shown, Ok(choice))
+        }
+        Err(refusal) => (shown, Err(refusal)),
+    }
 }
 
-/// What is named to start at a moment, in order: from the front of the ready list, each operation on an automatic
-/// workstation that is allowed to start once those before it are named; the others are passed over (IBM OPC/ESA, Planning
-/// and Scheduling the Workload). The error is always `Memory`.
-pub fn chosen(
+// Which workstations are closed at a moment or have given out all of their servers, each at its index. The error is always
+// `Memory`.
+fn shut_in(
     alloc: Global,
-    contents: &SoundContents,
+    shown: &Shown,
+    at: Moment,
+    given: &[Capacity],
+) -> Result<Vec<bool>, Refusal>
+    requires { length given.now ≡ length (entries shown.now.contents.workstations) }
+    ensures shut { IfOk result (λ shut. AreShut (entries shown.now.contents.workstations) at given.now shut.items) }
+    ensures refused { IfErr result (λ r. r ≡ Refusal.Memory) }
+{
+    Ok(shut_at(alloc, shown.beside().workstations(), at, given)?)
+}
+
+/// What is named to start at a moment, in order, where this is given out and held: from the front of the ready list, each
+/// operation on an automatic workstation that is allowed to start once those before it are named; the others are passed over
+/// (IBM OPC/ESA, Planning and Scheduling the Workload). It takes a look at each entry of the list at most, and none where the
+/// workstation is closed or has no server left, and gives back what is shown. The error is always `Memory`.
+pub fn chosen_with(
+    alloc: Global,
+    shown: Shown,
     ready: &ReadyList,
     at: Moment,
-) -> Result<Vec<OpKey>, Refusal>
-    requires { AreReadyEntries contents.now ready.now.entries }
-    ensures chosen { IfOk result (λ named. IsChosen contents.now at named.items) }
+    given: Vec<Capacity>,
+    holdings: Holdings,
+) -> (Shown, Result<Choice, Refusal>)
+    requires ready { AreReadyEntries shown.contents ready.now.entries }
+    requires given { AreGivenOut shown.contents (entries shown.contents.workstations) given.items }
+    requires held { AreHeldIn shown.contents holdings.held }
+    ensures contents { result.0.contents ≡ shown.contents }
+    ensures fewest { IfOk result.1 (λ c. shown.looks ≤ result.0.looks) }
+    ensures most { IfOk result.1 (λ c. result.0.looks ≤ shown.looks + length ready.now.entries) }
+    ensures chosen { IfOk result.1 (λ c. IsChosen shown.contents at c.named.items) }
+    ensures given { IfOk result.1 (λ c. let after = named c.named.items shown.contents in AreGivenOut after (entries after.workstations) c.given.items) }
+    ensures held { IfOk result.1 (λ c. AreHeldIn (named c.named.items shown.contents) c.holdings.held) }
+    ensures refused { IfErr result.1 (λ r. r ≡ Refusal.Memory) }
+{
+    match shut_in(alloc, &shown, at, &given) {
+        Ok(shut) => named_with(shown, ready, at, given, holdings, shut),
+        Err(refusal) => (shown, Err(refusal)),
+    }
+}
+
+// What is named to start at a moment in these contents, which it gives back, where this is given out and held. The error is
+// always `Memory`.
+fn chosen_in(
+    alloc: Global,
+    contents: SoundContents,
+    ready: &ReadyList,
+    at: Moment,
+    given: Vec<Capacity>,
+    holdings: Holdings,
+) -> (SoundContents, Result<Vec<OpKey>, Refusal>)
+    requires ready { AreReadyEntries contents ready.now.entries }
+    requires given { AreGivenOut contents (entries contents.workstations) given.items }
+    requires held { AreHeldIn contents holdings.held }
+    ensures contents { result.0 ≡ contents }
+    ensures chosen { IfOk result.1 (λ named. IsChosen contents at named.items) }
+    ensures refused { IfErr result.1 (λ r. r ≡ Refusal.Memory) }
+{
+    let (shown, opener) = Shown::of(contents);
+    let (shown, choice) = chosen_with(alloc, shown, ready, at, given, holdings);
+    let (contents, _) = shown.into_contents(opener);
+    match choice {
+        Ok(choice) => (contents, Ok(choice.named)),
+        Err(refusal) => (contents, Err(refusal)),
+    }
+}
+
+// What each workstation of these contents has given out, and who holds special resources. The error is always `Memory`.
+fn takings_of(alloc: Global, contents: &SoundContents) -> Result<(Vec<Capacity>, Holdings), Refusal>
+    ensures given { IfOk result (λ t. AreGivenOut contents.now (entries contents.now.workstations) t.0.items) }
+    ensures held { IfOk result (λ t. AreHeldIn contents.now t.1.held) }
     ensures refused { IfErr result (λ r. r ≡ Refusal.Memory) }
 {
     let given = given_out_of(alloc, contents)?;
     let holdings = holdings_of(alloc, contents.valid())?;
-    let choice = chosen_with(alloc, contents, ready, at, given, holdings)?;
-    Ok(choice.named)
+    Ok((given, holdings))
+}
+
+/// What is named to start at a moment, in order, in contents that were made anew, which it gives back: from the front of the ready
+/// list, each operation on an automatic workstation that is allowed to start once those before it are named; the others are passed
+/// over (IBM OPC/ESA, Planning and Scheduling the Workload). The error is always `Memory`.
+pub fn chosen(
+    alloc: Global,
+    contents: SoundContents,
+    ready: &ReadyList,
+    at: Moment,
+) -> (SoundContents, Result<Vec<OpKey>, Refusal>)
+    requires { AreReadyEntries contents ready.now.entries }
+    ensures contents { result.0 ≡ contents }
+    ensures chosen { IfOk result.1 (λ named. IsChosen contents at named.items) }
+    ensures refused { IfErr result.1 (λ r. r ≡ Refusal.Memory) }
+{
+    match takings_of(alloc, &contents) {
+        Ok((given, holdings)) => chosen_in(alloc, contents, ready, at, given, holdings),
+        Err(refusal) => (contents, Err(refusal)),
+    }
 }

@@ -7,7 +7,7 @@ ghost use Rattle.plan_choice.specs.Takings.{HaveTaken};
 
 use super::taken::starts_are_known;
 use plan_basics::{OpKey, Refusal};
-use plan_status::{OperationRecord, ValidContents};
+use shown_records::{OperationRecord, ValidContents};
 use special_resources::Holdings;
 use status_rules::Mark;
 use std::alloc::Global;

@@ -1,14 +1,14 @@
 // Latest starts of a plan's operations.
 ghost use Rattle.std.specs.Prelude.{◌≡◌, IfOk, IfErr, map};
 ghost use Rattle.plan_basics.specs.declared.Refusal.{Refusal};
-ghost use Rattle.plan_status.specs.plan_drafts.specs.PlanGraphs.{IsGraphFor};
+ghost use Rattle.shown_records.specs.plan_status.specs.plan_drafts.specs.PlanGraphs.{IsGraphFor};
 ghost use Rattle.plan_choice.specs.Choices.{AreLatestStarts};
 ghost use Rattle.plan_choice.specs.StartItems.{start_item};
 
 use latest_start::{Item, Latest};
 use operation_graph::Graph;
 use plan_basics::{OpKey, Refusal};
-use plan_status::{OperationRecord, SoundContents};
+use shown_records::{OperationRecord, SoundContents};
 use std::alloc::{AllocError, Global};
 
 // What the latest start of an operation goes by.

@@ -1,46 +1,51 @@
 // The ready list.
 ghost use Rattle.std.specs.Prelude.{◌≡◌, ◌<◌, Some, length, slice_get, IfOk, IfErr};
 ghost use Rattle.std.specs.FinMap.{entries, get};
-ghost use Rattle.plan_status.specs.plan_model.specs.declared.Occurrence.{Occurrence};
+ghost use Rattle.shown_records.specs.plan_status.specs.plan_model.specs.declared.Occurrence.{Occurrence};
 ghost use Rattle.plan_basics.specs.declared.Refusal.{Refusal};
 ghost use Rattle.plan_basics.specs.declared.keys.OpKey.{OpKey as OpKeyValue};
-ghost use Rattle.plan_status.specs.plan_drafts.specs.Places.{AreStatuses};
-ghost use Rattle.plan_status.specs.plan_model.specs.Starts.{IsLatestStart};
-ghost use Rattle.plan_status.specs.plan_model.specs.Contents.{Operation};
+ghost use Rattle.shown_records.specs.plan_status.specs.plan_drafts.specs.Places.{AreStatuses};
+ghost use Rattle.shown_records.specs.plan_status.specs.plan_model.specs.Starts.{IsLatestStart};
+ghost use Rattle.shown_records.specs.plan_status.specs.plan_model.specs.Contents.{Operation};
 ghost use Rattle.plan_choice.specs.Choices.{AreLatestStarts, AreReadyEntries};
 ghost use Rattle.plan_choice.specs.ReadyItems.{AreAllReady, IsEntryIn};
 
 use latest_start::Latest;
 use plan_basics::{OpKey, Refusal};
-use plan_status::{OperationRecord, SoundContents, attribute_of};
 use ready_list::{ReadyEntry, ReadyKey, ReadyList};
+use shown_records::{Beside, OperationRecord, SoundContents};
 use status_rules::Status;
 use std::alloc::{AllocError, Global};
 
 // The priority of the occurrence of an operation of the plan.
-fn priority_of(contents: &SoundContents, key: &OpKey) -> u8
-    requires { (op : Operation) × (get contents.now.operations key.now ≡ Some op) }
-    ensures { (c : Occurrence) × (get contents.now.occurrences key.now.occurrence ≡ Some c) × (result ≡ c.priority) }
+fn priority_of(beside: &Beside<'_>, key: &OpKey) -> u8
+    requires { (op : Operation) × (get beside.now.contents.now.operations key.now ≡ Some op) }
+    ensures { (c : Occurrence) × (get beside.now.contents.now.occurrences key.now.occurrence ≡ Some c) × (result ≡ c.priority) }
 {
-    contents.occurrence(&key.occurrence).unwrap().priority
+    beside.occurrence(&key.occurrence).unwrap().priority
 }
 
-// The entry of an operation with its latest start, whether or not it is ready.
-fn entry_with(contents: &SoundContents, row: &(OpKey, OperationRecord), latest: i64) -> ReadyEntry
-    requires { get contents.now.operations row.now.0 ≡ Some row.now.1 }
-    ensures op { result.key.op ≡ row.now.0 }
-    ensures entry { IsLatestStart contents.now row.now.0 latest → IsEntryIn contents.now result }
+/// The entry of an operation of the plan with its latest start, whether or not it is ready.
+pub fn entry_with(
+    beside: &Beside<'_>,
+    key: &OpKey,
+    operation: &OperationRecord,
+    latest: i64,
+) -> ReadyEntry
+    requires { get beside.now.contents.now.operations key.now ≡ Some operation.now }
+    ensures op { result.key.op ≡ key.now }
+    ensures entry { IsLatestStart beside.now.contents.now key.now latest → IsEntryIn beside.now.contents.now result }
 {
     ReadyEntry {
         key: ReadyKey {
             latest,
-            priority: priority_of(contents, &row.0),
-            duration: row.1.duration,
-            op: row.0,
+            priority: priority_of(beside, key),
+            duration: operation.duration,
+            op: *key,
         },
-        ws: row.1.workstation,
-        attr: attribute_of(contents.valid(), &row.1),
-        site: contents.workstation_place_of(&row.1),
+        ws: operation.workstation,
+        attr: beside.attribute_of(operation),
+        site: beside.workstation_place_of(operation),
     }
 }
 
@@ -51,7 +56,9 @@ pub fn entry_at(contents: &SoundContents, latest: &Latest, place: usize) -> Read
     ensures op { (o : OpKeyValue) (op : Operation) → slice_get (entries contents.now.operations) place ≡ Some (o, op) → result.key.op ≡ o }
     ensures entry { IsEntryIn contents.now result }
 {
-    entry_with(contents, &contents.operations()[place], latest.of(place))
+    let (key, operation) = &contents.operations()[place];
+    let beside = Beside::of(contents);
+    entry_with(&beside, key, operation, latest.of(place))
 }
 
 // The entries of what is ready, in key order.

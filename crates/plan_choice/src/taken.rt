@@ -3,14 +3,14 @@ ghost use Rattle.std.specs.Prelude.{◌≡◌, ◌↔◌, ◌+◌, ◌≤◌, tr
 ghost use Rattle.std.specs.FinMap.{entries, get};
 ghost use Rattle.plan_basics.specs.declared.Refusal.{Refusal};
 ghost use Rattle.plan_basics.specs.declared.keys.OpKey.{OpKey};
-ghost use Rattle.plan_status.specs.plan_model.specs.Contents.{Contents, attribute_at};
-ghost use Rattle.plan_status.specs.plan_model.specs.Starts.{MayStart};
-ghost use Rattle.plan_status.specs.plan_model.specs.Holdings.{takes};
+ghost use Rattle.shown_records.specs.plan_status.specs.plan_model.specs.Contents.{Contents, attribute_at};
+ghost use Rattle.shown_records.specs.plan_status.specs.plan_model.specs.Starts.{MayStart};
+ghost use Rattle.shown_records.specs.plan_status.specs.plan_model.specs.Holdings.{takes};
 ghost use Rattle.plan_choice.specs.Choices.{AreGivenOut, HasTaken, IsStartLine};
 ghost use Rattle.plan_choice.specs.Takings.{CanMeetNeed, CanMeetNeeds, CanStart, IsAtMost, MeetsLinesBelow, most_given_out, takes_server, with_one_more};
 
 use plan_basics::{Attr, Moment, OpKey, Refusal, ResName};
-use plan_status::{OperationRecord, SoundContents, ValidContents, attribute_of};
+use shown_records::{Beside, OperationRecord, SoundContents, ValidContents, attribute_of};
 use special_resources::{Holdings, Need};
 use std::alloc::{AllocError, Global};
 use workstations::Capacity;
@@ -77,30 +77,30 @@ pub fn given_out_of(alloc: Global, contents: &SoundContents) -> Result<Vec<Capac
 }
 
 // Whether a special resource is available.
-fn is_available(contents: &SoundContents, name: &ResName) -> bool
-    ensures { IsTrue result ↔ (get contents.now.resources name.now ≡ Some true) }
+fn is_available(beside: &Beside<'_>, name: &ResName) -> bool
+    ensures { IsTrue result ↔ (get beside.now.contents.now.resources name.now ≡ Some true) }
 {
-    contents.resource(name).unwrap_or(false)
+    beside.resource(name).unwrap_or(false)
 }
 
 // Whether the resource of a need is available, and no holding of another operation stands in the way.
-fn has_resource(contents: &SoundContents, key: &OpKey, need: &Need, holdings: &Holdings) -> bool
-    ensures { IsTrue result ↔ CanMeetNeed contents.now.resources holdings.now.held key.now need.now }
+fn has_resource(beside: &Beside<'_>, key: &OpKey, need: &Need, holdings: &Holdings) -> bool
+    ensures { IsTrue result ↔ CanMeetNeed beside.now.contents.now.resources holdings.now.held key.now need.now }
 {
-    is_available(contents, &need.name) && holdings.fits(need, *key)
+    is_available(beside, &need.name) && holdings.fits(need, *key)
 }
 
 // Whether each special resource that an operation needs is available, and no holding of another operation stands in the way.
 fn has_resources(
-    contents: &SoundContents,
+    beside: &Beside<'_>,
     key: &OpKey,
     operation: &OperationRecord,
     holdings: &Holdings,
 ) -> bool
-    ensures { IsTrue result ↔ CanMeetNeeds contents.now.resources holdings.now.held key.now operation.now.needs }
+    ensures { IsTrue result ↔ CanMeetNeeds beside.now.contents.now.resources holdings.now.held key.now operation.now.needs }
 {
     for need in operation.needs.as_slice() {
-        if !has_resource(contents, key, need, holdings) {
+        if !has_resource(beside, key, need, holdings) {
             return false;
         }
     }
@@ -113,18 +113,18 @@ fn has_resources(
 /// `ResourceBusy` (a special resource isn't available, another operation holds it exclusively, or another holds it at all
 /// and the need is exclusive).
 pub fn check_start(
-    contents: &SoundContents,
+    beside: &Beside<'_>,
     key: &OpKey,
     operation: &OperationRecord,
     taken: &Capacity,
     holdings: &Holdings,
     at: Moment,
 ) -> Result<(), Refusal>
-    requires { get contents.now.operations key.now ≡ Some operation.now }
-    ensures ok { OnOk result ((P : Contents) → HasTaken P contents.now operation.now taken.now holdings.now.held → CanStart P key.now operation.now at) }
+    requires { get beside.now.contents.now.operations key.now ≡ Some operation.now }
+    ensures ok { OnOk result ((P : Contents) → HasTaken P beside.now.contents.now operation.now taken.now holdings.now.held → CanStart P key.now operation.now at) }
     ensures line { IfErr result IsStartLine }
-    ensures refused { IfErr result (λ r. (P : Contents) → HasTaken P contents.now operation.now taken.now holdings.now.held → ¬ MayStart P key.now operation.now at r) }
-    ensures least { IfErr result (λ r. (P : Contents) → HasTaken P contents.now operation.now taken.now holdings.now.held → MeetsLinesBelow P key.now operation.now at r) }
+    ensures refused { IfErr result (λ r. (P : Contents) → HasTaken P beside.now.contents.now operation.now taken.now holdings.now.held → ¬ MayStart P key.now operation.now at r) }
+    ensures least { IfErr result (λ r. (P : Contents) → HasTaken P beside.now.contents.now operation.now taken.now holdings.now.held → MeetsLinesBelow P key.now operation.now at r) }
 {
     if operation.held {
         return Err(Refusal::Held);
@@ -132,9 +132,9 @@ pub fn check_start(
     if at.minute() < operation.not_before.minute() {
         return Err(Refusal::TooEarly);
     }
-    let workstation = contents.workstation(&operation.workstation).unwrap();
+    let workstation = beside.workstation(&operation.workstation).unwrap();
     workstation.fits(at, taken, u32::from(operation.r1), u32::from(operation.r2))?;
-    if has_resources(contents, key, operation, holdings) {
+    if has_resources(beside, key, operation, holdings) {
         Ok(())
     } else {
         Err(Refusal::ResourceBusy)

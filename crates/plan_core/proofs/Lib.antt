@@ -1,6 +1,8 @@
 pub mod Answering
 pub mod FromPlace
+pub mod KnownRows
 pub mod LatestKept
+pub mod Led
 pub mod Made
 pub mod OccViews
 pub mod OpViews
@@ -9,4 +11,6 @@ pub mod Provided
 pub mod ReadyViews
 pub mod Refusing
 pub mod Settling
+pub mod SmallLooks
 pub mod Trying
+pub mod WholeLooks

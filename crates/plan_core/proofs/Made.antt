@@ -11,7 +11,7 @@ use Rattle.plan_steps.specs.plan_drafts.specs.Contents.{AreAdditionParts, added_
 use Rattle.plan_steps.specs.plan_drafts.specs.Drafts.{IsAddition}
 use Rattle.plan_steps.specs.plan_drafts.specs.declared.contents.AdditionParts.{AdditionParts}
 use Rattle.plan_core.specs.Requested.{AreMadeBy}
-use Rattle.plan_changes.proofs.Answered.{if_ok}
+use Rattle.plan_steps.specs.plan_changes.proofs.Answered.{if_ok}
 
 module _ (P : Contents) (w : What) (legal : IsRequest w) where
   -- where it is what the request changes, of what is answered, r, to a request, v, that is this one

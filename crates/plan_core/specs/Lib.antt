@@ -1,3 +1,4 @@
+pub use Rattle.plan_steps
 pub use Rattle.plan_steps.specs.operation_graph
 pub use Rattle.plan_steps.specs.plan_drafts
 pub use Rattle.plan_steps.specs.plan_laws
@@ -9,6 +10,8 @@ pub use Rattle.plan_status
 pub use Rattle.ready_list
 pub mod Next
 pub mod State
+pub mod Looked
+pub mod Outcomes
 pub mod Provided
 pub mod Requested
 pub mod Trials

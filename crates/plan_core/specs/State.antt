@@ -22,25 +22,26 @@ use Rattle.plan_records.specs.declared.Request.{Request}
 pub record PlanState : Type 0 where
   pub plan : Plan
 
--- the moment of a request, what it makes of the plan; the operations that are named, in order, and the rows of the tables that change: those that are new or differ, and the keys of those that are gone
+-- the moment of a request, what it makes of the plan; the operations that are named, in order, and the rows of the tables that change: those that are new or differ, and the keys of those that are gone; and how many operation records were looked at
 pub record PreparedState : Type 0 where
   pub clock : ℕ
   pub next : Next
   pub named : List OpKey
   pub rows : List PlanRow
   pub gone : List RowKey
+  pub work : ℕ
 
 -- what callers see of a plan is stored as that plan
 abbrev pub state_code : Coded PlanState
 state_code = code_by Plan plan_code (λ s. s.plan) (λ P. record { plan = P }) (λ _. refl)
 
--- a prepared request is stored as its five parts
+-- a prepared request is stored as its six parts
 abbrev pub prepared_code : Coded PreparedState
 prepared_code = code_by
-    (((ℕ × Next) × List OpKey) × (List PlanRow × List RowKey))
-    (coded× (coded× (coded× coded_ℕ (next_row.the_row).coded) (coded_list (operation_key.the_row).coded)) (coded× (coded_list (plan_row.the_row).coded) (coded_list (row_key.the_row).coded)))
-    (λ s. (((s.clock, s.next), s.named), (s.rows, s.gone)))
-    (λ p. record { clock = p.0.0.0; next = p.0.0.1; named = p.0.1; rows = p.1.0; gone = p.1.1 })
+    (((ℕ × Next) × (List OpKey × ℕ)) × (List PlanRow × List RowKey))
+    (coded× (coded× (coded× coded_ℕ (next_row.the_row).coded) (coded× (coded_list (operation_key.the_row).coded) coded_ℕ)) (coded× (coded_list (plan_row.the_row).coded) (coded_list (row_key.the_row).coded)))
+    (λ s. (((s.clock, s.next), (s.named, s.work)), (s.rows, s.gone)))
+    (λ p. record { clock = p.0.0.0; next = p.0.0.1; named = p.0.1.0; rows = p.1.0; gone = p.1.1; work = p.0.1.1 })
     (λ _. refl)
 
 -- the plan that a prepared request leads to from this one

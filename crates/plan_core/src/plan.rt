@@ -1,31 +1,22 @@
 // The plan in memory, and the steps that requests take in it.
-ghost use Rattle.std.specs.Prelude.{◌≡◌, ◌⊎◌, ℕ, pos, true, map, Some, None, IfOk, IfErr, OnOk};
-ghost use Rattle.plan_basics.specs.Refusals.{IsLeastRefusal, NoneRefuses};
-ghost use Rattle.plan_steps.specs.plan_model.specs.Contents.{Contents};
-ghost use Rattle.plan_steps.specs.plan_model.specs.Plan.{no_plan, plan_held, IsSoundPlan};
-ghost use Rattle.plan_records.specs.declared.What.{What};
+ghost use Rattle.std.specs.Prelude.{◌≡◌, ◌⊎◌, ◌≤ℤ◌, pos, map, IfOk, IfErr, OnOk};
+ghost use Rattle.plan_basics.specs.declared.Refusal.{Refusal};
+ghost use Rattle.plan_steps.specs.plan_model.specs.Plan.{no_plan, IsSoundPlan};
 ghost use Rattle.plan_records.specs.declared.Request.{Request};
 ghost use Rattle.plan_records.specs.Answer.{accepted, refused, answer_of};
-ghost use Rattle.plan_records.specs.Acceptance.{MayBeAccepted};
 ghost use Rattle.plan_records.specs.Rows.{AreChanges};
 ghost use Rattle.plan_records.specs.Step.{Step};
+ghost use Rattle.plan_core.specs.Looked.{AreAllowed, CoverRows};
 ghost use Rattle.plan_core.specs.Provided.{RunStartsAreProvided, StartsAreProvided};
-ghost use Rattle.plan_core.specs.Requested.{AreMadeBy, IsAnswered, MayBeMadeAt};
-ghost use Rattle.plan_core.specs.State.{IsPreparedBy, IsPreparedFor, plan_after, AcceptedAnswerAll, AnswersAll};
-ghost use Rattle.plan_steps.specs.plan_kept.specs.Edits.{IsSmall};
-ghost use Rattle.plan_steps.specs.Naming.{AreStepNotes};
+ghost use Rattle.plan_core.specs.Requested.{IsAnswered};
+ghost use Rattle.plan_core.specs.State.{IsPreparedFor, plan_after, AcceptedAnswerAll, AnswersAll};
 
-use super::prepared::{Next, Prepared, Writing};
-use super::requests::{changed, drafted};
-use super::settle::settle;
-use super::taking::{put, tried};
+use super::counted::prepare_in;
+use super::prepared::Prepared;
+use super::taking::put;
 use plan_basics::{Moment, OpKey, Refusal};
-use plan_records::{Changes, PlanContents, Reply, Request, What};
-use plan_status::SoundContents;
-use plan_steps::{
-    LoadedPlan, Notes, PlanShown, Shown, changes_between, check_load, check_request, edit_of,
-    is_small, noted_changes,
-};
+use plan_records::{Reply, Request};
+use plan_steps::LoadedPlan;
 use std::alloc::Global;
 use std::marker::Model;
 
@@ -71,61 +62,16 @@ impl Plan {
         self.clock
     }
 
-    // What stands in the way of a request that is made at a moment, but for that moment.
-    fn check_what(&self, what: &What, at: Moment) -> Result<(), Refusal>
-        ensures ok { OnOk result (NoneRefuses (MayBeMadeAt self.now.plan at what.now)) }
-        ensures refused { IfErr result (λ r. (r ≡ Refusal.Memory) ⊎ IsLeastRefusal (MayBeMadeAt self.now.plan at what.now) r) }
-    {
-        if let What::Load(draft) = what {
-            check_load(self.loaded.is_some(), draft)
-        } else {
-            let loaded = self.loaded.as_ref().ok_or(Refusal::NotLoaded)?;
-            check_request(self.alloc, loaded, what, at)
-        }
-    }
-
-    // The moment of a request that may be accepted; else the least refusal that applies, or that no memory is found.
-    fn check(&self, request: &Request) -> Result<Moment, Refusal>
+    // The moment of a request, which lies in range and not before the plan's clock; else the refusal that applies.
+    fn moment_of(&self, request: &Request) -> Result<Moment, Refusal>
         ensures at { IfOk result (λ m. request.now.at ≡ pos m) }
-        ensures ok { OnOk result (NoneRefuses (MayBeAccepted self.now.plan request.now)) }
-        ensures refused { IfErr result (λ r. (r ≡ Refusal.Memory) ⊎ Step self.now.plan request.now (refused r) self.now.plan) }
+        ensures onward { OnOk result (pos self.now.plan.clock ≤ℤ request.now.at) }
+        ensures refused { IfErr result (λ r. Step self.now.plan request.now (refused r) self.now.plan) }
     {
         if request.at < self.clock.minute() {
             return Err(Refusal::Past);
         }
-        let at = Moment::new(request.at).ok_or(Refusal::MomentRange)?;
-        self.check_what(&request.what, at)?;
-        Ok(at)
-    }
-
-    // What a request that isn't small and may be accepted makes of what the plan holds. The error is always `Memory`.
-    fn contents_after(&self, request: &Request) -> Result<PlanContents, Refusal>
-        requires clear { NoneRefuses (MayBeAccepted self.now.plan request.now) }
-        requires whole { ¬ IsSmall request.now.what }
-        ensures made { IfOk result (AreMadeBy self.now.plan.contents request.now.what) }
-        ensures refused { IfErr result (λ r. r ≡ Refusal.Memory) }
-    {
-        if let What::Load(draft) = &request.what {
-            Ok(drafted(self.alloc, draft.as_ref().unwrap())?)
-        } else {
-            changed(self.alloc, self.loaded.as_ref().unwrap(), &request.what)
-        }
-    }
-
-    // Which rows of the tables change where this plan is loaded at this moment. The error is always `Memory`.
-    fn changes_to(&self, at: Moment, loaded: &LoadedPlan) -> Result<Changes, Refusal>
-        ensures changes { IfOk result (λ c. AreChanges self.now.plan (plan_held at (Some loaded.now)) c.rows.items c.gone.items) }
-        ensures refused { IfErr result (λ r. r ≡ Refusal.Memory) }
-    {
-        let before = PlanShown {
-            clock: self.clock(),
-            loaded: self.shown(),
-        };
-        let after = PlanShown {
-            clock: at,
-            loaded: Some(Shown::of(loaded)),
-        };
-        Ok(changes_between(self.alloc, before, after)?)
+        Moment::new(request.at).ok_or(Refusal::MomentRange)
     }
 
     // The plan is looked at for the proof alone, which learns that it is sound.
@@ -135,72 +81,12 @@ impl Plan {
         let _ = self.clock();
     }
 
-    // What a request that isn't small and may be accepted leads to at its moment, all worked out afresh. The error is always
-    // `Memory`.
-    fn prepare_whole(&self, request: &Request, at: Moment) -> Result<Prepared, Refusal>
-        requires clear { NoneRefuses (MayBeAccepted self.now.plan request.now) }
-        requires whole { ¬ IsSmall request.now.what }
-        requires at { request.now.at ≡ pos at }
-        ensures prepared { IfOk result (IsPreparedBy request.now self.now) }
-        ensures refused { IfErr result (λ r. r ≡ Refusal.Memory) }
-    {
-        self.look_at();
-        let contents = SoundContents::of(self.contents_after(request)?);
-        let settled = settle(self.alloc, &contents, at)?;
-        let changes = self.changes_to(at, &settled.loaded)?;
-        Ok(Prepared {
-            clock: at,
-            next: Next::Whole(settled.loaded),
-            named: settled.named,
-            changes,
-        })
-    }
-
-    // Which rows of the tables change by a step to this moment of which these are the notes. The error is always `Memory`.
-    fn changes_by(&self, at: Moment, notes: &Notes) -> Result<Changes, Refusal>
-        requires loaded { self.now.plan.loaded ≡ true }
-        requires notes { (Q : Contents) × AreStepNotes self.now.plan.contents Q notes.now }
-        ensures changes { IfOk result (λ c. (Q : Contents) → AreStepNotes self.now.plan.contents Q notes.now → AreChanges self.now.plan (plan_held at (Some Q)) c.rows.items c.gone.items) }
-        ensures refused { IfErr result (λ r. r ≡ Refusal.Memory) }
-    {
-        let loaded = self.loaded.as_ref().unwrap();
-        let before = PlanShown {
-            clock: self.clock,
-            loaded: Some(Shown::of(loaded)),
-        };
-        Ok(noted_changes(self.alloc, before, at, notes)?)
-    }
-
-    // What a small request that may be accepted leads to at its moment: it is tried in the plan, which is then as it was. The
-    // error is always `Memory`.
-    fn prepare_small(&mut self, request: &Request, at: Moment) -> Result<Prepared, Refusal>
-        requires clear { NoneRefuses (MayBeAccepted self.old.plan request.now) }
-        requires small { IsSmall request.now.what }
-        requires at { request.now.at ≡ pos at }
-        ensures unchanged { self.new ≡ self.old }
-        ensures prepared { IfOk result (IsPreparedBy request.now self.old) }
-        ensures refused { IfErr result (λ r. r ≡ Refusal.Memory) }
-    {
-        let edit = edit_of(self.alloc, self.loaded.as_ref().unwrap(), &request.what)?;
-        let step = tried(self.alloc, &mut self.loaded, &edit, at)?;
-        let changes = self.changes_by(at, &step.notes)?;
-        Ok(Prepared {
-            clock: at,
-            next: Next::Small(Writing {
-                keys: edit.keys,
-                revision: edit.revision,
-                shift: step.shift,
-            }),
-            named: step.named,
-            changes,
-        })
-    }
-
     /// What a request leads to, if it is accepted: it makes all checks and takes all memory, and the plan comes back as it
     /// was. A request by which only marks and flags change, which special resources are available, or when workstations are
     /// open, is tried in the plan itself, and what is kept of it moves from what that touches; any other works all out afresh.
     /// It is refused for the least number that applies (this project's own), or for want of memory. What it leads to is
-    /// sound, for whatever becomes started there was all that it needs, and the rows that change are told exactly.
+    /// sound, for whatever becomes started there was all that it needs, and the rows that change are told exactly. It looks at
+    /// no more operation records of the plan than what changes allows, and at no fewer than are told of anew.
     pub fn prepare(&mut self, request: &Request) -> Result<Prepared, Refusal>
         ensures unchanged { self.new ≡ self.old }
         ensures prepared { IfOk result (IsPreparedFor self.new) }
@@ -208,15 +94,16 @@ impl Plan {
         ensures sound { IfOk result (λ p. IsSoundPlan (plan_after self.old p)) }
         ensures starts { IfOk result (λ p. StartsAreProvided self.old.plan request.now (accepted p.named) (plan_after self.old p)) }
         ensures changes { IfOk result (λ p. AreChanges self.old.plan (plan_after self.old p) p.rows p.gone) }
+        ensures most { IfOk result (λ p. AreAllowed self.old.plan.contents request.now.what (plan_after self.old p).contents p.work) }
+        ensures fewest { IfOk result (λ p. CoverRows self.old.plan.contents p.rows p.work) }
         ensures refused { IfErr result (λ r. (r ≡ Refusal.Memory) ⊎ Step self.old.plan request.now (refused r) self.old.plan) }
     {
         self.look_at();
-        let at = self.check(request)?;
-        if is_small(&request.what) {
-            self.prepare_small(request, at)
-        } else {
-            self.prepare_whole(request, at)
-        }
+        let at = self.moment_of(request)?;
+        let (alloc, clock) = (self.alloc, self.clock);
+        let (loaded, prepared) = prepare_in(alloc, self.loaded.take(), clock, request, at);
+        self.loaded = loaded;
+        prepared
     }
 
     /// Takes the step that was prepared for this plan, and gives the operations that are named to start, in order. It takes

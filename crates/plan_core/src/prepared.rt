@@ -1,5 +1,6 @@
 // A request that was prepared.
 ghost use Rattle.std.specs.Prelude.{◌≡◌};
+ghost use Rattle.plan_core.specs.Outcomes.{prepared_by};
 
 use plan_basics::{Moment, OpKey};
 use plan_records::Changes;
@@ -26,14 +27,25 @@ pub(crate) enum Next {
     Small(Writing),
 }
 
+/// What a request leads to that is accepted, before its moment and its looks are told.
+#[derive(Drop)]
+pub(crate) struct Outcome {
+    pub next: Next,
+    /// The operations that are named, in order.
+    pub named: Vec<OpKey>,
+    pub changes: Changes,
+}
+
 /// A request that is accepted, with all that it takes: its moment, what it makes of the plan that it was prepared for, the
-/// operations that are named to start, and which rows of the tables change. Contracts see it as these.
+/// operations that are named to start, which rows of the tables change, and how many operation records were looked at.
+/// Contracts see it as these.
 #[derive(Drop)]
 pub struct Prepared {
     pub(crate) clock: Moment,
     pub(crate) next: Next,
     pub(crate) named: Vec<OpKey>,
     pub(crate) changes: Changes,
+    pub(crate) work: u64,
 }
 
 impl Model for Prepared {
@@ -43,10 +55,23 @@ impl Model for Prepared {
 
     ghost coded = { prepared_code };
 
-    ghost view = { λ p. record { clock = p.clock; next = p.next; named = p.named.items; rows = p.changes.rows.items; gone = p.changes.gone.items } };
+    ghost view = { λ p. record { clock = p.clock; next = p.next; named = p.named.items; rows = p.changes.rows.items; gone = p.changes.gone.items; work = p.work } };
 }
 
 impl Prepared {
+    // What a request leads to at its moment, for which this many records were looked at.
+    pub(crate) fn of(clock: Moment, outcome: Outcome, work: u64) -> Prepared
+        ensures { result ≡ prepared_by clock outcome work }
+    {
+        Prepared {
+            clock,
+            next: outcome.next,
+            named: outcome.named,
+            changes: outcome.changes,
+            work,
+        }
+    }
+
     /// The operations that are named to start, in the order of the ready list.
     pub fn named(&self) -> &[OpKey]
         ensures { result.now ≡ self.now.named }
@@ -60,5 +85,12 @@ impl Prepared {
         ensures gone { result.now.gone.items ≡ self.now.gone }
     {
         &self.changes
+    }
+
+    /// How many operation records of the plan were looked at to prepare it.
+    pub fn work(&self) -> u64
+        ensures { result ≡ self.now.work }
+    {
+        self.work
     }
 }

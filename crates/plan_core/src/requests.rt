@@ -11,9 +11,9 @@ ghost use Rattle.plan_core.specs.Requested.{AreMadeBy};
 ghost use Rattle.plan_steps.specs.plan_kept.specs.Edits.{IsSmall};
 
 use plan_basics::Refusal;
-use plan_changes::{deleted, with_addition, with_pair};
 use plan_records::{Addition, PlanContents, PlanDraft, What};
-use plan_steps::LoadedPlan;
+use plan_status::SoundContents;
+use plan_steps::{deleted, with_addition, with_pair};
 use std::alloc::{AllocError, Global};
 
 // The contents with what is added, of whose occurrence there is nothing yet. Its parts are looked at for the proof
@@ -21,32 +21,36 @@ use std::alloc::{AllocError, Global};
 #[tactic(auto, using(crate::proofs::Made::legal_by_parts))]
 fn added(
     alloc: Global,
-    loaded: &LoadedPlan,
+    contents: &SoundContents,
     addition: &Addition,
 ) -> Result<PlanContents, AllocError>
-    requires { MayBeAdded loaded.now addition.now Refusal.Duplicate }
+    requires { MayBeAdded contents.now addition.now Refusal.Duplicate }
     ensures legal { IsAddition addition.now }
-    ensures plan { IfOk result (λ new. new ≡ with_added loaded.now addition.now) }
+    ensures plan { IfOk result (λ new. new ≡ with_added contents.now addition.now) }
 {
     let _ = addition.parts();
-    with_addition(alloc, loaded.contents().rows(), addition)
+    with_addition(alloc, contents.rows(), addition)
 }
 
 /// What a request makes of the contents that is no load and not small, and in whose way nothing stands. The error is always
 /// `Memory`.
-pub fn changed(alloc: Global, loaded: &LoadedPlan, what: &What) -> Result<PlanContents, Refusal>
+pub fn changed(
+    alloc: Global,
+    contents: &SoundContents,
+    what: &What,
+) -> Result<PlanContents, Refusal>
     requires needs { NeedsPlan what.now }
     requires whole { ¬ IsSmall what.now }
-    requires clear { (at : ℕ) × NoneRefuses (MayBeDone loaded.now at what.now) }
-    ensures made { IfOk result (AreMadeBy loaded.now what.now) }
+    requires clear { (at : ℕ) × NoneRefuses (MayBeDone contents.now at what.now) }
+    ensures made { IfOk result (AreMadeBy contents.now what.now) }
     ensures refused { IfErr result (λ r. r ≡ Refusal.Memory) }
 {
-    let contents = loaded.contents().rows();
+    let rows = contents.rows();
     let new = match what {
-        What::DeleteOccurrence(key) => deleted(alloc, contents, key),
-        What::AddOccurrence(addition) => added(alloc, loaded, addition.as_ref().unwrap()),
+        What::DeleteOccurrence(key) => deleted(alloc, rows, key),
+        What::AddOccurrence(addition) => added(alloc, contents, addition.as_ref().unwrap()),
         What::AddDependency(predecessor, successor) => {
-            with_pair(alloc, contents, predecessor, successor)
+            with_pair(alloc, rows, predecessor, successor)
         }
         _ => unreachable!(),
     };

@@ -1,40 +1,12 @@
-// A loaded plan that is taken apart, and put together again.
-ghost use Rattle.std.specs.Prelude.{◌≡◌, ℕ, IfErr, IfOk, Some};
-ghost use Rattle.plan_basics.specs.declared.Refusal.{Refusal};
+// A loaded plan into which is written what was prepared.
+ghost use Rattle.std.specs.Prelude.{◌≡◌, ℕ, Some};
 ghost use Rattle.plan_core.specs.Next.{IsNextFor, IsWritingFor, contents_next, rewritten};
-ghost use Rattle.plan_core.specs.Trials.{IsTrialOf};
-ghost use Rattle.plan_steps.specs.Edits.{IsEditFor};
-ghost use Rattle.plan_steps.specs.plan_model.specs.Contents.{Contents};
 ghost use Rattle.plan_steps.specs.plan_model.specs.Plan.{plan_held};
 ghost use Rattle.plan_steps.specs.plan_model.specs.Ready.{named as named_in};
 
 use super::prepared::{Next, Writing};
-use plan_basics::{Moment, OpKey, Refusal};
-use plan_steps::{Edit, LoadedPlan, Parts, SmallStep, shifted, small_step, stepped};
-use std::alloc::Global;
-
-/// What an edit leads to at a moment, tried in the plan, which is then as it was. The error is always `Memory`.
-pub fn tried(
-    alloc: Global,
-    loaded: &mut Option<LoadedPlan>,
-    edit: &Edit,
-    at: Moment,
-) -> Result<SmallStep, Refusal>
-    requires { (P : Contents) × (loaded.old ≡ Some P) × IsEditFor P edit.now }
-    ensures unchanged { loaded.new ≡ loaded.old }
-    ensures trial { IfOk result (λ s. (P : Contents) → loaded.old ≡ Some P → IsTrialOf P edit.now at s) }
-    ensures refused { IfErr result (λ r. r ≡ Refusal.Memory) }
-{
-    let Parts {
-        contents,
-        graph,
-        latest,
-        figures,
-    } = loaded.take().unwrap().into_parts();
-    let (contents, figures, step) = small_step(alloc, contents, &graph, &latest, figures, edit, at);
-    *loaded = Some(LoadedPlan::of(contents, graph, latest, figures));
-    step
-}
+use plan_basics::OpKey;
+use plan_steps::{LoadedPlan, Parts, shifted, stepped};
 
 // The plan once this is written into it, and these are named in it.
 fn with_writing(plan: LoadedPlan, writing: Writing, named: &[OpKey]) -> LoadedPlan
@@ -53,7 +25,7 @@ fn with_writing(plan: LoadedPlan, writing: Writing, named: &[OpKey]) -> LoadedPl
         shift,
     } = writing;
     let contents = stepped(contents, &keys, revision, named);
-    let figures = shifted(&contents, &latest, figures, shift);
+    let figures = shifted(figures, shift);
     LoadedPlan::of(contents, graph, latest, figures)
 }
 

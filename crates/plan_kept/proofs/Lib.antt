@@ -1,4 +1,4 @@
-pub mod Frame
+pub mod OneFrame
 pub mod NewMarks
 pub mod Targets
 pub mod SmallMoves

@@ -1,3 +1,7 @@
+pub use Rattle.plan_records
+pub use Rattle.plan_checks.specs.plan_changes
+pub use Rattle.plan_checks.specs.plan_status
+pub use Rattle.plan_checks.specs.shown_records
 pub use Rattle.plan_checks.specs.operation_graph
 pub use Rattle.plan_checks
 pub use Rattle.plan_checks.specs.plan_choice

@@ -9,7 +9,7 @@ ghost use Rattle.plan_kept.specs.Edits.{ArePlacesWhere, IsEditedAt, IsSmall, tar
 
 use super::places::places_of;
 use plan_basics::{OpKey, Refusal};
-use plan_checks::{LoadedPlan, reached_keys};
+use plan_checks::{Outline, reached_keys};
 use plan_records::What;
 use std::alloc::Global;
 
@@ -47,37 +47,42 @@ fn target_of(what: &What) -> Option<OpKey>
 }
 
 // The indices of the operation and of all that some path from it reaches that enters no deleted operation, ascending.
-fn reached_places(alloc: Global, loaded: &LoadedPlan, key: &OpKey) -> Result<Vec<usize>, Refusal>
-    requires { IsInPlan loaded.now key.now }
-    ensures places { IfOk result (λ places. ArePlacesWhere loaded.now (Reaches loaded.now key.now) places.items) }
+fn reached_places(alloc: Global, outline: &Outline<'_>, key: &OpKey) -> Result<Vec<usize>, Refusal>
+    requires { IsInPlan outline.now key.now }
+    ensures places { IfOk result (λ places. ArePlacesWhere outline.now (Reaches outline.now key.now) places.items) }
     ensures refused { IfErr result (λ r. r ≡ Refusal.Memory) }
 {
-    let reached = reached_keys(alloc, loaded, key)?;
-    Ok(places_of(alloc, loaded.contents(), &reached)?)
+    let reached = reached_keys(alloc, outline, key)?;
+    Ok(places_of(alloc, &outline.beside(), &reached)?)
 }
 
 // The index of an operation of the plan, as a list.
-fn one_place(alloc: Global, loaded: &LoadedPlan, key: OpKey) -> Result<Vec<usize>, Refusal>
-    requires { IsInPlan loaded.now key }
-    ensures places { IfOk result (λ places. ArePlacesWhere loaded.now (λ o. Some key ≡ Some o) places.items) }
+fn one_place(alloc: Global, outline: &Outline<'_>, key: OpKey) -> Result<Vec<usize>, Refusal>
+    requires { IsInPlan outline.now key }
+    ensures places { IfOk result (λ places. ArePlacesWhere outline.now (λ o. Some key ≡ Some o) places.items) }
     ensures refused { IfErr result (λ r. r ≡ Refusal.Memory) }
 {
-    Ok(places_of(alloc, loaded.contents(), &[key])?)
+    Ok(places_of(alloc, &outline.beside(), &[key])?)
 }
 
 /// The indices of the operations of which a small request, in whose way nothing stands, changes the mark or a flag,
-/// ascending: that of its operation; of a rerun those of all that its operation reaches. The error is always `Memory`.
-pub fn edited_places(alloc: Global, loaded: &LoadedPlan, what: &What) -> Result<Vec<usize>, Refusal>
+/// ascending: that of its operation; of a rerun those of all that its operation reaches. It takes no look at a record. The error is
+/// always `Memory`.
+pub fn edited_places(
+    alloc: Global,
+    outline: &Outline<'_>,
+    what: &What,
+) -> Result<Vec<usize>, Refusal>
     requires small { IsSmall what.now }
-    requires clear { (at : ℕ) × NoneRefuses (MayBeDone loaded.now at what.now) }
-    ensures places { IfOk result (λ places. IsEditedAt loaded.now what.now places.items) }
+    requires clear { (at : ℕ) × NoneRefuses (MayBeDone outline.now at what.now) }
+    ensures places { IfOk result (λ places. IsEditedAt outline.now what.now places.items) }
     ensures refused { IfErr result (λ r. r ≡ Refusal.Memory) }
 {
     if let What::Rerun(key) = what {
-        return reached_places(alloc, loaded, key);
+        return reached_places(alloc, outline, key);
     }
     match target_of(what) {
-        Some(key) => one_place(alloc, loaded, key),
+        Some(key) => one_place(alloc, outline, key),
         None => Ok(Vec::new(alloc)),
     }
 }

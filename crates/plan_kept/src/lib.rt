@@ -10,9 +10,10 @@ mod places;
 pub use edits::{edited_places, is_small};
 pub use places::places_of;
 pub use plan_checks::{
-    Choice, Figures, LoadedPlan, Parts, Reported, check_load, check_request, chosen, chosen_with,
-    latest_of, reached_keys, ready_of, satisfy, unsatisfy,
+    Beside, Choice, Figures, Frame, LoadedPlan, Outline, Parts, Reported, Seen, Shown, check_load,
+    check_request, chosen, chosen_with, latest_of, reached_keys, ready_of, satisfy, unsatisfy,
 };
+pub use plan_records::{PlanContents, What};
 
 /// The law that keys, the graph, latest starts and which operations are deleted stay where only marks and flags change; that
 /// one such change after another is one; and that where they change nowhere all operations stay. It does nothing.

@@ -6,29 +6,25 @@ ghost use Rattle.plan_checks.specs.plan_drafts.specs.PlanGraphs.{StandAt};
 ghost use Rattle.plan_kept.specs.Edits.{ArePlacesOf};
 
 use plan_basics::OpKey;
-use plan_checks::SoundContents;
+use plan_checks::Beside;
 use std::alloc::{AllocError, Global};
 
 // The index of an operation of the plan.
-fn place_of(contents: &SoundContents, key: &OpKey) -> usize
-    requires { IsInPlan contents.now key.now }
-    ensures { slice_get (keys_in contents.now.operations) result ≡ Some key.now }
+fn place_of(beside: &Beside<'_>, key: &OpKey) -> usize
+    requires { IsInPlan beside.now.contents.now key.now }
+    ensures { slice_get (keys_in beside.now.contents.now.operations) result ≡ Some key.now }
 {
-    contents.known_operation_place(key)
+    beside.known_operation_place(key)
 }
 
 // The index of each of these operations, in their order.
-fn each_place(
-    alloc: Global,
-    contents: &SoundContents,
-    keys: &[OpKey],
-) -> Result<Vec<usize>, AllocError>
-    requires { All (IsInPlan contents.now) keys.now }
-    ensures { IfOk result (λ places. StandAt (keys_in contents.now.operations) places.items keys.now) }
+fn each_place(alloc: Global, beside: &Beside<'_>, keys: &[OpKey]) -> Result<Vec<usize>, AllocError>
+    requires { All (IsInPlan beside.now.contents.now) keys.now }
+    ensures { IfOk result (λ places. StandAt (keys_in beside.now.contents.now.operations) places.items keys.now) }
 {
     let mut places = Vec::with_capacity(alloc, keys.len())?;
     for key in keys {
-        places.push(place_of(contents, key))?;
+        places.push(place_of(beside, key))?;
     }
     Ok(places)
 }
@@ -36,13 +32,13 @@ fn each_place(
 /// The indices of these operations, which the plan has, ascending, each once. It is an error where a growth was refused.
 pub fn places_of(
     alloc: Global,
-    contents: &SoundContents,
+    beside: &Beside<'_>,
     keys: &[OpKey],
 ) -> Result<Vec<usize>, AllocError>
-    requires { All (IsInPlan contents.now) keys.now }
-    ensures { IfOk result (λ places. ArePlacesOf contents.now keys.now places.items) }
+    requires { All (IsInPlan beside.now.contents.now) keys.now }
+    ensures { IfOk result (λ places. ArePlacesOf beside.now.contents.now keys.now places.items) }
 {
-    let mut places = each_place(alloc, contents, keys)?;
+    let mut places = each_place(alloc, beside, keys)?;
     places.sort_unstable();
     places.dedup();
     Ok(places)

@@ -13,7 +13,7 @@ use Rattle.plan_model.specs.Contents.{Contents, HasAttribute, Operation}
 use Rattle.plan_model.specs.Starts.{MayStart}
 use Rattle.plan_model.specs.Status.{HasStatus}
 use Rattle.plan_core.specs.plan_state.specs.Reports.{IsReported}
-use Rattle.plan_core.specs.plan_state.specs.declared.loaded.Reported.{Reported}
+use Rattle.plan_core.specs.plan_state.specs.declared.frame.Reported.{Reported}
 use Rattle.plan_reasons.specs.Parts.{IsOfKind}
 use Rattle.plan_reasons.specs.Places.{goes_on_from}
 use Rattle.plan_reasons.specs.Reasons.{IsReasonOf, needs_start}
@@ -44,27 +44,27 @@ rests s a e = ((λ is. (cc)), refl, (λ both. let h = both.0 in (cc)))
 
 module _ (P : Contents) (o : OpKey) (m : ℕ) (x : Reported) (is : IsReported P o x) where
   module _ (goes_on : goes_on_from x.status x.attribute ≡ true) where
-    not_at_rest : (s : Status) → IsReasonOf P o x.operation m (reason.AtRest s) → ⊥
+    not_at_rest : (s : Status) → IsReasonOf P o x.operation.now m (reason.AtRest s) → ⊥
     not_at_rest s h = elim (goes x.status x.attribute goes_on) [
       | inl waits ↦ h.1 (is.alone s h.0 ∙ waits)
       | inr (inl ready) ↦ h.2 (inl (ready_by P o x.status is.status ready))
-      | inr (inr both) ↦ h.2 (inr (subst (HasStatus P o) both.0 is.status, subst (HasAttribute P x.operation.workstation) both.1 is.attribute))
+      | inr (inr both) ↦ h.2 (inr (subst (HasStatus P o) both.0 is.status, subst (HasAttribute P x.operation.now.workstation) both.1 is.attribute))
     ]
 
-    pub none_at_rest : IsOfKind P o x.operation m 0 None
-    none_at_rest = none_of_kind P o x.operation m 0 (only_rest (λ r. IsReasonOf P o x.operation m r → ⊥) not_at_rest)
+    pub none_at_rest : IsOfKind P o x.operation.now m 0 None
+    none_at_rest = none_of_kind P o x.operation.now m 0 (only_rest (λ r. IsReasonOf P o x.operation.now m r → ⊥) not_at_rest)
 
   module _ (stays : goes_on_from x.status x.attribute ≡ false) where
-    may_not : ¬ MayStart P o x.operation m WrongStatus
+    may_not : ¬ MayStart P o x.operation.now m WrongStatus
     may_not = λ may. elim may [
       | inl ready ↦ true≢false (sym (ready_told P o x.status is.alone ready) ∙ (rests x.status x.attribute stays).1)
       | inr both ↦ (rests x.status x.attribute stays).2 (sym (is.alone status.Interrupted both.0), same_Some x.attribute attribute.StartAndCompletion (sym is.attribute ∙ both.1))
     ]
 
-    pub some_at_rest : IsOfKind P o x.operation m 0 (Some (reason.AtRest x.status))
+    pub some_at_rest : IsOfKind P o x.operation.now m 0 (Some (reason.AtRest x.status))
     some_at_rest =
-        some_of_kind P o x.operation m 0 (reason.AtRest x.status) (is.status, (rests x.status x.attribute stays).0, may_not) refl
-        (only_rest (λ r. IsReasonOf P o x.operation m r → reason.AtRest x.status ≡ r) (λ s h. ap (λ z. reason.AtRest z) (sym (is.alone s h.0))))
+        some_of_kind P o x.operation.now m 0 (reason.AtRest x.status) (is.status, (rests x.status x.attribute stays).0, may_not) refl
+        (only_rest (λ r. IsReasonOf P o x.operation.now m r → reason.AtRest x.status ≡ r) (λ s h. ap (λ z. reason.AtRest z) (sym (is.alone s h.0))))
 
 -- ---- the hold and the not-before
 

@@ -66,17 +66,17 @@ fn note_start(
     reasons: &mut Vec<Reason>,
     contents: &SoundContents,
     key: &OpKey,
-    reported: &Reported,
+    reported: &Reported<'_>,
     at: Moment,
 ) -> Result<(), Refusal>
     requires { IsReported contents.now key.now reported.now }
-    ensures noted { OnOk result (GoesOn contents.now key.now reported.now.operation at 3 10 reasons.old.items reasons.new.items) }
+    ensures noted { OnOk result (GoesOn contents.now key.now reported.now.operation.now at 3 10 reasons.old.items reasons.new.items) }
     ensures refused { IfErr result (λ r. r ≡ Refusal.Memory) }
 {
     if !needs_start(reported) {
         return Ok(());
     }
-    let operation = &reported.operation;
+    let operation = reported.operation;
     let taken = taken_at(alloc, contents, operation)?;
     let workstation = workstation_of(contents, operation);
     note(reasons, too_early(operation, at))?;
@@ -116,7 +116,7 @@ fn reasons_at(
     let mut reasons = Vec::new(alloc);
     note(&mut reasons, at_rest(&reported))?;
     note_all(&mut reasons, waits(alloc, loaded, place)?)?;
-    note(&mut reasons, held(&reported.operation))?;
+    note(&mut reasons, held(reported.operation))?;
     note_start(alloc, &mut reasons, loaded.contents(), key, &reported, at)?;
     Ok(reasons)
 }

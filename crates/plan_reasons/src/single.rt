@@ -28,8 +28,8 @@ fn goes_on_from(status: Status, attribute: Attr) -> bool
 }
 
 /// The reason that its status is none from which it goes on.
-pub fn at_rest(reported: &Reported) -> Option<Reason>
-    ensures { (P : Contents) → IsValid P → (o : OpKey) (m : ℕ) → IsReported P o reported.now → IsOfKind P o reported.now.operation m 0 result }
+pub fn at_rest(reported: &Reported<'_>) -> Option<Reason>
+    ensures { (P : Contents) → IsValid P → (o : OpKey) (m : ℕ) → IsReported P o reported.now → IsOfKind P o reported.now.operation.now m 0 result }
 {
     if goes_on_from(reported.status, reported.attribute) {
         None
@@ -68,13 +68,13 @@ fn is_unmarked(mark: &Mark) -> bool
 }
 
 /// Whether an operation goes on by a start, with a server and its resources.
-pub fn needs_start(reported: &Reported) -> bool
-    ensures { (P : Contents) (o : OpKey) → IsReported P o reported.now → result ≡ needs_start P reported.now.operation }
+pub fn needs_start(reported: &Reported<'_>) -> bool
+    ensures { (P : Contents) (o : OpKey) → IsReported P o reported.now → result ≡ needs_start P reported.now.operation.now }
 {
     let known = matches!(
         reported.attribute,
         Attr::Automatic | Attr::StartAndCompletion
     );
-    let operation = &reported.operation;
+    let operation = reported.operation;
     known && !(operation.nop && is_unmarked(&operation.mark))
 }

@@ -19,9 +19,9 @@ use Rattle.ready_list.proofs.Filters.{false_from_not, not_false}
 use Rattle.ready_list.proofs.Indexing.{Entries, entry_cmp, length_placed}
 use Rattle.ready_list.proofs.Members.{all_by_members, contains_filter, contains_from_filter, has_its_key, none_without, other_key}
 use Rattle.ready_list.proofs.Ordered.{keys_sorted, sorted_by_keys, sorted_placed}
-use Rattle.plan_model.proofs.Entries.{entries_in_order}
-use Rattle.plan_model.specs.Contents.{Contents, Operation}
-use Rattle.plan_model.specs.declared.Occurrence.{Occurrence}
+use Rattle.plan_choice.specs.plan_model.proofs.Entries.{entries_in_order}
+use Rattle.plan_choice.specs.plan_model.specs.Contents.{Contents, Operation}
+use Rattle.plan_choice.specs.plan_model.specs.declared.Occurrence.{Occurrence}
 use Rattle.plan_choice.specs.plan_laws.proofs.Entries.{same_operation}
 use Rattle.plan_choice.specs.plan_laws.proofs.Latest.{one_latest_start}
 use Rattle.plan_choice.specs.plan_status.proofs.RowKeys.{key_of_row}

@@ -28,10 +28,10 @@ use Rattle.plan_basics.specs.declared.limits.TheConstants.{MOST_OPERATIONS}
 use Rattle.ready_list.proofs.Filters.{not_false}
 use Rattle.ready_list.proofs.Members.{contains_filter, contains_from_filter}
 use Rattle.ready_list.specs.Choice.{is_among}
-use Rattle.plan_model.proofs.Entries.{entries_in_order}
-use Rattle.plan_model.proofs.Members.{if_member, in_keys, member_if}
-use Rattle.plan_model.specs.Contents.{Contents, IsInPlan}
-use Rattle.plan_model.specs.Valid.{IsValid}
+use Rattle.plan_choice.specs.plan_model.proofs.Entries.{entries_in_order}
+use Rattle.plan_choice.specs.plan_model.proofs.Members.{if_member, in_keys, member_if}
+use Rattle.plan_choice.specs.plan_model.specs.Contents.{Contents, IsInPlan}
+use Rattle.plan_choice.specs.plan_model.specs.Valid.{IsValid}
 use Rattle.plan_choice.specs.plan_drafts.proofs.Tables.{itself, other_key}
 use Rattle.plan_choice.specs.plan_records.specs.Rows.{IsCount, IsWaitingFor}
 use Rattle.plan_choice.specs.plan_laws.proofs.Entries.{same_operation}

@@ -6,12 +6,12 @@ use Rattle.plan_basics.specs.declared.keys.OpKey.{OpKey}
 use Rattle.plan_choice.specs.workstations.specs.Workstations.{Workstation}
 use Rattle.status_rules.specs.Table.{status_by}
 use Rattle.status_rules.specs.declared.Status.{Status}
-use Rattle.plan_model.specs.Contents.{Contents, HasAttribute, Operation}
-use Rattle.plan_model.specs.Status.{HasStatus}
-use Rattle.plan_model.specs.Valid.{IsAcyclic, IsValid}
+use Rattle.plan_choice.specs.plan_model.specs.Contents.{Contents, HasAttribute, Operation}
+use Rattle.plan_choice.specs.plan_model.specs.Status.{HasStatus}
+use Rattle.plan_choice.specs.plan_model.specs.Valid.{IsAcyclic, IsValid}
 use Rattle.plan_choice.specs.plan_drafts.proofs.Tables.{is_found}
 use Rattle.plan_choice.specs.plan_laws.proofs.Standing.{one_status}
-use Rattle.plan_moves.specs.Moves.{IsMovedAt}
+use Rattle.plan_choice.specs.plan_moves.specs.Moves.{IsMovedAt}
 use Rattle.plan_choice.specs.plan_status.proofs.ByStanding.{status_on}
 use Rattle.plan_choice.specs.plan_status.proofs.LoadedRows.{row_found}
 use Rattle.plan_choice.specs.plan_status.specs.Standings.{AreStandings, IsStanding}

@@ -3,7 +3,9 @@ pub mod Exchanged
 pub mod Fewness
 pub mod Keeping
 pub mod Moved
+pub mod Noted
 pub mod Numbers
+pub mod PlacesBeside
 pub mod Read
 pub mod Restated
 pub mod Restood

@@ -12,12 +12,12 @@ use Rattle.plan_basics.specs.declared.keys.OpKey.{OpKey}
 use Rattle.status_rules.specs.Classes.{is_live}
 use Rattle.status_rules.specs.declared.Mark.{Mark}
 use Rattle.status_rules.specs.declared.Mark.TheVariants as mark
-use Rattle.plan_model.specs.Contents.{Contents, HasAttribute, IsPairOf, LivePredecessor, Operation, Workstations, attribute_at}
+use Rattle.plan_choice.specs.plan_model.specs.Contents.{Contents, HasAttribute, IsPairOf, LivePredecessor, Operation, Workstations, attribute_at}
 use Rattle.plan_choice.specs.workstations.specs.Timetables.{NamedWorkstation}
 use Rattle.plan_choice.specs.workstations.specs.Workstations.{Workstation}
 use Rattle.latest_start.proofs.Placed.{same_places}
 use Rattle.plan_choice.specs.plan_drafts.proofs.RowPlaces.{row_at}
-use Rattle.plan_moves.specs.Moves.{IsMovedAt, IsRemarked, reporting}
+use Rattle.plan_choice.specs.plan_moves.specs.Moves.{IsMovedAt, IsRemarked, reporting}
 use Rattle.plan_choice.specs.plan_status.proofs.Alike.{IsOnNonreporting}
 use Rattle.plan_choice.specs.plan_status.proofs.LoadedRows.{row_found, row_of}
 use Rattle.plan_choice.specs.plan_status.proofs.RowKeys.{key_of_row, row_of_key}

@@ -11,10 +11,10 @@ use Rattle.plan_basics.specs.declared.keys.OpKey.{OpKey}
 use Rattle.status_rules.specs.declared.Counts.{Counts}
 use Rattle.status_rules.specs.declared.Status.{Status}
 use Rattle.status_rules.specs.declared.Status.TheVariants as status
-use Rattle.plan_model.proofs.Entries.{entries_in_order}
-use Rattle.plan_model.specs.Contents.{Contents, IsInPlan, Operation}
-use Rattle.plan_model.specs.Valid.{IsValid}
-use Rattle.plan_model.specs.declared.Occurrence.{Occurrence}
+use Rattle.plan_choice.specs.plan_model.proofs.Entries.{entries_in_order}
+use Rattle.plan_choice.specs.plan_model.specs.Contents.{Contents, IsInPlan, Operation}
+use Rattle.plan_choice.specs.plan_model.specs.Valid.{IsValid}
+use Rattle.plan_choice.specs.plan_model.specs.declared.Occurrence.{Occurrence}
 use Rattle.plan_choice.specs.plan_records.specs.Rows.{IsCount}
 use Rattle.plan_choice.specs.plan_laws.proofs.Entries.{same_operation}
 use Rattle.plan_choice.specs.plan_status.proofs.Alike.{count_alike}

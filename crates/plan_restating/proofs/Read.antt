@@ -10,17 +10,17 @@ use Rattle.status_rules.specs.declared.Status.TheVariants as status
 use Rattle.ready_list.proofs.Members.{in_keys}
 use Rattle.ready_list.specs.declared.ReadyKey.{ReadyKey}
 use Rattle.ready_list.specs.declared.entry.ReadyEntry.{ReadyEntry}
-use Rattle.plan_model.specs.Contents.{Contents, HasAttribute, IsInPlan, Operation}
-use Rattle.plan_model.specs.Ready.{IsEntry}
-use Rattle.plan_model.specs.Starts.{IsLatestStart}
-use Rattle.plan_model.specs.Status.{HasStatus, IsReady}
-use Rattle.plan_model.specs.Valid.{IsAcyclic, IsValid}
+use Rattle.plan_choice.specs.plan_model.specs.Contents.{Contents, HasAttribute, IsInPlan, Operation}
+use Rattle.plan_choice.specs.plan_model.specs.Ready.{IsEntry}
+use Rattle.plan_choice.specs.plan_model.specs.Starts.{IsLatestStart}
+use Rattle.plan_choice.specs.plan_model.specs.Status.{HasStatus, IsReady}
+use Rattle.plan_choice.specs.plan_model.specs.Valid.{IsAcyclic, IsValid}
 use Rattle.plan_choice.specs.plan_drafts.proofs.Tables.{is_found}
 use Rattle.plan_choice.specs.plan_drafts.specs.Places.{AreByPlace, AreStatuses}
 use Rattle.plan_choice.specs.plan_laws.proofs.Classes.{ready_by}
 use Rattle.plan_choice.specs.plan_laws.proofs.Latest.{one_latest_start}
 use Rattle.plan_choice.specs.plan_laws.proofs.Standing.{one_status}
-use Rattle.plan_moves.specs.Moves.{IsMovedAt}
+use Rattle.plan_choice.specs.plan_moves.specs.Moves.{IsMovedAt}
 use Rattle.plan_choice.specs.plan_status.proofs.Alike.{count_alike}
 use Rattle.plan_choice.specs.plan_status.proofs.LoadedRows.{its_occurrence, row_of}
 use Rattle.plan_choice.specs.plan_status.proofs.OfOccurrences.{IsOfIts, IsStarted}
@@ -31,6 +31,7 @@ use Rattle.plan_choice.specs.Choices.{AreLatestStarts, AreReadyEntries, HasItsWo
 use Rattle.plan_restating.specs.Before.{AreReadOff}
 use Rattle.plan_choice.specs.ReadyItems.{IsKeyIn}
 use Rattle.plan_restating.specs.ByStatuses.{AreEntriesBy, AreInLine, AreTalliesBy, BelongsBy, CountsAsStarted, HasListed, IsReadyBy, IsTallyBy}
+use Rattle.plan_restating.specs.Entries.{AreEntriesAt}
 use Rattle.plan_restating.proofs.Entering.{one_key}
 use Rattle.plan_restating.proofs.Moved.{attribute_after, moved_back, row_after, same_keys, same_workstations}
 
@@ -203,6 +204,15 @@ module _ (P Q : Contents) (moved_at : List ℕ) (moved : IsMovedAt P Q moved_at)
         each = λ e has. let it = are.each e has in ((key_after e.key it.0.0, workstation_after e it.0.1), subst (λ ks. IsReadyBy ks statuses e.key.op) keys_back it.1);
         every = λ o ready. are.every o (subst (λ ks. IsReadyBy ks statuses o) (same_keys P Q moved_at moved) ready);
       }
+
+  -- what is noted of one is noted of the other
+  pub noted_after : (places : List ℕ) (es : List ReadyEntry) → AreEntriesAt P places es → AreEntriesAt Q places es
+  noted_after places es are = record {
+    size = are.size;
+    each = λ k i e place entry.
+        let it = are.each k i e place entry in
+        ((key_after e.key it.0.0, workstation_after e it.0.1), subst (λ ks. slice_get ks i ≡ Some e.key.op) (sym (same_keys P Q moved_at moved)) it.1);
+  }
 
 -- the way back
 pub entries_back : (P Q : Contents) (moved_at : List ℕ) → IsMovedAt P Q moved_at → (starts : List ℤ) → AreLatestStarts P starts → AreLatestStarts Q starts → (statuses : List Status) (es : List ReadyEntry)

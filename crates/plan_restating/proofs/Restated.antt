@@ -5,10 +5,10 @@ use Rattle.std.specs.FinMap.{entries}
 use Rattle.plan_basics.specs.declared.keys.OpKey.{OpKey}
 use Rattle.plan_basics.proofs.Members.{contains_none}
 use Rattle.status_rules.specs.declared.Status.{Status}
-use Rattle.plan_model.specs.Contents.{Contents, Operation}
-use Rattle.plan_model.specs.Status.{HasStatus}
+use Rattle.plan_choice.specs.plan_model.specs.Contents.{Contents, Operation}
+use Rattle.plan_choice.specs.plan_model.specs.Status.{HasStatus}
 use Rattle.plan_choice.specs.plan_drafts.specs.Places.{AreStatuses}
-use Rattle.plan_moves.specs.Moves.{IsMovedAt}
+use Rattle.plan_choice.specs.plan_moves.specs.Moves.{IsMovedAt}
 use Rattle.plan_choice.specs.plan_status.proofs.Ascending.{set_cases}
 use Rattle.plan_restating.specs.Before.{KeepStatus}
 

@@ -7,16 +7,16 @@ use Rattle.std.specs.FinMap.{entries}
 use Rattle.plan_basics.specs.declared.keys.OpKey.{OpKey}
 use Rattle.plan_basics.specs.declared.limits.TheConstants.{MOST_OPERATIONS}
 use Rattle.plan_basics.proofs.Members.{contains_none}
-use Rattle.plan_cascade.specs.declared.kept.Kept.{Kept}
-use Rattle.plan_model.specs.Contents.{Contents, LivePredecessor}
-use Rattle.plan_model.specs.Status.{AllPredecessorsSatisfied, FollowsNonreporting}
-use Rattle.plan_model.specs.Valid.{IsAcyclic, IsValid}
+use Rattle.plan_choice.specs.plan_cascade.specs.declared.kept.Kept.{Kept}
+use Rattle.plan_choice.specs.plan_model.specs.Contents.{Contents, LivePredecessor}
+use Rattle.plan_choice.specs.plan_model.specs.Status.{AllPredecessorsSatisfied, FollowsNonreporting}
+use Rattle.plan_choice.specs.plan_model.specs.Valid.{IsAcyclic, IsValid}
 use Rattle.plan_choice.specs.plan_drafts.proofs.RowPlaces.{row_at}
 use Rattle.plan_choice.specs.plan_records.specs.Rows.{IsWaitingFor}
 use Rattle.plan_choice.specs.plan_laws.proofs.Ordered.{pairs_have_rank}
 use Rattle.plan_choice.specs.plan_laws.proofs.Tables.{zero_is_satisfied}
 use Rattle.plan_choice.specs.plan_laws.proofs.Waiting.{one_count}
-use Rattle.plan_moves.specs.Moves.{IsMovedAt}
+use Rattle.plan_choice.specs.plan_moves.specs.Moves.{IsMovedAt}
 use Rattle.plan_choice.specs.plan_status.specs.Standings.{AreStandings, IsStanding}
 use Rattle.plan_choice.specs.plan_status.specs.declared.standings.Standing.{Standing}
 use Rattle.plan_choice.specs.plan_status.proofs.Alike.{decides_alike}

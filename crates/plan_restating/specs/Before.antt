@@ -5,8 +5,8 @@ use Rattle.plan_basics.specs.declared.keys.OpKey.{OpKey}
 use Rattle.status_rules.specs.declared.Counts.{Counts}
 use Rattle.status_rules.specs.declared.Status.{Status}
 use Rattle.ready_list.specs.declared.entry.ReadyEntry.{ReadyEntry}
-use Rattle.plan_model.specs.Contents.{Contents, Operation}
-use Rattle.plan_model.specs.Status.{HasStatus}
+use Rattle.plan_choice.specs.plan_model.specs.Contents.{Contents, Operation}
+use Rattle.plan_choice.specs.plan_model.specs.Status.{HasStatus}
 use Rattle.plan_choice.specs.plan_drafts.specs.Places.{AreStatuses}
 use Rattle.plan_choice.specs.plan_status.specs.Standings.{AreTallies}
 use Rattle.plan_choice.specs.Choices.{AreLatestStarts, AreReadyEntries}
@@ -22,3 +22,7 @@ pub record AreReadOff (P : Contents) (starts : List ℤ) (ss : List Status) (ns 
 abbrev pub KeepStatus : Contents → Contents → List ℕ → Type 0
 KeepStatus P Q places =
     (i : ℕ) → ¬ Contains places i → (o : OpKey) (op : Operation) → slice_get (entries Q.operations) i ≡ Some (o, op) → (s : Status) → HasStatus P o s → HasStatus Q o s
+
+-- the operation at the place has this status in the plan
+abbrev pub HasStatusAt : Contents → ℕ × Status → Type 0
+HasStatusAt P value = (o : OpKey) (op : Operation) → slice_get (entries P.operations) value.0 ≡ Some (o, op) → HasStatus P o value.1

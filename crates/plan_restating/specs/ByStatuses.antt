@@ -9,7 +9,7 @@ use Rattle.status_rules.specs.declared.Status.{Status}
 use Rattle.status_rules.specs.declared.Status.TheVariants as status
 use Rattle.ready_list.specs.Entries.{IsInOrder, ReadyEntries}
 use Rattle.ready_list.specs.declared.entry.ReadyEntry.{ReadyEntry}
-use Rattle.plan_model.specs.Contents.{Contents}
+use Rattle.plan_choice.specs.plan_model.specs.Contents.{Contents}
 use Rattle.plan_choice.specs.plan_drafts.specs.Places.{AreByPlace}
 use Rattle.plan_choice.specs.plan_records.specs.Rows.{IsCount}
 use Rattle.plan_choice.specs.ReadyItems.{IsEntryIn}

@@ -1,8 +1,8 @@
 -- What a standing becomes where its operation waits for another number of predecessors.
 use Rattle.std.specs.Prelude.{◌≡◌, ℕ, List, Some, slice_get, Contains, Decides}
 use Rattle.std.specs.FinMap.{entries}
-use Rattle.plan_cascade.specs.declared.kept.Kept.{Kept}
-use Rattle.plan_model.specs.Contents.{Contents}
+use Rattle.plan_choice.specs.plan_cascade.specs.declared.kept.Kept.{Kept}
+use Rattle.plan_choice.specs.plan_model.specs.Contents.{Contents}
 use Rattle.plan_choice.specs.plan_drafts.specs.Places.{AreByPlace}
 use Rattle.plan_choice.specs.plan_records.specs.Rows.{IsWaitingFor}
 use Rattle.plan_choice.specs.plan_status.specs.declared.standings.Standing.{Standing}

@@ -2,11 +2,13 @@
 //! standings, statuses, the numbers of each occurrence's operations, and the ready list.
 #![tactic(auto)]
 
+mod noting;
 mod relisting;
 mod restanding;
 mod restating;
 mod retallying;
 
+pub use noting::{entries_at, entry_seen};
 pub use relisting::relist_all;
 pub use restanding::restand;
-pub use restating::restate;
+pub use restating::{restate, restate_all};

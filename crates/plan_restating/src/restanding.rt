@@ -1,14 +1,13 @@
 // Standings with new numbers of waiting predecessors.
 ghost use Rattle.std.specs.Prelude.{◌≡◌, ◌<◌, ◌≤◌, ℕ, List, length, All};
 ghost use Rattle.plan_basics.specs.declared.limits.TheConstants.{MOST_OPERATIONS};
-ghost use Rattle.plan_model.specs.Contents.{Contents};
-ghost use Rattle.plan_model.specs.Valid.{IsValid};
-ghost use Rattle.plan_moves.specs.Moves.{IsMovedAt};
+ghost use Rattle.plan_choice.specs.plan_model.specs.Contents.{Contents};
+ghost use Rattle.plan_choice.specs.plan_model.specs.Valid.{IsValid};
+ghost use Rattle.plan_choice.specs.plan_moves.specs.Moves.{IsMovedAt};
 ghost use Rattle.plan_choice.specs.plan_status.specs.Standings.{AreStandings};
 ghost use Rattle.plan_restating.specs.Restanding.{AgreeElsewhere, AreCounters, IsRestood, StayElsewhere};
 
-use plan_cascade::Kept;
-use plan_choice::Standing;
+use plan_choice::{Kept, Standing};
 use status_rules::Preds;
 
 // The standing of an operation that waits for this many live predecessors.

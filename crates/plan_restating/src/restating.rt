@@ -1,87 +1,142 @@
 // Statuses worked out again at the places that a change touched, and what goes by them.
-ghost use Rattle.std.specs.Prelude.{◌≡◌, ◌+◌, ◌<◌, ℕ, List, Some, length, slice_get, slice_set, All};
+ghost use Rattle.std.specs.Prelude.{ℤ, map, ◌≡◌, ◌+◌, ◌<◌, ◌≤◌, ℕ, List, [], Some, length, slice_get, slice_set, vec_capacity, All};
 ghost use Rattle.std.specs.FinMap.{entries};
 ghost use Rattle.plan_basics.specs.declared.keys.OpKey.{OpKey};
-ghost use Rattle.plan_model.specs.Contents.{Contents, Operation};
-ghost use Rattle.plan_model.specs.Status.{HasStatus};
+ghost use Rattle.plan_choice.specs.plan_model.specs.Contents.{Contents, Operation};
+ghost use Rattle.plan_choice.specs.plan_model.specs.Status.{HasStatus};
 ghost use Rattle.plan_choice.specs.plan_drafts.specs.Places.{AreStatuses};
-ghost use Rattle.plan_moves.specs.Moves.{IsMovedAt};
+ghost use Rattle.plan_choice.specs.plan_moves.specs.Moves.{IsMovedAt};
 ghost use Rattle.plan_choice.specs.plan_status.specs.Standings.{AreStandings, AreTallies};
 ghost use Rattle.plan_choice.specs.Choices.{AreLatestStarts, AreReadyEntries};
-ghost use Rattle.plan_restating.specs.Before.{AreReadOff, KeepStatus};
+ghost use Rattle.plan_restating.specs.Before.{AreReadOff, HasStatusAt, KeepStatus};
 ghost use Rattle.plan_restating.specs.ByStatuses.{AreInLine, HasRoomForAll};
+ghost use Rattle.plan_restating.specs.Entries.{AreEntriesAt, IsEntryAt};
 
+use super::noting::entry_seen;
 use super::relisting::relist;
 use super::retallying::retally;
 use latest_start::Latest;
-use plan_choice::{SoundContents, Standing, ValidContents, attribute_of, status_with};
-use ready_list::ReadyList;
+use plan_choice::{Beside, Seen, Shown, Standing, status_with};
+use ready_list::{ReadyEntry, ReadyList};
 use status_rules::{Counts, Status};
 
-// The status of the operation at a place, by its standing.
-fn status_at(contents: &ValidContents, standings: &[Standing], place: usize) -> Status
-    requires within { place < length (entries contents.now.operations) }
-    requires standings { AreStandings contents.now standings.now }
-    ensures { (o : OpKey) (op : Operation) → slice_get (entries contents.now.operations) place ≡ Some (o, op) → HasStatus contents.now o result }
+// The status of the operation at a place, which is seen, by its standing.
+fn status_at(seen: &Seen<'_>, standings: &[Standing], place: usize) -> Status
+    requires row { slice_get (entries seen.now.beside.contents.now.operations) place ≡ Some (seen.now.key.now, seen.now.operation.now) }
+    requires standings { AreStandings seen.now.beside.contents.now standings.now }
+    ensures { (o : OpKey) (op : Operation) → slice_get (entries seen.now.beside.contents.now.operations) place ≡ Some (o, op) → HasStatus seen.now.beside.contents.now o result }
 {
-    let operation = &contents.operations()[place].1;
-    let attribute = attribute_of(contents, operation);
-    status_with(operation, attribute, &standings[place])
+    let attribute = seen.beside.attribute_of(seen.operation);
+    status_with(seen.operation, attribute, &standings[place])
 }
 
-// The operation at a place has this status: what goes by it is brought in line.
+// The operation at a place, of which this is the entry, has this status: what goes by it is brought in line.
 fn restate_at(
-    contents: &SoundContents,
-    latest: &Latest,
+    beside: &Beside<'_>,
+    entry: &ReadyEntry,
     statuses: &mut [Status],
     tallies: &mut [Counts],
     ready: &mut ReadyList,
     place: usize,
     status: Status,
 )
-    requires within { place < length (entries contents.now.operations) }
-    requires latest { AreLatestStarts contents.now latest.now.starts }
-    requires room { HasRoomForAll contents.now ready.old }
-    requires in_line { AreInLine contents.now statuses.old tallies.old ready.old.entries }
+    requires entry { IsEntryAt beside.now.contents.now place entry.now }
+    requires room { HasRoomForAll beside.now.contents.now ready.old }
+    requires in_line { AreInLine beside.now.contents.now statuses.old tallies.old ready.old.entries }
     ensures statuses { statuses.new ≡ slice_set statuses.old place status }
-    ensures in_line { AreInLine contents.now statuses.new tallies.new ready.new.entries }
+    ensures in_line { AreInLine beside.now.contents.now statuses.new tallies.new ready.new.entries }
     ensures room { length ready.new.entries + ready.new.room ≡ length ready.old.entries + ready.old.room }
 {
     let old = statuses[place];
     if old != status {
-        retally(contents, tallies, place, old, status);
-        relist(contents, latest, ready, place, old, status);
+        retally(beside, &entry.key.op, tallies, old, status);
+        relist(ready, entry, old, status);
         statuses[place] = status;
     }
 }
 
 /// At each of these places the status is worked out again, by the standings, which are those of the contents. Where it differs, the
-/// numbers of its occurrence and the ready list follow. It takes no memory.
+/// numbers of its occurrence and the ready list follow. It takes a look at each place at most, and notes the entry of the operation
+/// there, by which the list is led back without one. It takes no memory.
 ///
 /// What was kept before is that of a plan from which these contents differ in marks and flags alone, with the same statuses at
 /// all other places; then what is kept is that of these contents.
 pub fn restate(
-    contents: &SoundContents,
+    shown: &mut Shown,
     latest: &Latest,
     standings: &[Standing],
     statuses: &mut [Status],
     tallies: &mut [Counts],
     ready: &mut ReadyList,
     places: &[usize],
+    noted: &mut Vec<ReadyEntry>,
 )
-    requires within { All (λ i. i < length (entries contents.now.operations)) places.now }
-    requires standings { AreStandings contents.now standings.now }
-    requires latest { AreLatestStarts contents.now latest.now.starts }
-    requires room { HasRoomForAll contents.now ready.old }
-    requires before { (P : Contents) × (moved : List ℕ) × IsMovedAt P contents.now moved × AreReadOff P latest.now.starts statuses.old tallies.old ready.old.entries × KeepStatus P contents.now places.now }
-    ensures statuses { AreStatuses contents.now statuses.new }
-    ensures tallies { AreTallies contents.now tallies.new }
-    ensures ready { AreReadyEntries contents.now ready.new.entries }
+    requires within { All (λ i. i < length (entries shown.old.contents.operations)) places.now }
+    requires standings { AreStandings shown.old.contents standings.now }
+    requires latest { AreLatestStarts shown.old.contents latest.now.starts }
+    requires room { HasRoomForAll shown.old.contents ready.old }
+    requires before { (P : Contents) × (moved : List ℕ) × IsMovedAt P shown.old.contents moved × AreReadOff P latest.now.starts statuses.old tallies.old ready.old.entries × KeepStatus P shown.old.contents places.now }
+    requires none_noted { noted.old.items ≡ [] }
+    requires space { length places.now ≤ vec_capacity noted.old }
+    ensures statuses { AreStatuses shown.old.contents statuses.new }
+    ensures tallies { AreTallies shown.old.contents tallies.new }
+    ensures ready { AreReadyEntries shown.old.contents ready.new.entries }
+    ensures room { length ready.new.entries + ready.new.room ≡ length ready.old.entries + ready.old.room }
+    ensures noted { AreEntriesAt shown.old.contents places.now noted.new.items }
+    ensures contents { shown.new.contents ≡ shown.old.contents }
+    ensures fewest { shown.old.looks ≤ shown.new.looks }
+    ensures most { shown.new.looks ≤ shown.old.looks + length places.now }
+{
+    shown.beside().are_sound();
+    for place in places {
+        let seen = shown.see(*place);
+        let status = status_at(&seen, standings, *place);
+        let entry = entry_seen(&seen, latest, *place);
+        restate_at(
+            &seen.beside,
+            &entry,
+            statuses,
+            tallies,
+            ready,
+            *place,
+            status,
+        );
+        noted.push_reserved(entry);
+    }
+}
+
+/// Gives the operations at these places these statuses, which are those that they have; the numbers of their occurrences and the
+/// ready list follow. For each there is its entry, so nothing is looked at. It takes no memory.
+///
+/// What was kept before is that of a plan from which these contents differ in marks and flags alone, with the same statuses at
+/// all other places; then what is kept is that of these contents.
+pub fn restate_all(
+    beside: &Beside<'_>,
+    statuses: &mut [Status],
+    tallies: &mut [Counts],
+    ready: &mut ReadyList,
+    to: &[(usize, Status)],
+    listed: &[ReadyEntry],
+)
+    requires listed { AreEntriesAt beside.now.contents.now (map (λ value. value.0) to.now) listed.now }
+    requires right { All (HasStatusAt beside.now.contents.now) to.now }
+    requires room { HasRoomForAll beside.now.contents.now ready.old }
+    requires before { (P : Contents) × (moved : List ℕ) × (starts : List ℤ) × IsMovedAt P beside.now.contents.now moved × AreLatestStarts beside.now.contents.now starts × AreReadOff P starts statuses.old tallies.old ready.old.entries × KeepStatus P beside.now.contents.now (map (λ value. value.0) to.now) }
+    ensures statuses { AreStatuses beside.now.contents.now statuses.new }
+    ensures tallies { AreTallies beside.now.contents.now tallies.new }
+    ensures ready { AreReadyEntries beside.now.contents.now ready.new.entries }
     ensures room { length ready.new.entries + ready.new.room ≡ length ready.old.entries + ready.old.room }
 {
-    let valid = contents.valid();
-    for place in places {
-        let status = status_at(valid, standings, *place);
-        restate_at(contents, latest, statuses, tallies, ready, *place, status);
+    beside.are_sound();
+    for (index, value) in to.iter().enumerate() {
+        restate_at(
+            beside,
+            &listed[index],
+            statuses,
+            tallies,
+            ready,
+            value.0,
+            value.1,
+        );
     }
 }

@@ -1,11 +1,12 @@
 // The numbers of an occurrence's operations, once one of them has another status.
-ghost use Rattle.std.specs.Prelude.{◌≡◌, ◌<◌, List, Some, length, slice_get, slice_set};
-ghost use Rattle.std.specs.FinMap.{entries};
+ghost use Rattle.std.specs.Prelude.{◌≡◌, ℕ, List, Some, slice_get, slice_set};
+ghost use Rattle.std.specs.FinMap.{keys};
 ghost use Rattle.status_rules.specs.declared.Status.{Status as StatusValue};
 ghost use Rattle.plan_choice.specs.plan_status.specs.OneMore.{CountsOneMore};
 ghost use Rattle.plan_restating.specs.ByStatuses.{AreTalliesBy, CountsOne};
 
-use plan_choice::{SoundContents, count_one};
+use plan_basics::OpKey;
+use plan_choice::{Beside, count_one};
 use status_rules::{Counts, Status};
 
 // One operation of this status is no longer counted.
@@ -24,21 +25,14 @@ fn count_out(counts: &mut Counts, status: Status)
     }
 }
 
-/// The operation at this place has another status: in its occurrence's numbers that of the old one falls, and that of the new
-/// one rises.
-pub fn retally(
-    contents: &SoundContents,
-    tallies: &mut [Counts],
-    place: usize,
-    old: Status,
-    new: Status,
-)
-    requires within { place < length (entries contents.now.operations) }
-    requires counted { (statuses : List StatusValue) × (slice_get statuses place ≡ Some old) × AreTalliesBy contents.now statuses tallies.old }
-    ensures { (statuses : List StatusValue) → slice_get statuses place ≡ Some old → AreTalliesBy contents.now statuses tallies.old → AreTalliesBy contents.now (slice_set statuses place new) tallies.new }
+/// The operation of this key has another status: in its occurrence's numbers that of the old one falls, and that of the new one
+/// rises.
+pub fn retally(beside: &Beside<'_>, key: &OpKey, tallies: &mut [Counts], old: Status, new: Status)
+    requires { (place : ℕ) × (statuses : List StatusValue) × (slice_get (keys beside.now.contents.now.operations) place ≡ Some key.now) × (slice_get statuses place ≡ Some old) × AreTalliesBy beside.now.contents.now statuses tallies.old }
+    ensures { (place : ℕ) (statuses : List StatusValue) → slice_get (keys beside.now.contents.now.operations) place ≡ Some key.now → slice_get statuses place ≡ Some old → AreTalliesBy beside.now.contents.now statuses tallies.old → AreTalliesBy beside.now.contents.now (slice_set statuses place new) tallies.new }
 {
-    let key = &contents.operations()[place].0;
-    let counts = &mut tallies[contents.occurrence_place_of(key)];
+    beside.are_sound();
+    let counts = &mut tallies[beside.occurrence_place_of(key)];
     count_out(counts, old);
     count_one(counts, new);
 }

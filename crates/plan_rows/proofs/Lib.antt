@@ -16,3 +16,4 @@ mod TouchedTables
 mod TouchedRows
 mod PairedLists
 mod NotedTables
+pub mod Counted

@@ -1,9 +1,10 @@
 -- The rows that are noted of a plan as a step leaves it, and what they say of the plan before.
-use Rattle.std.specs.Prelude.{◌≡◌, ◌<◌, ℕ, List, slice_get, Contains, Option, Some}
+use Rattle.std.specs.Prelude.{◌≡◌, ◌<◌, ℕ, Bool, true, false, List, length, slice_get, Contains, Option, Some}
 use Rattle.std.specs.FinMap.{entries}
 use Rattle.std.specs.List.{AllZip}
 use Rattle.plan_model.specs.Contents.{Contents}
 use Rattle.plan_state.specs.plan_records.specs.declared.PlanRow.{PlanRow}
+use Rattle.plan_state.specs.plan_records.specs.declared.PlanRow.TheVariants as row
 use Rattle.plan_rows.specs.Rows.{all_intervals, keyed_occurrences, keyed_operations, rows_of}
 use Rattle.plan_rows.specs.Shown.{IsShown, contents_shown}
 use Rattle.plan_rows.specs.Touched.{AreOccurrencesOf, AreTouched, StaysBeside}
@@ -41,6 +42,15 @@ pub record AreNotes (s : Shown) (b : Beside) (touched : List ℕ) (notes : Notes
   pub of_operations : AreOccurrencesOf s.contents.now touched places
   pub occurrences : AreNotedAt (rows_of (keyed_occurrences s)) places notes.occurrences.items
   pub beside : IsNotedBeside s.contents.now b notes.beside
+
+-- how many rows of operations they note
+abbrev pub operations_noted : Notes → ℕ
+operations_noted notes = length notes.operations.items
+
+-- it is a row of the table of operations
+abbrev pub is_operation : PlanRow → Bool
+is_operation (row.Operation r) = true
+is_operation _ = false
 
 -- they were noted of a plan that holds Q, and no more differs between the plan before and that one than what they note
 pub record IsNotedStep (before : Option Shown) (Q : Contents) (notes : Notes) : Type 0 where

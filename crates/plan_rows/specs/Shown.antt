@@ -9,6 +9,7 @@ use Rattle.plan_model.specs.Valid.{IsSound}
 use Rattle.plan_state.specs.plan_status.specs.Standings.{AreStandings, AreTallies}
 use Rattle.plan_state.specs.plan_status.specs.declared.standings.Standing.{Standing}
 use Rattle.status_rules.specs.declared.Status.{Status}
+use Rattle.plan_rows.specs.declared.columns.Columns.{Columns}
 use Rattle.plan_rows.specs.declared.shown.Shown.{Shown}
 
 -- its contents are sound, and beside them is what is read off them
@@ -18,6 +19,10 @@ pub record IsShown (s : Shown) : Type 0 where
   pub statuses : AreStatuses s.contents.now s.statuses.now
   pub tallies : AreTallies s.contents.now s.tallies.now
   pub latest : AreLatestStarts s.contents.now s.latest.now.starts
+
+-- what these columns show of these contents, wherever those lie
+abbrev pub shown_with : Contents → Columns → Shown
+shown_with P c = record { contents = record { ref_ptr = (0, 0); now = P }; standings = c.standings; statuses = c.statuses; tallies = c.tallies; latest = c.latest }
 
 -- so where there is one
 abbrev pub IsShownIfAny : Option Shown → Type 0

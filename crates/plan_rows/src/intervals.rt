@@ -3,6 +3,7 @@ ghost use Rattle.std.specs.Prelude.{◌≡◌, ◌↔◌, ◌<◌, ◌++◌, ℕ
 ghost use Rattle.std.specs.FinMap.{entries};
 ghost use Rattle.std.specs.List.Sorted.{IsStrictlySortedBy};
 ghost use Rattle.std.specs.Map.{keys_of};
+ghost use Rattle.plan_basics.specs.Keys.{name_cmp};
 ghost use Rattle.plan_state.specs.plan_drafts.specs.declared.RowKey.TheVariants as key;
 ghost use Rattle.plan_rows.specs.Alike.{interval_alike, interval_key_cmp, interval_key_exact};
 ghost use Rattle.plan_rows.specs.Rows.{all_intervals, interval_row, intervals_within, under_both};
@@ -72,18 +73,18 @@ pub fn intervals_of(
     Ok(found)
 }
 
-/// Adds what changes in the table of intervals, from these rows of it after.
+/// Adds what changes in the table of intervals, from the workstations before and these rows of it after.
 pub fn push_noted_intervals(
     alloc: Global,
-    before: Option<Shown<'_>>,
+    before: &[Workstation],
     after: &[((WsName, Moment), Interval)],
     changes: &mut Changes,
 ) -> Result<(), AllocError>
-    requires before { IsShownIfAny before }
+    requires before { IsStrictlySortedBy name_cmp (keys_of before.now) }
     requires in_order { IsStrictlySortedBy interval_key_cmp (keys_of after.now) }
-    ensures { (clock now : ℕ) (shown : Option ShownValue) → IsShownIfAny shown → after.now ≡ all_intervals (entries (contents_shown shown).workstations) → AreChangesBelow 2 (plan_shown clock before.entry) (plan_shown now shown) changes.old → OnOk result (AreChangesBelow 3 (plan_shown clock before.entry) (plan_shown now shown) changes.new) }
+    ensures { (clock now : ℕ) (was shown : Option ShownValue) → IsShownIfAny was → IsShownIfAny shown → before.now ≡ entries (contents_shown was).workstations → after.now ≡ all_intervals (entries (contents_shown shown).workstations) → AreChangesBelow 2 (plan_shown clock was) (plan_shown now shown) changes.old → OnOk result (AreChangesBelow 3 (plan_shown clock was) (plan_shown now shown) changes.new) }
 {
-    let old = intervals_of(alloc, workstations_of(before))?;
+    let old = intervals_of(alloc, before)?;
     push_changes(
         alloc,
         &KeyedRows {
@@ -106,5 +107,5 @@ pub fn push_intervals(
     ensures { (clock now : ℕ) → AreChangesBelow 2 (plan_shown clock before.entry) (plan_shown now after.entry) changes.old → OnOk result (AreChangesBelow 3 (plan_shown clock before.entry) (plan_shown now after.entry) changes.new) }
 {
     let new = intervals_of(alloc, workstations_of(after))?;
-    push_noted_intervals(alloc, before, &new, changes)
+    push_noted_intervals(alloc, workstations_of(before), &new, changes)
 }

@@ -42,24 +42,18 @@ impl<'a, 'b> PlanTable for KeyedRows<'a, 'b, ResName, bool> {
     ghost alike = { λ t i j one. resource_alike t.before.now t.after.now i j one };
 }
 
-/// Adds what changes in the table of special resources, from these rows of it after.
+/// Adds what changes in the table of special resources, from these rows of it before and after.
 pub fn push_noted_resources(
     alloc: Global,
-    before: Option<Shown<'_>>,
+    before: &[(ResName, bool)],
     after: &[(ResName, bool)],
     changes: &mut Changes,
 ) -> Result<(), AllocError>
-    requires in_order { IsStrictlySortedBy name_cmp (keys_of after.now) }
-    ensures { (clock : ℕ) (Q : Plan) → after.now ≡ entries Q.contents.resources → AreChangesBelow 3 (plan_shown clock before.entry) Q changes.old → OnOk result (AreChangesBelow 4 (plan_shown clock before.entry) Q changes.new) }
+    requires before { IsStrictlySortedBy name_cmp (keys_of before.now) }
+    requires after { IsStrictlySortedBy name_cmp (keys_of after.now) }
+    ensures { (P Q : Plan) → before.now ≡ entries P.contents.resources → after.now ≡ entries Q.contents.resources → AreChangesBelow 3 P Q changes.old → OnOk result (AreChangesBelow 4 P Q changes.new) }
 {
-    push_changes(
-        alloc,
-        &KeyedRows {
-            before: resources_of(before),
-            after,
-        },
-        changes,
-    )
+    push_changes(alloc, &KeyedRows { before, after }, changes)
 }
 
 /// Adds what changes in the table of special resources.
@@ -71,5 +65,5 @@ pub fn push_resources(
 ) -> Result<(), AllocError>
     ensures { (clock now : ℕ) → AreChangesBelow 3 (plan_shown clock before.entry) (plan_shown now after.entry) changes.old → OnOk result (AreChangesBelow 4 (plan_shown clock before.entry) (plan_shown now after.entry) changes.new) }
 {
-    push_noted_resources(alloc, before, resources_of(after), changes)
+    push_noted_resources(alloc, resources_of(before), resources_of(after), changes)
 }

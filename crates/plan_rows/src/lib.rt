@@ -2,6 +2,7 @@
 #![tactic(auto)]
 
 mod changing;
+mod columns;
 mod dependencies;
 mod intervals;
 mod kept;
@@ -19,6 +20,7 @@ mod tables;
 mod workplaces;
 
 pub use changing::{changes_between, rows_of};
+pub use columns::Columns;
 pub use dependencies::push_dependencies;
 pub use intervals::push_intervals;
 pub use keyed::push_resources;

@@ -1,18 +1,18 @@
 // Rows of a table that are noted, and compared with those of the table before.
-ghost use Rattle.std.specs.Prelude.{◌≡◌, ◌<◌, ◌++◌, ℕ, List, Contains, IfOk, OnOk, length};
+ghost use Rattle.std.specs.Prelude.{◌≡◌, ◌⊎◌, ◌+◌, ◌*◌, ◌<◌, ◌≤◌, ◌++◌, ℕ, Bool, List, Contains, Some, IfOk, OnOk, count_by, length, slice_get};
 ghost use Rattle.std.specs.List.Sorted.{IsStrictlySortedBy};
 ghost use Rattle.std.specs.Map.{keys_of};
 ghost use Rattle.std.specs.Ordering.{nat_cmp};
 ghost use Rattle.plan_state.specs.plan_records.specs.declared.PlanRow.{PlanRow as PlanRowValue};
 ghost use Rattle.plan_rows.specs.Notes.{AreNotedAt, AreWithin};
-ghost use Rattle.plan_rows.specs.Rows.{if_shown, rows_of};
-ghost use Rattle.plan_rows.specs.Shown.{IsShownIfAny};
+ghost use Rattle.plan_rows.specs.Rows.{rows_of};
+ghost use Rattle.plan_rows.specs.Shown.{IsShown, shown_with};
 ghost use Rattle.plan_rows.specs.Touched.{AreDifferentAmong};
 ghost use Rattle.row_differences.specs.Changes.{AreAt};
 
-use super::shown::Shown;
-use super::shown_tables::{Tabled, row};
-use plan_state::PlanRow;
+use super::columns::Columns;
+use super::shown_tables::Tabled;
+use plan_state::{PlanRow, Shown as Counted};
 use std::alloc::{AllocError, Global};
 
 /// A row of a table, and its place there.
@@ -22,39 +22,63 @@ pub struct NotedRow {
     pub row: PlanRow,
 }
 
+/// A table of which rows are noted, each read off a plan whose records are shown one by one.
+pub trait Noted: Tabled {
+    /// How many looks at records a row takes.
+    ghost looks: { ℕ };
+
+    /// The row at an index.
+    fn seen(shown: &mut Counted, columns: Columns<'_>, place: usize) -> PlanRow
+        requires shown { IsShown (shown_with shown.old.contents columns) }
+        requires within { place < length (keys_of (Self.keyed (shown_with shown.old.contents columns))) }
+        ensures row { slice_get (rows_of (Self.keyed (shown_with shown.old.contents columns.entry))) place ≡ Some result }
+        ensures contents { shown.new.contents ≡ shown.old.contents }
+        ensures fewest { shown.old.looks ≤ shown.new.looks }
+        ensures most { shown.new.looks ≤ shown.old.looks + looks }
+        ensures least { (18446744073709551615 ≤ shown.new.looks) ⊎ (shown.old.looks + looks ≤ shown.new.looks) };
+}
+
 /// Notes the rows at these places.
-pub fn note_rows<T: Tabled>(
+pub fn note_rows<T: Noted>(
     alloc: Global,
-    shown: Option<Shown<'_>>,
+    shown: &mut Counted,
+    columns: Columns<'_>,
     places: &[usize],
 ) -> Result<Vec<NotedRow>, AllocError>
-    requires shown { IsShownIfAny shown }
-    requires within { (i : ℕ) → Contains places.now i → i < length (keys_of (if_shown T.keyed shown)) }
-    ensures { IfOk result (λ v. AreNotedAt (rows_of (if_shown T.keyed shown.entry)) places.now v.items) }
+    requires shown { IsShown (shown_with shown.old.contents columns) }
+    requires within { (i : ℕ) → Contains places.now i → i < length (keys_of (T.keyed (shown_with shown.old.contents columns))) }
+    ensures notes { IfOk result (λ v. AreNotedAt (rows_of (T.keyed (shown_with shown.old.contents columns.entry))) places.now v.items) }
+    ensures contents { shown.new.contents ≡ shown.old.contents }
+    ensures fewest { shown.old.looks ≤ shown.new.looks }
+    ensures most { shown.new.looks ≤ shown.old.looks + T.looks * length places.now }
+    ensures least { OnOk result ((18446744073709551615 ≤ shown.new.looks) ⊎ (shown.old.looks + T.looks * length places.now ≤ shown.new.looks)) }
 {
     let mut notes = Vec::new(alloc);
     for place in places {
-        notes.push(NotedRow {
-            place: *place,
-            row: row::<T>(shown, *place),
-        })?;
+        let row = T::seen(shown, columns, *place);
+        notes.push(NotedRow { place: *place, row })?;
     }
     Ok(notes)
 }
 
 /// Adds the rows that are noted and aren't as they are in a table.
-pub fn push_noted<T: Tabled>(
-    shown: Option<Shown<'_>>,
+pub fn push_noted<T: Noted>(
+    shown: &mut Counted,
+    columns: Columns<'_>,
     notes: &[NotedRow],
     rows: &mut Vec<PlanRow>,
 ) -> Result<(), AllocError>
-    requires shown { IsShownIfAny shown }
-    requires within { AreWithin (length (keys_of (if_shown T.keyed shown))) notes.now }
-    ensures { (news : List PlanRowValue) (places : List ℕ) → IsStrictlySortedBy nat_cmp places → AreNotedAt news places notes.now → OnOk result ((different : List ℕ) × (more : List PlanRowValue) × AreDifferentAmong (rows_of (if_shown T.keyed shown.entry)) news places different × AreAt news different more × (rows.new.items ≡ rows.old.items ++ more)) }
+    requires shown { IsShown (shown_with shown.old.contents columns) }
+    requires within { AreWithin (length (keys_of (T.keyed (shown_with shown.old.contents columns)))) notes.now }
+    ensures told { (news : List PlanRowValue) (places : List ℕ) → IsStrictlySortedBy nat_cmp places → AreNotedAt news places notes.now → OnOk result ((different : List ℕ) × (more : List PlanRowValue) × AreDifferentAmong (rows_of (T.keyed (shown_with shown.old.contents columns.entry))) news places different × AreAt news different more × (rows.new.items ≡ rows.old.items ++ more)) }
+    ensures count { (p : PlanRowValue → Bool) → OnOk result (count_by p rows.new.items ≤ count_by p rows.old.items + length notes.now) }
+    ensures contents { shown.new.contents ≡ shown.old.contents }
+    ensures fewest { shown.old.looks ≤ shown.new.looks }
+    ensures most { shown.new.looks ≤ shown.old.looks + T.looks * length notes.now }
 {
     for note in notes {
         let noted = note.row;
-        if row::<T>(shown, note.place) != noted {
+        if T::seen(shown, columns, note.place) != noted {
             rows.push(noted)?;
         }
     }

@@ -1,26 +1,25 @@
 // The rows that a step leaves, noted of the plan after it and then compared with the plan before.
-ghost use Rattle.std.specs.Prelude.{◌<◌, ℕ, Contains, IfOk, OnOk, Some, length};
+ghost use Rattle.std.specs.Prelude.{◌≡◌, ◌⊎◌, ◌+◌, ◌<◌, ◌≤◌, ℕ, Contains, IfOk, OnOk, Some, count_by, length};
 ghost use Rattle.std.specs.FinMap.{entries};
 ghost use Rattle.std.specs.List.Sorted.{IsStrictlySortedBy};
 ghost use Rattle.std.specs.Ordering.{nat_cmp};
 ghost use Rattle.plan_model.specs.Contents.{Contents};
 ghost use Rattle.plan_model.specs.Plan.{plan_held};
 ghost use Rattle.plan_state.specs.plan_records.specs.Rows.{AreChanges};
-ghost use Rattle.plan_rows.specs.Notes.{AreNotes, IsNotedBeside, IsNotedStep, NotesBeside};
-ghost use Rattle.plan_rows.specs.Shown.{IsShown, IsShownIfAny, contents_shown, plan_shown};
+ghost use Rattle.plan_rows.specs.Notes.{AreNotes, IsNotedBeside, IsNotedStep, NotesBeside, is_operation, operations_noted};
+ghost use Rattle.plan_rows.specs.Shown.{IsShown, plan_shown, shown_with};
 ghost use Rattle.plan_rows.specs.Tables.{AreChangesBelow};
 ghost use Rattle.plan_rows.specs.declared.shown.Shown.{Shown as ShownValue};
 
+use super::columns::Columns;
 use super::intervals::{intervals_of, push_noted_intervals};
-use super::kept::{resources_of, workstations_of};
 use super::keyed::push_noted_resources;
-use super::meta::{is_loaded, push_meta};
+use super::meta::push_meta;
 use super::noted_rows::NotedRow;
 use super::occurrences::{note_occurrences, push_noted_occurrences};
 use super::operations::{note_operations, push_noted_operations};
-use super::shown::{PlanShown, Shown};
 use plan_basics::{Interval, Moment, ResName, WsName};
-use plan_state::Changes;
+use plan_state::{Changes, Shown as Counted};
 use std::alloc::{AllocError, Global};
 
 /// What may differ beside operations.
@@ -52,37 +51,41 @@ pub struct Notes {
 }
 
 // Notes the table of what may differ beside operations.
-fn note_beside(alloc: Global, shown: Shown<'_>, beside: Beside) -> Result<NotedBeside, AllocError>
-    ensures { IfOk result (IsNotedBeside shown.entry.contents.now beside) }
+fn note_beside(alloc: Global, shown: &Counted, beside: Beside) -> Result<NotedBeside, AllocError>
+    ensures { IfOk result (IsNotedBeside shown.now.contents beside) }
 {
+    let kept = shown.beside();
     match beside {
         Beside::Nothing => Ok(NotedBeside::Nothing),
-        Beside::Resources => Ok(NotedBeside::Resources(Vec::from_slice(
-            alloc,
-            resources_of(Some(shown)),
-        )?)),
+        Beside::Resources => Ok(NotedBeside::Resources(Vec::from_slice(alloc, kept.resources())?)),
         Beside::Workstations => Ok(NotedBeside::Intervals(intervals_of(
             alloc,
-            workstations_of(Some(shown)),
+            kept.workstations(),
         )?)),
     }
 }
 
 /// Notes the rows of a plan that is shown: those of the operations at these indices, which ascend, of their occurrences, and
-/// of the table of what may differ beside them.
+/// of the table of what may differ beside them. It takes a look at each of these operations.
 pub fn notes_of(
     alloc: Global,
-    shown: Shown<'_>,
+    shown: &mut Counted,
+    columns: Columns<'_>,
     beside: Beside,
     touched: &[usize],
 ) -> Result<Notes, AllocError>
-    requires shown { IsShown shown }
+    requires shown { IsShown (shown_with shown.old.contents columns) }
     requires ascend { IsStrictlySortedBy nat_cmp touched.now }
-    requires within { (i : ℕ) → Contains touched.now i → i < length (entries shown.contents.now.operations) }
-    ensures { IfOk result (AreNotes shown.entry beside touched.now) }
+    requires within { (i : ℕ) → Contains touched.now i → i < length (entries shown.old.contents.operations) }
+    ensures notes { IfOk result (AreNotes (shown_with shown.old.contents columns.entry) beside touched.now) }
+    ensures noted { IfOk result (λ n. operations_noted n ≡ length touched.now) }
+    ensures contents { shown.new.contents ≡ shown.old.contents }
+    ensures fewest { shown.old.looks ≤ shown.new.looks }
+    ensures most { shown.new.looks ≤ shown.old.looks + length touched.now }
+    ensures least { OnOk result ((18446744073709551615 ≤ shown.new.looks) ⊎ (shown.old.looks + length touched.now ≤ shown.new.looks)) }
 {
-    let operations = note_operations(alloc, shown, touched)?;
-    let occurrences = note_occurrences(alloc, shown, touched)?;
+    let operations = note_operations(alloc, shown, columns, touched)?;
+    let occurrences = note_occurrences(alloc, shown, columns, touched)?;
     let beside = note_beside(alloc, shown, beside)?;
     Ok(Notes {
         operations,
@@ -94,43 +97,56 @@ pub fn notes_of(
 // Adds what changes in the tables of intervals and of special resources.
 fn push_noted_beside(
     alloc: Global,
-    before: Option<Shown<'_>>,
+    shown: &Counted,
     noted: &NotedBeside,
     changes: &mut Changes,
 ) -> Result<(), AllocError>
-    requires before { IsShownIfAny before }
-    requires noted { (after : ShownValue) × IsShown after × NotesBeside (contents_shown before) after.contents.now noted.now }
-    ensures { (clock now : ℕ) (after : ShownValue) → IsShown after → NotesBeside (contents_shown before.entry) after.contents.now noted.now → AreChangesBelow 2 (plan_shown clock before.entry) (plan_shown now (Some after)) changes.old → OnOk result (AreChangesBelow 4 (plan_shown clock before.entry) (plan_shown now (Some after)) changes.new) }
+    requires noted { (after : ShownValue) × IsShown after × NotesBeside shown.now.contents after.contents.now noted.now }
+    ensures { (clock now : ℕ) (before after : ShownValue) → before.contents.now ≡ shown.now.contents → IsShown before → IsShown after → NotesBeside shown.now.contents after.contents.now noted.now → AreChangesBelow 2 (plan_shown clock (Some before)) (plan_shown now (Some after)) changes.old → OnOk result (AreChangesBelow 4 (plan_shown clock (Some before)) (plan_shown now (Some after)) changes.new) }
 {
+    let kept = shown.beside();
     match noted {
         NotedBeside::Nothing => Ok(()),
-        NotedBeside::Resources(rows) => push_noted_resources(alloc, before, rows, changes),
-        NotedBeside::Intervals(rows) => push_noted_intervals(alloc, before, rows, changes),
+        NotedBeside::Resources(rows) => push_noted_resources(
+            alloc,
+            kept.resources(),
+            rows,
+            changes,
+        ),
+        NotedBeside::Intervals(rows) => push_noted_intervals(
+            alloc,
+            kept.workstations(),
+            rows,
+            changes,
+        ),
     }
 }
 
-/// Which rows of the tables change from a plan to one of which these are notes, at this clock.
+/// Which rows of the tables change from a plan at its clock, of which this is shown, to one of which these are notes, at this
+/// clock. It takes a look for each operation that is noted.
 pub fn noted_changes(
     alloc: Global,
-    before: PlanShown<'_>,
+    shown: &mut Counted,
+    columns: Columns<'_>,
+    was: Moment,
     clock: Moment,
     notes: &Notes,
 ) -> Result<Changes, AllocError>
-    requires before { IsShownIfAny before.loaded }
-    requires step { (Q : Contents) × IsNotedStep before.loaded Q notes.now }
-    ensures { (Q : Contents) → IsNotedStep before.entry.loaded Q notes.now → IfOk result (λ c. AreChanges (plan_shown before.entry.clock before.entry.loaded) (plan_held clock (Some Q)) c.rows.items c.gone.items) }
+    requires shown { IsShown (shown_with shown.old.contents columns) }
+    requires step { (Q : Contents) × IsNotedStep (Some (shown_with shown.old.contents columns)) Q notes.now }
+    ensures changes { (Q : Contents) → IsNotedStep (Some (shown_with shown.old.contents columns.entry)) Q notes.now → IfOk result (λ c. AreChanges (plan_held was (Some shown.old.contents)) (plan_held clock (Some Q)) c.rows.items c.gone.items) }
+    ensures operations { IfOk result (λ c. count_by is_operation c.rows.items ≤ operations_noted notes.now) }
+    ensures contents { shown.new.contents ≡ shown.old.contents }
+    ensures fewest { shown.old.looks ≤ shown.new.looks }
+    ensures most { shown.new.looks ≤ shown.old.looks + operations_noted notes.now }
 {
-    let PlanShown {
-        clock: was,
-        loaded: old,
-    } = before;
     let mut changes = Changes {
         rows: Vec::new(alloc),
         gone: Vec::new(alloc),
     };
-    push_meta(is_loaded(old), was, true, clock, &mut changes)?;
-    push_noted_beside(alloc, old, &notes.beside, &mut changes)?;
-    push_noted_occurrences(old, &notes.occurrences, &mut changes)?;
-    push_noted_operations(old, &notes.operations, &mut changes)?;
+    push_meta(true, was, true, clock, &mut changes)?;
+    push_noted_beside(alloc, shown, &notes.beside, &mut changes)?;
+    push_noted_occurrences(shown, columns, &notes.occurrences, &mut changes)?;
+    push_noted_operations(shown, columns, &notes.operations, &mut changes)?;
     Ok(changes)
 }

@@ -3,34 +3,30 @@ ghost use Rattle.std.specs.Prelude.{◌<◌, ℕ, Contains, IfOk, length};
 ghost use Rattle.std.specs.FinMap.{entries};
 ghost use Rattle.std.specs.List.Sorted.{IsStrictlySortedBy};
 ghost use Rattle.std.specs.Ordering.{nat_cmp};
-ghost use Rattle.plan_rows.specs.Shown.{IsShownIfAny, contents_shown};
 ghost use Rattle.plan_rows.specs.Touched.{AreOccurrencesOf, BelongsAt};
 
-use super::kept::{occurrences_of, operations_of};
-use super::shown::Shown;
-use plan_state::row_place;
+use plan_state::Shown;
 use std::alloc::{AllocError, Global};
 
 // The index of the occurrence to which the operation at an index belongs.
-fn occurrence_place(shown: Option<Shown<'_>>, place: usize) -> usize
-    requires shown { IsShownIfAny shown }
-    requires within { place < length (entries (contents_shown shown).operations) }
-    ensures { BelongsAt (contents_shown shown.entry) place result }
+fn occurrence_place(shown: &Shown, place: usize) -> usize
+    requires { place < length (entries shown.now.contents.operations) }
+    ensures { BelongsAt shown.now.contents place result }
 {
-    let operation = operations_of(shown)[place].0;
-    row_place(occurrences_of(shown), &operation.occurrence).unwrap()
+    let beside = shown.beside();
+    let operation = beside.operation_key(place);
+    beside.occurrence_place_of(operation)
 }
 
-/// The indices of the occurrences to which the operations at these indices belong, each once, in order.
+/// The indices of the occurrences to which the operations at these indices belong, each once, in order. It looks at no record.
 pub fn occurrence_places(
     alloc: Global,
-    shown: Option<Shown<'_>>,
+    shown: &Shown,
     touched: &[usize],
 ) -> Result<Vec<usize>, AllocError>
-    requires shown { IsShownIfAny shown }
     requires ascend { IsStrictlySortedBy nat_cmp touched.now }
-    requires within { (i : ℕ) → Contains touched.now i → i < length (entries (contents_shown shown).operations) }
-    ensures { IfOk result (λ v. AreOccurrencesOf (contents_shown shown.entry) touched.now v.items) }
+    requires within { (i : ℕ) → Contains touched.now i → i < length (entries shown.now.contents.operations) }
+    ensures { IfOk result (λ v. AreOccurrencesOf shown.now.contents touched.now v.items) }
 {
     let mut places = Vec::new(alloc);
     for place in touched {

@@ -7,35 +7,37 @@ ghost use Rattle.plan_basics.specs.Keys.{occurrence_cmp-IsAntisymmetric};
 ghost use Rattle.plan_state.specs.plan_drafts.specs.declared.RowKey.TheVariants as key;
 ghost use Rattle.plan_rows.specs.Notes.{AreNotedAt, AreWithin};
 ghost use Rattle.plan_rows.specs.Rows.{keyed_occurrences, rows_of};
-ghost use Rattle.plan_rows.specs.Shown.{IsShown, IsShownIfAny, contents_shown, plan_shown};
+ghost use Rattle.plan_rows.specs.Shown.{IsShown, IsShownIfAny, plan_shown, shown_with};
 ghost use Rattle.plan_rows.specs.Tables.{AreChangesBelow};
 ghost use Rattle.plan_rows.specs.Touched.{AreOccurrencesOf, AreTouched};
 ghost use Rattle.plan_rows.specs.declared.shown.Shown.{Shown as ShownValue};
 
+use super::columns::Columns;
 use super::kept::occurrences_of;
-use super::noted_rows::{NotedRow, note_rows, push_noted};
+use super::noted_rows::{Noted, NotedRow, note_rows, push_noted};
 use super::occurrence_places::occurrence_places;
 use super::shown::Shown;
 use super::shown_tables::{ShownTables, Tabled};
 use super::tables::push_changes;
 use plan_basics::OccKey;
 use plan_model::Occurrence;
-use plan_state::{Changes, PlanRow, RowKey, occurrence_status_with};
+use plan_state::{Changes, PlanRow, RowKey, Shown as Counted, occurrence_status_with};
+use status_rules::Counts;
 use std::alloc::{AllocError, Global};
 use std::marker::PhantomData;
 
-// The row of the occurrence at an index.
-fn occurrence_row(shown: Shown<'_>, place: usize) -> PlanRow
-    requires shown { IsShown shown }
-    requires within { place < length (entries shown.contents.now.occurrences) }
-    ensures { slice_get (rows_of (keyed_occurrences shown.entry)) place ≡ Some result }
+// The row of the occurrence at an index, by the numbers of its operations there.
+fn row_of(occurrences: &[(OccKey, Occurrence)], tallies: &[Counts], place: usize) -> PlanRow
+    requires terms { place < length occurrences.now }
+    requires numbers { place < length tallies.now }
+    ensures { (s : ShownValue) → IsShown s → occurrences.now ≡ entries s.contents.now.occurrences → tallies.now ≡ s.tallies.now → slice_get (rows_of (keyed_occurrences s)) place ≡ Some result }
 {
-    let (occurrence, terms) = shown.contents.occurrences()[place];
+    let (occurrence, terms) = occurrences[place];
     PlanRow::Occurrence {
         occurrence,
         priority: terms.priority,
         deadline: terms.deadline,
-        status: occurrence_status_with(shown.tallies[place]),
+        status: occurrence_status_with(tallies[place]),
     }
 }
 
@@ -55,7 +57,7 @@ impl Tabled for Occurrence {
     }
 
     fn row(shown: Shown<'_>, place: usize) -> PlanRow {
-        occurrence_row(shown, place)
+        row_of(shown.contents.occurrences(), shown.tallies, place)
     }
 
     ghost in_order = { λ a b. refl };
@@ -85,30 +87,42 @@ pub fn push_occurrences(
     )
 }
 
+impl Noted for Occurrence {
+    ghost looks = { 0 };
+
+    fn seen(shown: &mut Counted, columns: Columns<'_>, place: usize) -> PlanRow {
+        row_of(shown.beside().occurrences(), columns.tallies, place)
+    }
+}
+
 /// Notes the rows of the occurrences to which the operations at these places belong.
 pub fn note_occurrences(
     alloc: Global,
-    shown: Shown<'_>,
+    shown: &mut Counted,
+    columns: Columns<'_>,
     touched: &[usize],
 ) -> Result<Vec<NotedRow>, AllocError>
-    requires shown { IsShown shown }
+    requires shown { IsShown (shown_with shown.old.contents columns) }
     requires ascend { IsStrictlySortedBy nat_cmp touched.now }
-    requires within { (i : ℕ) → Contains touched.now i → i < length (entries shown.contents.now.operations) }
-    ensures { IfOk result (λ v. (places : List ℕ) × AreOccurrencesOf shown.entry.contents.now touched.now places × AreNotedAt (rows_of (keyed_occurrences shown.entry)) places v.items) }
+    requires within { (i : ℕ) → Contains touched.now i → i < length (entries shown.old.contents.operations) }
+    ensures notes { IfOk result (λ v. (places : List ℕ) × AreOccurrencesOf shown.old.contents touched.now places × AreNotedAt (rows_of (keyed_occurrences (shown_with shown.old.contents columns.entry))) places v.items) }
+    ensures unchanged { shown.new ≡ shown.old }
 {
-    let places = occurrence_places(alloc, Some(shown), touched)?;
-    note_rows::<Occurrence>(alloc, Some(shown), &places)
+    let places = occurrence_places(alloc, shown, touched)?;
+    note_rows::<Occurrence>(alloc, shown, columns, &places)
 }
 
 /// Adds what changes in the table of occurrences, from the rows of those that are noted.
 pub fn push_noted_occurrences(
-    before: Option<Shown<'_>>,
+    shown: &mut Counted,
+    columns: Columns<'_>,
     notes: &[NotedRow],
     changes: &mut Changes,
 ) -> Result<(), AllocError>
-    requires before { IsShownIfAny before }
-    requires within { AreWithin (length (entries (contents_shown before).occurrences)) notes.now }
-    ensures { (clock now : ℕ) (after : ShownValue) (touched places : List ℕ) → IsShown after → AreTouched before.entry (Some after) touched → AreOccurrencesOf after.contents.now touched places → AreNotedAt (rows_of (keyed_occurrences after)) places notes.now → AreChangesBelow 4 (plan_shown clock before.entry) (plan_shown now (Some after)) changes.old → OnOk result (AreChangesBelow 5 (plan_shown clock before.entry) (plan_shown now (Some after)) changes.new) }
+    requires shown { IsShown (shown_with shown.old.contents columns) }
+    requires within { AreWithin (length (entries shown.old.contents.occurrences)) notes.now }
+    ensures told { (clock now : ℕ) (after : ShownValue) (touched places : List ℕ) → IsShown after → AreTouched (Some (shown_with shown.old.contents columns.entry)) (Some after) touched → AreOccurrencesOf after.contents.now touched places → AreNotedAt (rows_of (keyed_occurrences after)) places notes.now → AreChangesBelow 4 (plan_shown clock (Some (shown_with shown.old.contents columns.entry))) (plan_shown now (Some after)) changes.old → OnOk result (AreChangesBelow 5 (plan_shown clock (Some (shown_with shown.old.contents columns.entry))) (plan_shown now (Some after)) changes.new) }
+    ensures unchanged { shown.new ≡ shown.old }
 {
-    push_noted::<Occurrence>(before, notes, &mut changes.rows)
+    push_noted::<Occurrence>(shown, columns, notes, &mut changes.rows)
 }

@@ -1,33 +1,33 @@
 // The table of operations.
-ghost use Rattle.std.specs.Prelude.{◌≡◌, ◌<◌, ℕ, List, Contains, Some, IfOk, OnOk, length, refl, slice_get};
+ghost use Rattle.std.specs.Prelude.{◌≡◌, ◌⊎◌, ◌+◌, ◌<◌, ◌≤◌, ℕ, List, Contains, Some, IfOk, OnOk, count_by, length, refl, slice_get};
 ghost use Rattle.std.specs.FinMap.{entries};
 ghost use Rattle.plan_basics.specs.Keys.{operation_cmp-IsAntisymmetric};
+ghost use Rattle.plan_model.specs.Contents.{Contents};
 ghost use Rattle.plan_state.specs.plan_drafts.specs.declared.RowKey.TheVariants as key;
-ghost use Rattle.plan_rows.specs.Notes.{AreNotedAt, AreWithin};
+ghost use Rattle.plan_rows.specs.Notes.{AreNotedAt, AreWithin, is_operation};
 ghost use Rattle.plan_rows.specs.Rows.{keyed_operations, rows_of};
-ghost use Rattle.plan_rows.specs.Shown.{IsShown, IsShownIfAny, contents_shown, plan_shown};
+ghost use Rattle.plan_rows.specs.Shown.{IsShown, IsShownIfAny, plan_shown, shown_with};
 ghost use Rattle.plan_rows.specs.Tables.{AreChangesBelow};
 ghost use Rattle.plan_rows.specs.Touched.{AreTouched};
 ghost use Rattle.plan_rows.specs.declared.shown.Shown.{Shown as ShownValue};
 
+use super::columns::Columns;
 use super::kept::operations_of;
-use super::noted_rows::{NotedRow, note_rows, push_noted};
+use super::noted_rows::{Noted, NotedRow, note_rows, push_noted};
 use super::shown::Shown;
 use super::shown_tables::{ShownTables, Tabled};
 use super::tables::push_changes;
 use plan_basics::OpKey;
 use plan_model::OperationRecord;
-use plan_state::{Changes, OperationRow, PlanRow, RowKey};
+use plan_state::{Changes, OperationRow, PlanRow, RowKey, Shown as Counted};
 use std::alloc::{AllocError, Global};
 use std::marker::PhantomData;
 
-// The row of the operation at an index.
-fn operation_row(shown: Shown<'_>, place: usize) -> PlanRow
-    requires shown { IsShown shown }
-    requires within { place < length (entries shown.contents.now.operations) }
-    ensures { slice_get (rows_of (keyed_operations shown.entry)) place ≡ Some result }
+// The row of an operation, from its record and what is known of the operation at its index.
+fn row_of(op: OpKey, operation: &OperationRecord, columns: Columns<'_>, place: usize) -> PlanRow
+    requires { (P : Contents) × IsShown (shown_with P columns) × (slice_get (entries P.operations) place ≡ Some (op, operation.now)) }
+    ensures { (P : Contents) → IsShown (shown_with P columns.entry) → slice_get (entries P.operations) place ≡ Some (op, operation.now) → slice_get (rows_of (keyed_operations (shown_with P columns.entry))) place ≡ Some result }
 {
-    let (op, operation) = shown.contents.operations()[place];
     PlanRow::Operation(OperationRow {
         op,
         ws: operation.workstation,
@@ -39,10 +39,26 @@ fn operation_row(shown: Shown<'_>, place: usize) -> PlanRow
         mark: operation.mark,
         held: operation.held,
         nop: operation.nop,
-        status: shown.statuses[place],
-        latest: shown.latest.of(place),
-        waiting: shown.standings[place].waiting,
+        status: columns.statuses[place],
+        latest: columns.latest.of(place),
+        waiting: columns.standings[place].waiting,
     })
+}
+
+// The row of the operation at an index.
+fn operation_row(shown: Shown<'_>, place: usize) -> PlanRow
+    requires shown { IsShown shown }
+    requires within { place < length (entries shown.contents.now.operations) }
+    ensures { slice_get (rows_of (keyed_operations shown.entry)) place ≡ Some result }
+{
+    let row = &shown.contents.operations()[place];
+    let columns = Columns {
+        standings: shown.standings,
+        statuses: shown.statuses,
+        tallies: shown.tallies,
+        latest: shown.latest,
+    };
+    row_of(row.0, &row.1, columns, place)
 }
 
 impl Tabled for OperationRecord {
@@ -91,28 +107,47 @@ pub fn push_operations(
     )
 }
 
-/// Notes the rows of the operations at these places.
-pub fn note_operations(
-    alloc: Global,
-    shown: Shown<'_>,
-    touched: &[usize],
-) -> Result<Vec<NotedRow>, AllocError>
-    requires shown { IsShown shown }
-    requires within { (i : ℕ) → Contains touched.now i → i < length (entries shown.contents.now.operations) }
-    ensures { IfOk result (λ v. AreNotedAt (rows_of (keyed_operations shown.entry)) touched.now v.items) }
-{
-    note_rows::<OperationRecord>(alloc, Some(shown), touched)
+impl Noted for OperationRecord {
+    ghost looks = { 1 };
+
+    fn seen(shown: &mut Counted, columns: Columns<'_>, place: usize) -> PlanRow {
+        let seen = shown.see(place);
+        row_of(*seen.key, seen.operation, columns, place)
+    }
 }
 
-/// Adds what changes in the table of operations, from the rows of touched operations that are noted.
+/// Notes the rows of the operations at these places: a look at each.
+pub fn note_operations(
+    alloc: Global,
+    shown: &mut Counted,
+    columns: Columns<'_>,
+    touched: &[usize],
+) -> Result<Vec<NotedRow>, AllocError>
+    requires shown { IsShown (shown_with shown.old.contents columns) }
+    requires within { (i : ℕ) → Contains touched.now i → i < length (entries shown.old.contents.operations) }
+    ensures notes { IfOk result (λ v. AreNotedAt (rows_of (keyed_operations (shown_with shown.old.contents columns.entry))) touched.now v.items) }
+    ensures contents { shown.new.contents ≡ shown.old.contents }
+    ensures fewest { shown.old.looks ≤ shown.new.looks }
+    ensures most { shown.new.looks ≤ shown.old.looks + length touched.now }
+    ensures least { OnOk result ((18446744073709551615 ≤ shown.new.looks) ⊎ (shown.old.looks + length touched.now ≤ shown.new.looks)) }
+{
+    note_rows::<OperationRecord>(alloc, shown, columns, touched)
+}
+
+/// Adds what changes in the table of operations, from the rows of touched operations that are noted: a look for each.
 pub fn push_noted_operations(
-    before: Option<Shown<'_>>,
+    shown: &mut Counted,
+    columns: Columns<'_>,
     notes: &[NotedRow],
     changes: &mut Changes,
 ) -> Result<(), AllocError>
-    requires before { IsShownIfAny before }
-    requires within { AreWithin (length (entries (contents_shown before).operations)) notes.now }
-    ensures { (clock now : ℕ) (after : ShownValue) (touched : List ℕ) → IsShown after → AreTouched before.entry (Some after) touched → AreNotedAt (rows_of (keyed_operations after)) touched notes.now → AreChangesBelow 5 (plan_shown clock before.entry) (plan_shown now (Some after)) changes.old → OnOk result (AreChangesBelow 6 (plan_shown clock before.entry) (plan_shown now (Some after)) changes.new) }
+    requires shown { IsShown (shown_with shown.old.contents columns) }
+    requires within { AreWithin (length (entries shown.old.contents.operations)) notes.now }
+    ensures told { (clock now : ℕ) (after : ShownValue) (touched : List ℕ) → IsShown after → AreTouched (Some (shown_with shown.old.contents columns.entry)) (Some after) touched → AreNotedAt (rows_of (keyed_operations after)) touched notes.now → AreChangesBelow 5 (plan_shown clock (Some (shown_with shown.old.contents columns.entry))) (plan_shown now (Some after)) changes.old → OnOk result (AreChangesBelow 6 (plan_shown clock (Some (shown_with shown.old.contents columns.entry))) (plan_shown now (Some after)) changes.new) }
+    ensures operations { OnOk result (count_by is_operation changes.new.rows.items ≤ count_by is_operation changes.old.rows.items + length notes.now) }
+    ensures contents { shown.new.contents ≡ shown.old.contents }
+    ensures fewest { shown.old.looks ≤ shown.new.looks }
+    ensures most { shown.new.looks ≤ shown.old.looks + length notes.now }
 {
-    push_noted::<OperationRecord>(before, notes, &mut changes.rows)
+    push_noted::<OperationRecord>(shown, columns, notes, &mut changes.rows)
 }

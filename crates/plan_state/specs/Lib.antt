@@ -1,3 +1,4 @@
+pub use Rattle.plan_choice.specs.plan_changes
 pub use Rattle.latest_start
 pub use Rattle.plan_choice
 pub use Rattle.plan_choice.specs.plan_drafts
@@ -7,8 +8,11 @@ pub use Rattle.plan_waiting.specs.plan_records
 pub use Rattle.plan_choice.specs.plan_status
 pub use Rattle.plan_waiting
 pub use Rattle.ready_list
+pub use Rattle.plan_choice.specs.shown_records
 pub use Rattle.special_resources
 pub use Rattle.workstations
 pub mod Reports
 pub mod Figures
+pub mod Frames
+pub mod Outlines
 pub mod Held

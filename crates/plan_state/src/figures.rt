@@ -1,6 +1,5 @@
 // What is kept of a plan, and moves as marks and flags change.
-use plan_cascade::Kept;
-use plan_choice::Standing;
+use plan_choice::{Kept, Standing};
 use ready_list::ReadyList;
 use special_resources::Holdings;
 use status_rules::{Counts, Status};

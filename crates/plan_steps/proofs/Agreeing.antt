@@ -4,17 +4,17 @@ use Rattle.std.proofs.lemmas.Option.{slice_get_within, some_pair_parts}
 use Rattle.std.specs.FinMap.{entries}
 use Rattle.plan_basics.specs.declared.keys.OpKey.{OpKey}
 use Rattle.plan_cascade.specs.declared.kept.Kept.{Kept}
-use Rattle.plan_kept.specs.plan_drafts.proofs.RowPlaces.{row_at}
-use Rattle.plan_kept.specs.plan_laws.proofs.Classes.{satisfied_decides}
-use Rattle.plan_kept.specs.plan_laws.proofs.Standing.{one_status}
-use Rattle.plan_kept.specs.plan_laws.proofs.Waiting.{one_count}
-use Rattle.plan_kept.specs.plan_model.specs.Contents.{Contents, Operation}
-use Rattle.plan_kept.specs.plan_model.specs.Status.{HasStatus, IsSatisfied}
-use Rattle.plan_kept.specs.plan_model.specs.Valid.{IsValid}
-use Rattle.plan_kept.specs.plan_moves.specs.Moves.{IsMovedAt}
-use Rattle.plan_kept.specs.plan_waiting.specs.Kept.{IsKept}
+use Rattle.plan_looks.specs.plan_kept.specs.plan_drafts.proofs.RowPlaces.{row_at}
+use Rattle.plan_looks.specs.plan_kept.specs.plan_laws.proofs.Classes.{satisfied_decides}
+use Rattle.plan_looks.specs.plan_kept.specs.plan_laws.proofs.Standing.{one_status}
+use Rattle.plan_looks.specs.plan_kept.specs.plan_laws.proofs.Waiting.{one_count}
+use Rattle.plan_looks.specs.plan_kept.specs.plan_model.specs.Contents.{Contents, Operation}
+use Rattle.plan_looks.specs.plan_kept.specs.plan_model.specs.Status.{HasStatus, IsSatisfied}
+use Rattle.plan_looks.specs.plan_kept.specs.plan_model.specs.Valid.{IsValid}
+use Rattle.plan_looks.specs.plan_kept.specs.plan_moves.specs.Moves.{IsMovedAt}
+use Rattle.plan_looks.specs.plan_kept.specs.plan_waiting.specs.Kept.{IsKept}
 use Rattle.plan_rows.specs.Touched.{HasOneOf}
-use Rattle.plan_status.specs.Standings.{IsStanding, IsTally}
+use Rattle.plan_rows.specs.plan_status.specs.Standings.{IsStanding, IsTally}
 use Rattle.plan_steps.proofs.Alike.{alike_at, one_standing, one_tally, one_truth, tally_after}
 use Rattle.plan_steps.proofs.Overwritten.{values_lead}
 use Rattle.plan_steps.specs.Columns.{AreColumnsOf, IsExcerptOf, MakesOf}
@@ -109,4 +109,13 @@ module _ (P Q : Contents) (valid : IsValid P) (valid_after : IsValid Q) (touched
     statuses = values_lead (Contains touched) x.statuses.items m.statuses.items l.statuses.items was.statuses (then.statuses.size ∙ sym same_size ∙ sym are.statuses.size) statuses_agree;
     tallies = values_lead (HasOneOf Q touched) x.tallies.items m.tallies.items l.tallies.items was.tallies (then.tallies.size ∙ ap length same_occurrences ∙ sym are.tallies.size)
         (λ i none. tallies_agree i (λ has. none (has_one_after i has)));
+  }
+
+  -- so does what it was told to have there of the plan before
+  pub leads_home : (x : Excerpt) → IsExcerptOf P touched l x → MakesOf x m l
+  leads_home x was = record {
+    kept = values_lead (Contains touched) x.kept.items m.kept.items l.kept.items was.kept (then.kept.size ∙ sym same_size ∙ sym are.kept.size) kept_agree;
+    standings = values_lead (Contains touched) x.standings.items m.standings.items l.standings.items was.standings (then.standings.size ∙ sym same_size ∙ sym are.standings.size) standings_agree;
+    statuses = values_lead (Contains touched) x.statuses.items m.statuses.items l.statuses.items was.statuses (then.statuses.size ∙ sym same_size ∙ sym are.statuses.size) statuses_agree;
+    tallies = values_lead (HasOneOf P touched) x.tallies.items m.tallies.items l.tallies.items was.tallies (then.tallies.size ∙ ap length same_occurrences ∙ sym are.tallies.size) tallies_agree;
   }

@@ -6,26 +6,26 @@ use Rattle.std.specs.FinMap.{entries}
 use Rattle.std.specs.List.{zip}
 use Rattle.plan_basics.specs.declared.keys.OccKey.{OccKey}
 use Rattle.plan_basics.specs.declared.keys.OpKey.{OpKey}
-use Rattle.plan_kept.specs.plan_model.specs.Contents.{Contents, IsInPlan, LivePredecessor, Operation}
-use Rattle.plan_kept.specs.plan_model.specs.declared.Occurrence.{Occurrence}
-use Rattle.plan_kept.specs.plan_model.specs.Starts.{IsLatestStart}
-use Rattle.plan_kept.specs.plan_model.specs.Status.{AllPredecessorsSatisfied, FollowsNonreporting, HasStatus, IsSatisfied}
-use Rattle.plan_kept.specs.plan_model.specs.Valid.{IsValid}
-use Rattle.plan_kept.specs.plan_drafts.proofs.RowPlaces.{row_at}
-use Rattle.plan_kept.specs.plan_drafts.specs.Places.{AreByPlace}
-use Rattle.plan_kept.specs.plan_laws.proofs.Latest.{one_latest_start}
-use Rattle.plan_kept.specs.plan_laws.proofs.Standing.{one_status, some_status}
-use Rattle.plan_kept.specs.plan_laws.proofs.Waiting.{one_count}
-use Rattle.plan_kept.specs.plan_moves.specs.Moves.{IsMovedAt}
-use Rattle.plan_records.specs.Rows.{IsCount}
-use Rattle.plan_kept.specs.plan_choice.specs.Choices.{AreLatestStarts}
+use Rattle.plan_looks.specs.plan_kept.specs.plan_model.specs.Contents.{Contents, IsInPlan, LivePredecessor, Operation}
+use Rattle.plan_looks.specs.plan_kept.specs.plan_model.specs.declared.Occurrence.{Occurrence}
+use Rattle.plan_looks.specs.plan_kept.specs.plan_model.specs.Starts.{IsLatestStart}
+use Rattle.plan_looks.specs.plan_kept.specs.plan_model.specs.Status.{AllPredecessorsSatisfied, FollowsNonreporting, HasStatus, IsSatisfied}
+use Rattle.plan_looks.specs.plan_kept.specs.plan_model.specs.Valid.{IsValid}
+use Rattle.plan_looks.specs.plan_kept.specs.plan_drafts.proofs.RowPlaces.{row_at}
+use Rattle.plan_looks.specs.plan_kept.specs.plan_drafts.specs.Places.{AreByPlace}
+use Rattle.plan_looks.specs.plan_kept.specs.plan_laws.proofs.Latest.{one_latest_start}
+use Rattle.plan_looks.specs.plan_kept.specs.plan_laws.proofs.Standing.{one_status, some_status}
+use Rattle.plan_looks.specs.plan_kept.specs.plan_laws.proofs.Waiting.{one_count}
+use Rattle.plan_looks.specs.plan_kept.specs.plan_moves.specs.Moves.{IsMovedAt}
+use Rattle.plan_looks.specs.plan_records.specs.Rows.{IsCount}
+use Rattle.plan_looks.specs.plan_kept.specs.plan_choice.specs.Choices.{AreLatestStarts}
 use Rattle.plan_rows.specs.Shown.{IsShown, known_of}
 use Rattle.plan_rows.specs.declared.shown.Shown.{Shown}
-use Rattle.plan_status.proofs.Alike.{count_alike}
-use Rattle.plan_status.proofs.LoadedRows.{row_found, row_of}
-use Rattle.plan_status.proofs.OfOccurrences.{IsOfIts, IsStarted}
-use Rattle.plan_status.specs.Standings.{BelongsWithStatus, IsStanding, IsTally}
-use Rattle.plan_status.specs.declared.standings.Standing.{Standing}
+use Rattle.plan_rows.specs.plan_status.proofs.Alike.{count_alike}
+use Rattle.plan_rows.specs.plan_status.proofs.LoadedRows.{row_found, row_of}
+use Rattle.plan_rows.specs.plan_status.proofs.OfOccurrences.{IsOfIts, IsStarted}
+use Rattle.plan_rows.specs.plan_status.specs.Standings.{BelongsWithStatus, IsStanding, IsTally}
+use Rattle.plan_rows.specs.plan_status.specs.declared.standings.Standing.{Standing}
 use Rattle.status_rules.specs.declared.Counts.{Counts}
 use Rattle.status_rules.specs.declared.Status.{Status}
 use Rattle.status_rules.specs.declared.Status.TheVariants as status

@@ -1,23 +1,17 @@
 -- Figures in parts, and columns that are alike.
-use Rattle.std.proofs.Common.{◌≡◌, refl, sym, subst, ◌∙◌, Vec, Global}
+use Rattle.std.proofs.Common.{◌≡◌, refl, sym, subst, Vec, Global}
 use Rattle.plan_cascade.specs.declared.kept.Kept.{Kept}
-use Rattle.plan_kept.specs.plan_drafts.specs.Places.{AreStatuses}
-use Rattle.plan_kept.specs.plan_model.specs.Contents.{Contents}
-use Rattle.plan_kept.specs.plan_state.specs.Figures.{AreFigures}
-use Rattle.plan_kept.specs.plan_waiting.specs.Kept.{AreKept}
-use Rattle.plan_status.specs.Standings.{AreStandings, AreTallies}
-use Rattle.plan_steps.specs.Columns.{AreAlike, AreColumnsOf, AreSizedBy, AreSharesOf, IsReadyListOf, MakesOf, figures_of}
+use Rattle.plan_looks.specs.plan_kept.specs.plan_drafts.specs.Places.{AreStatuses}
+use Rattle.plan_looks.specs.plan_kept.specs.plan_model.specs.Contents.{Contents}
+use Rattle.plan_looks.specs.plan_kept.specs.plan_state.specs.Figures.{AreFigures}
+use Rattle.plan_looks.specs.plan_kept.specs.plan_waiting.specs.Kept.{AreKept}
+use Rattle.plan_rows.specs.plan_status.specs.Standings.{AreStandings, AreTallies}
+use Rattle.plan_steps.specs.Columns.{AreAlike, AreColumnsOf, AreSharesOf, IsReadyListOf, MakesOf, figures_of}
 use Rattle.plan_steps.specs.Values.{LeadsTo}
 use Rattle.plan_steps.specs.declared.columns.Columns.{Columns}
 use Rattle.plan_steps.specs.declared.columns.Shares.{Shares}
 use Rattle.plan_steps.specs.declared.excerpts.Excerpt.{Excerpt}
 use Rattle.ready_list.specs.Entries.{ReadyEntries}
-
-pub alike_itself : (l : Columns) → AreAlike l l
-alike_itself l = record { kept = refl; standings = refl; statuses = refl; tallies = refl }
-
-pub alike_on : (l m n : Columns) → AreAlike l m → AreAlike m n → AreAlike l n
-alike_on l m n x y = record { kept = x.kept ∙ y.kept; standings = x.standings ∙ y.standings; statuses = x.statuses ∙ y.statuses; tallies = x.tallies ∙ y.tallies }
 
 -- columns are alike where what is kept has the same
 pub kept_alike : (l : Columns) (kept : Vec Kept Global) → kept.items ≡ l.kept.items → AreAlike (record l { kept = kept }) l
@@ -52,9 +46,6 @@ module _ (P : Contents) (l : Columns) (r : ReadyEntries) (s : Shares) where
     ready = list.listed;
     room = list.room;
   }
-
-pub sized : (P : Contents) (l : Columns) → AreColumnsOf P l → AreSizedBy P l
-sized P l are = record { kept = are.kept.size; standings = are.standings.size; statuses = are.statuses.size; tallies = are.tallies.size }
 
 -- what makes columns of some makes them of others that are alike
 pub makes_alike : (x : Excerpt) (l m to : Columns) → AreAlike l m → MakesOf x m to → MakesOf x l to

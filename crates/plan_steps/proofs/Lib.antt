@@ -14,5 +14,13 @@ pub mod Agreeing
 pub mod Belonging
 pub mod KeptThen
 pub mod MovedColumns
+pub mod Looked
 pub mod MadeSteps
 pub mod Listing
+pub mod NamedStatuses
+pub mod OnceNamed
+pub mod FollowedParts
+pub mod ShiftedFigures
+pub mod Counted
+pub mod Idle
+pub mod Unnamed

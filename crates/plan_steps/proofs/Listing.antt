@@ -1,17 +1,21 @@
 -- A ready list that goes by statuses, and that of a plan.
-use Rattle.std.proofs.Common.{sym, subst, ◌∙◌, ℕ, ℤ, ◌+◌, ◌≤◌, List, length}
-use Rattle.plan_kept.proofs.Frame.{frame_stays}
-use Rattle.plan_kept.specs.plan_choice.specs.Choices.{AreLatestStarts}
-use Rattle.plan_kept.specs.plan_drafts.specs.Places.{AreStatuses}
-use Rattle.plan_kept.specs.plan_model.specs.Contents.{Contents}
-use Rattle.plan_kept.specs.plan_model.specs.Valid.{IsSound}
-use Rattle.plan_kept.specs.plan_moves.specs.Moves.{IsMovedAt}
-use Rattle.plan_restating.proofs.Moved.{moved_back}
-use Rattle.plan_restating.proofs.Read.{entries_after, entries_are, entries_by}
-use Rattle.plan_restating.specs.ByStatuses.{HasRoomForAll}
-use Rattle.plan_status.proofs.LoadedRows.{its_occurrence}
+use Rattle.std.proofs.Common.{◌≡◌, sym, subst, ◌∙◌, ℕ, ℤ, ◌+◌, ◌≤◌, List, length, map}
+use Rattle.plan_looks.specs.plan_kept.proofs.OneFrame.{frame_stays}
+use Rattle.plan_looks.specs.plan_kept.specs.plan_choice.specs.Choices.{AreLatestStarts}
+use Rattle.plan_looks.specs.plan_kept.specs.plan_drafts.specs.Places.{AreStatuses}
+use Rattle.plan_looks.specs.plan_kept.specs.plan_model.specs.Contents.{Contents}
+use Rattle.plan_looks.specs.plan_kept.specs.plan_model.specs.Valid.{IsSound}
+use Rattle.plan_looks.specs.plan_kept.specs.plan_moves.specs.Moves.{IsMovedAt}
+use Rattle.plan_looks.specs.plan_restating.proofs.Moved.{moved_back}
+use Rattle.plan_looks.specs.plan_restating.proofs.Read.{entries_after, entries_are, entries_by}
+use Rattle.plan_looks.specs.plan_restating.specs.ByStatuses.{HasRoomForAll}
+use Rattle.plan_looks.specs.plan_restating.specs.Entries.{AreEntriesAt, CanBeRelisted}
+use Rattle.plan_rows.specs.plan_status.proofs.LoadedRows.{its_occurrence}
+use Rattle.plan_steps.proofs.Overwritten.{leads_within}
 use Rattle.plan_steps.specs.Columns.{GoesByStatuses, IsReadyListOf}
+use Rattle.plan_steps.specs.Values.{LeadsTo}
 use Rattle.ready_list.specs.Entries.{ReadyEntries}
+use Rattle.ready_list.specs.declared.entry.ReadyEntry.{ReadyEntry}
 use Rattle.status_rules.specs.declared.Status.{Status}
 
 module _ (P : Contents) (sound : IsSound P) (statuses : List Status) (are : AreStatuses P statuses) (r : ReadyEntries) where
@@ -44,3 +48,14 @@ goes_before P Q moved_at moved = goes_after Q P moved_at (moved_back P Q moved_a
 -- there is room for as many operations as there were
 pub room_after : (P Q : Contents) (moved_at : List ℕ) → IsMovedAt P Q moved_at → (r : ReadyEntries) → IsReadyListOf P r → HasRoomForAll Q r
 room_after P Q moved_at moved r list = subst (λ n. n ≤ length r.entries + r.room) (sym moved.size) list.room
+
+-- by an excerpt's statuses and the entries at its places it can be led on
+pub relistable : (P : Contents) (statuses : List Status) (r : ReadyEntries) → GoesByStatuses P statuses r → (values : List (ℕ × Status)) (to : List Status) → LeadsTo values statuses to
+    → (places : List ℕ) → map (λ (e : ℕ × Status). e.0) values ≡ places → (es : List ReadyEntry) → AreEntriesAt P places es → CanBeRelisted P statuses r values es
+relistable P statuses r goes values to leads places in_order es noted = record {
+  size = goes.size;
+  within = leads_within values statuses to leads;
+  entries_there = subst (λ ps. AreEntriesAt P ps es) (sym in_order) noted;
+  listed = goes.listed;
+  room = goes.room;
+}

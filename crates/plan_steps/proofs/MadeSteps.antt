@@ -1,50 +1,81 @@
 -- What is named and noted after an edit is a step from the plan before.
-use Rattle.std.proofs.Common.{◌≡◌, sym, ap, subst, ℕ, ℤ, List, Vec, Global, Result, Ok, Err, IfOk}
+use Rattle.std.proofs.Common.{◌≡◌, ◌⊎◌, refl, sym, ap, subst, arith, ℕ, ℤ, ◌+◌, ◌≤◌, List, length, Vec, Global, Result, Ok, Err, IfOk}
 use Rattle.plan_basics.specs.declared.Refusal.{Refusal}
 use Rattle.plan_basics.specs.declared.keys.OpKey.{OpKey}
-use Rattle.plan_kept.specs.Edits.{ArePlacesOf}
-use Rattle.plan_kept.specs.operation_graph.specs.Graphs.{Digraph}
-use Rattle.plan_kept.specs.plan_laws.proofs.Kept.{choice_keeps_sound}
-use Rattle.plan_kept.specs.plan_model.specs.Contents.{Contents}
-use Rattle.plan_kept.specs.plan_model.specs.Ready.{IsChosen, named}
+use Rattle.plan_looks.specs.plan_kept.proofs.OneFrame.{frame_stays}
+use Rattle.plan_looks.specs.plan_kept.specs.Edits.{ArePlacesOf}
+use Rattle.plan_looks.specs.plan_kept.specs.operation_graph.specs.Graphs.{Digraph}
+use Rattle.plan_looks.specs.plan_kept.specs.plan_choice.specs.Choices.{AreLatestStarts}
+use Rattle.plan_looks.specs.plan_kept.specs.plan_laws.proofs.Kept.{choice_keeps_sound}
+use Rattle.plan_looks.specs.plan_kept.specs.plan_model.specs.Contents.{Contents}
+use Rattle.plan_looks.specs.plan_kept.specs.plan_model.specs.Ready.{IsChosen, named}
+use Rattle.plan_looks.specs.plan_restating.proofs.Read.{noted_after}
+use Rattle.plan_looks.specs.plan_restating.specs.Beside.{places_beside}
+use Rattle.plan_looks.specs.plan_restating.specs.Entries.{AreEntriesAt}
+use Rattle.plan_rows.specs.Notes.{operations_noted}
 use Rattle.plan_rows.specs.Touched.{StaysBeside}
 use Rattle.plan_rows.specs.declared.notes.Beside.{Beside}
 use Rattle.plan_steps.proofs.ColumnParts.{are_columns, columns_alike, is_list}
+use Rattle.plan_steps.proofs.Looked.{from_before, touched_beside}
 use Rattle.plan_steps.proofs.MovedColumns.{then_known}
-use Rattle.plan_steps.proofs.NamedFigures.{named_touched}
-use Rattle.plan_steps.proofs.SmallSteps.{step_notes, touched_by_both}
-use Rattle.plan_steps.specs.Columns.{AreAlike, AreColumnsOf, AreSharesOf, figures_of}
+use Rattle.plan_steps.proofs.NamedFigures.{named_touched, naming_moved}
+use Rattle.plan_steps.proofs.SmallSteps.{keeps_frame, step_notes, touched_by_both}
+use Rattle.plan_steps.specs.Columns.{AreAlike, AreColumnsOf, AreSharesOf, IsReadyListOf, figures_of}
 use Rattle.plan_steps.specs.Edits.{WasEdited}
+use Rattle.plan_steps.specs.Following.{IsFollowed}
 use Rattle.plan_steps.specs.Groundworks.{HasGroundwork, IsGroundwork}
-use Rattle.plan_steps.specs.Naming.{AreBoth, AreNotesOf, AreStepNotes, IsNaming, IsStepOf}
+use Rattle.plan_steps.specs.Naming.{AreNotesOf, AreStepNotes, IsStepOf}
 use Rattle.plan_steps.specs.Shifts.{HasColumnsAt, IsShift}
 use Rattle.plan_steps.specs.Touched.{IsTouchedAt}
 use Rattle.plan_steps.specs.declared.columns.Columns.{Columns}
 use Rattle.plan_steps.specs.declared.columns.Shares.{Shares}
 use Rattle.plan_steps.specs.declared.edits.Edit.{Edit}
+use Rattle.plan_steps.specs.declared.followed.Followed.{Followed}
 use Rattle.plan_steps.specs.declared.following.SmallStep.{SmallStep}
 use Rattle.plan_steps.specs.declared.groundwork.Groundwork.{Groundwork}
-use Rattle.plan_steps.specs.declared.naming.Naming.{Naming}
 use Rattle.ready_list.specs.Entries.{ReadyEntries}
+use Rattle.ready_list.specs.declared.entry.ReadyEntry.{ReadyEntry}
 
--- what is told of what is named is a step
-pub step_of : (Q : Contents) (m : ℕ) (n : Naming) → IsNaming Q m n → (l : Columns) → AreColumnsOf Q l → (edited touched : List ℕ) → AreBoth edited n.places.items touched → (b : Beside) → (r : Result SmallStep Refusal)
-    → IfOk r (λ s. s.named ≡ n.named) → IfOk r (λ s. AreSharesOf (named n.named.items Q) s.shift.shares) → IfOk r (λ s. HasColumnsAt (named n.named.items Q) touched s.shift.columns)
-    → IfOk r (λ s. AreNotesOf (named n.named.items Q) b touched s.notes) → IfOk r (IsStepOf Q m edited b)
-step_of Q m n naming l are edited touched both b (Err e) is shares columns notes = tt
-step_of Q m n naming l are edited touched both b (Ok s) is shares columns notes =
-    let os : n.named.items ≡ s.named.items = ap (λ (v : Vec OpKey Global). v.items) (sym is) in
-    record {
-      chosen = subst (IsChosen Q m) os naming.chosen;
-      places = n.places.items;
-      are_places = subst (λ ks. ArePlacesOf Q ks n.places.items) os naming.places;
-      at_places = subst (λ ks. IsTouchedAt Q (named ks Q) n.places.items) os (named_touched Q m n.named.items naming.chosen n.places.items naming.places naming.sound l are);
-      touched = touched;
-      joined = both;
-      notes = subst (λ ks. AreNotesOf (named ks Q) b touched s.notes) os notes;
-      columns = subst (λ ks. HasColumnsAt (named ks Q) touched s.shift.columns) os columns;
-      shares = subst (λ ks. AreSharesOf (named ks Q) s.shift.shares) os shares;
-    }
+module _ (Q : Contents) (m : ℕ) (edited : List ℕ) (l : Columns) (f : Followed) (is : IsFollowed Q m edited l f) (are : AreColumnsOf Q l) (starts : List ℤ) (latest : AreLatestStarts Q starts) where
+  abbrev os : List OpKey
+  os = f.naming.named.items
+
+  abbrev places : List ℕ
+  places = f.naming.places.items
+
+  -- the entries are those of the plan in which it is named
+  pub entries_named : AreEntriesAt (named os Q) f.touched.items f.entries.items
+  entries_named =
+      let moved = naming_moved Q m os is.naming.chosen places is.naming.places in
+      noted_after Q (named os Q) places moved starts latest ((frame_stays Q (named os Q) places moved).latest starts latest) f.touched.items f.entries.items is.entries
+
+  -- what follows, with what was noted then, is a step
+  pub step_of : (ready : ReadyEntries) → IsReadyListOf Q ready → (b : Beside) (before between after : ℕ) → before ≤ between → between ≤ before + length ready.entries + length (places_beside edited f.touched.items)
+      → after ≤ between + length f.touched.items → (r : Result SmallStep Refusal)
+      → IfOk r (λ s. s.named ≡ f.naming.named) → IfOk r (λ s. s.shift.shares ≡ f.naming.shares) → IfOk r (λ s. s.shift.entries ≡ f.entries) → IfOk r (λ s. HasColumnsAt (named os Q) f.touched.items s.shift.columns)
+      → IfOk r (λ s. AreNotesOf (named os Q) b f.touched.items s.notes) → IfOk r (λ s. operations_noted s.notes ≡ length f.touched.items)
+      → IfOk r (λ s. (18446744073709551615 ≤ after) ⊎ (between + length f.touched.items ≤ after)) → IfOk r (IsStepOf Q m edited b before after)
+  step_of ready list b before between after later asked noted (Err e) named_is shares_are entries_are columns notes all_noted least = tt
+  step_of ready list b before between after later asked noted (Ok s) named_is shares_are entries_are columns notes all_noted least =
+      let same : os ≡ s.named.items = ap (λ (v : Vec OpKey Global). v.items) (sym named_is) in
+      let beside = ap length (touched_beside edited places f.touched.items is.naming.places.ascend is.joined) in
+      record {
+        chosen = subst (IsChosen Q m) same is.naming.chosen;
+        places = places;
+        are_places = subst (λ ks. ArePlacesOf Q ks places) same is.naming.places;
+        at_places = subst (λ ks. IsTouchedAt Q (named ks Q) places) same (named_touched Q m os is.naming.chosen places is.naming.places is.naming.sound l are);
+        touched = f.touched.items;
+        joined = is.joined;
+        notes = subst (λ ks. AreNotesOf (named ks Q) b f.touched.items s.notes) same notes;
+        columns = subst (λ ks. HasColumnsAt (named ks Q) f.touched.items s.shift.columns) same columns;
+        entries = subst (λ ks. AreEntriesAt (named ks Q) f.touched.items s.shift.entries.items) same (subst (λ (es : Vec ReadyEntry Global). AreEntriesAt (named os Q) f.touched.items es.items) (sym entries_are) entries_named);
+        shares = subst (λ ks. AreSharesOf (named ks Q) s.shift.shares) same (subst (λ (z : Shares). AreSharesOf (named os Q) z) (sym shares_are) is.naming.shares);
+        all_noted = all_noted;
+        asked = ready.entries;
+        are_asked = list.listed;
+        most = omega (arith, asked, noted, beside);
+        fewest = from_before before between (length f.touched.items) (length f.touched.items) after later refl least;
+      }
 
 -- what was worked out of an edit of P
 pub worked_out : (P Q : Contents) (e : Edit) (d : Digraph) (starts : List ℤ) (l : Columns) (r : ReadyEntries) (s : Shares) → WasEdited P Q e d starts (figures_of l r s) → (m : Columns) → AreAlike m l
@@ -59,7 +90,7 @@ worked_out P Q e d starts l r s was m alike g is = record {
   worked_out = is;
 }
 
-module _ (P Q : Contents) (edits : List ℕ) (starts : List ℤ) (l : Columns) (r : ReadyEntries) (g : Groundwork) (has : HasGroundwork P Q edits starts l r g) (m : ℕ) (b : Beside) (s : SmallStep) (is : IsStepOf Q m g.touched.items b s) where
+module _ (P Q : Contents) (edits : List ℕ) (starts : List ℤ) (l : Columns) (r : ReadyEntries) (g : Groundwork) (has : HasGroundwork P Q edits starts l r g) (m : ℕ) (b : Beside) (before after : ℕ) (s : SmallStep) (is : IsStepOf Q m g.touched.items b before after s) where
   -- no more is touched by it than its places
   pub step_touched : IsTouchedAt P (named s.named.items Q) is.touched
   step_touched =
@@ -71,9 +102,12 @@ module _ (P Q : Contents) (edits : List ℕ) (starts : List ℤ) (l : Columns) (
   step_shift = record {
     sound = has.sound;
     sound_after = choice_keeps_sound Q m s.named.items has.sound_after is.chosen;
+    starts = starts;
+    latest = (keeps_frame P Q edits has.moved m s.named.items is.chosen is.places is.are_places).latest starts has.latest;
     touched = is.touched;
     at_touched = step_touched;
     columns = is.columns;
+    entries = is.entries;
     shares = is.shares;
   }
 

@@ -1,14 +1,14 @@
 -- Columns moved on by what was worked out of an edit.
 use Rattle.std.proofs.Common.{subst, ℕ, ℤ, ◌<◌, List}
 use Rattle.plan_cascade.specs.declared.kept.Kept.{Kept}
-use Rattle.plan_kept.specs.plan_model.specs.Contents.{Contents}
+use Rattle.plan_looks.specs.plan_kept.specs.plan_model.specs.Contents.{Contents}
 use Rattle.plan_steps.proofs.Agreeing.{leads_back}
 use Rattle.plan_steps.proofs.KnownAlike.{known_alike}
 use Rattle.plan_steps.specs.Columns.{AreColumnsOf, MakesOf}
 use Rattle.plan_steps.specs.Edits.{ArePlacesIn}
 use Rattle.plan_steps.specs.Groundworks.{HasGroundwork}
 use Rattle.plan_steps.specs.Touched.{AreKnownAlike, IsTouchedAt}
-use Rattle.plan_restating.specs.Overwritten.{overwritten}
+use Rattle.plan_looks.specs.plan_restating.specs.Overwritten.{overwritten}
 use Rattle.plan_steps.specs.declared.columns.Columns.{Columns}
 use Rattle.plan_steps.specs.declared.groundwork.Groundwork.{Groundwork}
 use Rattle.ready_list.specs.Entries.{ReadyEntries}

@@ -1,36 +1,32 @@
 -- What is known and kept of a plan once what is chosen is named.
-use Rattle.std.proofs.Common.{refl, sym, ap, ◌∙◌, subst, ℕ, ℤ, ◌<◌, List, length, Contains}
+use Rattle.std.proofs.Common.{◌≡◌, refl, sym, subst, ℕ, ℤ, List}
 use Rattle.std.specs.FinMap.{entries}
 use Rattle.plan_basics.specs.Keys.{operation_cmp, operation_cmp_total, operation_cmp-IsAntisymmetric}
 use Rattle.plan_basics.specs.declared.keys.OpKey.{OpKey}
-use Rattle.plan_kept.specs.plan_model.proofs.Looks.{as_named}
-use Rattle.plan_kept.specs.plan_model.specs.Contents.{Contents}
-use Rattle.plan_kept.specs.plan_model.specs.Ready.{IsChosen, named}
-use Rattle.plan_kept.specs.plan_model.specs.Valid.{IsSound}
-use Rattle.plan_kept.specs.plan_moves.specs.Moves.{IsMovedAt}
-use Rattle.plan_kept.specs.plan_drafts.proofs.MadeEntries.{entries-revise}
-use Rattle.plan_kept.specs.plan_drafts.specs.Places.{AreByPlace}
-use Rattle.plan_kept.proofs.ChosenEntries.{chosen_are_ready}
-use Rattle.plan_kept.proofs.SmallMoves.{naming_moves}
-use Rattle.plan_kept.specs.Edits.{ArePlacesOf}
-use Rattle.plan_kept.specs.plan_laws.proofs.Kept.{choice_keeps_sound}
-use Rattle.plan_kept.proofs.Frame.{frame_stays}
-use Rattle.plan_kept.specs.plan_choice.specs.Choices.{AreLatestStarts}
-use Rattle.plan_kept.specs.plan_waiting.specs.Kept.{AreKept}
+use Rattle.plan_looks.specs.plan_kept.specs.plan_model.proofs.Looks.{as_named}
+use Rattle.plan_looks.specs.plan_kept.specs.plan_model.specs.Contents.{Contents}
+use Rattle.plan_looks.specs.plan_kept.specs.plan_model.specs.Ready.{IsChosen, named}
+use Rattle.plan_looks.specs.plan_kept.specs.plan_model.specs.Valid.{IsSound}
+use Rattle.plan_looks.specs.plan_kept.specs.plan_moves.specs.Moves.{IsMovedAt}
+use Rattle.plan_looks.specs.plan_kept.specs.plan_drafts.proofs.MadeEntries.{entries-revise}
+use Rattle.plan_looks.specs.plan_kept.specs.plan_drafts.specs.Places.{AreByPlace}
+use Rattle.plan_looks.specs.plan_kept.proofs.ChosenEntries.{chosen_are_ready}
+use Rattle.plan_looks.specs.plan_kept.proofs.SmallMoves.{naming_moves}
+use Rattle.plan_looks.specs.plan_kept.specs.Edits.{ArePlacesOf}
+use Rattle.plan_looks.specs.plan_kept.specs.plan_laws.proofs.Kept.{choice_keeps_sound}
+use Rattle.plan_looks.specs.plan_kept.proofs.OneFrame.{frame_stays}
+use Rattle.plan_looks.specs.plan_kept.specs.plan_choice.specs.Choices.{AreLatestStarts}
+use Rattle.plan_looks.specs.plan_kept.specs.plan_waiting.specs.Kept.{AreKept}
 use Rattle.plan_cascade.specs.declared.kept.Kept.{Kept}
-use Rattle.plan_steps.specs.Edits.{ArePlacesIn}
-use Rattle.plan_steps.specs.Naming.{WasNamed}
 use Rattle.plan_steps.specs.declared.columns.Columns.{Columns}
 use Rattle.ready_list.specs.Entries.{ReadyEntries}
-use Rattle.plan_status.proofs.Naming.{naming_keeps_standings}
-use Rattle.plan_status.specs.Standings.{AreStandings, IsStanding}
-use Rattle.plan_status.specs.declared.standings.Standing.{Standing}
+use Rattle.plan_rows.specs.plan_status.proofs.Naming.{naming_keeps_standings}
+use Rattle.plan_rows.specs.plan_status.specs.Standings.{AreStandings, IsStanding}
+use Rattle.plan_rows.specs.plan_status.specs.declared.standings.Standing.{Standing}
 use Rattle.plan_steps.proofs.KnownAlike.{known_alike}
-use Rattle.plan_steps.proofs.Agreeing.{leads_back}
-use Rattle.plan_steps.specs.Columns.{AreColumnsOf, AreSizedBy, IsExcerptOf, MakesOf}
-use Rattle.plan_steps.specs.declared.excerpts.Excerpt.{Excerpt}
+use Rattle.plan_steps.specs.Columns.{AreColumnsOf, IsReadyListOf}
 use Rattle.plan_steps.specs.Touched.{AreKnownAlike, IsTouchedAt}
-use Rattle.plan_kept.specs.plan_waiting.proofs.Naming.{known_stays, naming_keeps_kept}
+use Rattle.plan_looks.specs.plan_kept.specs.plan_waiting.proofs.Naming.{known_stays, naming_keeps_kept}
 
 module _ (P : Contents) (m : ℕ) (os : List OpKey) (chosen : IsChosen P m os) where
   -- the standings stay
@@ -62,6 +58,16 @@ module _ (P : Contents) (m : ℕ) (os : List OpKey) (chosen : IsChosen P m os) w
 
 -- ---- what is chosen was named
 
+-- what is chosen at these places of the sound plan P was named, which made R of it; these are its latest starts, its columns and its ready list
+pub record WasNamed (P R : Contents) (os : List OpKey) (indices : List ℕ) (starts : List ℤ) (l : Columns) (r : ReadyEntries) : Type 0 where
+  pub sound : IsSound P
+  pub chosen : (m : ℕ) × IsChosen P m os
+  pub places : ArePlacesOf P os indices
+  pub latest : AreLatestStarts P starts
+  pub columns : AreColumnsOf P l
+  pub ready : IsReadyListOf P r
+  pub after : R ≡ named os P
+
 module _ (P R : Contents) (os : List OpKey) (places : List ℕ) (starts : List ℤ) (l : Columns) (r : ReadyEntries) (was : WasNamed P R os places starts l r) where
   abbrev m : ℕ
   m = was.chosen.0
@@ -74,12 +80,6 @@ module _ (P R : Contents) (os : List OpKey) (places : List ℕ) (starts : List �
 
   pub moved_on : IsMovedAt P R places
   moved_on = subst (λ S. IsMovedAt P S places) (sym was.after) (naming_moved P m os chosen places was.places)
-
-  pub places_after : (i : ℕ) → Contains places i → i < length (entries R.operations)
-  places_after i has = subst (λ n. i < n) (sym moved_on.size) (was.places.within i has)
-
-  pub places_in_after : (touched : List ℕ) → ArePlacesIn P touched → ArePlacesIn R touched
-  places_in_after touched are = record { ascend = are.ascend; within = λ i has. subst (λ n. i < n) (sym moved_on.size) (are.within i has) }
 
   pub standings_after : AreStandings R l.standings.items
   standings_after = subst (λ S. AreStandings S l.standings.items) (sym was.after) (named_standings P m os chosen l.standings.items was.columns.standings)
@@ -95,25 +95,3 @@ module _ (P R : Contents) (os : List OpKey) (places : List ℕ) (starts : List �
 
   pub sound_after : IsSound R
   sound_after = subst IsSound (sym was.after) (choice_keeps_sound P m os was.sound chosen)
-
-  -- no more than what is named is touched
-  pub touched_at : IsTouchedAt P R places
-  touched_at = record {
-    moved = record { places = places; moved = moved_on; among = λ i has. has };
-    ascend = was.places.ascend;
-    within = was.places.within;
-    same = known_after;
-  }
-
-  -- the columns have a row for each operation and each occurrence still
-  pub sized_after : AreSizedBy R l
-  sized_after = record {
-    kept = was.columns.kept.size ∙ sym moved_on.size;
-    standings = was.columns.standings.size ∙ sym moved_on.size;
-    statuses = was.columns.statuses.size ∙ sym moved_on.size;
-    tallies = was.columns.tallies.size ∙ ap (λ cs. length (entries cs)) (sym moved_on.occurrences);
-  }
-
-  -- what they have where it is named leads back to them
-  pub named_back : (n : Columns) → AreColumnsOf R n → (x : Excerpt) → IsExcerptOf R places l x → MakesOf x n l
-  named_back n are x is = leads_back P R was.sound.valid sound_after.valid places touched_at l n was.columns are x is

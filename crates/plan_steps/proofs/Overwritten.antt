@@ -6,7 +6,7 @@ use Rattle.std.proofs.lemmas.Option.{slice_get_within, same_Some}
 use Rattle.std.proofs.lemmas.List.Elements.{Contains-append_left, Contains-push, Contains-push_cases}
 use Rattle.std.specs.Vec.{with_items}
 use Rattle.plan_basics.proofs.Members.{all_by_members, contains_cases, contains_head, contains_later, contains_none}
-use Rattle.plan_restating.specs.Overwritten.{overwritten}
+use Rattle.plan_looks.specs.plan_restating.specs.Overwritten.{overwritten}
 use Rattle.plan_steps.specs.Values.{AreValuesAt, LeadsTo}
 
 -- two lists with the same at each index are one
@@ -52,11 +52,7 @@ overwritten_is {X} to (e ∷ values) there from size agree =
     (agree_set to from e (Contains (map (λ (f : ℕ × X). f.0) values)) (there e (contains_head e values)) size
     (λ i other out. agree i (λ has. elim (contains_cases e.0 (map (λ (f : ℕ × X). f.0) values) i has) [ inl here ↦ other (sym here) | inr later ↦ out later ])))
 
--- no places have no values
-pub no_values : {X : Type 0} (list : List X) → AreValuesAt list (Contains []) []
-no_values list = record { there = λ e has. absurd (contains_none e has); all = λ i has. absurd (contains_none i has) }
-
--- and one place more
+-- one place more
 pub one_value : {X : Type 0} (list : List X) (places : List ℕ) (values : List (ℕ × X)) (place : ℕ) (x : X) → AreValuesAt list (Contains places) values → slice_get list place ≡ Some x
     → AreValuesAt list (Contains (places ++ place ∷ [])) (values ++ (place, x) ∷ [])
 one_value {X} list places values place x are at = record {

@@ -4,12 +4,12 @@ use Rattle.std.specs.FinMap.{entries}
 use Rattle.std.specs.List.Sorted.{IsStrictlySortedBy}
 use Rattle.std.specs.Ordering.{nat_cmp}
 use Rattle.plan_basics.specs.declared.keys.OpKey.{OpKey}
-use Rattle.plan_kept.proofs.Frame.{frame_stays, moves_follow}
-use Rattle.plan_kept.specs.Edits.{ArePlacesOf}
-use Rattle.plan_kept.specs.plan_model.specs.Contents.{Contents}
-use Rattle.plan_kept.specs.plan_model.specs.Ready.{IsChosen, named}
-use Rattle.plan_kept.specs.plan_moves.specs.Moves.{IsMovedAt}
-use Rattle.plan_kept.specs.plan_state.specs.Figures.{KeepsFrame}
+use Rattle.plan_looks.specs.plan_kept.proofs.OneFrame.{frame_stays, moves_follow}
+use Rattle.plan_looks.specs.plan_kept.specs.Edits.{ArePlacesOf}
+use Rattle.plan_looks.specs.plan_kept.specs.plan_model.specs.Contents.{Contents}
+use Rattle.plan_looks.specs.plan_kept.specs.plan_model.specs.Ready.{IsChosen, named}
+use Rattle.plan_looks.specs.plan_kept.specs.plan_moves.specs.Moves.{IsMovedAt}
+use Rattle.plan_looks.specs.plan_kept.specs.plan_state.specs.Figures.{KeepsFrame}
 use Rattle.plan_rows.specs.Touched.{StaysBeside}
 use Rattle.plan_rows.specs.declared.notes.Beside.{Beside}
 use Rattle.plan_rows.specs.declared.notes.Beside.TheVariants as kind
@@ -17,7 +17,7 @@ use Rattle.plan_rows.specs.declared.notes.Notes.{Notes}
 use Rattle.plan_steps.proofs.Alike.{touched_shown}
 use Rattle.plan_steps.proofs.KnownAlike.{row_stays}
 use Rattle.plan_steps.proofs.NamedFigures.{naming_moved}
-use Rattle.plan_steps.specs.Edits.{ArePlacesIn, ArePlacesWith}
+use Rattle.plan_steps.specs.Edits.{ArePlacesWith}
 use Rattle.plan_steps.specs.Naming.{AreNotesOf, AreStepNotes}
 use Rattle.plan_steps.specs.Touched.{AreKnownAlike, IsTouchedAt}
 
@@ -63,10 +63,6 @@ module _ (P Q : Contents) (edits : List ℕ) (moved : IsMovedAt P Q edits) (m : 
       within = within;
       same = same_after;
     }
-
-  -- what is touched are places of the plan after
-  pub touched_places : (touched : List ℕ) → IsTouchedAt P (named os Q) touched → ArePlacesIn Q touched
-  touched_places touched at_touched = record { ascend = at_touched.ascend; within = λ i has. subst (λ n. i < n) (sym moved.size) (at_touched.within i has) }
 
   -- what is noted of the plan after notes the step
   pub step_notes : (b : Beside) → StaysBeside b P Q → (touched : List ℕ) → IsTouchedAt P (named os Q) touched → (notes : Notes) → AreNotesOf (named os Q) b touched notes → AreStepNotes P (named os Q) notes

@@ -5,12 +5,13 @@ use Rattle.std.specs.FinMap.{FinMap, IsAntisymmetric, contains_key, get, get-ins
 use Rattle.std.specs.Ordering.{eq_by_cmp}
 use Rattle.plan_basics.specs.Keys.{Name, name_cmp_total, name_cmp-IsAntisymmetric}
 use Rattle.plan_basics.specs.declared.keys.OpKey.{OpKey}
-use Rattle.plan_kept.specs.plan_drafts.proofs.MadeEntries.{key_of}
-use Rattle.plan_kept.specs.plan_model.specs.Contents.{Contents}
-use Rattle.plan_kept.specs.workstations.specs.Timetables.{NamedWorkstation}
+use Rattle.plan_looks.specs.plan_kept.specs.plan_drafts.proofs.MadeEntries.{key_of}
+use Rattle.plan_looks.specs.plan_kept.specs.plan_model.specs.Contents.{Contents}
+use Rattle.plan_looks.specs.plan_kept.specs.plan_model.specs.Valid.{IsSound}
+use Rattle.plan_looks.specs.plan_kept.specs.workstations.specs.Timetables.{NamedWorkstation}
 use Rattle.plan_rows.specs.Touched.{StaysBeside}
 use Rattle.plan_rows.specs.declared.notes.Beside.TheVariants as kind
-use Rattle.plan_steps.specs.Revisions.{PutsBack, written}
+use Rattle.plan_steps.specs.Revisions.{PutsBack, beside, written}
 use Rattle.plan_steps.specs.declared.revisions.Revision.{Revision}
 use Rattle.plan_steps.specs.declared.revisions.Revision.TheVariants as revision
 
@@ -33,6 +34,15 @@ puts_nothing_back revision.Nothing no_resource no_workstation P = record { has_p
 puts_nothing_back (revision.Mark mark) no_resource no_workstation P = record { has_place = tt; back = refl }
 puts_nothing_back (revision.Held o held) no_resource no_workstation P = record { has_place = tt; back = refl }
 puts_nothing_back (revision.Nop o nop) no_resource no_workstation P = record { has_place = tt; back = refl }
+
+-- what stands beside operations once it is written is sound, as the plan is before and then
+pub beside_sound : (x : Revision) (keys : List OpKey) (P : Contents) → IsSound P → IsSound (written keys x P) → IsSound (beside x P)
+beside_sound revision.Nothing keys P before after = before
+beside_sound (revision.Mark mark) keys P before after = before
+beside_sound (revision.Held o held) keys P before after = before
+beside_sound (revision.Nop o nop) keys P before after = before
+beside_sound (revision.Available r available) keys P before after = after
+beside_sound (revision.Opened w) keys P before after = after
 
 -- ---- one value put in, and the one that stood there put back
 

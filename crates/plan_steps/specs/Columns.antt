@@ -1,14 +1,14 @@
 -- The figures of a plan in parts, and excerpts of what is kept by place.
-use Rattle.std.specs.Prelude.{◌≡◌, ℕ, ◌+◌, ◌≤◌, List, length, Contains}
+use Rattle.std.specs.Prelude.{◌≡◌, ℕ, ◌+◌, ◌≤◌, List, length, map, Contains}
 use Rattle.std.specs.FinMap.{entries}
-use Rattle.plan_kept.specs.plan_choice.specs.Choices.{AreGivenOut, AreHeldIn, AreReadyEntries}
-use Rattle.plan_kept.specs.plan_drafts.specs.Places.{AreStatuses}
-use Rattle.plan_kept.specs.plan_model.specs.Contents.{Contents}
-use Rattle.plan_kept.specs.plan_state.specs.declared.figures.Figures.{Figures}
-use Rattle.plan_kept.specs.plan_waiting.specs.Kept.{AreKept}
-use Rattle.plan_restating.specs.ByStatuses.{AreEntriesBy, HasRoomForAll}
+use Rattle.plan_looks.specs.plan_kept.specs.plan_choice.specs.Choices.{AreGivenOut, AreHeldIn, AreReadyEntries}
+use Rattle.plan_looks.specs.plan_kept.specs.plan_drafts.specs.Places.{AreStatuses}
+use Rattle.plan_looks.specs.plan_kept.specs.plan_model.specs.Contents.{Contents}
+use Rattle.plan_looks.specs.plan_kept.specs.plan_state.specs.declared.figures.Figures.{Figures}
+use Rattle.plan_looks.specs.plan_kept.specs.plan_waiting.specs.Kept.{AreKept}
+use Rattle.plan_looks.specs.plan_restating.specs.ByStatuses.{AreEntriesBy, HasRoomForAll}
 use Rattle.plan_rows.specs.Touched.{HasOneOf}
-use Rattle.plan_status.specs.Standings.{AreStandings, AreTallies}
+use Rattle.plan_rows.specs.plan_status.specs.Standings.{AreStandings, AreTallies}
 use Rattle.plan_steps.specs.Values.{AreValuesAt, LeadsTo}
 use Rattle.plan_steps.specs.declared.columns.Columns.{Columns}
 use Rattle.plan_steps.specs.declared.columns.Shares.{Shares}
@@ -50,11 +50,12 @@ pub record AreAlike (l m : Columns) : Type 0 where
   pub statuses : l.statuses.items ≡ m.statuses.items
   pub tallies : l.tallies.items ≡ m.tallies.items
 
--- it has what the columns have at these places of operations of the plan, and at those of their occurrences
+-- it has what the columns have at these places of operations of the plan, the statuses in their order, and at those of their occurrences
 pub record IsExcerptOf (P : Contents) (places : List ℕ) (l : Columns) (x : Excerpt) : Type 0 where
   pub kept : AreValuesAt l.kept.items (Contains places) x.kept.items
   pub standings : AreValuesAt l.standings.items (Contains places) x.standings.items
   pub statuses : AreValuesAt l.statuses.items (Contains places) x.statuses.items
+  pub in_order : map (λ e. e.0) x.statuses.items ≡ places
   pub tallies : AreValuesAt l.tallies.items (HasOneOf P places) x.tallies.items
 
 -- to write it into the one columns makes the others of them

@@ -1,22 +1,23 @@
 -- What a small request edits, and what is touched by that.
-use Rattle.std.specs.Prelude.{◌≡◌, ◌⊎◌, ℕ, ℤ, ◌<◌, true, false, List, length, Contains}
-use Rattle.std.specs.FinMap.{entries}
+use Rattle.std.specs.Prelude.{◌≡◌, ◌⊎◌, ℕ, ℤ, ◌<◌, true, false, Decides, List, length, Contains}
+use Rattle.std.specs.FinMap.{entries, keys}
 use Rattle.std.specs.List.Sorted.{IsStrictlySortedBy}
 use Rattle.std.specs.Ordering.{nat_cmp}
-use Rattle.plan_kept.specs.operation_graph.specs.Graphs.{Digraph, HasEdge}
-use Rattle.plan_cascade.specs.Counters.{kept_at}
+use Rattle.plan_looks.specs.plan_kept.specs.operation_graph.specs.Graphs.{Digraph, HasEdge}
 use Rattle.plan_cascade.specs.declared.kept.Kept.{Kept}
 use Rattle.plan_changes.specs.Markings.{DifferInMarks, WereMarked as WereMarkedBy}
-use Rattle.plan_kept.specs.plan_choice.specs.Choices.{AreLatestStarts}
-use Rattle.plan_kept.specs.plan_drafts.specs.PlanGraphs.{IsGraphFor}
-use Rattle.plan_kept.specs.plan_model.specs.Contents.{Contents}
-use Rattle.plan_kept.specs.plan_model.specs.Valid.{IsSound}
-use Rattle.plan_kept.specs.plan_moves.specs.Moves.{IsMovedAt}
-use Rattle.plan_kept.specs.plan_state.specs.Figures.{AreFigures}
-use Rattle.plan_kept.specs.plan_state.specs.declared.figures.Figures.{Figures}
-use Rattle.plan_kept.specs.plan_waiting.specs.Changes.{IsDeletedAt, IsSatisfiedAt}
-use Rattle.plan_kept.specs.plan_waiting.specs.Kept.{AreKept}
-use Rattle.plan_steps.specs.Revisions.{HasPlaceFor, PutsBack, beside, written}
+use Rattle.plan_looks.specs.plan_kept.specs.Edits.{IsEditedAt, IsRerun}
+use Rattle.plan_looks.specs.plan_kept.specs.plan_choice.specs.Choices.{AreLatestStarts}
+use Rattle.plan_looks.specs.plan_kept.specs.plan_drafts.specs.PlanGraphs.{IsGraphFor, StandAt}
+use Rattle.plan_looks.specs.plan_kept.specs.plan_model.specs.Contents.{Contents}
+use Rattle.plan_looks.specs.plan_kept.specs.plan_model.specs.Valid.{IsSound}
+use Rattle.plan_looks.specs.plan_kept.specs.plan_moves.specs.Moves.{IsMovedAt}
+use Rattle.plan_looks.specs.plan_kept.specs.plan_state.specs.Figures.{AreFigures}
+use Rattle.plan_looks.specs.plan_kept.specs.plan_state.specs.declared.figures.Figures.{Figures}
+use Rattle.plan_looks.specs.plan_kept.specs.plan_waiting.specs.Changes.{IsDeletedAt, IsSatisfiedAt}
+use Rattle.plan_looks.specs.plan_kept.specs.plan_waiting.specs.Kept.{AreKept}
+use Rattle.plan_looks.specs.plan_records.specs.declared.What.{What}
+use Rattle.plan_steps.specs.Revisions.{HasPlaceFor, IsRevisionFor, PutsBack, beside, written}
 use Rattle.plan_steps.specs.declared.edits.Edit.{Edit}
 use Rattle.plan_steps.specs.declared.revisions.Revision.{Revision}
 use Rattle.plan_takings.specs.Before.{WereMarked}
@@ -29,6 +30,14 @@ pub record IsEditOf (P Q : Contents) (e : Edit) : Type 0 where
   pub within : (i : ℕ) → Contains e.places.items i → i < length (entries P.operations)
   pub unsatisfied : e.is_rerun ≡ false → (i : ℕ) → Contains e.places.items i → ¬ IsSatisfiedAt P i
   pub follow : e.is_rerun ≡ true → (g : Digraph) → IsGraphFor P g → (i j : ℕ) → Contains e.places.items i → HasEdge g i j → Contains e.places.items j ⊎ IsDeletedAt P j
+
+-- it was noted of what the request edits: where that stands, by its keys and markings, and what is written there
+pub record IsNotedEdit (P : Contents) (w : What) (e : Edit) : Type 0 where
+  pub at : IsEditedAt P w e.places.items
+  pub stand : StandAt (keys P.operations) e.places.items e.keys.items
+  pub were : WereMarkedBy P e.keys.items e.marks.items
+  pub writes : IsRevisionFor P w e.revision
+  pub rerun : Decides e.is_rerun (IsRerun w)
 
 -- what the plan holds once the edit is written
 abbrev pub edited : Edit → Contents → Contents
@@ -79,7 +88,3 @@ pub record ArePlacesWith (P : Contents) (some all : List ℕ) : Type 0 where
   pub ascend : IsStrictlySortedBy nat_cmp all
   pub within : (i : ℕ) → Contains all i → i < length (entries P.operations)
   pub among : (i : ℕ) → Contains some i → Contains all i
-
--- at any other place than these the same is kept
-abbrev pub IsKeptBeside : List ℕ → List Kept → List Kept → Type 0
-IsKeptBeside places before after = (i : ℕ) → ¬ Contains places i → kept_at after i ≡ kept_at before i

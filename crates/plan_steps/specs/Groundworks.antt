@@ -1,16 +1,22 @@
 -- What is worked out of an edit before the figures are written.
-use Rattle.std.specs.Prelude.{◌<◌, ℕ, ℤ, List, length, All}
+use Rattle.std.specs.Prelude.{◌≡◌, ◌⊎◌, ◌<◌, ◌≤◌, ◌+◌, ◌*◌, ℕ, ℤ, true, List, length, All, Contains}
+use Rattle.plan_cascade.specs.Changes.{HoldFollowers, IsAfterOne}
+use Rattle.plan_cascade.specs.Counters.{waiting_at, waiting_count}
 use Rattle.plan_cascade.specs.declared.kept.Kept.{Kept}
-use Rattle.plan_kept.specs.plan_choice.specs.Choices.{AreLatestStarts}
-use Rattle.plan_kept.specs.plan_model.specs.Contents.{Contents}
-use Rattle.plan_kept.specs.plan_model.specs.Valid.{IsSound}
-use Rattle.plan_kept.specs.plan_moves.specs.Moves.{IsMovedAt}
-use Rattle.plan_kept.specs.plan_waiting.specs.Kept.{AreKept}
-use Rattle.plan_restating.specs.Overwritten.{overwritten}
+use Rattle.plan_looks.specs.plan_kept.specs.operation_graph.specs.Graphs.{Digraph}
+use Rattle.plan_looks.specs.plan_kept.specs.plan_choice.specs.Choices.{AreLatestStarts}
+use Rattle.plan_looks.specs.plan_kept.specs.plan_drafts.specs.PlanGraphs.{IsGraphFor}
+use Rattle.plan_looks.specs.plan_kept.specs.plan_model.specs.Contents.{Contents}
+use Rattle.plan_looks.specs.plan_kept.specs.plan_model.specs.Valid.{IsSound}
+use Rattle.plan_looks.specs.plan_kept.specs.plan_moves.specs.Moves.{IsMovedAt}
+use Rattle.plan_looks.specs.plan_kept.specs.plan_waiting.specs.Kept.{AreKept}
+use Rattle.plan_looks.specs.StepLooks.{IsKeptBeside}
+use Rattle.plan_looks.specs.plan_restating.specs.Overwritten.{overwritten}
 use Rattle.plan_steps.specs.Columns.{AreColumnsOf, IsExcerptOf, IsReadyListOf}
-use Rattle.plan_steps.specs.Edits.{ArePlacesWith, IsKeptBeside}
+use Rattle.plan_steps.specs.Edits.{ArePlacesWith}
 use Rattle.plan_steps.specs.declared.columns.Columns.{Columns}
 use Rattle.plan_steps.specs.declared.counting.KeptThen.{KeptThen}
+use Rattle.plan_steps.specs.declared.edits.Edit.{Edit}
 use Rattle.plan_steps.specs.declared.groundwork.Groundwork.{Groundwork}
 use Rattle.ready_list.specs.Entries.{ReadyEntries}
 
@@ -39,3 +45,8 @@ pub record HasGroundwork (P Q : Contents) (edits : List ℕ) (starts : List ℤ)
   pub columns : AreColumnsOf P l
   pub ready : IsReadyListOf P r
   pub worked_out : IsGroundwork Q edits l g
+
+-- looks went from `before` to `after`, so many at each edit of this one, as it was found that Q keeps `kept_then` in place of `kept`, which differs where something is touched: one at each edit of a rerun that has a predecessor, and one at each operation that comes to wait for none
+pub record IsCounted (Q : Contents) (e : Edit) (each : ℕ) (kept kept_then : List Kept) (touched : List ℕ) (before after : ℕ) : Type 0 where
+  pub around : (g : Digraph) → IsGraphFor Q g → (i : ℕ) → Contains touched i → Contains e.places.items i ⊎ (((e.is_rerun ≡ true) × IsAfterOne g e.places.items i) ⊎ (waiting_at kept_then i < waiting_at kept i))
+  pub most : (g : Digraph) (followers : List ℕ) → IsGraphFor Q g → (e.is_rerun ≡ true → HoldFollowers g e.places.items followers) → after + waiting_count kept_then ≤ before + each * length e.places.items + length followers + waiting_count kept

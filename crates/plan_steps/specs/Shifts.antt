@@ -1,7 +1,9 @@
 -- What a step changes in the figures of a plan.
-use Rattle.std.specs.Prelude.{ℕ, List}
-use Rattle.plan_kept.specs.plan_model.specs.Contents.{Contents}
-use Rattle.plan_kept.specs.plan_model.specs.Valid.{IsSound}
+use Rattle.std.specs.Prelude.{ℕ, ℤ, List}
+use Rattle.plan_looks.specs.plan_kept.specs.plan_choice.specs.Choices.{AreLatestStarts}
+use Rattle.plan_looks.specs.plan_kept.specs.plan_model.specs.Contents.{Contents}
+use Rattle.plan_looks.specs.plan_kept.specs.plan_model.specs.Valid.{IsSound}
+use Rattle.plan_looks.specs.plan_restating.specs.Entries.{AreEntriesAt}
 use Rattle.plan_steps.specs.Columns.{AreColumnsOf, IsExcerptOf, AreSharesOf}
 use Rattle.plan_steps.specs.Touched.{IsTouchedAt}
 use Rattle.plan_steps.specs.declared.columns.Columns.{Columns}
@@ -14,11 +16,14 @@ pub record HasColumnsAt (R : Contents) (places : List ℕ) (x : Excerpt) : Type 
   pub are : AreColumnsOf R columns
   pub excerpt : IsExcerptOf R places columns x
 
--- from the sound plan P it leads to the sound plan R: it has the figures of R at all places that are touched on the way
+-- from the sound plan P it leads to the sound plan R, which has these latest starts: it has the figures of R, and the entries of operations, at all places that are touched on the way
 pub record IsShift (P R : Contents) (s : Shift) : Type 0 where
   pub sound : IsSound P
   pub sound_after : IsSound R
+  pub starts : List ℤ
+  pub latest : AreLatestStarts R starts
   pub touched : List ℕ
   pub at_touched : IsTouchedAt P R touched
   pub columns : HasColumnsAt R touched s.columns
+  pub entries : AreEntriesAt R touched s.entries.items
   pub shares : AreSharesOf R s.shares

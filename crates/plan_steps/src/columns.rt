@@ -1,13 +1,13 @@
 // The figures of a plan in three parts: what is kept by place, what is ready, and what is short.
 ghost use Rattle.std.specs.Prelude.{◌≡◌, IfErr, IfOk};
 ghost use Rattle.plan_basics.specs.declared.Refusal.{Refusal};
-ghost use Rattle.plan_kept.specs.plan_model.specs.Contents.{Contents};
+ghost use Rattle.plan_looks.specs.plan_kept.specs.plan_model.specs.Contents.{Contents};
 ghost use Rattle.plan_steps.specs.Columns.{AreSharesOf, figures_of};
 
 use plan_basics::Refusal;
 use plan_cascade::Kept;
-use plan_kept::Figures;
-use plan_status::Standing;
+use plan_looks::Figures;
+use plan_rows::Standing;
 use ready_list::ReadyList;
 use special_resources::Holdings;
 use status_rules::{Counts, Status};

@@ -1,18 +1,19 @@
 // Which operations are satisfied and how many predecessors each waits for, once some are edited.
-ghost use Rattle.std.specs.Prelude.{◌≡◌, [], length, map, IfOk, OnOk};
+ghost use Rattle.std.specs.Prelude.{◌≡◌, ◌≤◌, [], length, map, IfOk, OnOk};
 ghost use Rattle.plan_cascade.specs.Journal.{IsJournaled};
-ghost use Rattle.plan_kept.specs.plan_model.specs.Contents.{Contents};
-ghost use Rattle.plan_kept.specs.plan_waiting.specs.Kept.{AreKept};
-ghost use Rattle.plan_steps.specs.Edits.{AreBelow, IsKeptBefore, IsKeptBeside};
-ghost use Rattle.plan_steps.specs.Groundworks.{IsKeptThen};
+ghost use Rattle.plan_looks.specs.plan_kept.specs.plan_model.specs.Contents.{Contents};
+ghost use Rattle.plan_looks.specs.plan_kept.specs.plan_waiting.specs.Kept.{AreKept};
+ghost use Rattle.plan_looks.specs.StepLooks.{IsKeptBeside};
+ghost use Rattle.plan_looks.specs.plan_restating.specs.Overwritten.{overwritten};
+ghost use Rattle.plan_steps.specs.Edits.{AreBelow, IsKeptBefore};
+ghost use Rattle.plan_steps.specs.Groundworks.{IsCounted, IsKeptThen};
 
 use super::edits::Edit;
 use super::places::{joined, noted};
 use super::values::values_at;
 use operation_graph::Graph;
 use plan_cascade::{Kept, take_back};
-use plan_kept::{satisfy, unsatisfy};
-use plan_status::SoundContents;
+use plan_looks::{Shown, satisfy, unsatisfy};
 use std::alloc::{AllocError, Global};
 
 /// What follows from an edit for what is kept of operations.
@@ -24,27 +25,30 @@ pub struct KeptThen {
     pub kept: Vec<(usize, Kept)>,
 }
 
-// Moves what is kept of operations on by the cascades that follow from an edit; the journal gets what stood there.
+// Moves what is kept of operations on by the cascades that follow from an edit; the journal gets what stood there. It takes a look at
+// each edit, and those of the cascades.
 fn cascade(
     alloc: Global,
     graph: &Graph,
-    after: &SoundContents,
+    shown: &mut Shown,
     edit: &Edit,
     kept: &mut [Kept],
     journal: &mut Vec<(usize, Kept)>,
 ) -> Result<(), AllocError>
-    requires before { (P : Contents) × IsKeptBefore P after.now edit.now graph.now kept.old }
+    requires before { (P : Contents) × IsKeptBefore P shown.old.contents edit.now graph.now kept.old }
     requires journal { journal.old.items ≡ [] }
     ensures journaled { IsJournaled kept.old journal.old.items kept.new journal.new.items }
-    ensures kept { OnOk result (AreKept after.now kept.new) }
+    ensures kept { OnOk result (AreKept shown.old.contents kept.new) }
     ensures noted { OnOk result (IsKeptBeside (map (λ e. e.0) journal.new.items) kept.old kept.new) }
     ensures within { OnOk result (AreBelow (length kept.old) (map (λ e. e.0) journal.new.items)) }
+    ensures contents { shown.new.contents ≡ shown.old.contents }
+    ensures fewest { shown.old.looks ≤ shown.new.looks }
+    ensures counted { OnOk result (IsCounted shown.old.contents edit.now 1 kept.old kept.new (map (λ e. e.0) journal.new.items) shown.old.looks shown.new.looks) }
 {
-    let contents = after.valid();
     if edit.is_rerun {
-        unsatisfy(alloc, graph, contents, kept, journal, &edit.places)
+        unsatisfy(alloc, graph, shown, kept, journal, &edit.places)
     } else {
-        satisfy(alloc, graph, contents, kept, journal, &edit.places)
+        satisfy(alloc, graph, shown, kept, journal, &edit.places)
     }
 }
 
@@ -52,17 +56,20 @@ fn cascade(
 fn counted(
     alloc: Global,
     graph: &Graph,
-    after: &SoundContents,
+    shown: &mut Shown,
     edit: &Edit,
     kept: &mut [Kept],
     journal: &mut Vec<(usize, Kept)>,
 ) -> Result<KeptThen, AllocError>
-    requires before { (P : Contents) × IsKeptBefore P after.now edit.now graph.now kept.old }
+    requires before { (P : Contents) × IsKeptBefore P shown.old.contents edit.now graph.now kept.old }
     requires journal { journal.old.items ≡ [] }
     ensures journaled { IsJournaled kept.old journal.old.items kept.new journal.new.items }
-    ensures kept_then { IfOk result (IsKeptThen after.now edit.now.places.items kept.old) }
+    ensures kept_then { IfOk result (IsKeptThen shown.old.contents edit.now.places.items kept.old) }
+    ensures contents { shown.new.contents ≡ shown.old.contents }
+    ensures fewest { shown.old.looks ≤ shown.new.looks }
+    ensures counted { IfOk result (λ k. IsCounted shown.old.contents edit.now 1 kept.old (overwritten k.kept.items kept.old) k.touched.items shown.old.looks shown.new.looks) }
 {
-    cascade(alloc, graph, after, edit, kept, journal)?;
+    cascade(alloc, graph, shown, edit, kept, journal)?;
     let noted = noted(alloc, journal)?;
     let touched = joined(alloc, &edit.places, &noted)?;
     let kept = values_at(alloc, kept, &touched)?;
@@ -73,16 +80,19 @@ fn counted(
 pub fn recount(
     alloc: Global,
     graph: &Graph,
-    after: &SoundContents,
+    shown: &mut Shown,
     edit: &Edit,
     kept: &mut [Kept],
 ) -> Result<KeptThen, AllocError>
-    requires { (P : Contents) × IsKeptBefore P after.now edit.now graph.now kept.old }
+    requires { (P : Contents) × IsKeptBefore P shown.old.contents edit.now graph.now kept.old }
     ensures unchanged { kept.new ≡ kept.old }
-    ensures kept_then { IfOk result (IsKeptThen after.now edit.now.places.items kept.old) }
+    ensures kept_then { IfOk result (IsKeptThen shown.old.contents edit.now.places.items kept.old) }
+    ensures contents { shown.new.contents ≡ shown.old.contents }
+    ensures fewest { shown.old.looks ≤ shown.new.looks }
+    ensures counted { IfOk result (λ k. IsCounted shown.old.contents edit.now 1 kept.old (overwritten k.kept.items kept.old) k.touched.items shown.old.looks shown.new.looks) }
 {
     let mut journal = Vec::new(alloc);
-    let kept_then = counted(alloc, graph, after, edit, kept, &mut journal);
+    let kept_then = counted(alloc, graph, shown, edit, kept, &mut journal);
     take_back(kept, &mut journal);
     kept_then
 }

@@ -1,23 +1,24 @@
 // What a small request edits.
-ghost use Rattle.std.specs.Prelude.{◌≡◌, ◌<◌, ℕ, All, Decides, IfErr, IfOk, Some, length, slice_get};
+ghost use Rattle.std.specs.Prelude.{◌≡◌, ◌<◌, ◌≤◌, ◌+◌, ℕ, true, false, All, Contains, Decides, IfErr, IfOk, Some, length, slice_get};
 ghost use Rattle.std.specs.FinMap.{entries, keys as keys_in};
 ghost use Rattle.plan_basics.specs.Minutes.{IsMoment};
 ghost use Rattle.plan_basics.specs.Refusals.{NoneRefuses};
 ghost use Rattle.plan_basics.specs.declared.Refusal.{Refusal};
-ghost use Rattle.plan_kept.specs.Edits.{IsRerun, IsSmall};
-ghost use Rattle.plan_kept.specs.plan_drafts.specs.PlanGraphs.{StandAt};
-ghost use Rattle.plan_kept.specs.plan_model.specs.Valid.{IsSound};
-ghost use Rattle.plan_records.specs.Acceptance.{MayBeDone};
-ghost use Rattle.plan_records.specs.Changes.{Changes, IsRequest};
-ghost use Rattle.plan_steps.specs.Edits.{IsEditFor, edited};
+ghost use Rattle.plan_looks.specs.plan_kept.specs.Edits.{IsRerun, IsSmall};
+ghost use Rattle.plan_looks.specs.plan_kept.specs.plan_drafts.specs.PlanGraphs.{StandAt};
+ghost use Rattle.plan_looks.specs.plan_kept.specs.plan_state.specs.Frames.{IsFrameOf};
+ghost use Rattle.plan_looks.specs.StepLooks.{AreWorkedAt, one_at_least};
+ghost use Rattle.plan_changes.specs.plan_moves.specs.declared.Marking.{Marking as MarkingValue};
+ghost use Rattle.plan_looks.specs.plan_records.specs.Acceptance.{MayBeDone};
+ghost use Rattle.plan_looks.specs.plan_records.specs.Changes.{Changes, IsRequest};
+ghost use Rattle.plan_steps.specs.Edits.{IsEditFor, IsNotedEdit, edited};
+ghost use Rattle.plan_steps.specs.Idle.{IsIdle, IsOfNothing};
 
 use super::requests::revision_of;
 use super::revisions::Revision;
 use plan_basics::{OpKey, Refusal};
-use plan_changes::markings_of;
-use plan_kept::{LoadedPlan, edited_places};
-use plan_moves::Marking;
-use plan_records::{PlanContents, What};
+use plan_changes::Marking;
+use plan_looks::{Beside, Frame, Outline, Shown, What, edited_places};
 use std::alloc::{AllocError, Global};
 
 /// What a request edits.
@@ -42,52 +43,86 @@ fn is_rerun(what: &What) -> bool
     matches!(what, What::Rerun(_))
 }
 
-// A plan is looked at for the proof alone, which learns that it is sound.
-fn look_at(plan: &LoadedPlan)
-    ensures { IsSound plan.now }
-{
-    let _ = plan.contents().valid();
-}
-
 // The key of the operation at an index.
-fn key_at(contents: &PlanContents, place: usize) -> OpKey
-    requires { place < length (entries contents.now.operations) }
-    ensures { slice_get (keys_in contents.now.operations) place ≡ Some result }
+fn key_at(beside: &Beside<'_>, place: usize) -> OpKey
+    requires { place < length (entries beside.now.contents.now.operations) }
+    ensures { slice_get (keys_in beside.now.contents.now.operations) place ≡ Some result }
 {
-    contents.operations()[place].0
+    *beside.operation_key(place)
 }
 
 // The keys of the operations at these indices.
-fn keys_at(
-    alloc: Global,
-    contents: &PlanContents,
-    places: &[usize],
-) -> Result<Vec<OpKey>, AllocError>
-    requires { All (λ place. place < length (entries contents.now.operations)) places.now }
-    ensures { IfOk result (λ keys. StandAt (keys_in contents.now.operations) places.now keys.items) }
+fn keys_at(alloc: Global, beside: &Beside<'_>, places: &[usize]) -> Result<Vec<OpKey>, AllocError>
+    requires { All (λ place. place < length (entries beside.now.contents.now.operations)) places.now }
+    ensures { IfOk result (λ keys. StandAt (keys_in beside.now.contents.now.operations) places.now keys.items) }
 {
     let mut keys = Vec::with_capacity(alloc, places.len())?;
     for place in places {
-        keys.push(key_at(contents, *place))?;
+        keys.push(key_at(beside, *place))?;
     }
     Ok(keys)
 }
 
-/// What a small request edits in whose way nothing stands at its moment. The error is always `Memory`.
-pub fn edit_of(alloc: Global, before: &LoadedPlan, what: &What) -> Result<Edit, Refusal>
-    requires small { IsSmall what.now }
-    requires clear { (at : ℕ) × IsMoment at × NoneRefuses (MayBeDone before.now at what.now) }
-    ensures edit { IfOk result (IsEditFor before.now) }
-    ensures changes { IfOk result (λ edit. Changes before.now what.now (edited edit before.now)) }
-    ensures legal { IfOk result (λ edit. IsRequest what.now) }
-    ensures refused { IfErr result (λ r. r ≡ Refusal.Memory) }
+// Whether a flag of an operation with this marking stands already as a request would write it.
+fn is_idle(what: &What, marking: &Marking) -> bool
+    ensures { Decides result (IsIdle what.now marking.now) }
 {
-    look_at(before);
-    let contents = before.contents().rows();
-    let places = edited_places(alloc, before, what)?;
-    let keys = keys_at(alloc, contents, &places)?;
-    let marks = markings_of(alloc, contents, &keys)?;
-    let revision = revision_of(alloc, contents, what)?;
+    match what {
+        What::Hold(_) => marking.held,
+        What::Release(_) => !marking.held,
+        What::Nop(_) => marking.nop,
+        What::Unnop(_) => !marking.nop,
+        _ => false,
+    }
+}
+
+// Whether a flag of one of the operations with these markings stands already as a request would write it.
+fn is_idle_at_one(what: &What, marks: &[Marking]) -> bool
+    ensures idle { result ≡ true → (m : MarkingValue) × Contains marks.now m × IsIdle what.now m }
+    ensures others { result ≡ false → (m : MarkingValue) → Contains marks.now m → ¬ IsIdle what.now m }
+{
+    for marking in marks {
+        if is_idle(what, marking) {
+            return true;
+        }
+    }
+    false
+}
+
+// The edit of nothing.
+fn nothing_edited(alloc: Global) -> Edit
+    ensures { IsOfNothing result }
+{
+    Edit {
+        places: Vec::new(alloc),
+        keys: Vec::new(alloc),
+        marks: Vec::new(alloc),
+        revision: Revision::Nothing,
+        is_rerun: false,
+    }
+}
+
+// What is noted of what a small request edits in whose way nothing stands: a look at each operation.
+fn noted_edit(
+    alloc: Global,
+    shown: &mut Shown,
+    frame: Frame<'_>,
+    what: &What,
+) -> Result<Edit, Refusal>
+    requires frame { IsFrameOf shown.old.contents frame }
+    requires small { IsSmall what.now }
+    requires clear { (at : ℕ) × NoneRefuses (MayBeDone shown.old.contents at what.now) }
+    ensures noted { IfOk result (IsNotedEdit shown.old.contents what.now) }
+    ensures refused { IfErr result (λ r. r ≡ Refusal.Memory) }
+    ensures contents { shown.new.contents ≡ shown.old.contents }
+    ensures fewest { shown.old.looks ≤ shown.new.looks }
+    ensures most { IfOk result (λ edit. shown.new.looks ≤ shown.old.looks + length edit.places.items) }
+{
+    let outline = Outline::of(shown.beside(), frame);
+    let places = edited_places(alloc, &outline, what)?;
+    let revision = revision_of(alloc, &outline.beside(), what)?;
+    let keys = keys_at(alloc, &outline.beside(), &places)?;
+    let marks = shown.markings_of(alloc, &keys)?;
     Ok(Edit {
         places,
         keys,
@@ -95,4 +130,34 @@ pub fn edit_of(alloc: Global, before: &LoadedPlan, what: &What) -> Result<Edit, 
         revision,
         is_rerun: is_rerun(what),
     })
+}
+
+/// What a small request edits in whose way nothing stands at its moment: nothing where the flag that it writes stands so already. It
+/// takes a look at each operation that it edits, and one where it edits nothing. The error is always `Memory`.
+pub fn edit_of(
+    alloc: Global,
+    shown: &mut Shown,
+    frame: Frame<'_>,
+    what: &What,
+) -> Result<Edit, Refusal>
+    requires frame { IsFrameOf shown.old.contents frame }
+    requires small { IsSmall what.now }
+    requires clear { (at : ℕ) × IsMoment at × NoneRefuses (MayBeDone shown.old.contents at what.now) }
+    ensures edit { IfOk result (IsEditFor shown.old.contents) }
+    ensures changes { IfOk result (λ edit. Changes shown.old.contents what.now (edited edit shown.old.contents)) }
+    ensures legal { IfOk result (λ edit. IsRequest what.now) }
+    ensures worked { IfOk result (λ edit. AreWorkedAt shown.old.contents (edited edit shown.old.contents) what.now edit.places.items) }
+    ensures rerun { IfOk result (λ edit. edit.is_rerun ≡ true → IsRerun what.now) }
+    ensures refused { IfErr result (λ r. r ≡ Refusal.Memory) }
+    ensures contents { shown.new.contents ≡ shown.old.contents }
+    ensures fewest { shown.old.looks ≤ shown.new.looks }
+    ensures most { IfOk result (λ edit. shown.new.looks ≤ shown.old.looks + one_at_least (length edit.places.items)) }
+{
+    shown.beside().are_sound();
+    let edit = noted_edit(alloc, shown, frame, what)?;
+    if is_idle_at_one(what, &edit.marks) {
+        Ok(nothing_edited(alloc))
+    } else {
+        Ok(edit)
+    }
 }

@@ -1,17 +1,17 @@
 // Excerpts of what is kept by place.
 ghost use Rattle.std.specs.Prelude.{◌≡◌, ◌<◌, All, IfOk, length};
 ghost use Rattle.std.specs.FinMap.{entries};
-ghost use Rattle.plan_kept.specs.plan_choice.specs.Choices.{AreLatestStarts};
+ghost use Rattle.plan_looks.specs.plan_kept.specs.plan_model.specs.Contents.{Contents};
+ghost use Rattle.plan_looks.specs.plan_restating.specs.Entries.{CanBeRelisted};
 ghost use Rattle.plan_steps.specs.Columns.{AreAlike, AreSizedBy, GoesByStatuses, IsExcerptOf, MakesOf};
 ghost use Rattle.plan_steps.specs.declared.columns.Columns.{Columns as ColumnsValue};
 
 use super::columns::Columns;
 use super::values::{occurrences_at, put_at, values_at};
-use latest_start::Latest;
 use plan_cascade::Kept;
-use plan_restating::relist_all;
-use plan_status::{SoundContents, Standing};
-use ready_list::ReadyList;
+use plan_looks::{Beside, relist_all};
+use plan_rows::Standing;
+use ready_list::{ReadyEntry, ReadyList};
 use status_rules::{Counts, Status};
 use std::alloc::{AllocError, Global};
 
@@ -27,15 +27,15 @@ pub struct Excerpt {
 /// What the columns, which have a row for each operation and each occurrence of the plan, have at these places.
 pub fn excerpt_of(
     alloc: Global,
-    contents: &SoundContents,
+    beside: &Beside<'_>,
     columns: &Columns,
     places: &[usize],
 ) -> Result<Excerpt, AllocError>
-    requires sized { AreSizedBy contents.now columns.now }
-    requires within { All (λ i. i < length (entries contents.now.operations)) places.now }
-    ensures { IfOk result (IsExcerptOf contents.now places.now columns.now) }
+    requires sized { AreSizedBy beside.now.contents.now columns.now }
+    requires within { All (λ i. i < length (entries beside.now.contents.now.operations)) places.now }
+    ensures { IfOk result (IsExcerptOf beside.now.contents.now places.now columns.now) }
 {
-    let occurrences = occurrences_at(alloc, contents, places)?;
+    let occurrences = occurrences_at(alloc, beside, places)?;
     Ok(Excerpt {
         kept: values_at(alloc, &columns.kept, places)?,
         standings: values_at(alloc, &columns.standings, places)?,
@@ -44,28 +44,21 @@ pub fn excerpt_of(
     })
 }
 
-/// Writes an excerpt into columns; the ready list, which goes by the statuses, follows. It takes no memory.
+/// Writes an excerpt into columns; the ready list, which goes by the statuses, follows by the entries of the operations whose
+/// statuses these are. Nothing of the plan is looked at, and it takes no memory.
 pub fn put_excerpt(
-    contents: &SoundContents,
-    latest: &Latest,
     columns: &mut Columns,
     ready: &mut ReadyList,
     excerpt: &Excerpt,
+    entries: &[ReadyEntry],
 )
     requires makes { (to : ColumnsValue) × MakesOf excerpt.now columns.old to }
-    requires latest { AreLatestStarts contents.now latest.now.starts }
-    requires ready { GoesByStatuses contents.now columns.old.statuses.items ready.old }
+    requires listed { (P : Contents) × CanBeRelisted P columns.old.statuses.items ready.old excerpt.now.statuses.items entries.now }
     ensures alike { (to : ColumnsValue) → MakesOf excerpt.now columns.old to → AreAlike columns.new to }
-    ensures ready { GoesByStatuses contents.now columns.new.statuses.items ready.new }
+    ensures ready { (P : Contents) → CanBeRelisted P columns.old.statuses.items ready.old excerpt.now.statuses.items entries.now → GoesByStatuses P columns.new.statuses.items ready.new }
 {
     put_at(&mut columns.kept, &excerpt.kept);
     put_at(&mut columns.standings, &excerpt.standings);
-    relist_all(
-        contents,
-        latest,
-        &mut columns.statuses,
-        ready,
-        &excerpt.statuses,
-    );
+    relist_all(&mut columns.statuses, ready, &excerpt.statuses, entries);
     put_at(&mut columns.tallies, &excerpt.tallies);
 }

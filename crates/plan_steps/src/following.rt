@@ -1,33 +1,28 @@
 // What is named once an edit is written and the figures have moved on, and what is noted then.
-ghost use Rattle.std.specs.Prelude.{◌≡◌, ℕ, IfErr, IfOk};
+ghost use Rattle.std.specs.Prelude.{◌≡◌, ◌+◌, ◌≤◌, ◌⊎◌, ℕ, List, IfErr, IfOk, length};
 ghost use Rattle.plan_basics.specs.declared.Refusal.{Refusal};
-ghost use Rattle.plan_kept.specs.plan_choice.specs.Choices.{AreLatestStarts};
-ghost use Rattle.plan_kept.specs.plan_model.specs.Ready.{named as named_in};
+ghost use Rattle.plan_looks.specs.plan_kept.specs.plan_choice.specs.Choices.{AreLatestStarts};
+ghost use Rattle.plan_looks.specs.plan_kept.specs.plan_model.specs.Ready.{named as named_in};
+ghost use Rattle.plan_looks.specs.plan_restating.specs.Entries.{AreEntriesAt};
+ghost use Rattle.plan_rows.specs.Notes.{operations_noted};
 ghost use Rattle.plan_steps.specs.Columns.{AreAlike, AreColumnsOf, AreSharesOf, IsReadyListOf};
 ghost use Rattle.plan_steps.specs.Edits.{ArePlacesIn};
-ghost use Rattle.plan_steps.specs.Naming.{AreBoth, AreNotesOf, IsNaming, IsStepOf};
+ghost use Rattle.plan_steps.specs.Following.{IsFollowed};
+ghost use Rattle.plan_steps.specs.Naming.{AreNotesOf, IsStepOf};
 ghost use Rattle.plan_steps.specs.Shifts.{HasColumnsAt};
 
 use super::columns::{Columns, Shares};
-use super::naming::{Naming, name};
+use super::followed::{Followed, follow};
+use super::naming::Naming;
 use super::noting::{Noted, note};
-use super::places::joined;
 use super::shifting::Shift;
-use super::writing::{with_markings, with_named};
+use super::writing::{with_named, without_named};
 use latest_start::Latest;
 use plan_basics::{Moment, OpKey, Refusal};
+use plan_looks::Shown;
 use plan_rows::{Beside, Notes};
-use plan_status::SoundContents;
-use ready_list::ReadyList;
+use ready_list::{ReadyEntry, ReadyList};
 use std::alloc::Global;
-
-/// What is named, and all that is touched by then.
-#[derive(Drop)]
-pub struct Followed {
-    pub naming: Naming,
-    /// The indices, ascending, of all operations of which something may differ from before.
-    pub touched: Vec<usize>,
-}
 
 /// What a small request leads to.
 #[derive(Drop)]
@@ -40,104 +35,101 @@ pub struct SmallStep {
     pub notes: Notes,
 }
 
-// What is named at a moment, and what is touched by that and by an edit that touched these places. The error is always `Memory`.
-fn follow(
-    alloc: Global,
-    contents: &SoundContents,
-    ready: &ReadyList,
-    shares: Shares,
-    edited: &[usize],
-    at: Moment,
-) -> Result<Followed, Refusal>
-    requires ready { IsReadyListOf contents.now ready.now }
-    requires shares { AreSharesOf contents.now shares }
-    ensures naming { IfOk result (λ f. IsNaming contents.now at f.naming) }
-    ensures touched { IfOk result (λ f. AreBoth edited.now f.naming.places.items f.touched.items) }
-    ensures refused { IfErr result (λ r. r ≡ Refusal.Memory) }
+// What is named, with what was noted then, is a step.
+fn step_of(followed: Followed, noted: Noted) -> SmallStep
+    ensures named { result.named ≡ followed.naming.named }
+    ensures shares { result.shift.shares ≡ followed.naming.shares }
+    ensures entries { result.shift.entries ≡ followed.entries }
+    ensures columns { result.shift.columns ≡ noted.columns }
+    ensures notes { result.notes ≡ noted.notes }
 {
-    let naming = name(alloc, contents, ready, shares, at)?;
-    let touched = joined(alloc, edited, &naming.places)?;
-    Ok(Followed { naming, touched })
+    let Followed {
+        naming,
+        entries,
+        ..
+    } = followed;
+    let Naming { named, shares, .. } = naming;
+    let Noted { notes, columns } = noted;
+    let shift = Shift {
+        columns,
+        entries,
+        shares,
+    };
+    SmallStep {
+        named,
+        shift,
+        notes,
+    }
 }
 
-// What is noted of the contents once what follows is named. It gives the same contents back, and leaves the columns; the ready list
-// is that of the contents still. The error is always `Memory`.
+// What is noted once what follows is named, by a look at each place that is touched. It gives the same back, and leaves the columns;
+// the ready list is that of the plan still. The error is always `Memory`.
 fn note_step(
     alloc: Global,
-    contents: SoundContents,
+    shown: Shown,
     latest: &Latest,
     columns: &mut Columns,
     ready: &mut ReadyList,
     followed: Followed,
     beside: Beside,
-) -> (SoundContents, Result<SmallStep, Refusal>)
-    requires latest { AreLatestStarts contents latest.now.starts }
-    requires columns { AreColumnsOf contents columns.old }
-    requires ready { IsReadyListOf contents ready.old }
-    requires naming { (at : ℕ) × IsNaming contents at followed.naming }
-    requires touched { ArePlacesIn contents followed.touched.items }
-    ensures contents { result.0 ≡ contents }
+) -> (Shown, Result<SmallStep, Refusal>)
+    requires latest { AreLatestStarts shown.contents latest.now.starts }
+    requires columns { AreColumnsOf shown.contents columns.old }
+    requires ready { IsReadyListOf shown.contents ready.old }
+    requires followed { (at : ℕ) × (edited : List ℕ) × ArePlacesIn shown.contents edited × IsFollowed shown.contents at edited columns.old followed }
+    ensures contents { result.0.contents ≡ shown.contents }
     ensures unchanged { AreAlike columns.new columns.old }
-    ensures ready { IsReadyListOf contents ready.new }
+    ensures ready { IsReadyListOf shown.contents ready.new }
     ensures named { IfOk result.1 (λ s. s.named ≡ followed.naming.named) }
-    ensures shares { IfOk result.1 (λ s. AreSharesOf (named_in followed.naming.named.items contents) s.shift.shares) }
-    ensures columns_then { IfOk result.1 (λ s. HasColumnsAt (named_in followed.naming.named.items contents) followed.touched.items s.shift.columns) }
-    ensures notes { IfOk result.1 (λ s. AreNotesOf (named_in followed.naming.named.items contents) beside followed.touched.items s.notes) }
+    ensures shares { IfOk result.1 (λ s. s.shift.shares ≡ followed.naming.shares) }
+    ensures entries { IfOk result.1 (λ s. s.shift.entries ≡ followed.entries) }
+    ensures columns_then { IfOk result.1 (λ s. HasColumnsAt (named_in followed.naming.named.items shown.contents) followed.touched.items s.shift.columns) }
+    ensures notes { IfOk result.1 (λ s. AreNotesOf (named_in followed.naming.named.items shown.contents) beside followed.touched.items s.notes) }
+    ensures all_noted { IfOk result.1 (λ s. operations_noted s.notes ≡ length followed.touched.items) }
+    ensures most { result.0.looks ≤ shown.looks + length followed.touched.items }
+    ensures least { IfOk result.1 (λ s. (18446744073709551615 ≤ result.0.looks) ⊎ (shown.looks + length followed.touched.items ≤ result.0.looks)) }
     ensures refused { IfErr result.1 (λ r. r ≡ Refusal.Memory) }
 {
-    let Followed { naming, touched } = followed;
-    let Naming {
-        named,
-        places,
-        marks,
-        shares,
-    } = naming;
-    let after = with_named(contents, &named);
-    let noted = note(
-        alloc, &after, latest, columns, ready, &places, beside, &touched,
-    );
-    let contents = with_markings(after, &named, &marks);
+    let mut after = with_named(shown, &followed.naming.named);
+    let noted = note(alloc, &mut after, latest, columns, ready, &followed, beside);
+    let same = without_named(after, &followed.naming.named);
     match noted {
-        Ok(noted) => {
-            let Noted { notes, columns } = noted;
-            let shift = Shift { columns, shares };
-            let step = SmallStep {
-                named,
-                shift,
-                notes,
-            };
-            (contents, Ok(step))
-        }
-        Err(refusal) => (contents, Err(refusal)),
+        Ok(noted) => (same, Ok(step_of(followed, noted))),
+        Err(refusal) => (same, Err(refusal)),
     }
 }
 
-/// What follows in contents that an edit made, which touched these places, with these figures. It gives the same contents back, and
-/// leaves the columns; the ready list is that of the contents still. The error is always `Memory`.
+/// What follows in a plan that an edit made, which touched these places, where these are the entries, with these figures. It gives the
+/// same back, and leaves the columns; the ready list is that of the plan still. The error is always `Memory`.
 pub fn named_step(
     alloc: Global,
-    contents: SoundContents,
+    shown: Shown,
     latest: &Latest,
     columns: &mut Columns,
     ready: &mut ReadyList,
     shares: Shares,
     edited: &[usize],
+    known: &[ReadyEntry],
     beside: Beside,
     at: Moment,
-) -> (SoundContents, Result<SmallStep, Refusal>)
-    requires latest { AreLatestStarts contents latest.now.starts }
-    requires columns { AreColumnsOf contents columns.old }
-    requires ready { IsReadyListOf contents ready.old }
-    requires shares { AreSharesOf contents shares }
-    requires edited { ArePlacesIn contents edited.now }
-    ensures contents { result.0 ≡ contents }
+) -> (Shown, Result<SmallStep, Refusal>)
+    requires latest { AreLatestStarts shown.contents latest.now.starts }
+    requires columns { AreColumnsOf shown.contents columns.old }
+    requires ready { IsReadyListOf shown.contents ready.old }
+    requires shares { AreSharesOf shown.contents shares }
+    requires edited { ArePlacesIn shown.contents edited.now }
+    requires known { AreEntriesAt shown.contents edited.now known.now }
+    ensures contents { result.0.contents ≡ shown.contents }
     ensures unchanged { AreAlike columns.new columns.old }
-    ensures ready { IsReadyListOf contents ready.new }
-    ensures step { IfOk result.1 (IsStepOf contents at edited.now beside) }
+    ensures ready { IsReadyListOf shown.contents ready.new }
+    ensures step { IfOk result.1 (IsStepOf shown.contents at edited.now beside shown.looks result.0.looks) }
     ensures refused { IfErr result.1 (λ r. r ≡ Refusal.Memory) }
 {
-    match follow(alloc, &contents, ready, shares, edited, at) {
-        Ok(followed) => note_step(alloc, contents, latest, columns, ready, followed, beside),
-        Err(refusal) => (contents, Err(refusal)),
+    let (same, followed) = follow(
+        alloc, shown, latest, columns, ready, shares, edited, known, at,
+    );
+    match followed {
+        Ok(followed) => note_step(alloc, same, latest, columns, ready, followed, beside),
+        Err(refusal) => (same, Err(refusal)),
     }
 }

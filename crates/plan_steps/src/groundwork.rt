@@ -1,10 +1,11 @@
 // What is worked out of an edit before the figures are written.
-ghost use Rattle.std.specs.Prelude.{◌≡◌, ℤ, List, IfErr, IfOk, OnOk};
+ghost use Rattle.std.specs.Prelude.{◌≡◌, ◌≤◌, ℤ, List, [], IfErr, IfOk, OnOk, length, vec_capacity};
 ghost use Rattle.plan_basics.specs.declared.Refusal.{Refusal};
-ghost use Rattle.plan_kept.specs.plan_model.specs.Contents.{Contents};
+ghost use Rattle.plan_looks.specs.plan_kept.specs.plan_model.specs.Contents.{Contents};
+ghost use Rattle.plan_looks.specs.plan_restating.specs.Overwritten.{overwritten};
 ghost use Rattle.plan_steps.specs.Columns.{AreAlike, AreSharesOf, figures_of};
 ghost use Rattle.plan_steps.specs.Edits.{WasEdited};
-ghost use Rattle.plan_steps.specs.Groundworks.{IsGroundwork};
+ghost use Rattle.plan_steps.specs.Groundworks.{IsCounted, IsGroundwork};
 ghost use Rattle.ready_list.specs.Entries.{ReadyEntries};
 
 use super::columns::{Columns, Shares};
@@ -14,8 +15,9 @@ use super::excerpts::{Excerpt, excerpt_of};
 use operation_graph::Graph;
 use plan_basics::Refusal;
 use plan_cascade::Kept;
-use plan_status::SoundContents;
+use plan_looks::Shown;
 use plan_takings::retake;
+use ready_list::ReadyEntry;
 use std::alloc::Global;
 
 /// What is worked out of an edit before columns are written.
@@ -29,31 +31,37 @@ pub struct Groundwork {
     pub old: Excerpt,
 }
 
-/// What is worked out of an edit before columns are written: they are then as they were, and what is given out and held is what
-/// it is after the edit. The error is always `Memory`.
+/// What is worked out of an edit before columns are written, with room for an entry of each operation that it touches: the columns
+/// are then as they were, and what is given out and held is what it is after the edit. It takes two looks at each edit, and those
+/// of the cascades. The error is always `Memory`.
 pub fn groundwork_of(
     alloc: Global,
     graph: &Graph,
-    after: &SoundContents,
+    shown: &mut Shown,
     edit: &Edit,
     columns: &mut Columns,
     shares: &mut Shares,
-) -> Result<Groundwork, Refusal>
-    requires { (P : Contents) × (starts : List ℤ) × (ready : ReadyEntries) × WasEdited P after.now edit.now graph.now starts (figures_of columns.old ready shares.old) }
+) -> Result<(Groundwork, Vec<ReadyEntry>), Refusal>
+    requires { (P : Contents) × (starts : List ℤ) × (ready : ReadyEntries) × WasEdited P shown.old.contents edit.now graph.now starts (figures_of columns.old ready shares.old) }
     ensures unchanged { AreAlike columns.new columns.old }
-    ensures groundwork { IfOk result (IsGroundwork after.now edit.now.places.items columns.new) }
-    ensures shares { OnOk result (AreSharesOf after.now shares.new) }
+    ensures groundwork { IfOk result (λ g. IsGroundwork shown.old.contents edit.now.places.items columns.new g.0) }
+    ensures none_noted { IfOk result (λ g. g.1.items ≡ []) }
+    ensures space { IfOk result (λ g. length g.0.touched.items ≤ vec_capacity g.1) }
+    ensures shares { OnOk result (AreSharesOf shown.old.contents shares.new) }
+    ensures contents { shown.new.contents ≡ shown.old.contents }
+    ensures fewest { shown.old.looks ≤ shown.new.looks }
+    ensures counted { IfOk result (λ g. IsCounted shown.old.contents edit.now 2 columns.new.kept.items (overwritten g.0.kept.items columns.new.kept.items) g.0.touched.items shown.old.looks shown.new.looks) }
     ensures refused { IfErr result (λ r. r ≡ Refusal.Memory) }
 {
-    let contents = after.valid();
-    let KeptThen { touched, kept } = recount(alloc, graph, after, edit, &mut columns.kept)?;
+    let KeptThen { touched, kept } = recount(alloc, graph, shown, edit, &mut columns.kept)?;
     retake(
-        contents,
+        shown,
         &mut shares.given,
         &mut shares.holdings,
         &edit.places,
         &edit.marks,
     )?;
-    let old = excerpt_of(alloc, after, columns, &touched)?;
-    Ok(Groundwork { touched, kept, old })
+    let old = excerpt_of(alloc, &shown.beside(), columns, &touched)?;
+    let entries = Vec::with_capacity(alloc, touched.len())?;
+    Ok((Groundwork { touched, kept, old }, entries))
 }

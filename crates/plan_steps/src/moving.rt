@@ -1,6 +1,7 @@
 // What is kept by place, moved on to that of the plan after an edit.
-ghost use Rattle.std.specs.Prelude.{ℕ, List};
-ghost use Rattle.plan_kept.specs.plan_model.specs.Contents.{Contents};
+ghost use Rattle.std.specs.Prelude.{◌≡◌, ◌+◌, ◌≤◌, ℕ, List, [], length, vec_capacity};
+ghost use Rattle.plan_looks.specs.plan_kept.specs.plan_model.specs.Contents.{Contents};
+ghost use Rattle.plan_looks.specs.plan_restating.specs.Entries.{AreEntriesAt};
 ghost use Rattle.plan_steps.specs.Columns.{AreColumnsOf, IsReadyListOf, MakesOf};
 ghost use Rattle.plan_steps.specs.Groundworks.{HasGroundwork};
 
@@ -8,33 +9,40 @@ use super::columns::Columns;
 use super::groundwork::Groundwork;
 use super::values::put_at;
 use latest_start::Latest;
-use plan_restating::{restand, restate};
-use plan_status::SoundContents;
-use ready_list::ReadyList;
+use plan_looks::{Shown, restand, restate};
+use ready_list::{ReadyEntry, ReadyList};
 
-/// Moves columns and the ready list on to those of the plan after an edit of which this was worked out. What stood in the columns
-/// leads back. It takes no memory.
+/// Moves columns and the ready list on to those of the plan after an edit of which this was worked out, by a look at each operation
+/// that it touches, of which the entry is noted. What stood in the columns leads back. It takes no memory.
 pub fn move_columns(
-    contents: &SoundContents,
+    shown: &mut Shown,
     latest: &Latest,
     columns: &mut Columns,
     ready: &mut ReadyList,
     groundwork: &Groundwork,
+    noted: &mut Vec<ReadyEntry>,
 )
-    requires { (P : Contents) × (edits : List ℕ) × HasGroundwork P contents.now edits latest.now.starts columns.old ready.old groundwork.now }
-    ensures columns { AreColumnsOf contents.now columns.new }
-    ensures ready { IsReadyListOf contents.now ready.new }
+    requires groundwork { (P : Contents) × (edits : List ℕ) × HasGroundwork P shown.old.contents edits latest.now.starts columns.old ready.old groundwork.now }
+    requires none_noted { noted.old.items ≡ [] }
+    requires space { length groundwork.now.touched.items ≤ vec_capacity noted.old }
+    ensures columns { AreColumnsOf shown.old.contents columns.new }
+    ensures ready { IsReadyListOf shown.old.contents ready.new }
     ensures back { MakesOf groundwork.now.old columns.new columns.old }
+    ensures noted { AreEntriesAt shown.old.contents groundwork.now.touched.items noted.new.items }
+    ensures contents { shown.new.contents ≡ shown.old.contents }
+    ensures fewest { shown.old.looks ≤ shown.new.looks }
+    ensures most { shown.new.looks ≤ shown.old.looks + length groundwork.now.touched.items }
 {
     put_at(&mut columns.kept, &groundwork.kept);
     restand(&mut columns.standings, &columns.kept, &groundwork.touched);
     restate(
-        contents,
+        shown,
         latest,
         &columns.standings,
         &mut columns.statuses,
         &mut columns.tallies,
         ready,
         &groundwork.touched,
+        noted,
     );
 }

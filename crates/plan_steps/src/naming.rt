@@ -1,57 +1,72 @@
 // What is named at a moment.
-ghost use Rattle.std.specs.Prelude.{◌≡◌, ℕ, IfErr, IfOk};
+ghost use Rattle.std.specs.Prelude.{◌≡◌, ◌+◌, ◌≤◌, ℕ, IfErr, IfOk, length};
 ghost use Rattle.plan_basics.specs.declared.Refusal.{Refusal};
 ghost use Rattle.plan_steps.specs.Columns.{AreSharesOf, IsReadyListOf};
+ghost use Rattle.plan_steps.specs.Following.{IsChoiceOf};
 ghost use Rattle.plan_steps.specs.Naming.{IsNaming};
 
 use super::columns::Shares;
 use plan_basics::{Moment, OpKey, Refusal};
-use plan_changes::markings_of;
-use plan_kept::{Choice, chosen_with, places_of};
-use plan_moves::Marking;
-use plan_status::SoundContents;
+use plan_looks::{Beside, Choice, Shown, chosen_with, places_of};
 use ready_list::ReadyList;
 use std::alloc::Global;
 
-/// What is named, and what is needed to mark it so and to put that back.
+/// What is named, and where.
 #[derive(Drop)]
 pub struct Naming {
     /// The operations, in order.
     pub named: Vec<OpKey>,
     /// Their indices in key order, ascending.
     pub places: Vec<usize>,
-    /// The markings that they have before, in the order of the operations.
-    pub marks: Vec<Marking>,
     /// What is given out and held once they are named.
     pub shares: Shares,
 }
 
-/// What is named at a moment. The error is always `Memory`.
-pub fn name(
-    alloc: Global,
-    contents: &SoundContents,
-    ready: &ReadyList,
-    shares: Shares,
-    at: Moment,
-) -> Result<Naming, Refusal>
-    requires ready { IsReadyListOf contents.now ready.now }
-    requires shares { AreSharesOf contents.now shares }
-    ensures naming { IfOk result (IsNaming contents.now at) }
+// What is named by a choice. The error is always `Memory`.
+fn naming_of(alloc: Global, beside: &Beside<'_>, choice: Choice) -> Result<Naming, Refusal>
+    requires { (at : ℕ) × IsChoiceOf beside.now.contents.now at choice }
+    ensures naming { (at : ℕ) → IsChoiceOf beside.now.contents.now at choice → IfOk result (IsNaming beside.now.contents.now at) }
     ensures refused { IfErr result (λ r. r ≡ Refusal.Memory) }
 {
-    let Shares { given, holdings } = shares;
+    beside.are_sound();
     let Choice {
         named,
         given,
         holdings,
-    } = chosen_with(alloc, contents, ready, at, given, holdings)?;
-    let places = places_of(alloc, contents, &named)?;
-    let marks = markings_of(alloc, contents.rows(), &named)?;
+    } = choice;
+    let places = places_of(alloc, beside, &named)?;
     let shares = Shares { given, holdings };
     Ok(Naming {
         named,
         places,
-        marks,
         shares,
     })
+}
+
+/// What is named at a moment, by a look at each entry of the ready list at most. It gives back what is shown. The error is always
+/// `Memory`.
+pub fn name(
+    alloc: Global,
+    shown: Shown,
+    ready: &ReadyList,
+    shares: Shares,
+    at: Moment,
+) -> (Shown, Result<Naming, Refusal>)
+    requires ready { IsReadyListOf shown.contents ready.now }
+    requires shares { AreSharesOf shown.contents shares }
+    ensures contents { result.0.contents ≡ shown.contents }
+    ensures naming { IfOk result.1 (IsNaming shown.contents at) }
+    ensures fewest { IfOk result.1 (λ n. shown.looks ≤ result.0.looks) }
+    ensures most { IfOk result.1 (λ n. result.0.looks ≤ shown.looks + length ready.now.entries) }
+    ensures refused { IfErr result.1 (λ r. r ≡ Refusal.Memory) }
+{
+    let Shares { given, holdings } = shares;
+    let (shown, choice) = chosen_with(alloc, shown, ready, at, given, holdings);
+    match choice {
+        Ok(choice) => {
+            let naming = naming_of(alloc, &shown.beside(), choice);
+            (shown, naming)
+        }
+        Err(refusal) => (shown, Err(refusal)),
+    }
 }

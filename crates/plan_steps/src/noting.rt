@@ -1,20 +1,20 @@
 // What a plan in which what is chosen is named has at the places that were touched.
-ghost use Rattle.std.specs.Prelude.{◌≡◌, List, IfErr, IfOk};
+ghost use Rattle.std.specs.Prelude.{◌≡◌, ◌+◌, ◌≤◌, ◌⊎◌, ℕ, ℤ, List, IfErr, IfOk, OnOk, length};
 ghost use Rattle.plan_basics.specs.declared.Refusal.{Refusal};
-ghost use Rattle.plan_basics.specs.declared.keys.OpKey.{OpKey};
-ghost use Rattle.plan_kept.specs.plan_choice.specs.Choices.{AreLatestStarts};
-ghost use Rattle.plan_kept.specs.plan_model.specs.Contents.{Contents};
+ghost use Rattle.plan_looks.specs.plan_kept.specs.plan_choice.specs.Choices.{AreLatestStarts};
+ghost use Rattle.plan_looks.specs.plan_kept.specs.plan_model.specs.Contents.{Contents};
 ghost use Rattle.plan_steps.specs.Columns.{AreAlike, AreColumnsOf, IsReadyListOf};
 ghost use Rattle.plan_steps.specs.Edits.{ArePlacesIn};
-ghost use Rattle.plan_steps.specs.Naming.{IsNotedOf, WasNamed};
+ghost use Rattle.plan_steps.specs.Following.{WasFollowed};
+ghost use Rattle.plan_steps.specs.Naming.{IsNotedOf};
 
 use super::columns::Columns;
 use super::excerpts::{Excerpt, excerpt_of, put_excerpt};
+use super::followed::Followed;
 use latest_start::Latest;
 use plan_basics::Refusal;
-use plan_restating::restate;
-use plan_rows::{Beside, Notes, Shown, notes_of};
-use plan_status::SoundContents;
+use plan_looks::{Beside as Rest, Shown, restate_all};
+use plan_rows::{Beside, Columns as ColumnsLent, Notes, notes_of};
 use ready_list::ReadyList;
 use std::alloc::Global;
 
@@ -27,80 +27,76 @@ pub struct Noted {
     pub columns: Excerpt,
 }
 
-// Moves columns and the ready list on to those of the contents, in which the operations at these places are named. It takes no
-// memory.
-fn settle(
-    contents: &SoundContents,
-    latest: &Latest,
-    columns: &mut Columns,
-    ready: &mut ReadyList,
-    places: &[usize],
-)
-    requires { (P : Contents) × (os : List OpKey) × WasNamed P contents.now os places.now latest.now.starts columns.old ready.old }
-    ensures columns { AreColumnsOf contents.now columns.new }
-    ensures ready { IsReadyListOf contents.now ready.new }
+// Moves columns and the ready list on to those of the plan in which what follows is named. It takes no memory, and looks at nothing.
+fn settle(rest: &Rest<'_>, columns: &mut Columns, ready: &mut ReadyList, followed: &Followed)
+    requires { (P : Contents) × (at : ℕ) × (edited : List ℕ) × (starts : List ℤ) × WasFollowed P rest.now.contents.now at edited starts columns.old ready.old followed.now }
+    ensures columns { AreColumnsOf rest.now.contents.now columns.new }
+    ensures ready { IsReadyListOf rest.now.contents.now ready.new }
 {
-    restate(
-        contents,
-        latest,
-        &columns.standings,
+    restate_all(
+        rest,
         &mut columns.statuses,
         &mut columns.tallies,
         ready,
-        places,
+        &followed.statuses,
+        &followed.entries,
     );
 }
 
-// What is noted of contents that have these columns. The error is always `Memory`.
+// What is noted of a plan that has these columns, by a look at each place. The error is always `Memory`.
 fn noted_of(
     alloc: Global,
-    contents: &SoundContents,
+    shown: &mut Shown,
     latest: &Latest,
     columns: &Columns,
     beside: Beside,
     touched: &[usize],
 ) -> Result<Noted, Refusal>
-    requires columns { AreColumnsOf contents.now columns.now }
-    requires latest { AreLatestStarts contents.now latest.now.starts }
-    requires touched { ArePlacesIn contents.now touched.now }
-    ensures noted { IfOk result (IsNotedOf contents.now beside touched.now) }
+    requires columns { AreColumnsOf shown.old.contents columns.now }
+    requires latest { AreLatestStarts shown.old.contents latest.now.starts }
+    requires touched { ArePlacesIn shown.old.contents touched.now }
+    ensures noted { IfOk result (IsNotedOf shown.old.contents beside touched.now) }
+    ensures contents { shown.new.contents ≡ shown.old.contents }
+    ensures fewest { shown.old.looks ≤ shown.new.looks }
+    ensures most { shown.new.looks ≤ shown.old.looks + length touched.now }
+    ensures least { OnOk result ((18446744073709551615 ≤ shown.new.looks) ⊎ (shown.old.looks + length touched.now ≤ shown.new.looks)) }
     ensures refused { IfErr result (λ r. r ≡ Refusal.Memory) }
 {
-    let shown = Shown {
-        contents: contents.rows(),
+    shown.beside().are_sound();
+    let lent = ColumnsLent {
         standings: &columns.standings,
         statuses: &columns.statuses,
         tallies: &columns.tallies,
         latest,
     };
-    let notes = notes_of(alloc, shown, beside, touched)?;
-    let columns = excerpt_of(alloc, contents, columns, touched)?;
+    let notes = notes_of(alloc, shown, lent, beside, touched)?;
+    let columns = excerpt_of(alloc, &shown.beside(), columns, touched)?;
     Ok(Noted { notes, columns })
 }
 
-/// What is noted at the places that were touched, once columns and the ready list are moved on to those of the contents, in which
-/// the operations at these other places are named. The columns are then as they were, and the ready list is that of the contents
-/// before. The error is always `Memory`.
+/// What is noted at the places that were touched, once columns and the ready list are moved on to those of the plan in which what
+/// follows is named. The columns are then as they were, and the ready list is that of the plan before. The error is always `Memory`.
 pub fn note(
     alloc: Global,
-    contents: &SoundContents,
+    shown: &mut Shown,
     latest: &Latest,
     columns: &mut Columns,
     ready: &mut ReadyList,
-    places: &[usize],
+    followed: &Followed,
     beside: Beside,
-    touched: &[usize],
 ) -> Result<Noted, Refusal>
-    requires named { (P : Contents) × (os : List OpKey) × WasNamed P contents.now os places.now latest.now.starts columns.old ready.old }
-    requires touched { ArePlacesIn contents.now touched.now }
+    requires { (P : Contents) × (at : ℕ) × (edited : List ℕ) × WasFollowed P shown.old.contents at edited latest.now.starts columns.old ready.old followed.now }
     ensures unchanged { AreAlike columns.new columns.old }
-    ensures ready { (P : Contents) (os : List OpKey) → WasNamed P contents.now os places.now latest.now.starts columns.old ready.old → IsReadyListOf P ready.new }
-    ensures noted { IfOk result (IsNotedOf contents.now beside touched.now) }
+    ensures ready { (P : Contents) (at : ℕ) (edited : List ℕ) → WasFollowed P shown.old.contents at edited latest.now.starts columns.old ready.old followed.now → IsReadyListOf P ready.new }
+    ensures noted { IfOk result (IsNotedOf shown.old.contents beside followed.now.touched.items) }
+    ensures contents { shown.new.contents ≡ shown.old.contents }
+    ensures fewest { shown.old.looks ≤ shown.new.looks }
+    ensures most { shown.new.looks ≤ shown.old.looks + length followed.now.touched.items }
+    ensures least { OnOk result ((18446744073709551615 ≤ shown.new.looks) ⊎ (shown.old.looks + length followed.now.touched.items ≤ shown.new.looks)) }
     ensures refused { IfErr result (λ r. r ≡ Refusal.Memory) }
 {
-    let old = excerpt_of(alloc, contents, columns, places)?;
-    settle(contents, latest, columns, ready, places);
-    let noted = noted_of(alloc, contents, latest, columns, beside, touched);
-    put_excerpt(contents, latest, columns, ready, &old);
+    settle(&shown.beside(), columns, ready, followed);
+    let noted = noted_of(alloc, shown, latest, columns, beside, &followed.touched);
+    put_excerpt(columns, ready, &followed.old, &followed.entries);
     noted
 }

@@ -1,18 +1,20 @@
 // What each small request writes.
 ghost use Rattle.std.specs.Prelude.{◌≡◌, ℕ, All, IfOk};
+ghost use Rattle.std.specs.FinMap.{insert};
 ghost use Rattle.plan_basics.specs.Intervals.{IsInterval};
 ghost use Rattle.plan_basics.specs.Names.{IsName};
 ghost use Rattle.plan_basics.specs.Refusals.{NoneRefuses};
-ghost use Rattle.plan_kept.specs.Edits.{IsSmall};
-ghost use Rattle.plan_records.specs.Acceptance.{MayBeDone};
+ghost use Rattle.plan_changes.specs.Intervals.{opened};
+ghost use Rattle.plan_looks.specs.plan_kept.specs.Edits.{IsSmall};
+ghost use Rattle.plan_looks.specs.plan_records.specs.Acceptance.{MayBeDone, MayBeOpenBy};
 ghost use Rattle.plan_steps.specs.Revisions.{IsRevisionFor};
 
 use super::revisions::Revision;
-use plan_basics::{ErrCode, Interval};
-use plan_changes::workstation_with;
-use plan_records::{PlanContents, What};
+use plan_basics::{ErrCode, Interval, WsName};
+use plan_looks::{Beside, What};
 use status_rules::Mark;
 use std::alloc::{AllocError, Global};
+use workstations::Workstation;
 
 // The mark of what ended with an error. The code's text is looked at for the proof alone, which learns that it is legal.
 fn error_mark(code: &ErrCode) -> Mark
@@ -32,15 +34,29 @@ fn look_at(intervals: &[Interval])
     }
 }
 
-/// What a small request, in whose way nothing stands, writes.
-pub fn revision_of(
+// A workstation of the plan, open in these intervals in place of its own, which are no more than it may have, and of which no two
+// overlap. To set it opens it in them.
+fn workstation_with(
     alloc: Global,
-    contents: &PlanContents,
-    what: &What,
-) -> Result<Revision, AllocError>
+    beside: &Beside<'_>,
+    name: &WsName,
+    intervals: &[Interval],
+) -> Result<Workstation, AllocError>
+    requires { NoneRefuses (MayBeOpenBy beside.now.contents.now name.now intervals.now) }
+    ensures name { IfOk result (λ workstation. workstation.0 ≡ name.now) }
+    ensures opens { IfOk result (λ workstation. record beside.now.contents.now { workstations = insert beside.now.contents.now.workstations workstation.0 workstation.1 } ≡ opened name.now intervals.now beside.now.contents.now) }
+{
+    let mut workstation = beside.workstation(name).unwrap().try_clone()?;
+    let own = Vec::from_slice(alloc, intervals)?;
+    workstation.replace_intervals(own).unwrap();
+    Ok(workstation)
+}
+
+/// What a small request, in whose way nothing stands, writes.
+pub fn revision_of(alloc: Global, beside: &Beside<'_>, what: &What) -> Result<Revision, AllocError>
     requires small { IsSmall what.now }
-    requires clear { (at : ℕ) × NoneRefuses (MayBeDone contents.now at what.now) }
-    ensures { IfOk result (IsRevisionFor contents.now what.now) }
+    requires clear { (at : ℕ) × NoneRefuses (MayBeDone beside.now.contents.now at what.now) }
+    ensures { IfOk result (IsRevisionFor beside.now.contents.now what.now) }
 {
     match what {
         What::Tick => Ok(Revision::Nothing),
@@ -58,7 +74,7 @@ pub fn revision_of(
         What::SetAvailable(name, available) => Ok(Revision::Available(*name, *available)),
         What::ReplaceIntervals(name, intervals) => {
             look_at(intervals);
-            Ok(Revision::Opened(workstation_with(alloc, contents, name, intervals)?))
+            Ok(Revision::Opened(workstation_with(alloc, beside, name, intervals)?))
         }
         What::Load(_)
         | What::DeleteOccurrence(_)

@@ -2,13 +2,12 @@
 ghost use Rattle.std.specs.Prelude.{◌≡◌, true, IfOk, List, Some};
 ghost use Rattle.std.specs.FinMap.{contains_key, get};
 ghost use Rattle.plan_rows.specs.Touched.{StaysBeside};
-ghost use Rattle.plan_kept.specs.plan_model.specs.Contents.{Contents};
+ghost use Rattle.plan_looks.specs.plan_kept.specs.plan_model.specs.Contents.{Contents};
 ghost use Rattle.plan_basics.specs.declared.keys.OpKey.{OpKey as OpKeyValue};
 ghost use Rattle.plan_steps.specs.Revisions.{HasPlaceFor, PutsBack, written};
 
 use plan_basics::{OpKey, ResName, WsName};
-use plan_changes::{mark_all, set_held, set_nop};
-use plan_records::PlanContents;
+use plan_looks::Shown;
 use plan_rows::Beside;
 use status_rules::Mark;
 use std::alloc::AllocError;
@@ -58,41 +57,26 @@ impl Revision {
     }
 }
 
-/// Writes it, a mark on the operations of these keys. It takes no memory.
-pub fn write(contents: &mut PlanContents, keys: &[OpKey], revision: Revision)
-    requires { HasPlaceFor contents.old revision }
-    ensures { contents.new ≡ written keys.now revision contents.old }
-{
-    match revision {
-        Revision::Nothing => {}
-        Revision::Mark(mark) => mark_all(contents, keys, &mark),
-        Revision::Held(key, held) => set_held(contents, &key, held),
-        Revision::Nop(key, nop) => set_nop(contents, &key, nop),
-        Revision::Available(name, available) => contents.set_available(&name, available),
-        Revision::Opened(workstation) => contents.set_workstation(workstation),
-    }
-}
-
 // A copy of the workstation of this name, which is there.
-fn standing_workstation(contents: &PlanContents, name: &WsName) -> Result<Workstation, AllocError>
-    requires { contains_key contents.now.workstations name.now ≡ true }
-    ensures { IfOk result (λ w. (w.0 ≡ name.now) × (get contents.now.workstations name.now ≡ Some w.1)) }
+fn standing_workstation(shown: &Shown, name: &WsName) -> Result<Workstation, AllocError>
+    requires { contains_key shown.now.contents.workstations name.now ≡ true }
+    ensures { IfOk result (λ w. (w.0 ≡ name.now) × (get shown.now.contents.workstations name.now ≡ Some w.1)) }
 {
-    contents.workstation(name).unwrap().try_clone()
+    shown.beside().workstation(name).unwrap().try_clone()
 }
 
 /// What stands beside operations where it is going to be written: that, written after it, puts back what stood there.
-pub fn standing(contents: &PlanContents, revision: &Revision) -> Result<Revision, AllocError>
-    requires { HasPlaceFor contents.now revision.now }
-    ensures { IfOk result (PutsBack contents.now revision.now) }
+pub fn standing(shown: &Shown, revision: &Revision) -> Result<Revision, AllocError>
+    requires { HasPlaceFor shown.now.contents revision.now }
+    ensures { IfOk result (PutsBack shown.now.contents revision.now) }
 {
     match revision {
         Revision::Available(name, _) => Ok(Revision::Available(
             *name,
-            contents.resource(name).unwrap(),
+            shown.beside().resource(name).unwrap(),
         )),
         Revision::Opened(workstation) => Ok(Revision::Opened(standing_workstation(
-            contents,
+            shown,
             &workstation.name(),
         )?)),
         _ => Ok(Revision::Nothing),

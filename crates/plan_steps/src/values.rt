@@ -1,21 +1,22 @@
 // What lists have at some places, read and written.
-ghost use Rattle.std.specs.Prelude.{◌≡◌, ◌<◌, ℕ, All, Contains, IfOk, length};
+ghost use Rattle.std.specs.Prelude.{◌≡◌, ◌<◌, ℕ, All, Contains, IfOk, length, map};
 ghost use Rattle.std.specs.FinMap.{entries};
 ghost use Rattle.plan_rows.specs.Touched.{BelongsAt, HasOneOf};
-ghost use Rattle.plan_restating.specs.Overwritten.{overwritten};
+ghost use Rattle.plan_looks.specs.plan_restating.specs.Overwritten.{overwritten};
 ghost use Rattle.plan_steps.specs.Values.{AreValuesAt};
 
-use plan_status::SoundContents;
+use plan_looks::Beside;
 use std::alloc::{AllocError, Global};
 
-/// What stands at these places.
+/// What stands at these places, in their order.
 pub fn values_at<T: Copy>(
     alloc: Global,
     list: &[T],
     places: &[usize],
 ) -> Result<Vec<(usize, T)>, AllocError>
     requires { All (λ i. i < length list.now) places.now }
-    ensures { IfOk result (λ values. AreValuesAt list.now (Contains places.now) values.items) }
+    ensures values { IfOk result (λ values. AreValuesAt list.now (Contains places.now) values.items) }
+    ensures in_order { IfOk result (λ values. map (λ e. e.0) values.items ≡ places.now) }
 {
     let mut values = Vec::with_capacity(alloc, places.len())?;
     for place in places {
@@ -35,28 +36,27 @@ pub fn put_at<T: Copy>(list: &mut [T], values: &[(usize, T)])
 }
 
 // The index of the occurrence to which the operation at an index belongs.
-fn occurrence_at(contents: &SoundContents, place: usize) -> usize
-    requires { place < length (entries contents.now.operations) }
-    ensures within { result < length (entries contents.now.occurrences) }
-    ensures belongs { BelongsAt contents.now place result }
+fn occurrence_at(beside: &Beside<'_>, place: usize) -> usize
+    requires { place < length (entries beside.now.contents.now.operations) }
+    ensures within { result < length (entries beside.now.contents.now.occurrences) }
+    ensures belongs { BelongsAt beside.now.contents.now place result }
 {
-    let key = &contents.operations()[place].0;
-    contents.occurrence_place_of(key)
+    beside.occurrence_place_of(beside.operation_key(place))
 }
 
 /// The indices of the occurrences to which the operations at these indices belong.
 pub fn occurrences_at(
     alloc: Global,
-    contents: &SoundContents,
+    beside: &Beside<'_>,
     places: &[usize],
 ) -> Result<Vec<usize>, AllocError>
-    requires { All (λ i. i < length (entries contents.now.operations)) places.now }
-    ensures within { IfOk result (λ all. All (λ p. p < length (entries contents.now.occurrences)) all.items) }
-    ensures each { IfOk result (λ all. (p : ℕ) → HasOneOf contents.now places.now p → Contains all.items p) }
+    requires { All (λ i. i < length (entries beside.now.contents.now.operations)) places.now }
+    ensures within { IfOk result (λ all. All (λ p. p < length (entries beside.now.contents.now.occurrences)) all.items) }
+    ensures each { IfOk result (λ all. (p : ℕ) → HasOneOf beside.now.contents.now places.now p → Contains all.items p) }
 {
     let mut all = Vec::with_capacity(alloc, places.len())?;
     for place in places {
-        all.push(occurrence_at(contents, *place))?;
+        all.push(occurrence_at(beside, *place))?;
     }
     Ok(all)
 }

@@ -1,61 +1,78 @@
 // Edits written into what a plan holds, and taken back.
 ghost use Rattle.std.specs.Prelude.{◌≡◌, ℕ};
-ghost use Rattle.plan_changes.specs.Markings.{DifferInMarks, WereMarked};
-ghost use Rattle.plan_kept.specs.plan_model.specs.Contents.{Contents};
-ghost use Rattle.plan_kept.specs.plan_model.specs.Ready.{IsChosen, named as named_in};
-ghost use Rattle.plan_kept.specs.plan_model.specs.Valid.{IsSound};
+ghost use Rattle.plan_looks.specs.plan_kept.specs.plan_model.specs.Contents.{Contents};
+ghost use Rattle.plan_looks.specs.plan_kept.specs.plan_model.specs.Ready.{IsChosen, named as named_in};
+ghost use Rattle.plan_looks.specs.plan_kept.specs.plan_model.specs.Valid.{IsSound};
 ghost use Rattle.plan_steps.specs.Edits.{WasWritten};
 ghost use Rattle.plan_steps.specs.Revisions.{HasPlaceFor, written};
 
 use super::edits::Edit;
-use super::revisions::{Revision, write};
+use super::revisions::Revision;
 use plan_basics::OpKey;
-use plan_changes::{mark_all, put_markings};
-use plan_moves::Marking;
-use plan_status::SoundContents;
+use plan_changes::{mark_all, set_held, set_nop};
+use plan_looks::{PlanContents, Shown};
+use plan_rows::SoundContents;
 use status_rules::Mark;
 
-/// The contents with this written into them, by which they stay sound. It takes no memory.
-pub fn with_revision(contents: SoundContents, keys: &[OpKey], revision: Revision) -> SoundContents
-    requires has_place { HasPlaceFor contents revision }
-    requires sound { IsSound (written keys.now revision contents) }
-    ensures { result ≡ written keys.now revision contents }
+/// What is shown, with this written into it, by which it stays sound. It takes no memory and no look.
+pub fn with_revision(shown: Shown, keys: &[OpKey], revision: Revision) -> Shown
+    requires has_place { HasPlaceFor shown.contents revision }
+    requires sound { IsSound (written keys.now revision shown.contents) }
+    ensures contents { result.contents ≡ written keys.now revision shown.contents }
+    ensures looks { result.looks ≡ shown.looks }
 {
-    let mut rows = contents.into_rows();
-    write(&mut rows, keys, revision);
-    SoundContents::of(rows)
+    match revision {
+        Revision::Nothing => shown,
+        Revision::Mark(mark) => shown.mark_all(keys, &mark),
+        Revision::Held(key, held) => shown.set_held(&key, held),
+        Revision::Nop(key, nop) => shown.set_nop(&key, nop),
+        Revision::Available(name, available) => shown.set_available(&name, available),
+        Revision::Opened(workstation) => shown.set_workstation(workstation),
+    }
 }
 
-/// The contents with these operations, which were chosen, marked named. It takes no memory.
-pub fn with_named(contents: SoundContents, named: &[OpKey]) -> SoundContents
-    requires { (m : ℕ) × IsChosen contents m named.now }
-    ensures { result ≡ named_in named.now contents }
+/// What is shown, with these operations, which were chosen, marked named. It takes no memory and no look.
+pub fn with_named(shown: Shown, named: &[OpKey]) -> Shown
+    requires { (m : ℕ) × IsChosen shown.contents m named.now }
+    ensures contents { result.contents ≡ named_in named.now shown.contents }
+    ensures looks { result.looks ≡ shown.looks }
 {
-    let mut rows = contents.into_rows();
-    mark_all(&mut rows, named, &Mark::Named);
-    SoundContents::of(rows)
+    shown.beside().are_sound();
+    shown.mark_all(named, &Mark::Named)
 }
 
-/// The sound contents in which these operations had these markings, and from which no more than their markings differ. It takes
-/// no memory.
-pub fn with_markings(contents: SoundContents, keys: &[OpKey], marks: &[Marking]) -> SoundContents
-    requires { (P : Contents) × IsSound P × DifferInMarks P contents keys.now × WereMarked P keys.now marks.now }
-    ensures { (P : Contents) → DifferInMarks P contents keys.now → WereMarked P keys.now marks.now → result ≡ P }
+/// The sound plan in which these operations were chosen, which were marked named then: before that they were unmarked. It takes no
+/// memory and no look.
+pub fn without_named(shown: Shown, named: &[OpKey]) -> Shown
+    requires { (P : Contents) × IsSound P × ((m : ℕ) × IsChosen P m named.now) × (shown.contents ≡ named_in named.now P) }
+    ensures contents { (P : Contents) → ((m : ℕ) × IsChosen P m named.now) → shown.contents ≡ named_in named.now P → result.contents ≡ P }
+    ensures looks { result.looks ≡ shown.looks }
 {
-    let mut rows = contents.into_rows();
-    put_markings(&mut rows, keys, marks);
-    SoundContents::of(rows)
+    shown.mark_all(named, &Mark::Unmarked)
 }
 
-/// The contents into which an edit was written, where this is what stood beside operations. It takes no memory.
-pub fn without_edit(contents: SoundContents, edit: &Edit, old: Revision) -> SoundContents
-    requires { (P : Contents) × WasWritten P contents edit.now old }
-    ensures { (P : Contents) → WasWritten P contents edit.now old → result ≡ P }
+/// The plan into which an edit was written, where this is what stood beside operations. It takes no memory and no look.
+pub fn without_edit(shown: Shown, edit: &Edit, old: Revision) -> Shown
+    requires { (P : Contents) × WasWritten P shown.contents edit.now old }
+    ensures contents { (P : Contents) → WasWritten P shown.contents edit.now old → result.contents ≡ P }
+    ensures looks { result.looks ≡ shown.looks }
 {
-    let mut rows = contents.into_rows();
-    put_markings(&mut rows, &edit.keys, &edit.marks);
-    write(&mut rows, &[], old);
-    SoundContents::of(rows)
+    with_revision(shown.put_markings(&edit.keys, &edit.marks), &[], old)
+}
+
+// Writes a revision, a mark on the operations of these keys. It takes no memory.
+fn write(contents: &mut PlanContents, keys: &[OpKey], revision: Revision)
+    requires { HasPlaceFor contents.old revision }
+    ensures { contents.new ≡ written keys.now revision contents.old }
+{
+    match revision {
+        Revision::Nothing => {}
+        Revision::Mark(mark) => mark_all(contents, keys, &mark),
+        Revision::Held(key, held) => set_held(contents, &key, held),
+        Revision::Nop(key, nop) => set_nop(contents, &key, nop),
+        Revision::Available(name, available) => contents.set_available(&name, available),
+        Revision::Opened(workstation) => contents.set_workstation(workstation),
+    }
 }
 
 /// What a small step makes of the contents of a plan: this is written into them, by which they stay sound, and the operations
@@ -71,6 +88,8 @@ pub fn stepped(
     requires chosen { (m : ℕ) × IsChosen (written keys.now revision contents) m named.now }
     ensures { result ≡ named_in named.now (written keys.now revision contents) }
 {
-    let written = with_revision(contents, keys, revision);
-    with_named(written, named)
+    let mut rows = contents.into_rows();
+    write(&mut rows, keys, revision);
+    mark_all(&mut rows, named, &Mark::Named);
+    SoundContents::of(rows)
 }

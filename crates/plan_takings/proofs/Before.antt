@@ -3,12 +3,12 @@ use Rattle.std.proofs.Common.{◌≡◌, sym, ap, ◌∙◌, ℕ, ◌+◌, true,
 use Rattle.std.specs.FinMap.{entries}
 use Rattle.plan_basics.specs.declared.keys.OpKey.{OpKey}
 use Rattle.special_resources.specs.Holdings.{Held}
-use Rattle.plan_model.specs.Contents.{Contents, Operation, attribute_at}
-use Rattle.plan_model.specs.Holdings.{takes}
-use Rattle.plan_model.specs.Valid.{IsValid}
-use Rattle.plan_moves.specs.Markings.{marking_of, with_marking}
-use Rattle.plan_moves.specs.Moves.{IsRemarked}
-use Rattle.plan_moves.specs.declared.Marking.{Marking}
+use Rattle.plan_choice.specs.plan_model.specs.Contents.{Contents, Operation, attribute_at}
+use Rattle.plan_choice.specs.plan_model.specs.Holdings.{takes}
+use Rattle.plan_choice.specs.plan_model.specs.Valid.{IsValid}
+use Rattle.plan_choice.specs.plan_moves.specs.Markings.{marking_of, with_marking}
+use Rattle.plan_choice.specs.plan_moves.specs.Moves.{IsRemarked}
+use Rattle.plan_choice.specs.plan_moves.specs.declared.Marking.{Marking}
 use Rattle.workstations.specs.Workstations.{Workstation}
 use Rattle.workstations.specs.declared.Capacity.{Capacity}
 use Rattle.plan_choice.specs.Takings.{IsAtMost, most_given_out}

@@ -11,11 +11,11 @@ use Rattle.plan_basics.specs.Keys.{Name, name_cmp, operation_cmp, operation_cmp_
 use Rattle.plan_basics.specs.declared.Attr.{Attr}
 use Rattle.plan_basics.specs.declared.keys.OpKey.{OpKey}
 use Rattle.status_rules.specs.Table.{marked_status}
-use Rattle.plan_model.specs.Contents.{Contents, Operation, attribute_at}
-use Rattle.plan_model.specs.Holdings.{given_out, holds_server, is_serving, takes}
-use Rattle.plan_model.specs.Valid.{IsValid}
+use Rattle.plan_choice.specs.plan_model.specs.Contents.{Contents, Operation, attribute_at}
+use Rattle.plan_choice.specs.plan_model.specs.Holdings.{given_out, holds_server, is_serving, takes}
+use Rattle.plan_choice.specs.plan_model.specs.Valid.{IsValid}
 use Rattle.plan_choice.specs.plan_drafts.proofs.MadeEntries.{each_entry}
-use Rattle.plan_moves.specs.Moves.{IsRemarked}
+use Rattle.plan_choice.specs.plan_moves.specs.Moves.{IsRemarked}
 use Rattle.workstations.specs.declared.Capacity.{Capacity}
 use Rattle.plan_choice.specs.Choices.{AreGivenOut}
 use Rattle.plan_choice.specs.Takings.{IsAtMost, most_given_out, takes_server, with_one_more}

@@ -9,10 +9,10 @@ use Rattle.special_resources.specs.Holders.{Usage}
 use Rattle.special_resources.specs.Holdings.{Held}
 use Rattle.special_resources.specs.declared.Mode.{Mode}
 use Rattle.status_rules.specs.Table.{marked_status}
-use Rattle.plan_model.proofs.Entries.{entries_in_order}
-use Rattle.plan_model.specs.Contents.{Contents, Operation, attribute_at}
-use Rattle.plan_model.specs.Holdings.{Holds, holds_resource, takes}
-use Rattle.plan_moves.specs.Moves.{IsRemarked}
+use Rattle.plan_choice.specs.plan_model.proofs.Entries.{entries_in_order}
+use Rattle.plan_choice.specs.plan_model.specs.Contents.{Contents, Operation, attribute_at}
+use Rattle.plan_choice.specs.plan_model.specs.Holdings.{Holds, holds_resource, takes}
+use Rattle.plan_choice.specs.plan_moves.specs.Moves.{IsRemarked}
 use Rattle.plan_choice.specs.plan_status.proofs.Ascending.{one_place}
 use Rattle.plan_choice.specs.plan_status.proofs.LoadedRows.{row_found, row_of}
 use Rattle.plan_choice.specs.Choices.{AreHeldIn}

@@ -5,11 +5,11 @@ use Rattle.std.proofs.lemmas.Option.{same_Some, slice_get_within}
 use Rattle.plan_basics.specs.Keys.{name_cmp, operation_cmp, operation_cmp_total}
 use Rattle.plan_basics.specs.declared.keys.OpKey.{OpKey}
 use Rattle.special_resources.specs.Holdings.{Held}
-use Rattle.plan_model.proofs.Entries.{entries_in_order}
-use Rattle.plan_model.specs.Contents.{Contents, Operation, attribute_at}
-use Rattle.plan_model.specs.Holdings.{takes}
-use Rattle.plan_model.specs.Valid.{IsValid}
-use Rattle.plan_moves.specs.Moves.{IsRemarked}
+use Rattle.plan_choice.specs.plan_model.proofs.Entries.{entries_in_order}
+use Rattle.plan_choice.specs.plan_model.specs.Contents.{Contents, Operation, attribute_at}
+use Rattle.plan_choice.specs.plan_model.specs.Holdings.{takes}
+use Rattle.plan_choice.specs.plan_model.specs.Valid.{IsValid}
+use Rattle.plan_choice.specs.plan_moves.specs.Moves.{IsRemarked}
 use Rattle.plan_choice.specs.plan_status.proofs.Ascending.{one_place}
 use Rattle.plan_choice.specs.plan_status.proofs.LoadedRows.{row_found}
 use Rattle.workstations.specs.Workstations.{Workstation}

@@ -15,7 +15,7 @@ use Rattle.special_resources.proofs.MoreNeeds.{need_by_usage, usage_by_need}
 use Rattle.special_resources.proofs.Orders.{holding_cmp_total, holding_cmp-IsAntisymmetric}
 use Rattle.status_rules.specs.Table.{marked_status}
 use Rattle.status_rules.specs.declared.Mark.{Mark}
-use Rattle.plan_model.specs.Holdings.{holds_resource}
+use Rattle.plan_choice.specs.plan_model.specs.Holdings.{holds_resource}
 use Rattle.plan_choice.proofs.NeedsTaken.{one_or_two}
 use Rattle.plan_takings.specs.Marked.{HaveReleased}
 

@@ -7,8 +7,8 @@ use Rattle.std.proofs.lemmas.Option.{slice_get-get_or, slice_get-map, slice_get_
 use Rattle.plan_basics.specs.Keys.{Name, name_cmp}
 use Rattle.plan_basics.specs.declared.Attr.{Attr}
 use Rattle.plan_basics.specs.declared.keys.OpKey.{OpKey}
-use Rattle.plan_model.specs.Contents.{Contents, Operation, attribute_at}
-use Rattle.plan_moves.specs.Moves.{IsMovedAt, reporting}
+use Rattle.plan_choice.specs.plan_model.specs.Contents.{Contents, Operation, attribute_at}
+use Rattle.plan_choice.specs.plan_moves.specs.Moves.{IsMovedAt, reporting}
 use Rattle.plan_takings.specs.Between.{IsRemarkedPlan}
 use Rattle.workstations.specs.Timetables.{NamedWorkstation}
 use Rattle.workstations.specs.Workstations.{Workstation}

@@ -9,11 +9,11 @@ use Rattle.std.proofs.lemmas.Map.Keys.{IsStrictlyIncreasing-from_sorted}
 use Rattle.std.proofs.lemmas.Option.{get_or_from_slice_get, same_Some, slice_get-get_or, slice_get_within}
 use Rattle.plan_basics.specs.declared.keys.OpKey.{OpKey}
 use Rattle.special_resources.specs.Holdings.{Held}
-use Rattle.plan_model.specs.Contents.{Contents, Operation}
-use Rattle.plan_model.specs.Valid.{IsValid}
+use Rattle.plan_choice.specs.plan_model.specs.Contents.{Contents, Operation}
+use Rattle.plan_choice.specs.plan_model.specs.Valid.{IsValid}
 use Rattle.plan_choice.specs.plan_drafts.proofs.RowPlaces.{row_at}
-use Rattle.plan_moves.specs.Moves.{IsMovedAt}
-use Rattle.plan_moves.specs.declared.Marking.{Marking}
+use Rattle.plan_choice.specs.plan_moves.specs.Moves.{IsMovedAt}
+use Rattle.plan_choice.specs.plan_moves.specs.declared.Marking.{Marking}
 use Rattle.workstations.specs.declared.Capacity.{Capacity}
 use Rattle.plan_choice.specs.Choices.{AreGivenOut, AreHeldIn}
 use Rattle.plan_takings.specs.Before.{HasPlanBefore, IsBeforeAt, WereMarked}

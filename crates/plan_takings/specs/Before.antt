@@ -3,12 +3,12 @@ use Rattle.std.specs.Prelude.{◌≡◌, ℕ, List, Some, length, slice_get}
 use Rattle.std.specs.FinMap.{entries}
 use Rattle.plan_basics.specs.declared.keys.OpKey.{OpKey}
 use Rattle.special_resources.specs.Holdings.{Held}
-use Rattle.plan_model.specs.Contents.{Contents, Operation}
-use Rattle.plan_model.specs.Valid.{IsValid}
+use Rattle.plan_choice.specs.plan_model.specs.Contents.{Contents, Operation}
+use Rattle.plan_choice.specs.plan_model.specs.Valid.{IsValid}
 use Rattle.plan_choice.specs.Choices.{AreGivenOut, AreHeldIn}
-use Rattle.plan_moves.specs.Markings.{marking_of}
-use Rattle.plan_moves.specs.Moves.{IsMovedAt}
-use Rattle.plan_moves.specs.declared.Marking.{Marking}
+use Rattle.plan_choice.specs.plan_moves.specs.Markings.{marking_of}
+use Rattle.plan_choice.specs.plan_moves.specs.Moves.{IsMovedAt}
+use Rattle.plan_choice.specs.plan_moves.specs.declared.Marking.{Marking}
 use Rattle.plan_takings.specs.Between.{AreGivenBetween, AreHeldBetween, IsRemarkedPlan}
 use Rattle.workstations.specs.declared.Capacity.{Capacity}
 

@@ -5,10 +5,10 @@ use Rattle.plan_basics.specs.Keys.{Name}
 use Rattle.plan_basics.specs.declared.keys.OpKey.{OpKey}
 use Rattle.special_resources.specs.Holdings.{Held}
 use Rattle.special_resources.specs.declared.Mode.{Mode}
-use Rattle.plan_model.specs.Contents.{Contents, Operation}
-use Rattle.plan_model.specs.Holdings.{Holds, is_serving}
+use Rattle.plan_choice.specs.plan_model.specs.Contents.{Contents, Operation}
+use Rattle.plan_choice.specs.plan_model.specs.Holdings.{Holds, is_serving}
 use Rattle.plan_choice.specs.plan_drafts.specs.Places.{AreByPlace}
-use Rattle.plan_moves.specs.Moves.{IsRemarked, reporting}
+use Rattle.plan_choice.specs.plan_moves.specs.Moves.{IsRemarked, reporting}
 use Rattle.workstations.specs.declared.Capacity.{Capacity}
 
 -- the operation is in P too, at the same place, perhaps with another mark or other flags

@@ -8,8 +8,8 @@ use Rattle.special_resources.specs.Holdings.{Held}
 use Rattle.special_resources.specs.Needs.{Usages}
 use Rattle.status_rules.specs.Table.{marked_status}
 use Rattle.status_rules.specs.declared.Mark.{Mark}
-use Rattle.plan_model.specs.Contents.{Operation}
-use Rattle.plan_model.specs.Holdings.{holds_resource, holds_server}
+use Rattle.plan_choice.specs.plan_model.specs.Contents.{Operation}
+use Rattle.plan_choice.specs.plan_model.specs.Holdings.{holds_resource, holds_server}
 use Rattle.plan_choice.specs.Takings.{HaveTaken, with_one_more}
 use Rattle.workstations.specs.declared.Capacity.{Capacity}
 

@@ -4,8 +4,7 @@ ghost use Rattle.plan_choice.specs.Takings.{IsAtMost, most_given_out, with_one_m
 ghost use Rattle.plan_takings.specs.Marked.{with_taking};
 ghost use Rattle.workstations.specs.declared.Capacity.{Capacity as CapacityValue};
 
-use plan_choice::with_operation;
-use plan_model::OperationRecord;
+use plan_choice::{OperationRecord, with_operation};
 use workstations::Capacity;
 
 // What is given out, with this much less.

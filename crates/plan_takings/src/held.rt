@@ -4,8 +4,7 @@ ghost use Rattle.plan_basics.specs.declared.Refusal.{Refusal};
 ghost use Rattle.plan_takings.specs.Marked.{HaveReleased, HaveRetaken};
 
 use plan_basics::{OpKey, Refusal};
-use plan_choice::take_marked;
-use plan_model::OperationRecord;
+use plan_choice::{OperationRecord, take_marked};
 use special_resources::Holdings;
 use status_rules::Mark;
 

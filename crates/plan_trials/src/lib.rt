@@ -13,16 +13,16 @@ ghost use Rattle.plan_records.specs.Step.{Step};
 ghost use Rattle.plan_core.specs.plan_drafts.specs.Drafts.{IsDraft};
 ghost use Rattle.plan_core.specs.plan_drafts.specs.PlanGraphs.{IsGraphFor};
 ghost use Rattle.plan_status.specs.Standings.{AreStandings};
-ghost use Rattle.plan_steps.specs.plan_choice.specs.Choices.{AreLatestStarts};
+ghost use Rattle.plan_core.specs.plan_steps.specs.plan_choice.specs.Choices.{AreLatestStarts};
 ghost use Rattle.plan_trials.specs.Trials.{IsAnswerAlone, load_at};
 
 use latest_start::Latest;
 use operation_graph::Graph;
 use plan_basics::{Moment, OpKey, Refusal};
+use plan_core::{check_load, chosen, latest_of, ready_of};
 use plan_drafts::DraftParts;
 use plan_records::{PlanDraft, Reply};
 use plan_status::{SoundContents, Standing, standings_of, statuses_of};
-use plan_steps::{check_load, chosen, latest_of, ready_of};
 use std::alloc::Global;
 
 // The moment of a load into an empty plan that may be accepted; else the least refusal that applies.
@@ -42,34 +42,34 @@ fn check(at: i64, draft: &Option<PlanDraft>) -> Result<Moment, Refusal>
 // What is named at a moment, by the standings and the latest starts of the operations. The error is always `Memory`.
 fn named_by(
     alloc: Global,
-    contents: &SoundContents,
+    contents: SoundContents,
     standings: &[Standing],
     latest: &Latest,
     at: Moment,
 ) -> Result<Vec<OpKey>, Refusal>
-    requires standings { AreStandings contents.now standings.now }
-    requires latest { AreLatestStarts contents.now latest.now.starts }
-    ensures chosen { IfOk result (λ keys. IsChosen contents.now at keys.items) }
+    requires standings { AreStandings contents standings.now }
+    requires latest { AreLatestStarts contents latest.now.starts }
+    ensures chosen { IfOk result (λ keys. IsChosen contents at keys.items) }
     ensures refused { IfErr result (λ r. r ≡ Refusal.Memory) }
 {
-    let statuses = statuses_of(alloc, contents, standings)?;
-    let ready = ready_of(alloc, contents, &statuses, latest)?;
-    chosen(alloc, contents, &ready, at)
+    let statuses = statuses_of(alloc, &contents, standings)?;
+    let ready = ready_of(alloc, &contents, &statuses, latest)?;
+    chosen(alloc, contents, &ready, at).1
 }
 
 // What is named at a moment in these contents, with this graph. The error is always `Memory`.
 fn named_at(
     alloc: Global,
-    contents: &SoundContents,
+    contents: SoundContents,
     graph: &Graph,
     at: Moment,
 ) -> Result<Vec<OpKey>, Refusal>
-    requires { IsGraphFor contents.now graph.now }
-    ensures chosen { IfOk result (λ keys. IsChosen contents.now at keys.items) }
+    requires { IsGraphFor contents graph.now }
+    ensures chosen { IfOk result (λ keys. IsChosen contents at keys.items) }
     ensures refused { IfErr result (λ r. r ≡ Refusal.Memory) }
 {
     let standings = standings_of(alloc, contents.valid(), graph)?;
-    let latest = latest_of(alloc, contents, graph)?;
+    let latest = latest_of(alloc, &contents, graph)?;
     named_by(alloc, contents, &standings, &latest, at)
 }
 
@@ -90,7 +90,7 @@ fn named_alone(alloc: Global, at: i64, draft: Option<PlanDraft>) -> Result<Vec<O
 {
     let moment = check(at, &draft)?;
     let (contents, graph) = parts_of(draft.unwrap());
-    named_at(alloc, &contents, &graph, moment)
+    named_at(alloc, contents, &graph, moment)
 }
 
 /// What an empty plan answers to the load of a draft at a minute, `None` for a text that denotes none: as it does by

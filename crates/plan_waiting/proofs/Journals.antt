@@ -1,10 +1,10 @@
 -- What stands in no entry of a journal wasn't written.
 use Rattle.std.proofs.Common.{◌≡◌, refl, sym, ap, subst, ◌∙◌, ℕ, List, [], ◌∷◌, map, Contains}
 use Rattle.plan_basics.proofs.Members.{contains_head, contains_later}
-use Rattle.plan_cascade.proofs.Counting.{kept_else}
-use Rattle.plan_cascade.specs.declared.kept.Kept.{Kept}
-use Rattle.plan_cascade.specs.Counters.{kept_at}
-use Rattle.plan_cascade.specs.Journal.{IsJournaled, undone}
+use Rattle.shown_records.specs.plan_cascade.proofs.Counting.{kept_else}
+use Rattle.shown_records.specs.plan_cascade.specs.declared.kept.Kept.{Kept}
+use Rattle.shown_records.specs.plan_cascade.specs.Counters.{kept_at}
+use Rattle.shown_records.specs.plan_cascade.specs.Journal.{IsJournaled, undone}
 
 abbrev Entry : Type 0
 Entry = ℕ × Kept

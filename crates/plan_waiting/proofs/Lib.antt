@@ -1,5 +1,4 @@
 pub mod Journals
-pub mod RowRules
 pub mod Right
 pub mod Moved
 pub mod Naming

@@ -9,21 +9,21 @@ use Rattle.std.specs.Ordering.{eq_by_cmp}
 use Rattle.operation_graph.specs.Graphs.{Digraph}
 use Rattle.plan_basics.specs.Keys.{Name, name_cmp}
 use Rattle.plan_basics.specs.declared.keys.OpKey.{OpKey}
-use Rattle.plan_moves.specs.workstations.specs.Timetables.{NamedWorkstation}
-use Rattle.plan_moves.specs.workstations.specs.Workstations.{Workstation}
-use Rattle.plan_cascade.specs.declared.kept.Kept.{Kept}
-use Rattle.plan_cascade.specs.declared.kept.Rule.{Rule}
-use Rattle.plan_cascade.specs.Changes.{IsRerun, IsUpward}
-use Rattle.plan_cascade.specs.Counters.{AreRight, no_rule, rule_at}
-use Rattle.plan_moves.specs.plan_model.specs.Contents.{Contents, Operation, Pairs, attribute_at}
-use Rattle.plan_status.specs.plan_drafts.specs.PlanGraphs.{IsGraphFor, IsGraphOf}
-use Rattle.plan_moves.specs.Moves.{IsMovedAt, reporting}
-use Rattle.plan_status.proofs.RowKeys.{key_of_row, row_of_key}
+use Rattle.shown_records.specs.plan_moves.specs.workstations.specs.Timetables.{NamedWorkstation}
+use Rattle.shown_records.specs.plan_moves.specs.workstations.specs.Workstations.{Workstation}
+use Rattle.shown_records.specs.plan_cascade.specs.declared.kept.Kept.{Kept}
+use Rattle.shown_records.specs.plan_cascade.specs.declared.kept.Rule.{Rule}
+use Rattle.shown_records.specs.plan_cascade.specs.Changes.{IsRerun, IsUpward}
+use Rattle.shown_records.specs.plan_cascade.specs.Counters.{AreRight, no_rule, rule_at}
+use Rattle.shown_records.specs.plan_moves.specs.plan_model.specs.Contents.{Contents, Operation, Pairs, attribute_at}
+use Rattle.shown_records.specs.plan_status.specs.plan_drafts.specs.PlanGraphs.{IsGraphFor, IsGraphOf}
+use Rattle.shown_records.specs.plan_moves.specs.Moves.{IsMovedAt, reporting}
+use Rattle.shown_records.specs.plan_status.proofs.RowKeys.{key_of_row, row_of_key}
 use Rattle.plan_waiting.proofs.Right.{as_many, kept_there, right_from_kept, stands_there}
-use Rattle.plan_waiting.proofs.RowRules.{is_given, rule_there, rules_size}
+use Rattle.shown_records.proofs.RowRules.{is_given, rule_there, rules_size}
 use Rattle.plan_waiting.specs.Changes.{IsRisen, IsTakenBack}
 use Rattle.plan_waiting.specs.Kept.{AreKept}
-use Rattle.plan_waiting.specs.Rules.{rule_in, rule_on, rules_of}
+use Rattle.shown_records.specs.Rules.{rule_in, rule_on, rules_of}
 
 -- lists with the same element at each index are the same
 same_lists : {X : Type 0} (xs ys : List X) → length xs ≡ length ys → ((i : ℕ) (x : X) → slice_get xs i ≡ Some x → slice_get ys i ≡ Some x) → xs ≡ ys

@@ -4,17 +4,17 @@ use Rattle.std.specs.FinMap.{entries}
 use Rattle.std.proofs.lemmas.Option.{same_Some}
 use Rattle.plan_basics.specs.Keys.{operation_cmp, operation_cmp_total, operation_cmp-IsAntisymmetric}
 use Rattle.plan_basics.specs.declared.keys.OpKey.{OpKey}
-use Rattle.plan_status.specs.ready_list.specs.Choice.{is_among}
-use Rattle.plan_cascade.specs.declared.kept.Kept.{Kept}
-use Rattle.plan_moves.specs.plan_model.proofs.Looks.{as_named}
-use Rattle.plan_moves.specs.plan_model.specs.Contents.{Contents}
-use Rattle.plan_moves.specs.plan_model.specs.Ready.{named}
-use Rattle.plan_moves.specs.plan_model.specs.Status.{IsReady}
-use Rattle.plan_status.specs.plan_drafts.proofs.Lists.{length_map}
-use Rattle.plan_status.specs.plan_drafts.proofs.MadeEntries.{each_made, entries-revise}
-use Rattle.plan_status.specs.plan_drafts.specs.Places.{AreByPlace}
-use Rattle.plan_status.proofs.Alike.{count_alike}
-use Rattle.plan_status.proofs.Naming.{live_after, live_before, stays_satisfied, was_satisfied}
+use Rattle.shown_records.specs.plan_status.specs.ready_list.specs.Choice.{is_among}
+use Rattle.shown_records.specs.plan_cascade.specs.declared.kept.Kept.{Kept}
+use Rattle.shown_records.specs.plan_moves.specs.plan_model.proofs.Looks.{as_named}
+use Rattle.shown_records.specs.plan_moves.specs.plan_model.specs.Contents.{Contents}
+use Rattle.shown_records.specs.plan_moves.specs.plan_model.specs.Ready.{named}
+use Rattle.shown_records.specs.plan_moves.specs.plan_model.specs.Status.{IsReady}
+use Rattle.shown_records.specs.plan_status.specs.plan_drafts.proofs.Lists.{length_map}
+use Rattle.shown_records.specs.plan_status.specs.plan_drafts.proofs.MadeEntries.{each_made, entries-revise}
+use Rattle.shown_records.specs.plan_status.specs.plan_drafts.specs.Places.{AreByPlace}
+use Rattle.shown_records.specs.plan_status.proofs.Alike.{count_alike}
+use Rattle.shown_records.specs.plan_status.proofs.Naming.{live_after, live_before, stays_satisfied, was_satisfied}
 use Rattle.plan_waiting.specs.Kept.{IsKept, NamingKeepsKept}
 
 module _ {K V : Type 0} (f : K → V → V) where

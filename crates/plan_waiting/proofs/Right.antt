@@ -11,22 +11,22 @@ use Rattle.plan_basics.specs.declared.keys.OpKey.{OpKey}
 use Rattle.status_rules.proofs.Live.{live_mark}
 use Rattle.status_rules.specs.Classes.{is_live}
 use Rattle.status_rules.specs.LeastSet.{by_all_before, by_given}
-use Rattle.plan_cascade.proofs.Counting.{edge_is_one, no_edge_is_none}
-use Rattle.plan_cascade.specs.declared.kept.Kept.{Kept}
-use Rattle.plan_cascade.specs.Counters.{AreRight, IsSatisfiedBy, edge_count, is_satisfied_at, kept_at, nothing_kept, unsatisfied_before, unsatisfied_below}
-use Rattle.plan_moves.specs.plan_model.proofs.Entries.{entries_are, entries_in_order}
-use Rattle.plan_moves.specs.plan_model.specs.Contents.{Contents, IsLive, LivePredecessor, Operation, Precedes}
-use Rattle.plan_moves.specs.plan_model.specs.Status.{IsSatisfied}
-use Rattle.plan_status.specs.plan_drafts.specs.PlanGraphs.{IsGraphFor}
-use Rattle.plan_status.specs.plan_laws.proofs.Waiting.{one_count}
-use Rattle.plan_status.specs.plan_records.specs.Rows.{IsWaitingFor}
-use Rattle.plan_status.proofs.LoadedRows.{row_found, row_of}
-use Rattle.plan_status.proofs.RowKeys.{key_of_row, row_of_key}
-use Rattle.plan_status.proofs.SoMany.{IsSoMany, all_counted, none_before, one_more_row}
-use Rattle.plan_status.specs.OneMore.{RisesIf}
-use Rattle.plan_waiting.proofs.RowRules.{dead_mark, given_there, is_given, passing_there, rules_size, there_given, there_passing}
+use Rattle.shown_records.specs.plan_cascade.proofs.Counting.{edge_is_one, no_edge_is_none}
+use Rattle.shown_records.specs.plan_cascade.specs.declared.kept.Kept.{Kept}
+use Rattle.shown_records.specs.plan_cascade.specs.Counters.{AreRight, IsSatisfiedBy, edge_count, is_satisfied_at, kept_at, nothing_kept, unsatisfied_before, unsatisfied_below}
+use Rattle.shown_records.specs.plan_moves.specs.plan_model.proofs.Entries.{entries_are, entries_in_order}
+use Rattle.shown_records.specs.plan_moves.specs.plan_model.specs.Contents.{Contents, IsLive, LivePredecessor, Operation, Precedes}
+use Rattle.shown_records.specs.plan_moves.specs.plan_model.specs.Status.{IsSatisfied}
+use Rattle.shown_records.specs.plan_status.specs.plan_drafts.specs.PlanGraphs.{IsGraphFor}
+use Rattle.shown_records.specs.plan_status.specs.plan_laws.proofs.Waiting.{one_count}
+use Rattle.shown_records.specs.plan_status.specs.plan_records.specs.Rows.{IsWaitingFor}
+use Rattle.shown_records.specs.plan_status.proofs.LoadedRows.{row_found, row_of}
+use Rattle.shown_records.specs.plan_status.proofs.RowKeys.{key_of_row, row_of_key}
+use Rattle.shown_records.specs.plan_status.proofs.SoMany.{IsSoMany, all_counted, none_before, one_more_row}
+use Rattle.shown_records.specs.plan_status.specs.OneMore.{RisesIf}
+use Rattle.shown_records.proofs.RowRules.{dead_mark, given_there, is_given, passing_there, rules_size, there_given, there_passing}
 use Rattle.plan_waiting.specs.Kept.{AreKept, IsKept}
-use Rattle.plan_waiting.specs.Rules.{rules_of}
+use Rattle.shown_records.specs.Rules.{rules_of}
 
 -- an operation and its row stand at this place
 abbrev pub StandsAt : Contents → ℕ → OpKey → Operation → Type 0

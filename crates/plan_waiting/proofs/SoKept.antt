@@ -3,13 +3,13 @@ use Rattle.std.proofs.Common.{◌≡◌, sym, subst, true}
 use Rattle.plan_basics.specs.declared.keys.OpKey.{OpKey}
 use Rattle.status_rules.specs.Classes.{is_satisfied}
 use Rattle.status_rules.specs.declared.Status.{Status}
-use Rattle.plan_cascade.specs.declared.kept.Kept.{Kept}
-use Rattle.plan_status.specs.plan_laws.proofs.Classes.{satisfied_decides}
-use Rattle.plan_moves.specs.plan_model.specs.Contents.{Contents}
-use Rattle.plan_moves.specs.plan_model.specs.Status.{HasStatus, IsSatisfied}
-use Rattle.plan_status.specs.plan_records.specs.Rows.{IsWaitingFor}
-use Rattle.plan_status.specs.Standings.{IsStanding}
-use Rattle.plan_status.specs.declared.standings.Standing.{Standing}
+use Rattle.shown_records.specs.plan_cascade.specs.declared.kept.Kept.{Kept}
+use Rattle.shown_records.specs.plan_status.specs.plan_laws.proofs.Classes.{satisfied_decides}
+use Rattle.shown_records.specs.plan_moves.specs.plan_model.specs.Contents.{Contents}
+use Rattle.shown_records.specs.plan_moves.specs.plan_model.specs.Status.{HasStatus, IsSatisfied}
+use Rattle.shown_records.specs.plan_status.specs.plan_records.specs.Rows.{IsWaitingFor}
+use Rattle.shown_records.specs.plan_status.specs.Standings.{IsStanding}
+use Rattle.shown_records.specs.plan_status.specs.declared.standings.Standing.{Standing}
 use Rattle.plan_waiting.specs.Kept.{IsKept}
 
 pub kept_by : (P : Contents) (o : OpKey) (s : Standing) (t : Status) (k : Kept) → IsStanding P o s → HasStatus P o t → k.satisfied ≡ is_satisfied t → k.waiting ≡ s.waiting → IsKept P o k

@@ -4,10 +4,10 @@ use Rattle.std.specs.FinMap.{entries}
 use Rattle.operation_graph.specs.Graphs.{Digraph, HasEdge}
 use Rattle.plan_basics.specs.declared.keys.OpKey.{OpKey}
 use Rattle.status_rules.specs.declared.Mark.TheVariants.{Deleted}
-use Rattle.plan_cascade.specs.declared.kept.Kept.{Kept}
-use Rattle.plan_moves.specs.plan_model.specs.Contents.{Contents, Operation}
-use Rattle.plan_moves.specs.plan_model.specs.Status.{IsSatisfied}
-use Rattle.plan_moves.specs.Moves.{IsMovedAt}
+use Rattle.shown_records.specs.plan_cascade.specs.declared.kept.Kept.{Kept}
+use Rattle.shown_records.specs.plan_moves.specs.plan_model.specs.Contents.{Contents, Operation}
+use Rattle.shown_records.specs.plan_moves.specs.plan_model.specs.Status.{IsSatisfied}
+use Rattle.shown_records.specs.plan_moves.specs.Moves.{IsMovedAt}
 use Rattle.plan_waiting.specs.Kept.{AreKept}
 
 -- the operation at this place is satisfied

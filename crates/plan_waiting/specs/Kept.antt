@@ -2,13 +2,13 @@
 use Rattle.std.specs.Prelude.{◌≡◌, ◌↔◌, true, List}
 use Rattle.std.specs.FinMap.{entries}
 use Rattle.plan_basics.specs.declared.keys.OpKey.{OpKey}
-use Rattle.plan_status.specs.ready_list.specs.Choice.{is_among}
-use Rattle.plan_cascade.specs.declared.kept.Kept.{Kept}
-use Rattle.plan_moves.specs.plan_model.specs.Contents.{Contents}
-use Rattle.plan_moves.specs.plan_model.specs.Ready.{named}
-use Rattle.plan_moves.specs.plan_model.specs.Status.{IsReady, IsSatisfied}
-use Rattle.plan_status.specs.plan_drafts.specs.Places.{AreByPlace}
-use Rattle.plan_status.specs.plan_records.specs.Rows.{IsWaitingFor}
+use Rattle.shown_records.specs.plan_status.specs.ready_list.specs.Choice.{is_among}
+use Rattle.shown_records.specs.plan_cascade.specs.declared.kept.Kept.{Kept}
+use Rattle.shown_records.specs.plan_moves.specs.plan_model.specs.Contents.{Contents}
+use Rattle.shown_records.specs.plan_moves.specs.plan_model.specs.Ready.{named}
+use Rattle.shown_records.specs.plan_moves.specs.plan_model.specs.Status.{IsReady, IsSatisfied}
+use Rattle.shown_records.specs.plan_status.specs.plan_drafts.specs.Places.{AreByPlace}
+use Rattle.shown_records.specs.plan_status.specs.plan_records.specs.Rows.{IsWaitingFor}
 
 -- whether o is satisfied, and how many of its live predecessors aren't
 abbrev pub IsKept : Contents → OpKey → Kept → Type 0

@@ -1,5 +1,4 @@
-pub use Rattle.plan_moves
-pub use Rattle.plan_status.specs.plan_records
+pub use Rattle.shown_records.specs.plan_moves
+pub use Rattle.shown_records.specs.plan_status.specs.plan_records
 pub mod Kept
-pub mod Rules
 pub mod Changes

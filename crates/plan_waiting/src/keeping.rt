@@ -1,12 +1,11 @@
 // What is kept of a plan's operations, by their standings and statuses.
 ghost use Rattle.std.specs.Prelude.{◌≡◌, length, IfOk};
-ghost use Rattle.plan_moves.specs.plan_model.specs.Contents.{Contents};
-ghost use Rattle.plan_status.specs.plan_drafts.specs.Places.{AreStatuses};
-ghost use Rattle.plan_status.specs.Standings.{AreStandings};
+ghost use Rattle.shown_records.specs.plan_moves.specs.plan_model.specs.Contents.{Contents};
+ghost use Rattle.shown_records.specs.plan_status.specs.plan_drafts.specs.Places.{AreStatuses};
+ghost use Rattle.shown_records.specs.plan_status.specs.Standings.{AreStandings};
 ghost use Rattle.plan_waiting.specs.Kept.{AreKept};
 
-use plan_cascade::Kept;
-use plan_status::Standing;
+use shown_records::{Kept, Standing};
 use status_rules::Status;
 use std::alloc::{AllocError, Global};
 

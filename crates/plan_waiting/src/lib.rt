@@ -6,11 +6,10 @@ ghost use Rattle.plan_waiting.specs.Kept.{NamingKeepsKept};
 
 mod changes;
 mod keeping;
-mod rules;
 
 pub use changes::{satisfy, unsatisfy};
 pub use keeping::kept_of;
-pub use plan_status::{Changes, OperationRow, PlanContents, PlanRow, RowKey, row_place};
+pub use shown_records::{Changes, OperationRow, PlanContents, PlanRow, RowKey, row_place};
 
 /// The law that to name operations that are ready changes nothing of what is kept. It does nothing.
 pub fn naming_keeps_kept()

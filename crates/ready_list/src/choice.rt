@@ -13,6 +13,12 @@ use std::alloc::{AllocError, Global};
 pub trait Gate {
     ghost use Rattle.ready_list.specs.declared.entry.ReadyEntry.{ReadyEntry};
 
+    /// What it goes by.
+    type Source;
+
+    /// What it goes by, which stays whatever it is asked.
+    ghost source: { Self → Self.Source };
+
     /// In this state it answers so of the operation, and is in that state then.
     ghost answers: { Self → ReadyEntry → Bool → Self → Type 0 };
 
@@ -23,7 +29,8 @@ pub trait Gate {
     /// once of each. Where it can't answer, the refusal ends the choice.
     fn name(&mut self, entry: &ReadyEntry) -> Result<bool, Refusal>
         ensures answered { IfOk result (λ yes. answers self.old entry.now yes self.new) }
-        ensures refused { IfErr result (refuses self.old entry.now) };
+        ensures refused { IfErr result (refuses self.old entry.now) }
+        ensures source { source self.new ≡ source self.old };
 }
 
 /// Whether the desk starts operations on a workstation of this attribute.
@@ -51,6 +58,7 @@ pub fn named_by<G: Gate>(
 ) -> Result<Vec<OpKey>, Refusal>
     ensures named { IfOk result (λ named. AnswersInTurn G.answers (on_automatic entries.now) gate.old named.items gate.new) }
     ensures refused { IfErr result (λ r. (r ≡ Refusal.Memory) ⊎ RefusesInTurn G.answers G.refuses (on_automatic entries.now) gate.old r) }
+    ensures source { G.source gate.new ≡ G.source gate.old }
 {
     let mut named = Vec::new(alloc);
     for entry in entries {

@@ -7,6 +7,8 @@ mod afresh;
 #[cfg(test)]
 mod changes;
 #[cfg(test)]
+mod looks;
+#[cfg(test)]
 mod players;
 #[cfg(test)]
 mod plays;

@@ -1,4 +1,4 @@
-use Rattle.plan_kept.proofs.Frame.{frame_stays, moves_follow, operations_stay}
+use Rattle.plan_kept.proofs.OneFrame.{frame_stays, moves_follow, operations_stay}
 use Rattle.plan_kept.proofs.frame_stays.Goals as goal
 
 pub returns : goal.returns

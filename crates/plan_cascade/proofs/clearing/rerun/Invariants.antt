@@ -1,5 +1,6 @@
 use Rattle.std.proofs.Common.{◌⊎◌, ℕ, List, [], drop, Contains}
-use Rattle.plan_cascade.specs.Changes.{IsClearing}
+use Rattle.plan_cascade.specs.Changes.{IsAfterOne, IsClearing}
+use Rattle.plan_cascade.specs.declared.kept.Kept.{Kept}
 use Rattle.plan_cascade.specs.Journal.{IsJournaled}
 use Rattle.plan_cascade.proofs.clearing.rerun.Given as goal
 
@@ -9,5 +10,6 @@ invariant-loop-node g l = record {
   among : (n : ℕ) → Contains gone n → Contains l.reached n;
   covered : (n : ℕ) → Contains l.reached n → Contains gone n ⊎ Contains (drop l.node-index l.reached) n;
   clearing : IsClearing l.graph l.fn.kept gone l.kept [];
+  places : (e : ℕ × Kept) → Contains l.journal.items e → Contains l.fn.journal.items e ⊎ (Contains l.reached e.0 ⊎ IsAfterOne l.graph l.reached e.0);
   journaled : IsJournaled l.fn.kept l.fn.journal.items l.kept l.journal.items;
 }

@@ -1,6 +1,9 @@
-use Rattle.std.proofs.Common.{◌≡◌, ◌-◌, ◌⊎◌, refl, sym, ap, ◌∙◌, inl, inr, true, false, true≢false, arith}
-use Rattle.plan_cascade.specs.Counters.{is_satisfied_at, waiting_at, unsatisfied_count, IsPassing}
-use Rattle.plan_cascade.proofs.Counting.{unsatisfied_count_less, unsatisfied_count_same}
+use Rattle.std.proofs.Common.{[], ◌≡◌, ◌-◌, ◌⊎◌, refl, sym, ap, ◌∙◌, inl, inr, true, false, true≢false, arith}
+use Rattle.std.proofs.lemmas.Bool.{cases_Bool, cases_eq}
+use Rattle.plan_cascade.specs.declared.kept.Kept.{Kept}
+use Rattle.plan_cascade.specs.Counters.{is_satisfied_at, kept_at, waiting_at, waiting_count, unsatisfied_count, IsPassing}
+use Rattle.plan_cascade.proofs.Counting.{free_is_none, one_if_waiting_at_most, satisfied_is_none, unsatisfied_count_less, unsatisfied_count_same, waiting_count_set, waiting_is_one}
+use Rattle.plan_cascade.proofs.Lowerings.{write_lowers}
 use Rattle.plan_cascade.proofs.Cascades.{released, lowered}
 use Rattle.plan_cascade.proofs.settling.lower.Goals as goal
 use Rattle.plan_cascade.proofs.settling.lower.Goals.{then-old, else-old}
@@ -44,3 +47,42 @@ returns-else-passes-clause-nearer g c =
     let s = c.args.node in
     let same = unsatisfied_count_same kept s (record { satisfied = c.if-old.new; waiting = waiting_at kept s - 1 }) (stays g c) in
     omega (arith, same, ap unsatisfied_count c.in_ok-write.ensures.kept)
+
+pub returns-in_ok-push-clause-most : goal.returns-in_ok-push-clause-most
+returns-in_ok-push-clause-most g c =
+    let kept = c.args.kept.now in
+    let s = c.args.node in
+    let new : Kept = record { satisfied = c.if-old.new; waiting = waiting_at kept s - 1 } in
+    let passes = c.passes_now-passes.ensures.passes.0 c.if-passes.true in
+    omega (arith, ap waiting_count c.in_ok-write.ensures.kept, waiting_count_set kept s new c.requires.node, satisfied_is_none new (passed g c), waiting_is_one (kept_at kept s) passes.0 c.requires.waits, c.passes_now-passes.ensures.most)
+
+pub returns-else-passes-clause-most : goal.returns-else-passes-clause-most
+returns-else-passes-clause-most g c =
+    let kept = c.args.kept.now in
+    let s = c.args.node in
+    let new : Kept = record { satisfied = c.if-old.new; waiting = waiting_at kept s - 1 } in
+    let count = ap waiting_count c.in_ok-write.ensures.kept in
+    let step = waiting_count_set kept s new c.requires.node in
+    elim (cases_Bool (is_satisfied_at kept s)) [
+      | inl on ↦ omega (arith, count, step, satisfied_is_none new (stays g c ∙ on), satisfied_is_none (kept_at kept s) on, c.passes_now-passes.ensures.none (inl on))
+      | inr off ↦
+          let one = waiting_is_one (kept_at kept s) off c.requires.waits in
+          elim (cases_eq (waiting_at kept s - 1) 0) [
+            | inl free ↦ omega (arith, count, step, one, free_is_none new free, c.passes_now-passes.ensures.most)
+            | inr more ↦ omega (arith, count, step, one, one_if_waiting_at_most new, c.passes_now-passes.ensures.none (inr (omega (arith, more))))
+          ]
+    ]
+
+pub returns-in_ok-push-clause-places : goal.returns-in_ok-push-clause-places
+returns-in_ok-push-clause-places g c =
+    let kept = c.args.kept.now in
+    let s = c.args.node in
+    let new : Kept = record { satisfied = c.if-old.new; waiting = waiting_at kept s - 1 } in
+    rw c.in_ok-write.ensures.kept (write_lowers [] kept c.args.journal.now.items c.write.new.journal.items s new (kept_at kept s) c.requires.node (omega arith) (inr (omega (arith, c.requires.waits))) c.in_ok-write.ensures.noted)
+
+pub returns-else-passes-clause-places : goal.returns-else-passes-clause-places
+returns-else-passes-clause-places g c =
+    let kept = c.args.kept.now in
+    let s = c.args.node in
+    let new : Kept = record { satisfied = c.if-old.new; waiting = waiting_at kept s - 1 } in
+    rw c.in_ok-write.ensures.kept (write_lowers [] kept c.args.journal.now.items c.write.new.journal.items s new (kept_at kept s) c.requires.node (omega arith) (inr (omega (arith, c.requires.waits))) c.in_ok-write.ensures.noted)

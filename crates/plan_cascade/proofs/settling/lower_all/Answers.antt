@@ -3,6 +3,7 @@ use Rattle.std.proofs.lemmas.List.{drop_more, drop_all}
 use Rattle.operation_graph.proofs.Counts.{count_head}
 use Rattle.plan_basics.proofs.Members.{contains_head}
 use Rattle.plan_cascade.specs.Counters.{IsCascade}
+use Rattle.plan_cascade.proofs.Lowerings.{lowered_on}
 use Rattle.plan_cascade.proofs.Journals.{journaled_on}
 use Rattle.plan_cascade.proofs.settling.lower_all.Goals as goal
 
@@ -33,12 +34,17 @@ loop-node-preserved g c =
     let nodes = c.args.nodes.now in
     let i = c.loop-node.node-index in
     record {
+      source = c.in_ok-lower.ensures.source ∙ c.loop-node.invariant.source;
+      fewest = omega (arith, c.in_ok-lower.ensures.fewest, c.loop-node.invariant.fewest);
+      most = omega (arith, c.in_ok-lower.ensures.most, c.loop-node.invariant.most);
       rules = c.in_ok-lower.ensures.rules ∙ c.loop-node.invariant.rules;
       step = λ d graph h. subst (λ rules. IsCascade d rules [] c.lower.new.kept c.lower.new.work.items (drop (i + 1) nodes)) c.loop-node.invariant.rules
           (c.in_ok-lower.ensures.step d (drop (i + 1) nodes) graph
           (subst (λ rules. IsCascade d rules [] c.loop-node.kept c.loop-node.work.items (get_or nodes i 0 ∷ drop (i + 1) nodes)) (sym c.loop-node.invariant.rules)
           (subst (λ xs. IsCascade d (g.R.Rules.listed c.args.rules.now) [] c.loop-node.kept c.loop-node.work.items xs) (drop_more nodes i 0 c.loop-node-test.true) (c.loop-node.invariant.step d graph h))));
       nearer = omega (arith, c.in_ok-lower.ensures.nearer, c.loop-node.invariant.nearer);
+      places = lowered_on [] c.args.kept.now c.loop-node.kept c.lower.new.kept c.args.journal.now.items c.loop-node.journal.items c.lower.new.journal.items
+          c.loop-node.invariant.places c.in_ok-lower.ensures.places;
       journaled = journaled_on c.args.kept.now c.loop-node.kept c.lower.new.kept c.args.journal.now.items c.loop-node.journal.items c.lower.new.journal.items
           c.loop-node.invariant.journaled c.in_ok-lower.ensures.journaled;
     }

@@ -3,6 +3,7 @@ use Rattle.std.proofs.lemmas.List.{nil_from_length}
 use Rattle.std.proofs.lemmas.List.Elements.{Contains-push}
 use Rattle.std.specs.Prelude.{Contains}
 use Rattle.plan_cascade.specs.Counters.{IsCascade}
+use Rattle.plan_cascade.proofs.Lowerings.{lowered_on}
 use Rattle.plan_cascade.proofs.Journals.{journaled_on}
 use Rattle.plan_cascade.proofs.Cascades.{taken_up, settled}
 use Rattle.plan_cascade.proofs.settling.spread.Goals as goal
@@ -21,12 +22,17 @@ lower_all-requires-clause-cascade g c = (
 
 pub loop-node-preserved : goal.loop-node-preserved
 loop-node-preserved g c = record {
+  source = c.in_ok-lower_all.ensures.source ∙ c.loop-node.invariant.source;
+  fewest = omega (arith, c.in_ok-lower_all.ensures.fewest, c.loop-node.invariant.fewest);
+  most = omega (arith, c.in_ok-lower_all.ensures.most, c.loop-node.invariant.most);
   rules = c.in_ok-lower_all.ensures.rules ∙ c.loop-node.invariant.rules;
   cascade = subst (λ rules. IsCascade c.args.graph.now rules [] c.lower_all.new.kept c.lower_all.new.work.items []) c.loop-node.invariant.rules
       (c.in_ok-lower_all.ensures.step c.args.graph.now c.requires.graph
       (subst (λ rules. IsCascade c.args.graph.now rules [] c.loop-node.kept c.pop.new.self.items c.succs.result.now) (sym c.loop-node.invariant.rules)
       (taken_up c.args.graph.now (g.R.Rules.listed c.args.rules.now) c.requires.graph [] c.loop-node.kept c.pop.new.self.items c.in-Some.node c.succs.result.now c.succs.ensures.succs
       (subst (λ xs. IsCascade c.args.graph.now (g.R.Rules.listed c.args.rules.now) [] c.loop-node.kept xs []) c.in-Some.ensures.items c.loop-node.invariant.cascade))));
+  places = lowered_on [] c.args.kept.now c.loop-node.kept c.lower_all.new.kept c.args.journal.now.items c.loop-node.journal.items c.lower_all.new.journal.items
+      c.loop-node.invariant.places c.in_ok-lower_all.ensures.places;
   journaled = journaled_on c.args.kept.now c.loop-node.kept c.lower_all.new.kept c.args.journal.now.items c.loop-node.journal.items c.lower_all.new.journal.items
       c.loop-node.invariant.journaled c.in_ok-lower_all.ensures.journaled;
 }

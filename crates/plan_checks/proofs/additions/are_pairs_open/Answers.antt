@@ -7,7 +7,7 @@ use Rattle.plan_checks.proofs.additions.are_pairs_open.Goals as goal
 
 pub loop-pair-preserved : goal.loop-pair-preserved
 loop-pair-preserved c =
-    let is_open = IsOpenPair c.args.loaded.now (added_of c.args.parts.now) in
+    let is_open = IsOpenPair c.args.outline.now (added_of c.args.parts.now) in
     let pairs = c.deref-pair-items.result.now in
     let i = c.loop-pair.pair-index in
     AllWithin-more is_open pairs 0 i c.loop-pair.invariant (at_read pairs is_open i c.pair-item.result (omega arith) c.pair-item.is (c.if-not-is_open_pair.ensures.0 refl))
@@ -24,7 +24,7 @@ returns-then-not-is_open_pair c = (
 
 pub returns : goal.returns
 returns c =
-    let is_open = IsOpenPair c.args.loaded.now (added_of c.args.parts.now) in (
+    let is_open = IsOpenPair c.args.outline.now (added_of c.args.parts.now) in (
       λ _. each_pair c.deref-pair-items.result.now c.args.parts.now.pairs.items c.deref-pair-items.ensures.value is_open (λ k d lt. c.loop-pair.invariant k d (omega arith) (omega arith)),
       λ _. refl,
     )

@@ -5,4 +5,4 @@ use Rattle.plan_checks.proofs.additions.are_pairs_open.Given as goal
 
 -- so of the pairs before the index
 abbrev pub invariant-loop-pair : goal.invariant-loop-pair
-invariant-loop-pair l = AllWithin (IsOpenPair l.loaded (added_of l.parts)) l.pair-items 0 l.pair-index
+invariant-loop-pair l = AllWithin (IsOpenPair l.outline (added_of l.parts)) l.pair-items 0 l.pair-index

@@ -7,7 +7,7 @@ use Rattle.plan_checks.proofs.additions.may_precede.Goals as goal
 
 pub returns-in-Some : goal.returns-in-Some
 returns-in-Some c =
-    let P = c.args.loaded.now in
+    let P = c.args.outline.now in
     let s = added_of c.args.parts.now in
     let o = c.args.key.now in
     let x = c.in-Some.status in (

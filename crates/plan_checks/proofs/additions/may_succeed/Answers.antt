@@ -6,7 +6,7 @@ use Rattle.plan_checks.proofs.additions.may_succeed.Goals as goal
 
 pub returns-in-Some : goal.returns-in-Some
 returns-in-Some c =
-    let P = c.args.loaded.now in
+    let P = c.args.outline.now in
     let s = added_of c.args.parts.now in
     let o = c.args.key.now in
     subst (λ b. Decides b (MaySucceed P s o)) (sym c.is_waiting_or_ready.ensures) (succeeds_told P s o c.in-Some.status c.in-Some.ensures)

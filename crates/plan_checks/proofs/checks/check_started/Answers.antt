@@ -14,7 +14,7 @@ use Rattle.plan_checks.proofs.checks.check_started.Goals as goal
 
 pub returns-in-Automatic : goal.returns-in-Automatic
 returns-in-Automatic c =
-    let P = c.args.loaded.now in
+    let P = c.args.outline.now in
     let x = c.args.reported.now in
     let o = c.args.key.now in
     let lines = MayBeStartedAt x c.args.at in
@@ -23,13 +23,13 @@ returns-in-Automatic c =
 
 pub returns-in-StartAndCompletion-clause-refused : goal.returns-in-StartAndCompletion-clause-refused
 returns-in-StartAndCompletion-clause-refused c =
-    let P = c.args.loaded.now in
+    let P = c.args.outline.now in
     let x = c.args.reported.now in
     let o = c.args.key.now in
     let m = c.args.at in
     let no : c.is_startable.result ≡ false = search rules in
-    inr (subst (λ a. IsLeastRefusal (MayBeStarted P m o x.operation (Some a)) refusal.WrongStatus) (sym c.in-StartAndCompletion.is)
-    (λ may. true≢false (sym (startable_told P o x c.requires m may) ∙ sym c.is_startable.ensures ∙ no), before_line P o x.operation m))
+    inr (subst (λ a. IsLeastRefusal (MayBeStarted P m o x.operation.now (Some a)) refusal.WrongStatus) (sym c.in-StartAndCompletion.is)
+    (λ may. true≢false (sym (startable_told P o x c.requires m may) ∙ sym c.is_startable.ensures ∙ no), before_line P o x.operation.now m))
 
 if_err : {T : Type 0} {A B C D : Refusal → Type 0} (r : Result T Refusal) → IfErr r A → IfErr r B → IfErr r C → ((e : Refusal) → A e → B e → C e → D e) → IfErr r D
 if_err (Ok t) a b z f = tt
@@ -37,16 +37,16 @@ if_err (Err e) a b z f = f e a b z
 
 pub returns-in-StartAndCompletion-2 : goal.returns-in-StartAndCompletion-2
 returns-in-StartAndCompletion-2 c =
-    let P = c.args.loaded.now in
+    let P = c.args.outline.now in
     let o = c.args.key.now in
-    let op = c.args.reported.now.operation in
+    let op = c.args.reported.now.operation.now in
     let m = c.args.at in
     let yes : c.is_startable.result ≡ true = search rules in
     let may : MayStart P o op m refusal.WrongStatus = startable P o c.args.reported.now c.requires m c.in-StartAndCompletion.is (sym c.is_startable.ensures ∙ yes) in
     let held = c.holdings.result.now.held in
     let taken = c.given_out_at-taken.result in
-    let has : HasTaken P c.contents-contents.result.now op taken held =
-    subst (λ (Q : Contents). HasTaken P Q op taken held) (sym c.contents-contents.ensures.contents) (has_taken P op taken held c.given_out_at-taken.ensures c.holdings.ensures) in
+    let has : HasTaken P c.beside-beside.result.contents.now op taken held =
+    subst (λ (Q : Contents). HasTaken P Q op taken held) (sym c.beside-beside.ensures.contents) (has_taken P op taken held c.given_out_at-taken.ensures c.holdings.ensures) in
     record {
       ok = if_ok c.check_start.result c.check_start.ensures.ok (λ met.
           subst (λ z. NoneRefuses (MayBeStarted P m o op (Some z))) (sym c.in-StartAndCompletion.is)

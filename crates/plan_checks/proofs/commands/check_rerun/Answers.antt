@@ -10,10 +10,10 @@ use Rattle.status_rules.specs.Classes.{is_rerunnable}
 
 pub is_another_under_way-requires : goal.is_another_under_way-requires
 is_another_under_way-requires c =
-    let P = c.args.loaded.now in
+    let P = c.args.outline.now in
     let is = c.requires in
     subst (λ (os : List OpKey). All (IsInPlan P) os) (sym c.deref.ensures.value)
-    (all_in_plan P c.args.key.now c.in_ok-reached.reached.items (c.args.reported.now.operation, is.operation, tt) c.in_ok-reached.ensures.reached)
+    (all_in_plan P c.args.key.now c.in_ok-reached.reached.items (c.args.reported.now.operation.now, is.operation, tt) c.in_ok-reached.ensures.reached)
 
 pub returns-then-is_another_under_way-clause-refused : goal.returns-then-is_another_under_way-clause-refused
 returns-then-is_another_under_way-clause-refused c =
@@ -24,13 +24,13 @@ returns-then-is_another_under_way-clause-refused c =
     let yes : c.is_another_under_way.result ≡ true = search rules in
     let other = c.is_another_under_way.ensures.0 yes in
     let has : Contains reached other.0 = subst (λ (os : List OpKey). Contains os other.0) c.deref.ensures.value other.1 in
-    let P = c.args.loaded.now in
+    let P = c.args.outline.now in
     inr (running_at_rerun P c.args.key.now (rerunnable_by P c.args.key.now x.status is.status may) other.0 other.2.0
     ((c.in_ok-reached.ensures.reached other.0).0 (if_member operation_cmp_total reached other.0 has)) other.2.1)
 
 pub returns-clause-ok : goal.returns-clause-ok
 returns-clause-ok c =
-    let P = c.args.loaded.now in
+    let P = c.args.outline.now in
     let x = c.args.reported.now in
     let is = c.requires in
     let reached = c.in_ok-reached.reached.items in

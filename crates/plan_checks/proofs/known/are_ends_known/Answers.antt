@@ -7,6 +7,6 @@ use Rattle.plan_checks.proofs.known.are_ends_known.Goals as goal
 
 pub returns : goal.returns
 returns c =
-    let Q = IsKnownPair c.args.loaded.now (added_of c.args.parts.now) in
+    let Q = IsKnownPair c.args.outline.now (added_of c.args.parts.now) in
     pairs_told c.deref.ensures.value Q c.all.result
     (cases_from_all _ _ _ Q (λ x. ¬ Q x) c.all.ensures.ran (YieldsList-from_slice c.deref.result.now cc) (λ x q k. search (rules, tests)) (λ x q k. search (rules, tests)))

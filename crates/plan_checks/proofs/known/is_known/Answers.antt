@@ -9,13 +9,13 @@ use Rattle.plan_checks.proofs.known.is_known.Goals as goal
 pub returns-then-eq : goal.returns-then-eq
 returns-then-eq c =
     let own : c.args.key.now.occurrence ≡ c.args.parts.now.key = search rules in
-    known_own c.args.parts.now c.requires c.args.loaded.now c.args.key.now own c.is_some.result
+    known_own c.args.parts.now c.requires c.args.outline.now c.args.key.now own c.is_some.result
     (place_told operation_cmp_total operation_cmp-IsAntisymmetric c.deref.result.now c.args.parts.now.operations.items c.deref.ensures.value c.requires.operations
     c.args.key.now c.row_place.result c.row_place.ensures.found c.row_place.ensures.absent c.is_some.result c.is_some.ensures)
 
 pub returns-else-eq : goal.returns-else-eq
 returns-else-eq c =
-    let P = c.args.loaded.now in
+    let P = c.args.outline.now in
     let o = c.args.key.now in
     let other : o.occurrence ≡ c.args.parts.now.key → ⊥ = search rules in
     known_other c.args.parts.now c.requires P o other c.is_some-else-eq.result

@@ -10,7 +10,7 @@ loop-other-init c = λ k q lt at. absurd (omega (arith, lt))
 
 pub is_other_under_way-requires : goal.is_other_under_way-requires
 is_other_under_way-requires c =
-    subst (IsInPlan c.args.loaded.now) (sym c.other-item.is) (c.requires c.loop-other.other-index c.other-item.result c.loop-other-test.true)
+    subst (IsInPlan c.args.outline.now) (sym c.other-item.is) (c.requires c.loop-other.other-index c.other-item.result c.loop-other-test.true)
 
 pub returns-then-is_other_under_way : goal.returns-then-is_other_under_way
 returns-then-is_other_under_way c =
@@ -19,7 +19,7 @@ returns-then-is_other_under_way c =
 
 pub loop-other-preserved : goal.loop-other-preserved
 loop-other-preserved c =
-    let Q = IsOtherUnderWay c.args.loaded.now c.args.key.now in
+    let Q = IsOtherUnderWay c.args.outline.now c.args.key.now in
     let no : c.is_other_under_way.result ≡ false = search rules in
     none_more c.args.others.now Q c.loop-other.other-index c.loop-other.invariant (λ q at h.
     let same = c.other-item.is ∙ get_or_from_slice_get c.args.others.now c.loop-other.other-index q c.other-item.result at in

@@ -4,4 +4,4 @@ use Rattle.plan_checks.specs.Commands.{IsOtherUnderWay}
 
 -- none of those that are gone through
 abbrev pub invariant-loop-other : goal.invariant-loop-other
-invariant-loop-other l = NoneBefore l.others (IsOtherUnderWay l.loaded l.key) l.other-index
+invariant-loop-other l = NoneBefore l.others (IsOtherUnderWay l.outline l.key) l.other-index

@@ -5,4 +5,4 @@ use Rattle.plan_checks.specs.Commands.{IsItsUnderWay}
 
 -- none of those that are gone through
 abbrev pub invariant-loop-place : goal.invariant-loop-place
-invariant-loop-place l = NoneBefore (entries l.loaded.operations) (λ row. IsItsUnderWay l.loaded l.occurrence row.0) l.place
+invariant-loop-place l = NoneBefore (entries l.outline.operations) (λ row. IsItsUnderWay l.outline l.occurrence row.0) l.place

@@ -1,9 +1,9 @@
 use Rattle.std.specs.FinMap.{entries}
 use Rattle.std.proofs.Common.{◌≡◌, arith, sym, ap, subst, ◌∙◌, ◌≤◌, Some, length, slice_get}
 use Rattle.special_resources.specs.Holdings.{HoldingState}
-use Rattle.plan_status.specs.plan_model.specs.Contents.{Operation}
-use Rattle.plan_status.proofs.LoadedRows.{row_found}
-use Rattle.plan_status.proofs.RowKeys.{row_shown}
+use Rattle.shown_records.specs.plan_status.specs.plan_model.specs.Contents.{Operation}
+use Rattle.shown_records.specs.plan_status.proofs.LoadedRows.{row_found}
+use Rattle.shown_records.specs.plan_status.proofs.RowKeys.{row_shown}
 use Rattle.plan_choice.specs.Takings.{HaveTaken}
 use Rattle.plan_choice.proofs.HeldRows.{AreHeldAmong, none_held, row_holds_none, row_takes, rows_held}
 use Rattle.plan_choice.proofs.holders.holdings_of.Goals as goal

@@ -3,8 +3,8 @@ use Rattle.std.specs.FinMap.{get, len}
 use Rattle.std.proofs.lemmas.Option.{slice_get-get_or}
 use Rattle.special_resources.specs.Needs.{usages_of}
 use Rattle.special_resources.proofs.Replacing.{one_more}
-use Rattle.plan_status.specs.plan_model.specs.Contents.{Operation}
-use Rattle.plan_status.specs.plan_drafts.proofs.Tables.{is_none}
+use Rattle.shown_records.specs.plan_status.specs.plan_model.specs.Contents.{Operation}
+use Rattle.shown_records.specs.plan_status.specs.plan_drafts.proofs.Tables.{is_none}
 use Rattle.plan_choice.specs.Takings.{HaveTaken}
 use Rattle.plan_choice.proofs.NeedsTaken.{AreTakenSoFar, all_taken, held_already, not_held, taken_too}
 use Rattle.plan_choice.proofs.holders.take_marked.Goals as goal

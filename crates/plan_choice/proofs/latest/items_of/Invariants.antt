@@ -1,6 +1,6 @@
 use Rattle.std.proofs.Common.{◌≡◌, map, take}
 use Rattle.plan_basics.specs.declared.keys.OpKey.{OpKey}
-use Rattle.plan_status.specs.plan_model.specs.Contents.{Operation}
+use Rattle.shown_records.specs.plan_status.specs.plan_model.specs.Contents.{Operation}
 use Rattle.plan_choice.specs.StartItems.{start_item}
 use Rattle.plan_choice.proofs.latest.items_of.Given as goal
 

@@ -1,12 +1,12 @@
 use Rattle.std.proofs.Common.{refl}
 use Rattle.std.specs.FinMap.{get}
-use Rattle.plan_status.proofs.LoadedRows.{its_occurrence}
-use Rattle.plan_status.proofs.Workplaces.{there}
+use Rattle.shown_records.specs.plan_status.proofs.LoadedRows.{its_occurrence}
+use Rattle.shown_records.specs.plan_status.proofs.Workplaces.{there}
 use Rattle.plan_choice.proofs.ready.priority_of.Goals as goal
 
 pub unwrap-requires : goal.unwrap-requires
 unwrap-requires c =
-    let P = c.args.contents.now in
+    let P = c.args.beside.now.contents.now in
     let key = c.args.key.now in
     there c.occurrence.result (get P.occurrences key.occurrence) c.occurrence.ensures.absent (its_occurrence P c.occurrence.ensures.sound.valid key c.requires.0 c.requires.1)
 

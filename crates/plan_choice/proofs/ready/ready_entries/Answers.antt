@@ -2,7 +2,7 @@ use Rattle.std.proofs.Common.{arith, ◌<◌, sym, ap, ◌∙◌, length, get_or
 use Rattle.std.specs.FinMap.{entries}
 use Rattle.std.proofs.lemmas.Option.{slice_get-get_or}
 use Rattle.status_rules.specs.declared.Status.TheVariants.{Started}
-use Rattle.plan_status.specs.plan_drafts.proofs.RowPlaces.{row_at}
+use Rattle.shown_records.specs.plan_status.specs.plan_drafts.proofs.RowPlaces.{row_at}
 use Rattle.plan_choice.proofs.Readied.{next_passed, next_ready, ready_all}
 use Rattle.plan_choice.proofs.ready.ready_entries.Goals as goal
 use Rattle.plan_choice.proofs.ready.ready_entries.Goals.{then-is_ready+in_ok-push, else-is_ready}

@@ -4,26 +4,26 @@ use Rattle.std.proofs.lemmas.Int.{ints}
 use Rattle.std.specs.FinMap.{get}
 use Rattle.plan_basics.specs.Refusals.{number_of, IsLeastRefusal}
 use Rattle.plan_basics.specs.declared.Refusal.{Refusal}
-use Rattle.plan_status.specs.plan_model.specs.Contents.{Contents, Operation}
-use Rattle.plan_status.specs.plan_model.specs.Starts.{MayStart}
+use Rattle.shown_records.specs.plan_status.specs.plan_model.specs.Contents.{Contents, Operation}
+use Rattle.shown_records.specs.plan_status.specs.plan_model.specs.Starts.{MayStart}
 use Rattle.workstations.specs.Workstations.{HasRoom, Workstation}
 use Rattle.plan_choice.specs.Choices.{HasTaken, IsStartLine}
 use Rattle.plan_choice.proofs.StartLines.{before_busy, line_met, lower_met, no_room, not_free}
-use Rattle.plan_status.proofs.Workplaces.{workplace_found}
+use Rattle.shown_records.specs.plan_status.proofs.Workplaces.{workplace_found}
 use Rattle.plan_choice.proofs.taken.check_start.Goals as goal
 use Rattle.plan_choice.proofs.taken.check_start.Goals.{After-fits}
 
 pub unwrap-workstation-requires : goal.unwrap-workstation-requires
-unwrap-workstation-requires c = workplace_found c.args.contents.now c.workstation.ensures.sound.valid c.operation.view_is (c.args.key.now, c.requires) c.workstation.result c.workstation.ensures.absent
+unwrap-workstation-requires c = workplace_found c.args.beside.now.contents.now c.workstation.ensures.sound.valid c.operation.view_is (c.args.key.now, c.requires) c.workstation.result c.workstation.ensures.absent
 
 module _ (c : After-fits) where
   abbrev workstation : Workstation
   workstation = c.unwrap-workstation.result.now.1
 
-  its_workstation : get c.args.contents.now.workstations c.args.operation.now.workstation ≡ Some workstation
+  its_workstation : get c.args.beside.now.contents.now.workstations c.args.operation.now.workstation ≡ Some workstation
   its_workstation =
       let found = rw c.unwrap-workstation.ensures at c.workstation.ensures.found in
-      ap (λ (op : Operation). get c.args.contents.now.workstations op.workstation) (sym c.operation.view_is) ∙ found.1
+      ap (λ (op : Operation). get c.args.beside.now.contents.now.workstations op.workstation) (sym c.operation.view_is) ∙ found.1
 
   same_needs : ◌≡◌ {A = ℕ × ℕ} (c.from.result, c.from-2.result) (c.args.operation.now.r1, c.args.operation.now.r2)
   same_needs = λ i. ((c.from.ensures ∙ ap (λ (op : Operation). op.r1) c.operation.view_is) i, (c.from-2.ensures ∙ ap (λ (op : Operation). op.r2) c.operation.view_is) i)
@@ -47,13 +47,13 @@ module _ (c : After-fits) where
     lacks : ¬ has_room (c.args.operation.now.r1, c.args.operation.now.r2) r
     lacks room = least.0 (subst (λ needs. has_room needs r) (sym same_needs) room)
 
-    cannot : (P : Contents) → HasTaken P c.args.contents.now c.args.operation.now c.args.taken.now c.args.holdings.now.held → ¬ MayStart P c.args.key.now c.args.operation.now c.args.at r
-    cannot P has = no_room c.args.contents.now c.args.operation.now workstation its_workstation c.args.at c.args.taken.now c.args.holdings.now.held P has c.args.key.now r lacks
+    cannot : (P : Contents) → HasTaken P c.args.beside.now.contents.now c.args.operation.now c.args.taken.now c.args.holdings.now.held → ¬ MayStart P c.args.key.now c.args.operation.now c.args.at r
+    cannot P has = no_room c.args.beside.now.contents.now c.args.operation.now workstation its_workstation c.args.at c.args.taken.now c.args.holdings.now.held P has c.args.key.now r lacks
 
-    may_lower : (P : Contents) → HasTaken P c.args.contents.now c.args.operation.now c.args.taken.now c.args.holdings.now.held
+    may_lower : (P : Contents) → HasTaken P c.args.beside.now.contents.now c.args.operation.now c.args.taken.now c.args.holdings.now.held
         → (lower : Refusal) → IsStartLine lower → number_of lower < number_of r → MayStart P c.args.key.now c.args.operation.now c.args.at lower
     may_lower P has lower line less =
-        lower_met c.args.contents.now c.args.operation.now workstation its_workstation c.args.at c.args.taken.now c.args.holdings.now.held P has free after c.args.key.now lower line
+        lower_met c.args.beside.now.contents.now c.args.operation.now workstation its_workstation c.args.at c.args.taken.now c.args.holdings.now.held P has free after c.args.key.now lower line
         (before_busy workstation c.args.at c.args.taken.now c.args.operation.now.r1 c.args.operation.now.r2 r lower lacks less)
         (subst (λ needs. has_room needs lower) same_needs (least.1 lower less))
 
@@ -77,18 +77,18 @@ pub returns-then-has_resources-clause-ok : goal.returns-then-has_resources-claus
 returns-then-has_resources-clause-ok c P has r line =
     let at = ((goal.at.returns-then-has_resources-clause-ok c).After-fits) in
     let room : has_room at (c.args.operation.now.r1, c.args.operation.now.r2) r = subst (λ needs. has_room at needs r) (same_needs at) (c.in_ok-fits.ensures.ok r) in
-    line_met c.args.contents.now c.args.operation.now (workstation at) (its_workstation at) c.args.at c.args.taken.now c.args.holdings.now.held P has (free at) (after at) c.args.key.now r line room
+    line_met c.args.beside.now.contents.now c.args.operation.now (workstation at) (its_workstation at) c.args.at c.args.taken.now c.args.holdings.now.held P has (free at) (after at) c.args.key.now r line room
     (c.has_resources.ensures.0 c.if-has_resources.true)
 
 pub returns-else-has_resources-clause-refused : goal.returns-else-has_resources-clause-refused
 returns-else-has_resources-clause-refused c P has =
     let at = ((goal.at.returns-else-has_resources-clause-refused c).After-fits) in
-    not_free c.args.contents.now c.args.operation.now (workstation at) (its_workstation at) c.args.at c.args.taken.now c.args.holdings.now.held P has c.args.key.now
+    not_free c.args.beside.now.contents.now c.args.operation.now (workstation at) (its_workstation at) c.args.at c.args.taken.now c.args.holdings.now.held P has c.args.key.now
     (λ usable. true≢false (sym (c.has_resources.ensures.1 usable) ∙ c.if-has_resources.false))
 
 pub returns-else-has_resources-clause-least : goal.returns-else-has_resources-clause-least
 returns-else-has_resources-clause-least c P has lower line less =
     let at = ((goal.at.returns-else-has_resources-clause-least c).After-fits) in
     let room : has_room at (c.args.operation.now.r1, c.args.operation.now.r2) lower = subst (λ needs. has_room at needs lower) (same_needs at) (c.in_ok-fits.ensures.ok lower) in
-    lower_met c.args.contents.now c.args.operation.now (workstation at) (its_workstation at) c.args.at c.args.taken.now c.args.holdings.now.held P has (free at) (after at) c.args.key.now lower line
+    lower_met c.args.beside.now.contents.now c.args.operation.now (workstation at) (its_workstation at) c.args.at c.args.taken.now c.args.holdings.now.held P has (free at) (after at) c.args.key.now lower line
     (λ is. omega (arith, less, ap number_of is)) room

@@ -1,8 +1,8 @@
 use Rattle.std.specs.FinMap.{entries}
 use Rattle.std.proofs.Common.{arith, ◌≡◌, ◌≤◌, sym, ap, subst, ◌∙◌, Some, length, slice_get}
 use Rattle.std.proofs.lemmas.List.{take_all}
-use Rattle.plan_status.proofs.LoadedRows.{row_found}
-use Rattle.plan_status.proofs.RowKeys.{row_shown}
+use Rattle.shown_records.specs.plan_status.proofs.LoadedRows.{row_found}
+use Rattle.shown_records.specs.plan_status.proofs.RowKeys.{row_shown}
 use Rattle.plan_choice.specs.Takings.{IsAtMost, most_given_out}
 use Rattle.plan_choice.proofs.GivenPlaces.{read_at}
 use Rattle.plan_choice.proofs.GivenRows.{before_at_most, given_before, row_counted, row_passed, rows_counted}

@@ -1,13 +1,13 @@
 use Rattle.std.proofs.Common.{◌≡◌, sym, ap, subst, ◌∙◌, arith, refl, true≢false, Contains}
 use Rattle.special_resources.specs.Needs.{usages_of}
-use Rattle.plan_status.specs.plan_model.specs.Contents.{Operation, Resources}
+use Rattle.shown_records.specs.plan_status.specs.plan_model.specs.Contents.{Operation, Resources}
 use Rattle.plan_choice.specs.Takings.{CanMeetNeeds, CanMeetNeed}
 use Rattle.plan_choice.proofs.FreeResources.{all_free, one_busy}
 use Rattle.plan_choice.proofs.taken.has_resources.Goals as goal
 
 pub returns-then-not-has_resource : goal.returns-then-not-has_resource
 returns-then-not-has_resource c =
-    let resources : Resources = c.args.contents.now.resources in
+    let resources : Resources = c.args.beside.now.contents.now.resources in
     let held = c.args.holdings.now.held in
     let o = c.args.key.now in
     let items = c.as_slice-need-items.result.now in
@@ -20,7 +20,7 @@ returns-then-not-has_resource c =
 
 pub returns : goal.returns
 returns c =
-    let resources : Resources = c.args.contents.now.resources in
+    let resources : Resources = c.args.beside.now.contents.now.resources in
     let held = c.args.holdings.now.held in
     let o = c.args.key.now in
     let items = c.as_slice-need-items.result.now in

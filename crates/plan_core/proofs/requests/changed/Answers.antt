@@ -4,32 +4,32 @@ use Rattle.plan_steps.specs.plan_model.specs.Contents.{Contents}
 use Rattle.plan_records.specs.Changes.{Changes}
 use Rattle.plan_records.specs.declared.What.TheVariants as what
 use Rattle.plan_core.specs.Requested.{AreMadeBy}
-use Rattle.plan_changes.proofs.Answered.{if_ok}
+use Rattle.plan_steps.specs.plan_changes.proofs.Answered.{if_ok}
 use Rattle.plan_core.proofs.Made.{clear_of, has_addition, if_made}
 use Rattle.plan_core.proofs.requests.changed.Goals as goal
-use Rattle.plan_core.proofs.requests.changed.Goals.{After-rows-contents, in-DeleteOccurrence, in-AddOccurrence, in-AddDependency}
+use Rattle.plan_core.proofs.requests.changed.Goals.{After-rows-rows, in-DeleteOccurrence, in-AddOccurrence, in-AddDependency}
 
 -- the rows that are looked at are the plan's
-same : (c : After-rows-contents) → c.rows-contents.result.now ≡ c.args.loaded.now
-same c = c.rows-contents.ensures.contents ∙ c.contents.ensures.contents
+same : (c : After-rows-rows) → c.rows-rows.result.now ≡ c.args.contents.now
+same c = c.rows-rows.ensures.contents
 
 pub unwrap-requires : goal.unwrap-requires
 unwrap-requires c =
-    let P = c.args.loaded.now in
+    let P = c.args.contents.now in
     let clear = clear_of P P refl c.args.what.now (what.AddOccurrence c.in-AddOccurrence.addition) c.in-AddOccurrence.is c.requires.clear in
     c.as_ref.ensures.variant ∙ has_addition P clear.0 c.in-AddOccurrence.addition clear.1
 
 pub added-new-requires : goal.added-new-requires
 added-new-requires c =
-    let P = c.args.loaded.now in
+    let P = c.args.contents.now in
     let w = what.AddOccurrence (Some c.unwrap.result.now) in
     let is : c.args.what.now ≡ w = c.in-AddOccurrence.is ∙ ap what.AddOccurrence (sym c.as_ref.ensures.value ∙ ap option_copied c.unwrap.ensures) in
     (clear_of P P refl c.args.what.now w is c.requires.clear).1 refusal.Duplicate
 
 pub returns-clause-made : goal.returns-clause-made
 returns-clause-made c =
-    let alike = same (goal.at.returns-clause-made c).After-rows-contents in
-    let old = c.rows-contents.result.now in
+    let alike = same (goal.at.returns-clause-made c).After-rows-rows in
+    let old = c.rows-rows.result.now in
     let v = c.args.what.now in
     let made : IfOk c.match-what.new (AreMadeBy old v) = elim c.match-what.branch [
       | in-DeleteOccurrence w ↦ let new = w.deleted-new in if_made old (what.DeleteOccurrence w.in-DeleteOccurrence.key) tt v w.in-DeleteOccurrence.is new.result w.new-is new.ensures

@@ -1,5 +1,5 @@
 use Rattle.std.proofs.Common.{◌∙◌, ap, sym, Some}
-use Rattle.plan_changes.proofs.Answered.{if_ok}
+use Rattle.plan_steps.specs.plan_changes.proofs.Answered.{if_ok}
 use Rattle.plan_core.proofs.requests.drafted.Goals as goal
 
 pub returns : goal.returns

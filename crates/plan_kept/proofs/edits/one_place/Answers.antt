@@ -5,9 +5,9 @@ use Rattle.plan_kept.proofs.edits.one_place.Goals as goal
 use Rattle.plan_kept.specs.Edits.{ArePlacesOf}
 
 pub places_of-requires : goal.places_of-requires
-places_of-requires c = subst (λ (P : Contents). All (IsInPlan P) (c.args.key ∷ [])) (sym c.contents.ensures.contents) (all_of_one c.args.loaded.now c.args.key c.requires)
+places_of-requires c = subst (λ (P : Contents). All (IsInPlan P) (c.args.key ∷ [])) (sym c.beside.ensures.contents) (all_of_one c.args.outline.now c.args.key c.requires)
 
 pub returns-clause-places : goal.returns-clause-places
 returns-clause-places c =
     let places = c.in_ok-places_of.field-0.items in
-    places_of_one c.args.loaded.now c.args.key places (subst (λ (P : Contents). ArePlacesOf P (c.args.key ∷ []) places) c.contents.ensures.contents c.in_ok-places_of.ensures)
+    places_of_one c.args.outline.now c.args.key places (subst (λ (P : Contents). ArePlacesOf P (c.args.key ∷ []) places) c.beside.ensures.contents c.in_ok-places_of.ensures)

@@ -10,16 +10,16 @@ use Rattle.plan_kept.specs.Edits.{ArePlacesOf}
 
 pub places_of-requires : goal.places_of-requires
 places_of-requires c =
-    let P = c.args.loaded.now in
-    subst (λ (Q : Contents). All (IsInPlan Q) c.deref.result.now) (sym c.contents.ensures.contents)
+    let P = c.args.outline.now in
+    subst (λ (Q : Contents). All (IsInPlan Q) c.deref.result.now) (sym c.beside.ensures.contents)
     (subst (λ (ks : List OpKey). All (IsInPlan P) ks) (sym c.deref.ensures.value) (all_in_plan P c.args.key.now c.in_ok-reached.reached.items c.requires c.in_ok-reached.ensures.reached))
 
 pub returns-clause-places : goal.returns-clause-places
 returns-clause-places c =
-    let P = c.args.loaded.now in
+    let P = c.args.outline.now in
     let found = c.in_ok-reached.reached.items in
     let places = c.in_ok-places_of.field-0.items in
     let reached = c.in_ok-reached.ensures.reached in
     places_alike P (λ o. is_among found o ≡ true) (Reaches P c.args.key.now) places (λ o. (reached o).0) (λ o. (reached o).1)
     (subst (λ (ks : List OpKey). ArePlacesOf P ks places) c.deref.ensures.value
-    (subst (λ (Q : Contents). ArePlacesOf Q c.deref.result.now places) c.contents.ensures.contents c.in_ok-places_of.ensures))
+    (subst (λ (Q : Contents). ArePlacesOf Q c.deref.result.now places) c.beside.ensures.contents c.in_ok-places_of.ensures))

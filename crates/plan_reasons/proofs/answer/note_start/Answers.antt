@@ -9,7 +9,7 @@ pub returns-clause-noted : goal.returns-clause-noted
 returns-clause-noted c before =
     let P = c.args.contents.now in
     let o = c.args.key.now in
-    let op = c.args.reported.now.operation in
+    let op = c.args.reported.now.operation.now in
     let m = c.args.at in
     let start : needs_start P op ≡ true = sym (c.needs_start.ensures P o c.requires) ∙ search rules in
     let name = c.workstation_of-workstation.ensures.name in

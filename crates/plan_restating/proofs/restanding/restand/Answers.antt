@@ -1,7 +1,7 @@
 use Rattle.std.proofs.Common.{arith, ◌≤◌, length, get_or, subst, take, false}
 use Rattle.std.proofs.lemmas.List.{take_all, take_more}
 use Rattle.std.proofs.lemmas.Option.{slice_get-get_or}
-use Rattle.plan_cascade.specs.declared.kept.Kept.{Kept}
+use Rattle.plan_choice.specs.plan_cascade.specs.declared.kept.Kept.{Kept}
 use Rattle.plan_choice.specs.plan_status.specs.declared.standings.Standing.{Standing}
 use Rattle.plan_restating.proofs.Restood.{AreRestoodAt, all_restood, few_kept, one_restood, others_stay}
 use Rattle.plan_restating.proofs.restanding.restand.Goals as goal

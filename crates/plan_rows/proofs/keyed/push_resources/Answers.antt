@@ -6,4 +6,6 @@ use Rattle.plan_rows.specs.Shown.{plan_shown}
 
 pub returns : goal.returns
 returns c = λ clock now so_far.
-    c.push_noted_resources.ensures clock (plan_shown now c.args.after) (c.resources_of.ensures.rows ∙ ap (λ C. entries C.resources) (contents_of_plan now c.args.after)) so_far
+    c.push_noted_resources.ensures (plan_shown clock c.args.before) (plan_shown now c.args.after)
+    (c.resources_of.ensures.rows ∙ ap (λ C. entries C.resources) (contents_of_plan clock c.args.before))
+    (c.resources_of-2.ensures.rows ∙ ap (λ C. entries C.resources) (contents_of_plan now c.args.after)) so_far

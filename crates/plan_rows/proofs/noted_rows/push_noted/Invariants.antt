@@ -1,13 +1,19 @@
-use Rattle.std.specs.Prelude.{ℕ, List}
+use Rattle.std.specs.Prelude.{◌≡◌, ◌+◌, ◌*◌, ◌≤◌, ℕ, Bool, List, count_by}
 use Rattle.std.specs.List.Sorted.{IsStrictlySortedBy}
 use Rattle.std.specs.Ordering.{nat_cmp}
 use Rattle.plan_state.specs.plan_records.specs.declared.PlanRow.{PlanRow}
 use Rattle.plan_rows.proofs.DifferentRows.{IsToldTo}
 use Rattle.plan_rows.proofs.noted_rows.push_noted.Given as goal
 use Rattle.plan_rows.specs.Notes.{AreNotedAt}
-use Rattle.plan_rows.specs.Rows.{if_shown, rows_of}
+use Rattle.plan_rows.specs.Rows.{rows_of}
+use Rattle.plan_rows.specs.Shown.{shown_with}
 
--- the first of the rows that are noted are added where they differ
+-- the first of the rows that are noted are added where they differ, each by its looks
 abbrev pub invariant-loop-note : goal.invariant-loop-note
-invariant-loop-note g l =
-    (news : List PlanRow) (places : List ℕ) → IsStrictlySortedBy nat_cmp places → AreNotedAt news places l.notes → IsToldTo (rows_of (if_shown g.T.Tabled.keyed l.shown)) news places l.note-index l.fn.rows.items l.rows.items
+invariant-loop-note g l = record {
+  contents : l.shown.contents ≡ l.fn.shown.contents;
+  fewest : l.fn.shown.looks ≤ l.shown.looks;
+  most : l.shown.looks ≤ l.fn.shown.looks + g.T.Noted.looks * l.note-index;
+  told : (news : List PlanRow) (places : List ℕ) → IsStrictlySortedBy nat_cmp places → AreNotedAt news places l.notes → IsToldTo (rows_of (g.T.Tabled.keyed (shown_with l.fn.shown.contents l.columns))) news places l.note-index l.fn.rows.items l.rows.items;
+  count : (p : PlanRow → Bool) → count_by p l.rows.items ≤ count_by p l.fn.rows.items + l.note-index;
+}

@@ -1,29 +1,33 @@
-use Rattle.std.proofs.Common.{◌∙◌, Some, sym, subst, refl, [], length}
+use Rattle.std.proofs.Common.{Some, sym, ap, subst, refl, arith, [], length}
 use Rattle.std.specs.FinMap.{entries}
+use Rattle.plan_model.specs.Contents.{Contents}
 use Rattle.plan_model.specs.Plan.{plan_held}
 use Rattle.plan_state.specs.plan_records.specs.Rows.{AreChanges, key_of, row_cmp}
 use Rattle.plan_rows.proofs.AllTables.{in_all_tables, in_no_table}
-use Rattle.plan_rows.proofs.MetaRow.{clock_of_plan, loaded_where_shown}
+use Rattle.plan_rows.proofs.Counted.{no_operation_below}
 use Rattle.plan_rows.proofs.MovedRows.{same_occurrences}
 use Rattle.plan_rows.proofs.NotedTables.{all_beside, noted_within}
 use Rattle.plan_rows.proofs.OccurrencesOf.{places_within}
 use Rattle.plan_rows.proofs.TouchedTables.{dependencies_stay, needs_stay, workstations_stay}
 use Rattle.plan_rows.proofs.notes.noted_changes.Goals as goal
-use Rattle.plan_rows.specs.Notes.{AreNotedAt, AreWithin}
+use Rattle.plan_rows.proofs.notes.noted_changes.Goals.{After-deref-2}
+use Rattle.plan_rows.specs.Notes.{AreNotedAt, AreWithin, IsNotedStep}
 use Rattle.plan_rows.specs.Rows.{keyed_occurrences, keyed_operations, rows_of}
-use Rattle.plan_rows.specs.Shown.{contents_shown, plan_shown}
-use Rattle.plan_rows.specs.Tables.{IsRowBelow}
+use Rattle.plan_rows.specs.Shown.{plan_shown, shown_with}
+use Rattle.plan_rows.specs.Tables.{AreChangesBelow, IsRowBelow}
+use Rattle.plan_rows.specs.Touched.{AreTouched}
 use Rattle.row_differences.specs.Changes.{AreRowChanges}
+use Rattle.plan_state.specs.shown_records.specs.States.{ShownState}
 
-pub push_noted_beside-requires-clause-noted : goal.push_noted_beside-requires-clause-noted
-push_noted_beside-requires-clause-noted c =
+pub push_noted_beside-requires : goal.push_noted_beside-requires
+push_noted_beside-requires c =
     let (Q, step) = c.requires.step in
-    (step.after, step.shown, all_beside (contents_shown c.args.before.loaded) step.after.contents.now step.beside c.args.notes.now.beside step.stays step.noted.beside)
+    record { noted = (step.after, step.shown, all_beside c.args.shown.now.contents step.after.contents.now step.beside c.args.notes.now.beside step.stays step.noted.beside) }
 
 pub push_noted_occurrences-requires-clause-within : goal.push_noted_occurrences-requires-clause-within
 push_noted_occurrences-requires-clause-within c =
     let (Q, step) = c.requires.step in
-    let P = contents_shown c.args.before.loaded in
+    let P = c.args.shown.now.contents in
     let n = length (entries P.occurrences) in
     let are = same_occurrences P step.after.contents.now step.touched step.noted.places step.among.moved step.noted.of_operations in
     subst (AreWithin n) (sym c.deref.ensures.value)
@@ -32,35 +36,63 @@ push_noted_occurrences-requires-clause-within c =
 pub push_noted_operations-requires-clause-within : goal.push_noted_operations-requires-clause-within
 push_noted_operations-requires-clause-within c =
     let (Q, step) = c.requires.step in
-    let n = length (entries (contents_shown c.args.before.loaded).operations) in
-    subst (AreWithin n) (sym c.deref-2.ensures.value)
-    (noted_within (rows_of (keyed_operations step.after)) step.touched c.args.notes.now.operations.items step.noted.operations n step.among.within)
+    let n = length (entries c.args.shown.now.contents.operations) in
+    subst (λ (x : ShownState). AreWithin (length (entries x.contents.operations)) c.deref-2.result.now) (sym c.in_ok-push_noted_occurrences.ensures.unchanged)
+    (subst (AreWithin n) (sym c.deref-2.ensures.value)
+    (noted_within (rows_of (keyed_operations step.after)) step.touched c.args.notes.now.operations.items step.noted.operations n step.among.within))
 
--- table by table
-pub returns : goal.returns
-returns c = λ C step.
-    let was = c.args.before.clock in
+-- what changes in the tables before that of operations, table by table
+before_operations : (c : After-deref-2) (R : Contents) (step : IsNotedStep (Some (shown_with c.args.shown.now.contents c.args.columns)) R c.args.notes.now)
+    → AreChangesBelow 5 (plan_shown c.args.was (Some (shown_with c.args.shown.now.contents c.args.columns))) (plan_shown c.args.clock (Some step.after)) c.push_noted_occurrences.new.changes
+before_operations c R step =
+    let was = c.args.was in
     let now = c.args.clock in
-    let old = c.args.before.loaded in
+    let old = Some (shown_with c.args.shown.now.contents c.args.columns) in
     let after = step.after in
     let P = plan_shown was old in
     let Q = plan_shown now (Some after) in
-    let moved = step.among.moved in
     let start =
     subst (λ rows. AreRowChanges row_cmp key_of (IsRowBelow 0 P) (IsRowBelow 0 Q) rows c.new-2.result.items) (sym c.new.ensures.items)
     (subst (AreRowChanges row_cmp key_of (IsRowBelow 0 P) (IsRowBelow 0 Q) []) (sym c.new-2.ensures.items) (in_no_table P Q))
     in
-    let meta = c.in_ok-push_meta.ensures P Q (loaded_where_shown was old ∙ sym c.is_loaded.ensures) (clock_of_plan was old) refl refl start in
-    let workstations = workstations_stay was now old (Some after) c.push_meta.new.changes step.touched moved meta in
-    let beside = c.in_ok-push_noted_beside.ensures was now after step.shown (all_beside (contents_shown old) after.contents.now step.beside c.args.notes.now.beside step.stays step.noted.beside) workstations in
-    let occurrences =
-    c.in_ok-push_noted_occurrences.ensures was now after step.touched step.noted.places step.shown step.among step.noted.of_operations
+    let meta = c.in_ok-push_meta.ensures P Q refl refl refl refl start in
+    let workstations = workstations_stay was now old (Some after) c.push_meta.new.changes step.touched step.among.moved meta in
+    let beside =
+    c.in_ok-push_noted_beside.ensures was now (shown_with c.args.shown.now.contents c.args.columns) after refl c.requires.shown step.shown
+    (all_beside c.args.shown.now.contents after.contents.now step.beside c.args.notes.now.beside step.stays step.noted.beside) workstations
+    in
+    c.in_ok-push_noted_occurrences.ensures.told was now after step.touched step.noted.places step.shown step.among step.noted.of_operations
     (subst (AreNotedAt (rows_of (keyed_occurrences after)) step.noted.places) (sym c.deref.ensures.value) step.noted.occurrences) beside
-    in
-    let operations =
-    c.in_ok-push_noted_operations.ensures was now after step.touched step.shown step.among
-    (subst (AreNotedAt (rows_of (keyed_operations after)) step.touched) (sym c.deref-2.ensures.value) step.noted.operations) occurrences
-    in
+
+pub returns-clause-changes : goal.returns-clause-changes
+returns-clause-changes c = λ R step.
+    let was = c.args.was in
+    let now = c.args.clock in
+    let l = c.args.columns in
+    let s = shown_with c.args.shown.now.contents l in
+    let after = step.after in
+    let P = plan_shown was (Some s) in
+    let Q = plan_shown now (Some after) in
+    let same = c.in_ok-push_noted_occurrences.ensures.unchanged in
     let all = c.push_noted_operations.new.changes in
-    let below = needs_stay was now old (Some after) all step.touched moved (dependencies_stay was now old (Some after) all step.touched moved operations) in
-    subst (λ Z. AreChanges P (plan_held now (Some Z)) all.rows.items all.gone.items) step.holds (in_all_tables P Q all.rows.items all.gone.items below)
+    let operations =
+    subst (λ (x : ShownState). AreChangesBelow 6 (plan_shown was (Some (shown_with x.contents l))) Q all) same
+    (c.in_ok-push_noted_operations.ensures.told was now after step.touched step.shown
+    (subst (λ (x : ShownState). AreTouched (Some (shown_with x.contents l)) (Some after) step.touched) (sym same) step.among)
+    (subst (AreNotedAt (rows_of (keyed_operations after)) step.touched) (sym c.deref-2.ensures.value) step.noted.operations)
+    (subst (λ (x : ShownState). AreChangesBelow 5 (plan_shown was (Some (shown_with x.contents l))) Q c.push_noted_occurrences.new.changes) (sym same) (before_operations ((goal.at.returns-clause-changes c).After-deref-2) R step)))
+    in
+    let moved = step.among.moved in
+    let below = needs_stay was now (Some s) (Some after) all step.touched moved (dependencies_stay was now (Some s) (Some after) all step.touched moved operations) in
+    subst (λ (Z : Contents). AreChanges P (plan_held now (Some Z)) all.rows.items all.gone.items) step.holds (in_all_tables P Q all.rows.items all.gone.items below)
+
+pub returns-clause-operations : goal.returns-clause-operations
+returns-clause-operations c =
+    let (R, step) = c.requires.step in
+    let s = shown_with c.args.shown.now.contents c.args.columns in
+    let none =
+    no_operation_below (plan_shown c.args.was (Some s)) (plan_shown c.args.clock (Some step.after)) c.push_noted_occurrences.new.changes
+    (before_operations ((goal.at.returns-clause-operations c).After-deref-2) R step)
+    in
+    let size = ap length c.deref-2.ensures.value in
+    omega (arith, none, size, c.in_ok-push_noted_operations.ensures.operations)

@@ -1,39 +1,46 @@
-use Rattle.std.proofs.Common.{Some, refl}
+use Rattle.std.proofs.Common.{Some, refl, arith}
 use Rattle.std.specs.FinMap.{entries}
 use Rattle.std.specs.Map.{keys_of}
 use Rattle.std.proofs.lemmas.Result.{on_ok_weaker}
 use Rattle.plan_basics.specs.Keys.{occurrence_cmp, occurrence_cmp-IsAntisymmetric, occurrence_cmp_total}
 use Rattle.plan_state.specs.plan_drafts.specs.declared.RowKey.TheVariants as key
+use Rattle.plan_rows.proofs.Counted.{no_look}
 use Rattle.plan_rows.proofs.MovedRows.{same_occurrences}
 use Rattle.plan_rows.proofs.NotedTables.{noted_table}
-use Rattle.plan_rows.proofs.ShownRows.{are_occurrences, occurrence_keys_kept, occurrences_ascend}
+use Rattle.plan_rows.proofs.ShownRows.{are_occurrences, occurrence_keys, occurrences_ascend}
 use Rattle.plan_rows.proofs.TouchedRows.{occurrence_keys_stay, occurrences_elsewhere, occurrences_within, within_keys}
 use Rattle.plan_rows.proofs.occurrences.push_noted_occurrences.Goals as goal
-use Rattle.plan_rows.specs.Rows.{if_shown, keyed_occurrences, rows_of}
-use Rattle.plan_rows.specs.Shown.{contents_shown, plan_shown}
+use Rattle.plan_rows.specs.Rows.{keyed_occurrences, rows_of}
+use Rattle.plan_rows.specs.Shown.{plan_shown, shown_with}
 
 pub push_noted-requires-clause-within : goal.push_noted-requires-clause-within
 push_noted-requires-clause-within c = λ note has.
-    let before = c.args.before in
-    within_keys (entries (contents_shown before).occurrences) (keys_of (if_shown keyed_occurrences before)) (occurrence_keys_kept before c.requires.before) note.place (c.requires.within note has)
+    let s = shown_with c.args.shown.now.contents c.args.columns in
+    within_keys (entries s.contents.now.occurrences) (keys_of (keyed_occurrences s)) (occurrence_keys s c.requires.shown) note.place (c.requires.within note has)
 
-pub returns : goal.returns
-returns c = λ clock now after touched places shown among of noted so_far.
-    let before = c.args.before in
-    let was = c.requires.before in
+pub returns-clause-told : goal.returns-clause-told
+returns-clause-told c = λ clock now after touched places shown among of noted so_far.
+    let s = shown_with c.args.shown.now.contents c.args.columns in
+    let before = Some s in
+    let was = c.requires.shown in
     let P = plan_shown clock before in
     let Q = plan_shown now (Some after) in
-    let v = if_shown keyed_occurrences before in
+    let olds = keyed_occurrences s in
     let news = keyed_occurrences after in
-    let are = same_occurrences (contents_shown before) after.contents.now touched places among.moved of in
+    let are = same_occurrences s.contents.now after.contents.now touched places among.moved of in
     on_ok_weaker c.push_noted.result
-    (λ told. noted_table occurrence_cmp key.Occurrence (λ a b. refl) occurrence_cmp-IsAntisymmetric occurrence_cmp_total 4 P Q (keys_of v) (keys_of news)
+    (λ told. noted_table occurrence_cmp key.Occurrence (λ a b. refl) occurrence_cmp-IsAntisymmetric occurrence_cmp_total 4 P Q (keys_of olds) (keys_of news)
     (occurrence_keys_stay before (Some after) was shown touched among)
     (occurrences_ascend before was)
-    (rows_of v) (rows_of news)
+    (rows_of olds) (rows_of news)
     (are_occurrences clock before was)
     (are_occurrences now (Some after) shown) places
     (occurrences_within before (Some after) was shown touched among places are)
     (occurrences_elsewhere before (Some after) was shown touched among places are)
     c.args.changes.now (record { rows = c.push_noted.new.rows; gone = c.args.changes.now.gone }) refl told so_far)
-    (c.push_noted.ensures (rows_of news) places of.ascend noted)
+    (c.push_noted.ensures.told (rows_of news) places of.ascend noted)
+
+pub returns-clause-unchanged : goal.returns-clause-unchanged
+returns-clause-unchanged c =
+    let h = c.push_noted.ensures in
+    no_look c.args.shown.now c.push_noted.new.shown h.contents h.fewest (omega (arith, h.most))

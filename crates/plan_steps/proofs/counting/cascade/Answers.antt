@@ -1,14 +1,13 @@
 use Rattle.std.proofs.Common.{◌≡◌, sym, subst, ℕ, ◌<◌, List, map, length, []}
 use Rattle.plan_cascade.specs.Journal.{AreWithin, IsJournaled}
 use Rattle.plan_cascade.specs.declared.kept.Kept.{Kept}
-use Rattle.plan_kept.specs.plan_drafts.proofs.Lists.{contains_none, from_map}
-use Rattle.plan_kept.specs.plan_drafts.specs.PlanGraphs.{IsGraphFor}
-use Rattle.plan_kept.specs.plan_model.specs.Contents.{Contents}
+use Rattle.plan_looks.specs.plan_kept.specs.plan_drafts.proofs.Lists.{contains_none, from_map}
+use Rattle.plan_steps.proofs.Counted.{counted_anew, counted_up, on_ok_both}
 use Rattle.plan_steps.proofs.StepParts.{all_below, graph_after, on_ok}
 use Rattle.plan_steps.proofs.counting.cascade.Goals as goal
 use Rattle.plan_steps.specs.Edits.{AreBelow}
-use Rattle.plan_kept.specs.plan_waiting.proofs.Journals.{unnoted_stays}
-use Rattle.plan_kept.specs.plan_waiting.specs.Changes.{IsRisen, IsTakenBack}
+use Rattle.plan_looks.specs.plan_kept.specs.plan_waiting.proofs.Journals.{unnoted_stays}
+use Rattle.plan_looks.specs.plan_kept.specs.plan_waiting.specs.Changes.{IsRisen, IsTakenBack}
 
 -- the places of a journal that was begun empty are those of nodes
 noted_below : (kept now : List Kept) (journal new : List (ℕ × Kept)) → IsJournaled kept journal now new → journal ≡ [] → AreBelow (length kept) (map (λ (e : ℕ × Kept). e.0) new)
@@ -20,41 +19,37 @@ noted_below kept now journal new is empty i has =
 
 pub unsatisfy-requires-clause-graph : goal.unsatisfy-requires-clause-graph
 unsatisfy-requires-clause-graph c =
-    subst (λ (R : Contents). IsGraphFor R c.args.graph.now) (sym c.valid-contents.ensures.contents)
-    (graph_after c.requires.before.0 c.args.after.now c.args.edit.now.places.items c.requires.before.1.edit.moved c.args.graph.now c.requires.before.1.graph)
+    graph_after c.requires.before.0 c.args.shown.now.contents c.args.edit.now.places.items c.requires.before.1.edit.moved c.args.graph.now c.requires.before.1.graph
 
 pub unsatisfy-requires-clause-moved : goal.unsatisfy-requires-clause-moved
 unsatisfy-requires-clause-moved c =
     let P = c.requires.before.0 in
-    let Q = c.args.after.now in
+    let Q = c.args.shown.now.contents in
     let g = c.args.graph.now in
     let kept = c.args.kept.now in
     let edit = c.requires.before.1.edit in
     let places = c.args.edit.now.places.items in
     let right = c.requires.before.1.kept in (
       P,
-      subst (λ (R : Contents). IsTakenBack P R g kept c.deref.result.now) (sym c.valid-contents.ensures.contents)
-          (subst (IsTakenBack P Q g kept) (sym c.deref.ensures.value)
-          (record { moved = edit.moved; right = right; within = all_below (length kept) places (λ i has. subst (λ n. i < n) (sym right.size) (edit.within i has)); follow = edit.follow c.if-edit.true g c.requires.before.1.graph })),
+      subst (IsTakenBack P Q g kept) (sym c.deref.ensures.value)
+          (record { moved = edit.moved; right = right; within = all_below (length kept) places (λ i has. subst (λ n. i < n) (sym right.size) (edit.within i has)); follow = edit.follow c.if-edit.true g c.requires.before.1.graph }),
     )
 
 pub satisfy-requires-clause-graph : goal.satisfy-requires-clause-graph
 satisfy-requires-clause-graph c =
-    subst (λ (R : Contents). IsGraphFor R c.args.graph.now) (sym c.valid-contents.ensures.contents)
-    (graph_after c.requires.before.0 c.args.after.now c.args.edit.now.places.items c.requires.before.1.edit.moved c.args.graph.now c.requires.before.1.graph)
+    graph_after c.requires.before.0 c.args.shown.now.contents c.args.edit.now.places.items c.requires.before.1.edit.moved c.args.graph.now c.requires.before.1.graph
 
 pub satisfy-requires-clause-moved : goal.satisfy-requires-clause-moved
 satisfy-requires-clause-moved c =
     let P = c.requires.before.0 in
-    let Q = c.args.after.now in
+    let Q = c.args.shown.now.contents in
     let kept = c.args.kept.now in
     let edit = c.requires.before.1.edit in
     let places = c.args.edit.now.places.items in
     let right = c.requires.before.1.kept in (
       P,
-      subst (λ (R : Contents). IsRisen P R kept c.deref-else-edit.result.now) (sym c.valid-contents.ensures.contents)
-          (subst (IsRisen P Q kept) (sym c.deref-else-edit.ensures.value)
-          (record { moved = edit.moved; right = right; within = all_below (length kept) places (λ i has. subst (λ n. i < n) (sym right.size) (edit.within i has)); unsatisfied = edit.unsatisfied c.if-edit.false })),
+      subst (IsRisen P Q kept) (sym c.deref-else-edit.ensures.value)
+          (record { moved = edit.moved; right = right; within = all_below (length kept) places (λ i has. subst (λ n. i < n) (sym right.size) (edit.within i has)); unsatisfied = edit.unsatisfied c.if-edit.false }),
     )
 
 pub returns-then-edit-clause-noted : goal.returns-then-edit-clause-noted
@@ -68,3 +63,19 @@ returns-then-edit-clause-within c = on_ok c.unsatisfy.result (noted_below c.args
 
 pub returns-else-edit-clause-within : goal.returns-else-edit-clause-within
 returns-else-edit-clause-within c = on_ok c.satisfy.result (noted_below c.args.kept.now c.satisfy.new.kept c.args.journal.now.items c.satisfy.new.journal.items c.satisfy.ensures.journaled c.requires.journal)
+
+pub returns-then-edit-clause-counted : goal.returns-then-edit-clause-counted
+returns-then-edit-clause-counted c =
+    let P = c.requires.before.0 in
+    let Q = c.args.shown.now.contents in
+    let graph = graph_after P Q c.args.edit.now.places.items c.requires.before.1.edit.moved c.args.graph.now c.requires.before.1.graph in
+    on_ok_both c.unsatisfy.result c.unsatisfy.ensures.places c.unsatisfy.ensures.most
+    (counted_anew Q c.args.edit.now c.args.graph.now graph c.deref.result.now c.deref.ensures.value c.args.kept.now c.unsatisfy.new.kept c.args.journal.now.items c.unsatisfy.new.journal.items c.requires.journal c.args.shown.now.looks c.unsatisfy.new.shown.looks c.if-edit.true)
+
+pub returns-else-edit-clause-counted : goal.returns-else-edit-clause-counted
+returns-else-edit-clause-counted c =
+    let P = c.requires.before.0 in
+    let Q = c.args.shown.now.contents in
+    let graph = graph_after P Q c.args.edit.now.places.items c.requires.before.1.edit.moved c.args.graph.now c.requires.before.1.graph in
+    on_ok_both c.satisfy.result c.satisfy.ensures.places c.satisfy.ensures.most
+    (counted_up Q c.args.edit.now c.args.graph.now graph c.deref-else-edit.result.now c.deref-else-edit.ensures.value c.args.kept.now c.satisfy.new.kept c.args.journal.now.items c.satisfy.new.journal.items c.requires.journal c.args.shown.now.looks c.satisfy.new.shown.looks)

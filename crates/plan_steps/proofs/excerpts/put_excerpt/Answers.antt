@@ -1,9 +1,14 @@
-use Rattle.std.proofs.Common.{◌≡◌, sym, ap, subst, ◌∙◌, arith, length}
+use Rattle.std.proofs.Common.{◌≡◌, sym, ap, subst, ◌∙◌, arith, ℕ, List, length}
 use Rattle.std.specs.Vec.{with_items}
-use Rattle.plan_restating.specs.ByStatuses.{AreEntriesBy}
+use Rattle.plan_looks.specs.plan_kept.specs.plan_model.specs.Contents.{Contents}
+use Rattle.plan_looks.specs.plan_restating.specs.ByStatuses.{AreEntriesBy}
+use Rattle.plan_looks.specs.plan_restating.specs.Entries.{CanBeRelisted}
 use Rattle.plan_steps.proofs.Overwritten.{led_there, length-overwritten, lent_within, vector_overwritten, vector_written}
 use Rattle.plan_steps.proofs.excerpts.put_excerpt.Goals as goal
 use Rattle.plan_steps.proofs.excerpts.put_excerpt.Goals.{After-relist_all}
+use Rattle.ready_list.specs.Entries.{ReadyEntries}
+use Rattle.ready_list.specs.declared.entry.ReadyEntry.{ReadyEntry}
+use Rattle.status_rules.specs.declared.Status.{Status}
 
 pub put_at-requires : goal.put_at-requires
 put_at-requires c =
@@ -15,16 +20,15 @@ put_at-requires-2 c =
     let to = c.requires.makes.0 in
     lent_within c.args.excerpt.now.standings.items c.args.columns.now.standings.items to.standings.items c.requires.makes.1.standings c.deref-2.result.now c.deref_mut-2.result.now c.deref-2.ensures.value c.deref_mut-2.ensures.value
 
-pub relist_all-requires-clause-size : goal.relist_all-requires-clause-size
-relist_all-requires-clause-size c = ap length c.deref_mut-3.ensures.value ∙ c.requires.ready.size
+-- the statuses, and those that are written, as they are lent
+lent : (P : Contents) (x : List (ℕ × Status)) (v : List Status) (r : ReadyEntries) (es : List ReadyEntry) → CanBeRelisted P v r x es → (x' : List (ℕ × Status)) → x' ≡ x → (v' : List Status) → v' ≡ v → CanBeRelisted P v' r x' es
+lent P x v r es can x' x_is v' v_is = subst (λ ys. CanBeRelisted P v' r ys es) (sym x_is) (subst (λ vs. CanBeRelisted P vs r x es) (sym v_is) can)
 
-pub relist_all-requires-clause-within : goal.relist_all-requires-clause-within
-relist_all-requires-clause-within c =
-    let to = c.requires.makes.0 in
-    lent_within c.args.excerpt.now.statuses.items c.args.columns.now.statuses.items to.statuses.items c.requires.makes.1.statuses c.deref-3.result.now c.deref_mut-3.result.now c.deref-3.ensures.value c.deref_mut-3.ensures.value
-
-pub relist_all-requires-clause-listed : goal.relist_all-requires-clause-listed
-relist_all-requires-clause-listed c = subst (λ ss. AreEntriesBy c.args.contents.now ss c.args.ready.now.entries) (sym c.deref_mut-3.ensures.value) c.requires.ready.listed
+pub relist_all-requires : goal.relist_all-requires
+relist_all-requires c =
+    let x = c.args.excerpt.now.statuses.items in
+    let v = c.args.columns.now.statuses.items in
+    (c.requires.listed.0, lent c.requires.listed.0 x v c.args.ready.now c.args.entries.now c.requires.listed.1 c.deref-3.result.now c.deref-3.ensures.value c.deref_mut-3.result.now c.deref_mut-3.ensures.value)
 
 pub put_at-requires-3 : goal.put_at-requires-3
 put_at-requires-3 c =
@@ -36,15 +40,16 @@ written : (c : After-relist_all) → (with_items c.args.columns.now.statuses c.r
 written c = vector_written c.args.excerpt.now.statuses.items c.args.columns.now.statuses c.deref-3.result.now c.deref_mut-3.result.now c.relist_all.new.statuses c.deref-3.ensures.value c.deref_mut-3.ensures.value c.relist_all.ensures.statuses
 
 pub returns-clause-ready : goal.returns-clause-ready
-returns-clause-ready c =
+returns-clause-ready c P can =
     let stand = written (goal.at.returns-clause-ready c).After-relist_all in
-    let Q = c.args.contents.now in
+    let x = c.args.excerpt.now.statuses.items in
     let l = c.args.columns.now in
-    let size = ap length (vector_overwritten c.args.excerpt.now.statuses.items l.statuses c.deref-3.result.now c.deref_mut-3.result.now c.relist_all.new.statuses c.deref-3.ensures.value c.deref_mut-3.ensures.value c.relist_all.ensures.statuses) ∙ length-overwritten c.args.excerpt.now.statuses.items l.statuses.items in
+    let size = ap length (vector_overwritten x l.statuses c.deref-3.result.now c.deref_mut-3.result.now c.relist_all.new.statuses c.deref-3.ensures.value c.deref_mut-3.ensures.value c.relist_all.ensures.statuses) ∙ length-overwritten x l.statuses.items in
+    let can_lent = lent P x l.statuses.items c.args.ready.now c.args.entries.now can c.deref-3.result.now c.deref-3.ensures.value c.deref_mut-3.result.now c.deref_mut-3.ensures.value in
     record {
-      size = size ∙ c.requires.ready.size;
-      listed = subst (λ ss. AreEntriesBy Q ss c.relist_all.new.ready.entries) (sym stand) c.relist_all.ensures.listed;
-      room = omega (arith, c.requires.ready.room, c.relist_all.ensures.room);
+      size = size ∙ can.size;
+      listed = subst (λ ss. AreEntriesBy P ss c.relist_all.new.ready.entries) (sym stand) (c.relist_all.ensures.listed P can_lent);
+      room = omega (arith, can.room, c.relist_all.ensures.room);
     }
 
 pub returns-clause-alike : goal.returns-clause-alike

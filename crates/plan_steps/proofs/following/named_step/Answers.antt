@@ -1,15 +1,33 @@
-use Rattle.std.proofs.Common.{inl, inr}
+use Rattle.std.proofs.Common.{◌≡◌, sym, subst, ◌+◌, ◌≤◌, IfOk, length}
+use Rattle.plan_looks.specs.plan_kept.specs.plan_choice.specs.Choices.{AreLatestStarts}
+use Rattle.plan_looks.specs.plan_kept.specs.plan_model.specs.Contents.{Contents}
+use Rattle.plan_looks.specs.plan_restating.specs.Beside.{places_beside}
 use Rattle.plan_steps.proofs.MadeSteps.{step_of}
 use Rattle.plan_steps.proofs.following.named_step.Goals as goal
-
-pub note_step-requires-clause-touched : goal.note_step-requires-clause-touched
-note_step-requires-clause-touched c =
-    let both = c.in-Ok.ensures.touched in
-    record { ascend = both.ascend; within = λ i has. elim ((both.both i).0 has) [ inl one ↦ c.requires.edited.within i one | inr other ↦ c.in-Ok.ensures.naming.places.within i other ] }
+use Rattle.plan_steps.specs.Columns.{AreColumnsOf, IsReadyListOf}
+use Rattle.plan_steps.specs.Following.{IsFollowed}
+use Rattle.plan_steps.specs.Naming.{IsStepOf}
+use Rattle.plan_steps.specs.declared.followed.Followed.{Followed}
 
 pub returns-in-Ok-clause-step : goal.returns-in-Ok-clause-step
 returns-in-Ok-clause-step c =
+    let Q = c.args.shown.contents in
+    let S = c.follow-same.result.0.contents in
+    let back : Q ≡ S = sym c.follow-same.ensures.contents in
+    let m = c.args.at in
+    let edited = c.args.edited.now in
+    let l = c.args.columns.now in
+    let r = c.args.ready.now in
+    let starts = c.args.latest.now.starts in
     let f = c.in-Ok.followed in
-    let told = c.note_step.ensures in
-    step_of c.args.contents c.args.at f.naming c.in-Ok.ensures.naming c.args.columns.now c.requires.columns c.args.edited.now f.touched.items c.in-Ok.ensures.touched c.args.beside c.note_step.result.1
-    told.named told.shares told.columns_then told.notes
+    let before = c.args.shown.looks in
+    let between = c.follow-same.result.0.looks in
+    let told = c.follow-same.ensures in
+    let noted = c.note_step.ensures in
+    let followed = subst (λ x. IfOk x (IsFollowed Q m edited l)) c.in-Ok.is told.followed in
+    let later = subst (λ x. IfOk x (λ (g : Followed). before ≤ between)) c.in-Ok.is told.fewest in
+    let asked = subst (λ x. IfOk x (λ (g : Followed). between ≤ before + length r.entries + length (places_beside edited g.touched.items))) c.in-Ok.is told.most in
+    subst (λ (Z : Contents). IfOk c.note_step.result.1 (IsStepOf Z m edited c.args.beside before c.note_step.result.0.looks)) told.contents
+    (step_of S m edited l f (subst (λ (Z : Contents). IsFollowed Z m edited l f) back followed) (subst (λ (Z : Contents). AreColumnsOf Z l) back c.requires.columns)
+    starts (subst (λ (Z : Contents). AreLatestStarts Z starts) back c.requires.latest) r (subst (λ (Z : Contents). IsReadyListOf Z r) back c.requires.ready) c.args.beside
+    before between c.note_step.result.0.looks later asked noted.most c.note_step.result.1 noted.named noted.shares noted.entries noted.columns_then noted.notes noted.all_noted noted.least)

@@ -2,12 +2,12 @@ use Rattle.std.proofs.Common.{◌≡◌, sym, subst, ap, ◌∙◌, arith, ◌<�
 use Rattle.std.proofs.lemmas.List.{with_items_is}
 use Rattle.std.specs.FinMap.{entries}
 use Rattle.std.specs.Vec.{with_items}
-use Rattle.plan_kept.proofs.Frame.{frame_stays}
-use Rattle.plan_kept.specs.plan_drafts.specs.Places.{AreStatuses}
-use Rattle.plan_kept.specs.plan_waiting.specs.Kept.{AreKept}
-use Rattle.plan_restating.specs.Before.{KeepStatus}
-use Rattle.plan_restating.specs.Restanding.{AreCounters}
-use Rattle.plan_status.specs.Standings.{AreStandings, AreTallies}
+use Rattle.plan_looks.specs.plan_kept.proofs.OneFrame.{frame_stays}
+use Rattle.plan_looks.specs.plan_kept.specs.plan_drafts.specs.Places.{AreStatuses}
+use Rattle.plan_looks.specs.plan_kept.specs.plan_waiting.specs.Kept.{AreKept}
+use Rattle.plan_looks.specs.plan_restating.specs.Before.{KeepStatus}
+use Rattle.plan_looks.specs.plan_restating.specs.Restanding.{AreCounters}
+use Rattle.plan_rows.specs.plan_status.specs.Standings.{AreStandings, AreTallies}
 use Rattle.plan_steps.proofs.MovedColumns.{makes_back, then, then_known}
 use Rattle.plan_steps.proofs.Listing.{room_after}
 use Rattle.plan_steps.proofs.Overwritten.{vector_overwritten}
@@ -19,43 +19,43 @@ use Rattle.plan_steps.proofs.moving.move_columns.Goals.{After-restand, After-res
 
 pub restand-requires-clause-within : goal.restand-requires-clause-within
 restand-requires-clause-within c =
-    let has = c.requires.2 in
+    let has = c.requires.groundwork.2 in
     let n = length c.deref_mut-2.result.now in
-    let size : n ≡ length (entries c.requires.0.operations) = ap length c.deref_mut-2.ensures.value ∙ has.columns.standings.size in
+    let size : n ≡ length (entries c.requires.groundwork.0.operations) = ap length c.deref_mut-2.ensures.value ∙ has.columns.standings.size in
     subst (All (λ i. i < n)) (sym c.deref-3.ensures.value)
     (all_below n c.args.groundwork.now.touched.items (λ i at. subst (λ m. i < m) (sym size) (subst (λ m. i < m) has.moved.size (has.worked_out.moved_on.touched.within i at))))
 
 pub restand-requires-clause-counters : goal.restand-requires-clause-counters
 restand-requires-clause-counters c =
-    let Q = c.args.contents.now in
+    let Q = c.args.shown.now.contents in
     let l = c.args.columns.now in
     let g = c.args.groundwork.now in
-    let has = c.requires.2 in
+    let has = c.requires.groundwork.2 in
     let kept = c.deref-2.ensures.value ∙ vector_overwritten g.kept.items l.kept c.deref.result.now c.deref_mut.result.now c.put_at.new.list c.deref.ensures.value c.deref_mut.ensures.value c.put_at.ensures in
-    (Q, has.sound_after.valid, subst (AreCounters Q) (sym kept) (counters Q (then c.requires.0 Q c.requires.1 c.args.latest.now.starts l c.args.ready.now g has) has.worked_out.moved_on.kept_then))
+    (Q, has.sound_after.valid, subst (AreCounters Q) (sym kept) (counters Q (then c.requires.groundwork.0 Q c.requires.groundwork.1 c.args.latest.now.starts l c.args.ready.now g has) has.worked_out.moved_on.kept_then))
 
 pub restate-requires-clause-within : goal.restate-requires-clause-within
 restate-requires-clause-within c =
-    let n = length (entries c.args.contents.now.operations) in
-    subst (All (λ i. i < n)) (sym c.deref-5.ensures.value) (all_below n c.args.groundwork.now.touched.items c.requires.2.worked_out.moved_on.touched.within)
+    let n = length (entries c.args.shown.now.contents.operations) in
+    subst (All (λ i. i < n)) (sym c.deref-5.ensures.value) (all_below n c.args.groundwork.now.touched.items c.requires.groundwork.2.worked_out.moved_on.touched.within)
 
 -- the kept ones are those then
-kept_is : (c : After-restand) → c.deref-2.result.now ≡ then c.requires.0 c.args.contents.now c.requires.1 c.args.latest.now.starts c.args.columns.now c.args.ready.now c.args.groundwork.now c.requires.2
+kept_is : (c : After-restand) → c.deref-2.result.now ≡ then c.requires.groundwork.0 c.args.shown.now.contents c.requires.groundwork.1 c.args.latest.now.starts c.args.columns.now c.args.ready.now c.args.groundwork.now c.requires.groundwork.2
 kept_is c =
     let l = c.args.columns.now in
     let g = c.args.groundwork.now in
     c.deref-2.ensures.value ∙ vector_overwritten g.kept.items l.kept c.deref.result.now c.deref_mut.result.now c.put_at.new.list c.deref.ensures.value c.deref_mut.ensures.value c.put_at.ensures
 
 -- the standings are those of the plan then
-stands : (c : After-restand) → AreStandings c.args.contents.now c.restand.new.standings
+stands : (c : After-restand) → AreStandings c.args.shown.now.contents c.restand.new.standings
 stands c =
-    let P = c.requires.0 in
-    let Q = c.args.contents.now in
+    let P = c.requires.groundwork.0 in
+    let Q = c.args.shown.now.contents in
     let l = c.args.columns.now in
     let g = c.args.groundwork.now in
-    let has = c.requires.2 in
+    let has = c.requires.groundwork.2 in
     let on = has.worked_out.moved_on in
-    restood P Q c.requires.1 has.moved has.sound_after.valid l.kept.items (then P Q c.requires.1 c.args.latest.now.starts l c.args.ready.now g has) has.columns.kept on.kept_then
+    restood P Q c.requires.groundwork.1 has.moved has.sound_after.valid l.kept.items (then P Q c.requires.groundwork.1 c.args.latest.now.starts l c.args.ready.now g has) has.columns.kept on.kept_then
     l.standings.items has.columns.standings g.touched.items on.beside c.deref_mut-2.result.now c.deref-2.result.now c.deref-3.result.now
     c.deref_mut-2.ensures.value (kept_is c) c.deref-3.ensures.value c.restand.new.standings c.restand.ensures.right
 
@@ -63,27 +63,27 @@ stands c =
 stands_back : (c : After-restand) → (with_items c.args.columns.now.standings c.restand.new.standings).items ≡ c.restand.new.standings
 stands_back c =
     let l = c.args.columns.now in
-    let has = c.requires.2 in
+    let has = c.requires.groundwork.2 in
     let right = stands c in
     with_items_is l.standings c.restand.new.standings (omega (arith, right.size, has.columns.standings.size, has.moved.size, l.standings.ok.0))
 
-standings_then : (c : After-restand) → AreStandings c.args.contents.now (with_items c.args.columns.now.standings c.restand.new.standings).items
-standings_then c = subst (AreStandings c.args.contents.now) (sym (stands_back c)) (stands c)
+standings_then : (c : After-restand) → AreStandings c.args.shown.now.contents (with_items c.args.columns.now.standings c.restand.new.standings).items
+standings_then c = subst (AreStandings c.args.shown.now.contents) (sym (stands_back c)) (stands c)
 
 pub restate-requires-clause-standings : goal.restate-requires-clause-standings
 restate-requires-clause-standings c =
     let k : After-restand = (goal.at.restate-requires-clause-standings c).After-restand in
-    subst (AreStandings c.args.contents.now) (sym (c.deref-4.ensures.value ∙ stands_back k)) (stands k)
+    subst (AreStandings c.args.shown.now.contents) (sym (c.deref-4.ensures.value ∙ stands_back k)) (stands k)
 
 pub restate-requires-clause-latest : goal.restate-requires-clause-latest
-restate-requires-clause-latest c = (frame_stays c.requires.0 c.args.contents.now c.requires.1 c.requires.2.moved).latest c.args.latest.now.starts c.requires.2.latest
+restate-requires-clause-latest c = (frame_stays c.requires.groundwork.0 c.args.shown.now.contents c.requires.groundwork.1 c.requires.groundwork.2.moved).latest c.args.latest.now.starts c.requires.groundwork.2.latest
 
 pub restate-requires-clause-before : goal.restate-requires-clause-before
 restate-requires-clause-before c =
-    let P = c.requires.0 in
-    let Q = c.args.contents.now in
-    let edits = c.requires.1 in
-    let has = c.requires.2 in
+    let P = c.requires.groundwork.0 in
+    let Q = c.args.shown.now.contents in
+    let edits = c.requires.groundwork.1 in
+    let has = c.requires.groundwork.2 in
     let touched = c.args.groundwork.now.touched.items in (
       P,
       edits,
@@ -98,7 +98,7 @@ restate-requires-clause-before c =
     )
 
 pub restate-requires-clause-room : goal.restate-requires-clause-room
-restate-requires-clause-room c = room_after c.requires.0 c.args.contents.now c.requires.1 c.requires.2.moved c.args.ready.now c.requires.2.ready
+restate-requires-clause-room c = room_after c.requires.groundwork.0 c.args.shown.now.contents c.requires.groundwork.1 c.requires.groundwork.2.moved c.args.ready.now c.requires.groundwork.2.ready
 
 -- the columns then
 abbrev columns_then : After-restate → Columns
@@ -107,13 +107,13 @@ columns_then c =
     record l { kept = with_items l.kept c.put_at.new.list; standings = with_items l.standings c.restand.new.standings; statuses = with_items l.statuses c.restate.new.statuses; tallies = with_items l.tallies c.restate.new.tallies }
 
 -- they are those of the plan
-moved_columns : (c : After-restate) → AreStandings c.args.contents.now (columns_then c).standings.items → AreColumnsOf c.args.contents.now (columns_then c)
+moved_columns : (c : After-restate) → AreStandings c.args.shown.now.contents (columns_then c).standings.items → AreColumnsOf c.args.shown.now.contents (columns_then c)
 moved_columns c standings =
-    let P = c.requires.0 in
-    let Q = c.args.contents.now in
+    let P = c.requires.groundwork.0 in
+    let Q = c.args.shown.now.contents in
     let l = c.args.columns.now in
     let g = c.args.groundwork.now in
-    let has = c.requires.2 in
+    let has = c.requires.groundwork.2 in
     let groups : length (entries Q.occurrences) ≡ length (entries P.occurrences) = ap (λ os. length (entries os)) has.moved.occurrences in
     let kept = vector_overwritten g.kept.items l.kept c.deref.result.now c.deref_mut.result.now c.put_at.new.list c.deref.ensures.value c.deref_mut.ensures.value c.put_at.ensures in
     let statuses = c.restate.ensures.statuses in
@@ -130,11 +130,11 @@ returns-clause-columns c = moved_columns (goal.at.returns-clause-columns c).Afte
 
 pub returns-clause-ready : goal.returns-clause-ready
 returns-clause-ready c =
-    let Q = c.args.contents.now in
-    let room = room_after c.requires.0 Q c.requires.1 c.requires.2.moved c.args.ready.now c.requires.2.ready in
+    let Q = c.args.shown.now.contents in
+    let room = room_after c.requires.groundwork.0 Q c.requires.groundwork.1 c.requires.groundwork.2.moved c.args.ready.now c.requires.groundwork.2.ready in
     record { listed = c.restate.ensures.ready; room = omega (arith, room, c.restate.ensures.room) }
 
 pub returns-clause-back : goal.returns-clause-back
 returns-clause-back c =
-    makes_back c.requires.0 c.args.contents.now c.requires.1 c.args.latest.now.starts c.args.columns.now c.args.ready.now c.args.groundwork.now c.requires.2 _
+    makes_back c.requires.groundwork.0 c.args.shown.now.contents c.requires.groundwork.1 c.args.latest.now.starts c.args.columns.now c.args.ready.now c.args.groundwork.now c.requires.groundwork.2 _
     (moved_columns (goal.at.returns-clause-back c).After-restate (standings_then (goal.at.returns-clause-back c).After-restand))

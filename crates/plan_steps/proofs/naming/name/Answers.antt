@@ -1,30 +1,33 @@
-use Rattle.std.proofs.Common.{sym, subst, List, All}
-use Rattle.plan_basics.specs.declared.keys.OpKey.{OpKey}
-use Rattle.plan_changes.specs.Markings.{WereMarked}
-use Rattle.plan_kept.proofs.ChosenEntries.{chosen_are_ready}
-use Rattle.plan_kept.specs.Edits.{ArePlacesOf}
-use Rattle.plan_kept.specs.plan_model.specs.Contents.{Contents, IsInPlan}
+use Rattle.std.proofs.Common.{◌≡◌, sym, subst, ◌∙◌, IfOk}
+use Rattle.std.specs.FinMap.{entries}
+use Rattle.plan_looks.specs.plan_kept.specs.plan_choice.specs.Choices.{AreGivenOut, AreHeldIn}
+use Rattle.plan_looks.specs.plan_kept.specs.plan_choice.specs.declared.choice.Choice.{Choice}
+use Rattle.plan_looks.specs.plan_kept.specs.plan_model.specs.Contents.{Contents}
+use Rattle.plan_looks.specs.plan_kept.specs.plan_model.specs.Ready.{IsChosen, named}
 use Rattle.plan_steps.proofs.naming.name.Goals as goal
+use Rattle.plan_steps.proofs.naming.name.Goals.{After-beside}
+use Rattle.plan_steps.specs.Following.{IsChoiceOf}
+use Rattle.plan_steps.specs.Naming.{IsNaming}
 
-pub places_of-requires : goal.places_of-requires
-places_of-requires c =
-    let P = c.args.contents.now in
-    subst (All (IsInPlan P)) (sym c.deref.ensures.value) (chosen_are_ready P c.args.at c.in_ok-named.field-0.named.items c.in_ok-named.ensures.chosen).1
+-- what is shown is the same
+same : (c : After-beside) → c.beside.result.contents.now ≡ c.args.shown.contents
+same c = c.beside.ensures.contents ∙ c.chosen_with-shown.ensures.contents
 
-pub markings_of-requires : goal.markings_of-requires
-markings_of-requires c =
-    let P = c.args.contents.now in
-    subst (λ (os : List OpKey). All (IsInPlan c.rows.result.now) os) (sym c.deref-2.ensures.value)
-    (subst (λ (R : Contents). All (IsInPlan R) c.in_ok-named.field-0.named.items) (sym c.rows.ensures.contents) (chosen_are_ready P c.args.at c.in_ok-named.field-0.named.items c.in_ok-named.ensures.chosen).1)
+-- it is a choice of that
+is_choice : (c : After-beside) → IsChoiceOf c.beside.result.contents.now c.args.at c.in-Ok.choice
+is_choice c =
+    let P = c.args.shown.contents in
+    let told = c.chosen_with-shown.ensures in
+    subst (λ (Q : Contents). IsChoiceOf Q c.args.at c.in-Ok.choice) (sym (same c)) (record {
+      chosen = subst (λ r. IfOk r (λ (x : Choice). IsChosen P c.args.at x.named.items)) c.in-Ok.is told.chosen;
+      given = subst (λ r. IfOk r (λ (x : Choice). AreGivenOut (named x.named.items P) (entries P.workstations) x.given.items)) c.in-Ok.is told.given;
+      holders = subst (λ r. IfOk r (λ (x : Choice). AreHeldIn (named x.named.items P) x.holdings.held)) c.in-Ok.is told.held;
+    })
 
-pub returns-clause-naming : goal.returns-clause-naming
-returns-clause-naming c =
-    let P = c.args.contents.now in
-    let os = c.in_ok-named.field-0.named.items in
-    record {
-      sound = c.rows.ensures.sound;
-      chosen = c.in_ok-named.ensures.chosen;
-      places = subst (λ ks. ArePlacesOf P ks c.in_ok-places.places.items) c.deref.ensures.value c.in_ok-places.ensures;
-      marked = subst (λ ks. WereMarked P ks c.in_ok-marks.marks.items) c.deref-2.ensures.value (subst (λ (R : Contents). WereMarked R c.deref-2.result.now c.in_ok-marks.marks.items) c.rows.ensures.contents c.in_ok-marks.ensures);
-      shares = record { given = c.in_ok-named.ensures.given; holders = c.in_ok-named.ensures.held };
-    }
+pub naming_of-naming-requires : goal.naming_of-naming-requires
+naming_of-naming-requires c = (c.args.at, is_choice (goal.at.naming_of-naming-requires c).After-beside)
+
+pub returns-in-Ok-clause-naming : goal.returns-in-Ok-clause-naming
+returns-in-Ok-clause-naming c =
+    let here = (goal.at.returns-in-Ok-clause-naming c).After-beside in
+    subst (λ (Q : Contents). IfOk c.naming_of-naming.result (IsNaming Q c.args.at)) (same here) (c.naming_of-naming.ensures.naming c.args.at (is_choice here))

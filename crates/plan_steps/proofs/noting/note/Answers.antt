@@ -1,55 +1,75 @@
-use Rattle.std.proofs.Common.{length}
-use Rattle.std.specs.FinMap.{entries}
-use Rattle.plan_steps.proofs.ColumnParts.{columns_alike}
-use Rattle.plan_steps.proofs.Listing.{goes_before, goes_by, list_is}
-use Rattle.plan_steps.proofs.NamedFigures.{latest_after, moved_on, named_back, places_after, sized_after, sound_after}
-use Rattle.plan_steps.proofs.StepParts.{all_below}
+use Rattle.std.proofs.Common.{sym, subst, ℕ, List}
+use Rattle.plan_looks.specs.plan_kept.specs.plan_model.specs.Contents.{Contents}
+use Rattle.plan_looks.specs.plan_restating.specs.Entries.{CanBeRelisted}
+use Rattle.plan_steps.proofs.FollowedParts.{followed_home, list_home, places_then, relistable_home, was_named}
+use Rattle.plan_steps.proofs.NamedFigures.{latest_after}
 use Rattle.plan_steps.proofs.noting.note.Goals as goal
+use Rattle.plan_steps.proofs.noting.note.Goals.{After-settle}
+use Rattle.plan_steps.specs.Columns.{AreColumnsOf, IsReadyListOf, MakesOf}
+use Rattle.plan_steps.specs.Edits.{ArePlacesIn}
+use Rattle.plan_steps.specs.Following.{WasFollowed}
 
-pub excerpt_of-requires-clause-sized : goal.excerpt_of-requires-clause-sized
-excerpt_of-requires-clause-sized c = sized_after c.requires.named.0 c.args.contents.now c.requires.named.1 c.args.places.now c.args.latest.now.starts c.args.columns.now c.args.ready.now c.requires.named.2
+pub settle-requires : goal.settle-requires
+settle-requires c =
+    let (P, m, edited, was) = c.requires in
+    let starts = c.args.latest.now.starts in (
+      P,
+      m,
+      edited,
+      starts,
+      subst (λ (R : Contents). WasFollowed P R m edited starts c.args.columns.now c.args.ready.now c.args.followed.now) (sym c.beside.ensures.contents) was,
+    )
 
-pub excerpt_of-requires-clause-within : goal.excerpt_of-requires-clause-within
-excerpt_of-requires-clause-within c =
-    all_below (length (entries c.args.contents.now.operations)) c.args.places.now (places_after c.requires.named.0 c.args.contents.now c.requires.named.1 c.args.places.now c.args.latest.now.starts c.args.columns.now c.args.ready.now c.requires.named.2)
+module _ (c : After-settle) where
+  settled : AreColumnsOf c.args.shown.now.contents c.settle.new.columns
+  settled = subst (λ (R : Contents). AreColumnsOf R c.settle.new.columns) c.beside.ensures.contents c.settle.ensures.columns
+
+  listed : IsReadyListOf c.args.shown.now.contents c.settle.new.ready
+  listed = subst (λ (R : Contents). IsReadyListOf R c.settle.new.ready) c.beside.ensures.contents c.settle.ensures.ready
+
+  -- for each plan that it may have been
+  module _ (P : Contents) (m : ℕ) (edited : List ℕ) (was : WasFollowed P c.args.shown.now.contents m edited c.args.latest.now.starts c.args.columns.now c.args.ready.now c.args.followed.now) where
+    home : MakesOf c.args.followed.now.old c.settle.new.columns c.args.columns.now
+    home = followed_home P c.args.shown.now.contents m edited c.args.latest.now.starts c.args.columns.now c.args.ready.now c.args.followed.now was c.settle.new.columns settled
+
+    relistable : CanBeRelisted c.args.shown.now.contents c.settle.new.columns.statuses.items c.settle.new.ready c.args.followed.now.old.statuses.items c.args.followed.now.entries.items
+    relistable = relistable_home P c.args.shown.now.contents m edited c.args.latest.now.starts c.args.columns.now c.args.ready.now c.args.followed.now was c.settle.new.columns settled c.settle.new.ready listed
 
 pub noted_of-noted-requires-clause-latest : goal.noted_of-noted-requires-clause-latest
-noted_of-noted-requires-clause-latest c = latest_after c.requires.named.0 c.args.contents.now c.requires.named.1 c.args.places.now c.args.latest.now.starts c.args.columns.now c.args.ready.now c.requires.named.2
-
-pub put_excerpt-requires-clause-latest : goal.put_excerpt-requires-clause-latest
-put_excerpt-requires-clause-latest c = latest_after c.requires.named.0 c.args.contents.now c.requires.named.1 c.args.places.now c.args.latest.now.starts c.args.columns.now c.args.ready.now c.requires.named.2
-
-pub put_excerpt-requires-clause-makes : goal.put_excerpt-requires-clause-makes
-put_excerpt-requires-clause-makes c = (
-  c.args.columns.now,
-  named_back c.requires.named.0 c.args.contents.now c.requires.named.1 c.args.places.now c.args.latest.now.starts c.args.columns.now c.args.ready.now c.requires.named.2 c.settle.new.columns c.settle.ensures.columns c.in_ok-old.old c.in_ok-old.ensures,
-)
-
-pub put_excerpt-requires-clause-ready : goal.put_excerpt-requires-clause-ready
-put_excerpt-requires-clause-ready c =
-    let P = c.requires.named.0 in
-    let R = c.args.contents.now in
-    let os = c.requires.named.1 in
-    let places = c.args.places.now in
-    let starts = c.args.latest.now.starts in
-    let was = c.requires.named.2 in
-    goes_by R (sound_after P R os places starts c.args.columns.now c.args.ready.now was) c.settle.new.columns.statuses.items c.settle.ensures.columns.statuses c.settle.new.ready
-    starts (latest_after P R os places starts c.args.columns.now c.args.ready.now was) c.settle.ensures.ready
-
-pub returns-clause-unchanged : goal.returns-clause-unchanged
-returns-clause-unchanged c =
-    c.put_excerpt.ensures.alike c.args.columns.now
-    (named_back c.requires.named.0 c.args.contents.now c.requires.named.1 c.args.places.now c.args.latest.now.starts c.args.columns.now c.args.ready.now c.requires.named.2 c.settle.new.columns c.settle.ensures.columns c.in_ok-old.old c.in_ok-old.ensures)
-
-pub returns-clause-ready : goal.returns-clause-ready
-returns-clause-ready c P os was =
-    let R = c.args.contents.now in
-    let places = c.args.places.now in
+noted_of-noted-requires-clause-latest c =
+    let (P, m, edited, was) = c.requires in
+    let R = c.args.shown.now.contents in
     let starts = c.args.latest.now.starts in
     let l = c.args.columns.now in
     let r = c.args.ready.now in
-    let new = c.put_excerpt.new.columns in
-    let moved = moved_on P R os places starts l r was in
-    let alike = c.put_excerpt.ensures.alike l (named_back P R os places starts l r was c.settle.new.columns c.settle.ensures.columns c.in_ok-old.old c.in_ok-old.ensures) in
-    list_is P was.sound new.statuses.items (columns_alike P new l alike was.columns).statuses c.put_excerpt.new.ready
-    (goes_before P R places moved starts (latest_after P R os places starts l r was) new.statuses.items c.put_excerpt.new.ready c.put_excerpt.ensures.ready)
+    let f = c.args.followed.now in
+    latest_after P R f.naming.named.items f.naming.places.items starts l r (was_named P R m edited starts l r f was)
+
+pub noted_of-noted-requires-clause-touched : goal.noted_of-noted-requires-clause-touched
+noted_of-noted-requires-clause-touched c =
+    let (P, m, edited, was) = c.requires in
+    let R = c.args.shown.now.contents in
+    subst (ArePlacesIn R) (sym c.deref.ensures.value) (places_then P R m edited c.args.latest.now.starts c.args.columns.now c.args.ready.now c.args.followed.now was)
+
+pub put_excerpt-requires-clause-makes : goal.put_excerpt-requires-clause-makes
+put_excerpt-requires-clause-makes c = let (P, m, edited, was) = c.requires in (c.args.columns.now, home (goal.at.put_excerpt-requires-clause-makes c).After-settle P m edited was)
+
+pub put_excerpt-requires-clause-listed : goal.put_excerpt-requires-clause-listed
+put_excerpt-requires-clause-listed c =
+    let (P, m, edited, was) = c.requires in
+    let R = c.args.shown.now.contents in (
+      R,
+      subst (CanBeRelisted R c.settle.new.columns.statuses.items c.settle.new.ready c.args.followed.now.old.statuses.items) (sym c.deref-2.ensures.value)
+          (relistable (goal.at.put_excerpt-requires-clause-listed c).After-settle P m edited was),
+    )
+
+pub returns-clause-unchanged : goal.returns-clause-unchanged
+returns-clause-unchanged c = let (P, m, edited, was) = c.requires in c.put_excerpt.ensures.alike c.args.columns.now (home (goal.at.returns-clause-unchanged c).After-settle P m edited was)
+
+pub returns-clause-ready : goal.returns-clause-ready
+returns-clause-ready c P m edited was =
+    let here = (goal.at.returns-clause-ready c).After-settle in
+    let R = c.args.shown.now.contents in
+    let l = c.args.columns.now in
+    let can = subst (CanBeRelisted R c.settle.new.columns.statuses.items c.settle.new.ready c.args.followed.now.old.statuses.items) (sym c.deref-2.ensures.value) (relistable here P m edited was) in
+    list_home P R m edited c.args.latest.now.starts l c.args.ready.now c.args.followed.now was c.put_excerpt.new.columns (c.put_excerpt.ensures.alike l (home here P m edited was)) c.put_excerpt.new.ready (c.put_excerpt.ensures.ready R can)

@@ -1,69 +1,91 @@
-use Rattle.std.proofs.Common.{◌≡◌, sym, subst, ap, arith, length}
+use Rattle.std.proofs.Common.{◌≡◌, sym, subst, ap, arith, ℕ, length, map, All}
 use Rattle.std.proofs.lemmas.List.{with_items_is}
 use Rattle.std.specs.FinMap.{entries}
-use Rattle.plan_kept.specs.plan_drafts.specs.Places.{AreStatuses}
-use Rattle.plan_status.specs.Standings.{AreStandings, AreTallies}
-use Rattle.plan_steps.proofs.NamedFigures.{kept_after, known_after, latest_after, moved_on, places_after, standings_after}
+use Rattle.plan_looks.specs.plan_kept.specs.plan_drafts.specs.Places.{AreStatuses}
+use Rattle.plan_looks.specs.plan_restating.specs.Before.{HasStatusAt, KeepStatus}
+use Rattle.plan_looks.specs.plan_restating.specs.Entries.{AreEntriesAt}
+use Rattle.plan_rows.specs.plan_status.specs.Standings.{AreTallies}
+use Rattle.plan_steps.proofs.FollowedParts.{entries_listed, keeps_status, moved_then, was_named}
 use Rattle.plan_steps.proofs.Listing.{room_after}
-use Rattle.plan_steps.proofs.StepParts.{all_below, keep_status}
+use Rattle.plan_steps.proofs.NamedFigures.{kept_after, latest_after, standings_after}
+use Rattle.plan_steps.proofs.NamedStatuses.{right_statuses}
 use Rattle.plan_steps.proofs.noting.settle.Goals as goal
+use Rattle.status_rules.specs.declared.Status.{Status}
 
-pub restate-requires-clause-within : goal.restate-requires-clause-within
-restate-requires-clause-within c =
-    all_below (length (entries c.args.contents.now.operations)) c.args.places.now (places_after c.requires.0 c.args.contents.now c.requires.1 c.args.places.now c.args.latest.now.starts c.args.columns.now c.args.ready.now c.requires.2)
+abbrev place_of : ℕ × Status → ℕ
+place_of value = value.0
 
-pub restate-requires-clause-standings : goal.restate-requires-clause-standings
-restate-requires-clause-standings c =
-    subst (AreStandings c.args.contents.now) (sym c.deref.ensures.value) (standings_after c.requires.0 c.args.contents.now c.requires.1 c.args.places.now c.args.latest.now.starts c.args.columns.now c.args.ready.now c.requires.2)
+pub restate_all-requires-clause-listed : goal.restate_all-requires-clause-listed
+restate_all-requires-clause-listed c =
+    let (P, m, edited, starts, was) = c.requires in
+    let R = c.args.rest.now.contents.now in
+    let f = c.args.followed.now in
+    subst (λ to. AreEntriesAt R (map place_of to) c.deref-2.result.now) (sym c.deref.ensures.value)
+    (subst (AreEntriesAt R (map place_of f.statuses.items)) (sym c.deref-2.ensures.value) (entries_listed P R m edited starts c.args.columns.now c.args.ready.now f was))
 
-pub restate-requires-clause-latest : goal.restate-requires-clause-latest
-restate-requires-clause-latest c = latest_after c.requires.0 c.args.contents.now c.requires.1 c.args.places.now c.args.latest.now.starts c.args.columns.now c.args.ready.now c.requires.2
+pub restate_all-requires-clause-right : goal.restate_all-requires-clause-right
+restate_all-requires-clause-right c =
+    let (P, m, edited, starts, was) = c.requires in
+    let R = c.args.rest.now.contents.now in
+    let f = c.args.followed.now in
+    let l = c.args.columns.now in
+    let r = c.args.ready.now in
+    subst (All (HasStatusAt R)) (sym c.deref.ensures.value)
+    (right_statuses P R f.naming.named.items f.naming.places.items starts l r (was_named P R m edited starts l r f was) f.touched.items f.statuses.items was.followed.statuses)
 
-pub restate-requires-clause-before : goal.restate-requires-clause-before
-restate-requires-clause-before c =
-    let P = c.requires.0 in
-    let R = c.args.contents.now in
-    let places = c.args.places.now in
-    let was = c.requires.2 in
-    let moved = moved_on P R c.requires.1 places c.args.latest.now.starts c.args.columns.now c.args.ready.now was in (
+pub restate_all-requires-clause-room : goal.restate_all-requires-clause-room
+restate_all-requires-clause-room c =
+    let (P, m, edited, starts, was) = c.requires in
+    let R = c.args.rest.now.contents.now in
+    let f = c.args.followed.now in
+    room_after P R f.naming.places.items (moved_then P R m edited starts c.args.columns.now c.args.ready.now f was) c.args.ready.now was.ready
+
+pub restate_all-requires-clause-before : goal.restate_all-requires-clause-before
+restate_all-requires-clause-before c =
+    let (P, m, edited, starts, was) = c.requires in
+    let R = c.args.rest.now.contents.now in
+    let f = c.args.followed.now in
+    let l = c.args.columns.now in
+    let r = c.args.ready.now in (
       P,
-      places,
-      moved,
+      f.naming.places.items,
+      starts,
+      moved_then P R m edited starts l r f was,
+      latest_after P R f.naming.named.items f.naming.places.items starts l r (was_named P R m edited starts l r f was),
       record {
         latest = was.latest;
         statuses = subst (AreStatuses P) (sym c.deref_mut.ensures.value) was.columns.statuses;
         tallies = subst (AreTallies P) (sym c.deref_mut-2.ensures.value) was.columns.tallies;
         ready = was.ready.listed;
       },
-      keep_status P R places moved places (known_after P R c.requires.1 places c.args.latest.now.starts c.args.columns.now c.args.ready.now was),
+      subst (λ to. KeepStatus P R (map place_of to)) (sym c.deref.ensures.value) (keeps_status P R m edited starts l r f was),
     )
-
-pub restate-requires-clause-room : goal.restate-requires-clause-room
-restate-requires-clause-room c =
-    room_after c.requires.0 c.args.contents.now c.args.places.now (moved_on c.requires.0 c.args.contents.now c.requires.1 c.args.places.now c.args.latest.now.starts c.args.columns.now c.args.ready.now c.requires.2) c.args.ready.now c.requires.2.ready
 
 pub returns-clause-columns : goal.returns-clause-columns
 returns-clause-columns c =
-    let P = c.requires.0 in
-    let R = c.args.contents.now in
-    let os = c.requires.1 in
-    let places = c.args.places.now in
-    let starts = c.args.latest.now.starts in
+    let (P, m, edited, starts, was) = c.requires in
+    let R = c.args.rest.now.contents.now in
+    let f = c.args.followed.now in
+    let os = f.naming.named.items in
+    let places = f.naming.places.items in
     let l = c.args.columns.now in
     let r = c.args.ready.now in
-    let was = c.requires.2 in
-    let moved = moved_on P R os places starts l r was in
+    let named = was_named P R m edited starts l r f was in
+    let moved = moved_then P R m edited starts l r f was in
     let groups : length (entries R.occurrences) ≡ length (entries P.occurrences) = ap (λ cs. length (entries cs)) moved.occurrences in
-    let statuses = c.restate.ensures.statuses in
-    let tallies = c.restate.ensures.tallies in
+    let statuses = c.restate_all.ensures.statuses in
+    let tallies = c.restate_all.ensures.tallies in
     record {
-      kept = kept_after P R os places starts l r was;
-      standings = standings_after P R os places starts l r was;
-      statuses = subst (AreStatuses R) (sym (with_items_is l.statuses c.restate.new.statuses (omega (arith, statuses.size, was.columns.statuses.size, moved.size, l.statuses.ok.0)))) statuses;
-      tallies = subst (AreTallies R) (sym (with_items_is l.tallies c.restate.new.tallies (omega (arith, tallies.size, was.columns.tallies.size, groups, l.tallies.ok.0)))) tallies;
+      kept = kept_after P R os places starts l r named;
+      standings = standings_after P R os places starts l r named;
+      statuses = subst (AreStatuses R) (sym (with_items_is l.statuses c.restate_all.new.statuses (omega (arith, statuses.size, was.columns.statuses.size, moved.size, l.statuses.ok.0)))) statuses;
+      tallies = subst (AreTallies R) (sym (with_items_is l.tallies c.restate_all.new.tallies (omega (arith, tallies.size, was.columns.tallies.size, groups, l.tallies.ok.0)))) tallies;
     }
 
 pub returns-clause-ready : goal.returns-clause-ready
 returns-clause-ready c =
-    let room = room_after c.requires.0 c.args.contents.now c.args.places.now (moved_on c.requires.0 c.args.contents.now c.requires.1 c.args.places.now c.args.latest.now.starts c.args.columns.now c.args.ready.now c.requires.2) c.args.ready.now c.requires.2.ready in
-    record { listed = c.restate.ensures.ready; room = omega (arith, room, c.restate.ensures.room) }
+    let (P, m, edited, starts, was) = c.requires in
+    let R = c.args.rest.now.contents.now in
+    let f = c.args.followed.now in
+    let room = room_after P R f.naming.places.items (moved_then P R m edited starts c.args.columns.now c.args.ready.now f was) c.args.ready.now was.ready in
+    record { listed = c.restate_all.ensures.ready; room = omega (arith, room, c.restate_all.ensures.room) }

@@ -1,5 +1,6 @@
-use Rattle.std.proofs.Common.{◌≡◌, ◌∙◌, sym, subst, Some}
+use Rattle.std.proofs.Common.{◌≡◌, ◌∙◌, sym, ap, subst, Some}
 use Rattle.std.specs.FinMap.{get}
+use Rattle.plan_looks.specs.plan_kept.specs.plan_model.specs.Contents.{Contents}
 use Rattle.plan_steps.proofs.Written.{puts_resource_back, puts_workstation_back}
 use Rattle.plan_steps.proofs.revisions.standing.Goals as goal
 use Rattle.plan_steps.specs.Revisions.{PutsBack}
@@ -7,15 +8,15 @@ use Rattle.plan_steps.specs.declared.revisions.Revision.TheVariants as revision
 
 pub returns-in-Available : goal.returns-in-Available
 returns-in-Available c =
-    let P = c.args.contents.now in
+    let P = c.args.shown.now.contents in
     let r = c.in-Available.name in
     let old = revision.Available r c.unwrap.result in
-    let h = puts_resource_back P r _ c.unwrap.result (sym c.resource.ensures ∙ c.unwrap.ensures) in
+    let h = puts_resource_back P r _ c.unwrap.result (sym (c.resource.ensures ∙ ap (λ (Q : Contents). get Q.resources r) c.beside.ensures.contents) ∙ c.unwrap.ensures) in
     subst (λ x. PutsBack P x old) (sym c.in-Available.is) h
 
 pub returns-in_ok-standing_workstation-in-Opened : goal.returns-in_ok-standing_workstation-in-Opened
 returns-in_ok-standing_workstation-in-Opened c =
-    let P = c.args.contents.now in
+    let P = c.args.shown.now.contents in
     let w = c.in-Opened.workstation in
     let told = c.in_ok-standing_workstation-in-Opened.ensures in
     let name = c.name.ensures in

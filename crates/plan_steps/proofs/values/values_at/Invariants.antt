@@ -1,7 +1,10 @@
-use Rattle.std.proofs.Common.{Contains, take}
+use Rattle.std.proofs.Common.{◌≡◌, Contains, map, take}
 use Rattle.plan_steps.specs.Values.{AreValuesAt}
 use Rattle.plan_steps.proofs.values.values_at.Given as goal
 
 -- the values of the places so far
 abbrev pub invariant-loop-place : goal.invariant-loop-place
-invariant-loop-place g l = AreValuesAt l.list (Contains (take l.place-index l.places)) l.values.items
+invariant-loop-place g l = record {
+  values : AreValuesAt l.list (Contains (take l.place-index l.places)) l.values.items;
+  in_order : map (λ e. e.0) l.values.items ≡ take l.place-index l.places;
+}

@@ -1,10 +1,5 @@
-use Rattle.std.proofs.Common.{sym, subst, ap, ◌∙◌}
-use Rattle.plan_kept.specs.plan_laws.proofs.Kept.{choice_keeps_sound}
-use Rattle.plan_kept.specs.plan_model.specs.Ready.{named}
-use Rattle.plan_kept.specs.plan_model.specs.Valid.{IsSound}
+use Rattle.plan_looks.specs.plan_kept.specs.plan_laws.proofs.Kept.{choice_keeps_sound}
 use Rattle.plan_steps.proofs.writing.with_named.Goals as goal
 
-pub of-requires : goal.of-requires
-of-requires c =
-    let keys = c.args.named.now in
-    subst IsSound (sym (c.mark_all.ensures ∙ ap (named keys) c.into_rows-rows.ensures.contents)) (choice_keeps_sound c.args.contents c.requires.0 keys c.into_rows-rows.ensures.sound c.requires.1)
+pub mark_all-requires : goal.mark_all-requires
+mark_all-requires c = choice_keeps_sound c.args.shown.contents c.requires.0 c.args.named.now c.beside.ensures.sound c.requires.1

@@ -1,7 +1,7 @@
 use Rattle.std.proofs.Common.{sym, ap, ◌∙◌, cond}
-use Rattle.plan_model.specs.Contents.{Operation}
+use Rattle.plan_choice.specs.plan_model.specs.Contents.{Operation}
 use Rattle.plan_choice.specs.Takings.{with_one_more}
-use Rattle.plan_model.specs.Holdings.{holds_server}
+use Rattle.plan_choice.specs.plan_model.specs.Holdings.{holds_server}
 use Rattle.status_rules.specs.Table.{marked_status}
 use Rattle.plan_takings.proofs.given.given_back.Goals as goal
 

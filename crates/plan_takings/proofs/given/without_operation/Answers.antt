@@ -1,5 +1,5 @@
 use Rattle.std.proofs.Common.{sym, ap, ◌∙◌, ◌+◌}
-use Rattle.plan_model.specs.Contents.{Operation}
+use Rattle.plan_choice.specs.plan_model.specs.Contents.{Operation}
 use Rattle.workstations.specs.declared.Capacity.{Capacity}
 use Rattle.plan_choice.proofs.GivenSums.{same_capacity}
 use Rattle.plan_takings.proofs.given.without_operation.Goals as goal

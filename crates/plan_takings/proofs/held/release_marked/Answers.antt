@@ -2,7 +2,7 @@ use Rattle.std.proofs.Common.{◌≡◌, sym, ap, subst, ◌∙◌, ◌+◌, ari
 use Rattle.std.specs.FinMap.{get}
 use Rattle.std.proofs.lemmas.Option.{slice_get-get_or}
 use Rattle.special_resources.specs.Needs.{usages_of}
-use Rattle.plan_model.specs.Contents.{Operation}
+use Rattle.plan_choice.specs.plan_model.specs.Contents.{Operation}
 use Rattle.plan_choice.specs.plan_drafts.proofs.Tables.{is_none}
 use Rattle.plan_takings.specs.Marked.{HaveReleased}
 use Rattle.plan_takings.proofs.Releasing.{AreReleasedSoFar, all_released, free_already, released_too, still_held}

@@ -1,6 +1,6 @@
 use Rattle.std.proofs.Common.{ap, subst}
 use Rattle.std.proofs.lemmas.Result.{on_ok_weaker}
-use Rattle.plan_model.specs.Contents.{Operation}
+use Rattle.plan_choice.specs.plan_model.specs.Contents.{Operation}
 use Rattle.plan_takings.specs.Marked.{HaveReleased}
 use Rattle.plan_choice.specs.Takings.{HaveTaken}
 use Rattle.plan_takings.proofs.held.retake_needs.Goals as goal

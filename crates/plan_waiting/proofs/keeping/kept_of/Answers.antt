@@ -1,7 +1,7 @@
 use Rattle.std.proofs.Common.{arith, refl}
 use Rattle.std.proofs.lemmas.Option.{slice_get-get_or}
 use Rattle.std.specs.FinMap.{entries}
-use Rattle.plan_status.proofs.SoFar.{all_rows, none_so_far, one_more}
+use Rattle.shown_records.specs.plan_status.proofs.SoFar.{all_rows, none_so_far, one_more}
 use Rattle.plan_waiting.proofs.SoKept.{kept_by}
 use Rattle.plan_waiting.specs.Kept.{IsKept}
 use Rattle.plan_waiting.proofs.keeping.kept_of.Goals as goal

@@ -1,8 +1,8 @@
 use Rattle.std.specs.FinMap.{entries}
-use Rattle.plan_status.specs.plan_drafts.specs.Places.{AreStatuses}
-use Rattle.plan_moves.specs.plan_model.specs.Contents.{Contents}
-use Rattle.plan_status.proofs.SoFar.{AreSoFar}
-use Rattle.plan_status.specs.Standings.{AreStandings}
+use Rattle.shown_records.specs.plan_status.specs.plan_drafts.specs.Places.{AreStatuses}
+use Rattle.shown_records.specs.plan_moves.specs.plan_model.specs.Contents.{Contents}
+use Rattle.shown_records.specs.plan_status.proofs.SoFar.{AreSoFar}
+use Rattle.shown_records.specs.plan_status.specs.Standings.{AreStandings}
 use Rattle.plan_waiting.specs.Kept.{IsKept}
 use Rattle.plan_waiting.proofs.keeping.kept_of.Given as goal
 

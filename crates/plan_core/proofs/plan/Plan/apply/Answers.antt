@@ -13,7 +13,7 @@ use Rattle.plan_core.specs.State.{PreparedState, plan_after}
 led : (c : After-put) → plan_held c.prepared.inside.clock c.put.new.loaded ≡ plan_after c.args.self.now c.args.prepared
 led c =
     let new = c.prepared.inside in
-    is_after c.self.inside.clock c.self.inside.loaded c.put.new.loaded c.args.self.now (record { clock = new.clock; next = new.next; named = new.named.items; rows = new.changes.rows.items; gone = new.changes.gone.items }) c.args.prepared
+    is_after c.self.inside.clock c.self.inside.loaded c.put.new.loaded c.args.self.now (record { clock = new.clock; next = new.next; named = new.named.items; rows = new.changes.rows.items; gone = new.changes.gone.items; work = new.work }) c.args.prepared
     c.deref.result.now c.self.view_is c.prepared.view_is c.deref.ensures.value (c.put.ensures c.self.inside.clock)
 
 -- a step leads there

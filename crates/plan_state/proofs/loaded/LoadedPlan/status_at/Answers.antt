@@ -1,5 +1,4 @@
-use Rattle.std.proofs.Common.{◌≡◌, ◌<◌, refl, sym, subst, arith, length, slice_get, Some}
-use Rattle.std.proofs.lemmas.Option.{slice_get_read}
+use Rattle.std.proofs.Common.{◌≡◌, sym, subst, slice_get, Some}
 use Rattle.std.specs.FinMap.{entries}
 use Rattle.plan_choice.specs.plan_model.specs.Contents.{Contents}
 use Rattle.plan_choice.specs.plan_model.specs.Status.{HasStatus}
@@ -7,10 +6,5 @@ use Rattle.plan_state.proofs.loaded.LoadedPlan.status_at.Goals as goal
 
 pub returns : goal.returns
 returns c o op at =
-    let statuses = c.self.inside.figures.statuses.items in
-    let are = c.self.invariant.figures.statuses in
-    let i = c.args.place in
-    let within = subst (λ (Q : Contents). i < length (entries Q.operations)) (sym c.self.view_is) c.requires in
-    let here = subst (λ (Q : Contents). slice_get (entries Q.operations) i ≡ Some (o, op)) (sym c.self.view_is) at in
-    let known : i < length statuses = omega (arith, within, are.size) in
-    subst (λ (Q : Contents). HasStatus Q o c.index.result.now) c.self.view_is (are.each i o op c.index.result.now here (slice_get_read statuses _ i c.index.result.now refl known c.index.ensures))
+    let here = subst (λ (Q : Contents). slice_get (entries Q.operations) c.args.place ≡ Some (o, op)) (sym c.outline.ensures) at in
+    subst (λ (Q : Contents). HasStatus Q o c.status_at.result) c.outline.ensures (c.status_at.ensures o op here).status

@@ -1,0 +1,37 @@
+use Rattle.std.proofs.Common.{◌≡◌, ◌⊎◌, ap, subst, ◌∙◌, List, Some, IfErr, rules}
+use Rattle.plan_basics.specs.Intervals.{OpenInterval}
+use Rattle.plan_basics.specs.Refusals.{IsLeastRefusal}
+use Rattle.plan_basics.specs.declared.Refusal.TheVariants as refusal
+use Rattle.plan_records.specs.Acceptance.{MayBeOpenBy}
+use Rattle.plan_records.specs.declared.What.TheVariants as what
+use Rattle.plan_checks.proofs.Reporting.{if_barred, if_fails, if_none_refuses}
+use Rattle.plan_checks.proofs.checks.check_unseen.Goals as goal
+
+pub returns-in-DeleteOccurrence-clause-refused : goal.returns-in-DeleteOccurrence-clause-refused
+returns-in-DeleteOccurrence-clause-refused c at =
+    if_fails c.args.outline.now at c.in-DeleteOccurrence.is c.check_deleted.result c.check_deleted.ensures.refused
+
+pub returns-in_ok-ok_or-in-AddOccurrence-clause-refused : goal.returns-in_ok-ok_or-in-AddOccurrence-clause-refused
+returns-in_ok-ok_or-in-AddOccurrence-clause-refused c at =
+    let some : c.in-AddOccurrence.addition ≡ Some c.in_ok-ok_or-in-AddOccurrence.field-0.now = search rules in
+    if_barred c.args.outline.now at (c.in-AddOccurrence.is ∙ ap what.AddOccurrence some) c.check_added.result c.check_added.ensures.refused
+
+pub returns-in-AddDependency-clause-ok : goal.returns-in-AddDependency-clause-ok
+returns-in-AddDependency-clause-ok c at =
+    if_none_refuses c.args.outline.now at c.in-AddDependency.is c.check_paired.result c.check_paired.ensures.ok
+
+pub returns-in-AddDependency-clause-refused : goal.returns-in-AddDependency-clause-refused
+returns-in-AddDependency-clause-refused c at =
+    if_barred c.args.outline.now at c.in-AddDependency.is c.check_paired.result c.check_paired.ensures.refused
+
+pub returns-in-SetAvailable-clause-refused : goal.returns-in-SetAvailable-clause-refused
+returns-in-SetAvailable-clause-refused c at =
+    if_fails c.args.outline.now at c.in-SetAvailable.is c.check_available.result c.check_available.ensures.refused
+
+pub returns-in-ReplaceIntervals-clause-refused : goal.returns-in-ReplaceIntervals-clause-refused
+returns-in-ReplaceIntervals-clause-refused c at =
+    let contents = c.args.outline.now in
+    let name = c.in-ReplaceIntervals.name in
+    if_barred contents at c.in-ReplaceIntervals.is c.check_open_by.result
+    (subst (λ (items : List OpenInterval). IfErr c.check_open_by.result (λ r. (r ≡ refusal.Memory) ⊎ (IsLeastRefusal (MayBeOpenBy contents name items) r))) c.deref.ensures.value
+    c.check_open_by.ensures.refused)

@@ -1,0 +1,83 @@
+// The keys and pairs of a plan with an occurrence that is added, and whether there is room for them.
+ghost use Rattle.std.specs.Prelude.{◌≡◌, ◌<◌, Decides, IfOk, OnOk, length};
+ghost use Rattle.std.specs.FinMap.{IsAntisymmetric, keys as keys_in};
+ghost use Rattle.std.specs.FinSet as set;
+ghost use Rattle.std.specs.List.Sorted.{IsStrictlySortedBy};
+ghost use Rattle.plan_model.specs.Contents.{pair_cmp};
+ghost use Rattle.plan_records.specs.Changes.{with_added};
+ghost use Rattle.plan_state.specs.plan_changes.specs.Additions.{HasNothingOf, ShareNoMember};
+ghost use Rattle.plan_state.specs.plan_drafts.specs.Contents.{added_of, AreAdditionParts};
+ghost use Rattle.plan_checks.specs.Additions.{HasRoomFor};
+
+use super::reach::key_at;
+use plan_basics::OpKey;
+use plan_basics::limits::{MOST_OCCURRENCES, MOST_OPERATIONS, MOST_PAIRS};
+use plan_records::{AdditionParts, keys};
+use plan_state::Beside;
+use std::alloc::{AllocError, Global};
+
+// The keys of the plan's operations, in order.
+fn old_keys(alloc: Global, beside: &Beside<'_>) -> Result<Vec<OpKey>, AllocError>
+    ensures { IfOk result (λ keys. keys.items ≡ keys_in beside.now.contents.now.operations) }
+{
+    let count = beside.operation_count();
+    let mut keys = Vec::with_capacity(alloc, count)?;
+    for place in 0..count {
+        keys.push(key_at(beside, place))?;
+    }
+    Ok(keys)
+}
+
+// Puts in others, in order.
+fn merge<K: Ord + Copy>(items: &mut Vec<K>, new: &[K]) -> Result<(), AllocError>
+    requires exact { IsAntisymmetric K.cmp }
+    requires old { IsStrictlySortedBy K.cmp items.old.items }
+    requires new { IsStrictlySortedBy K.cmp new.now }
+    requires apart { ShareNoMember {R = K.cmp} (set.from_list items.old.items) (set.from_list new.now) }
+    ensures both { OnOk result (set.from_list {R = K.cmp} items.new.items ≡ set.union (set.from_list items.old.items) (set.from_list new.now)) }
+    ensures in_order { OnOk result (IsStrictlySortedBy K.cmp items.new.items) }
+{
+    items.extend_from_slice(new)?;
+    items.sort()?;
+    Ok(())
+}
+
+/// The keys of the plan's operations with those that are added, in order.
+pub fn grown_keys(
+    alloc: Global,
+    beside: &Beside<'_>,
+    parts: &AdditionParts,
+) -> Result<Vec<OpKey>, AllocError>
+    requires parts { AreAdditionParts parts.now }
+    requires apart { HasNothingOf beside.now.contents.now (added_of parts.now) }
+    ensures { IfOk result (λ keys. keys.items ≡ keys_in (with_added beside.now.contents.now (added_of parts.now)).operations) }
+{
+    let mut all = old_keys(alloc, beside)?;
+    let new = keys(alloc, &parts.operations)?;
+    merge(&mut all, &new)?;
+    Ok(all)
+}
+
+/// The plan's pairs with those that are added, in order.
+pub fn grown_pairs(
+    alloc: Global,
+    beside: &Beside<'_>,
+    parts: &AdditionParts,
+) -> Result<Vec<(OpKey, OpKey)>, AllocError>
+    requires parts { AreAdditionParts parts.now }
+    requires apart { HasNothingOf beside.now.contents.now (added_of parts.now) }
+    ensures pairs { IfOk result (λ pairs. set.from_list pairs.items ≡ (with_added beside.now.contents.now (added_of parts.now)).pairs) }
+    ensures in_order { IfOk result (λ pairs. IsStrictlySortedBy pair_cmp pairs.items) }
+{
+    let mut all = Vec::from_slice(alloc, beside.pairs())?;
+    merge(&mut all, &parts.pairs)?;
+    Ok(all)
+}
+
+/// Whether the plan has room for an occurrence more, with operations of these keys and these pairs in all.
+pub fn has_room(beside: &Beside<'_>, keys: &[OpKey], pairs: &[(OpKey, OpKey)]) -> bool
+    ensures { Decides result (HasRoomFor beside.now.contents.now (length keys.now) (length pairs.now)) }
+{
+    let occurrences = beside.occurrences().len();
+    occurrences < MOST_OCCURRENCES && keys.len() <= MOST_OPERATIONS && pairs.len() <= MOST_PAIRS
+}

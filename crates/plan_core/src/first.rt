@@ -1,0 +1,107 @@
+// What a request leads to where no plan is loaded: a load, or nothing.
+ghost use Rattle.std.specs.Prelude.{◌≡◌, ◌⊎◌, ◌≤ℤ◌, ℕ, pos, None, Some, IfErr, IfOk, OnOk};
+ghost use Rattle.plan_basics.specs.Refusals.{IsLeastRefusal, NoneRefuses};
+ghost use Rattle.plan_basics.specs.declared.Refusal.{Refusal};
+ghost use Rattle.plan_core.specs.Outcomes.{IsOutcomeOf};
+ghost use Rattle.plan_core.specs.Requested.{AreMadeBy, MayBeMadeAt};
+ghost use Rattle.plan_records.specs.Acceptance.{MayBeAccepted};
+ghost use Rattle.plan_records.specs.Answer.{refused};
+ghost use Rattle.plan_records.specs.Rows.{AreChanges};
+ghost use Rattle.plan_records.specs.Step.{Step};
+ghost use Rattle.plan_steps.specs.plan_model.specs.Contents.{nothing};
+ghost use Rattle.plan_steps.specs.plan_model.specs.Plan.{IsSoundPlan, plan_held};
+
+use super::prepared::{Next, Outcome};
+use super::requests::drafted;
+use super::settle::settle;
+use plan_basics::{Moment, Refusal};
+use plan_records::{Changes, PlanContents, Request, What};
+use plan_status::SoundContents;
+use plan_steps::{LoadedPlan, PlanShown, Shown, changes_between, check_load};
+use std::alloc::Global;
+
+// What stands in the way of a request that is made at a moment where no plan is loaded, but for that moment.
+fn check_first(what: &What) -> Result<(), Refusal>
+    ensures ok { (clock at : ℕ) → OnOk result (NoneRefuses (MayBeMadeAt (plan_held clock None) at what.now)) }
+    ensures refused { (clock at : ℕ) → IfErr result (IsLeastRefusal (MayBeMadeAt (plan_held clock None) at what.now)) }
+{
+    if let What::Load(draft) = what {
+        check_load(false, draft)
+    } else {
+        Err(Refusal::NotLoaded)
+    }
+}
+
+// What a request that may be accepted where no plan is loaded, which is a load, makes the plan hold. The error is always `Memory`.
+fn first_contents(alloc: Global, request: &Request) -> Result<PlanContents, Refusal>
+    requires { (clock : ℕ) × NoneRefuses (MayBeAccepted (plan_held clock None) request.now) }
+    ensures made { IfOk result (AreMadeBy nothing request.now.what) }
+    ensures refused { IfErr result (λ r. r ≡ Refusal.Memory) }
+{
+    match &request.what {
+        What::Load(draft) => Ok(drafted(alloc, draft.as_ref().unwrap())?),
+        _ => unreachable!(),
+    }
+}
+
+// Which rows of the tables there are once this plan is loaded at this moment, and none was before. The error is always `Memory`.
+fn first_changes(
+    alloc: Global,
+    clock: Moment,
+    loaded: &LoadedPlan,
+    at: Moment,
+) -> Result<Changes, Refusal>
+    ensures changes { IfOk result (λ c. AreChanges (plan_held clock None) (plan_held at (Some loaded.now)) c.rows.items c.gone.items) }
+    ensures refused { IfErr result (λ r. r ≡ Refusal.Memory) }
+{
+    let before = PlanShown {
+        clock,
+        loaded: None,
+    };
+    let after = PlanShown {
+        clock: at,
+        loaded: Some(Shown::of(loaded)),
+    };
+    Ok(changes_between(alloc, before, after)?)
+}
+
+// What a request that may be accepted where no plan is loaded leads to. The error is always `Memory`.
+fn loaded_first(
+    alloc: Global,
+    clock: Moment,
+    request: &Request,
+    at: Moment,
+) -> Result<Outcome, Refusal>
+    requires sound { IsSoundPlan (plan_held clock None) }
+    requires clear { NoneRefuses (MayBeAccepted (plan_held clock None) request.now) }
+    requires at { request.now.at ≡ pos at }
+    ensures outcome { IfOk result (IsOutcomeOf (plan_held clock None) request.now at) }
+    ensures refused { IfErr result (λ r. r ≡ Refusal.Memory) }
+{
+    let new = SoundContents::of(first_contents(alloc, request)?);
+    let settled = settle(alloc, new, at)?;
+    let changes = first_changes(alloc, clock, &settled.loaded, at)?;
+    Ok(Outcome {
+        next: Next::Whole(settled.loaded),
+        named: settled.named,
+        changes,
+    })
+}
+
+/// What a request that is made at a moment leads to where no plan is loaded; or the least refusal that applies, or that no memory
+/// is found.
+pub fn first_outcome(
+    alloc: Global,
+    clock: Moment,
+    request: &Request,
+    at: Moment,
+) -> Result<Outcome, Refusal>
+    requires sound { IsSoundPlan (plan_held clock None) }
+    requires at { request.now.at ≡ pos at }
+    requires onward { pos clock ≤ℤ request.now.at }
+    ensures outcome { IfOk result (IsOutcomeOf (plan_held clock None) request.now at) }
+    ensures refused { IfErr result (λ r. (r ≡ Refusal.Memory) ⊎ Step (plan_held clock None) request.now (refused r) (plan_held clock None)) }
+{
+    check_first(&request.what)?;
+    loaded_first(alloc, clock, request, at)
+}

@@ -1,0 +1,13 @@
+pub mod FewLooks
+pub mod MarksAnew
+pub mod PlaceKeys
+pub mod Differing
+pub mod NewlySatisfied
+pub mod Freed
+pub mod Followers
+pub mod Graphed
+pub mod Asked
+pub mod StepWork
+pub mod Begun
+pub mod Counted
+pub mod StepLooks

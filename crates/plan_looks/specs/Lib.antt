@@ -1,0 +1,11 @@
+pub use Rattle.plan_kept
+pub use Rattle.plan_kept.specs.plan_changes
+pub use Rattle.plan_kept.specs.plan_moves
+pub use Rattle.plan_kept.specs.plan_records
+pub use Rattle.plan_kept.specs.plan_status
+pub use Rattle.plan_kept.specs.shown_records
+pub use Rattle.plan_restating
+pub mod FewLooks
+pub mod StepLooks
+pub mod Anew
+pub mod Laws

@@ -1,0 +1,12 @@
+pub use Rattle.plan_cascade
+pub use Rattle.plan_changes
+pub use Rattle.plan_changes.specs.plan_moves
+pub use Rattle.plan_status
+pub use Rattle.plan_status.specs.plan_laws
+pub use Rattle.plan_status.specs.plan_records
+pub use Rattle.plan_status.specs.ready_list
+pub use Rattle.plan_status.specs.plan_drafts
+pub use Rattle.plan_status.specs.plan_model
+pub mod States
+pub mod Looks
+pub mod Rules

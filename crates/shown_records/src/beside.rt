@@ -1,0 +1,184 @@
+// All of a plan but its operations' records.
+ghost use Rattle.std.specs.Prelude.{◌≡◌, ◌<◌, true, None, Some, IfSome, IsNone, length, slice_get};
+ghost use Rattle.std.specs.FinMap.{contains_key, entries, get};
+ghost use Rattle.std.specs.FinSet as set;
+ghost use Rattle.std.specs.List.Sorted.{IsStrictlySortedBy};
+ghost use Rattle.std.specs.Map.{keys_of};
+ghost use Rattle.plan_basics.specs.Keys.{name_cmp, occurrence_cmp};
+ghost use Rattle.plan_basics.specs.declared.keys.OpKey.{OpKey as OpKeyValue};
+ghost use Rattle.plan_status.specs.plan_model.specs.Contents.{attribute_at, pair_cmp, HasAttribute, Operation};
+ghost use Rattle.plan_status.specs.plan_model.specs.Holdings.{takes};
+ghost use Rattle.plan_status.specs.plan_model.specs.declared.Occurrence.{Occurrence as OccurrenceValue};
+ghost use Rattle.plan_status.specs.plan_model.specs.Valid.{IsSound};
+ghost use Rattle.workstations.specs.Workstations.{Workstation as WorkstationValue};
+
+use plan_basics::{Attr, OccKey, OpKey, ResName, WsName};
+use plan_changes::Occurrence;
+use plan_status::{OperationRecord, SoundContents, attribute_of};
+use workstations::Workstation;
+
+/// All that a plan holds beside its operations' records: workstations, special resources, occurrences, pairs, and the keys of
+/// operations. It shows no record.
+#[derive(Clone, Copy)]
+pub struct Beside<'a> {
+    contents: &'a SoundContents,
+}
+
+impl<'a> Beside<'a> {
+    /// What stands beside the records of these contents.
+    pub fn of(contents: &'a SoundContents) -> Beside<'a>
+        ensures contents { result.contents.now ≡ contents.now }
+        ensures sound { IsSound contents.now }
+    {
+        let _valid = contents.valid();
+        Beside { contents }
+    }
+
+    /// The law that what these stand beside is sound. It does nothing.
+    pub fn are_sound(&self)
+        ensures { IsSound self.now.contents.now }
+    {
+        let _valid = self.contents.valid();
+    }
+
+    /// The workstations by name.
+    pub fn workstations(&self) -> &'a [Workstation]
+        ensures rows { result.now ≡ entries self.now.contents.now.workstations }
+        ensures in_order { IsStrictlySortedBy name_cmp (keys_of result.now) }
+        ensures sound { IsSound self.now.contents.now }
+    {
+        self.contents.workstations()
+    }
+
+    /// The special resources by name, and whether each is available.
+    pub fn resources(&self) -> &'a [(ResName, bool)]
+        ensures rows { result.now ≡ entries self.now.contents.now.resources }
+        ensures in_order { IsStrictlySortedBy name_cmp (keys_of result.now) }
+        ensures sound { IsSound self.now.contents.now }
+    {
+        let valid = self.contents.valid();
+        valid.resources()
+    }
+
+    /// The occurrences by key.
+    pub fn occurrences(&self) -> &'a [(OccKey, Occurrence)]
+        ensures rows { result.now ≡ entries self.now.contents.now.occurrences }
+        ensures in_order { IsStrictlySortedBy occurrence_cmp (keys_of result.now) }
+        ensures sound { IsSound self.now.contents.now }
+    {
+        self.contents.occurrences()
+    }
+
+    /// The pairs, by predecessor and then successor.
+    pub fn pairs(&self) -> &'a [(OpKey, OpKey)]
+        ensures pairs { set.from_list result.now ≡ self.now.contents.now.pairs }
+        ensures in_order { IsStrictlySortedBy pair_cmp result.now }
+        ensures sound { IsSound self.now.contents.now }
+    {
+        self.contents.pairs()
+    }
+
+    /// How many operations there are.
+    pub fn operation_count(&self) -> usize
+        ensures count { result ≡ length (entries self.now.contents.now.operations) }
+        ensures sound { IsSound self.now.contents.now }
+    {
+        self.contents.operations().len()
+    }
+
+    /// The key of the operation at a place.
+    pub fn operation_key(&self, place: usize) -> &'a OpKey
+        requires { place < length (entries self.now.contents.now.operations) }
+        ensures key { (op : Operation) × (slice_get (entries self.now.contents.now.operations) place ≡ Some (result.now, op)) }
+        ensures sound { IsSound self.now.contents.now }
+    {
+        &self.contents.operations()[place].0
+    }
+
+    /// The index of the operation of a key, if there is one.
+    pub fn operation_place(&self, key: &OpKey) -> Option<usize>
+        ensures found { IfSome result (λ i. (value : Operation) × (slice_get (entries self.now.contents.now.operations) i ≡ Some (key.now, value))) }
+        ensures absent { IsNone result → get self.now.contents.now.operations key.now ≡ None }
+    {
+        self.contents.operation_place(key)
+    }
+
+    /// The index of the occurrence of a key, if there is one.
+    pub fn occurrence_place(&self, key: &OccKey) -> Option<usize>
+        ensures found { IfSome result (λ i. (value : OccurrenceValue) × (slice_get (entries self.now.contents.now.occurrences) i ≡ Some (key.now, value))) }
+        ensures absent { IsNone result → get self.now.contents.now.occurrences key.now ≡ None }
+    {
+        self.contents.occurrence_place(key)
+    }
+
+    /// The index of the operation of a key that is there.
+    pub fn known_operation_place(&self, key: &OpKey) -> usize
+        requires { contains_key self.now.contents.now.operations key.now ≡ true }
+        ensures within { result < length (entries self.now.contents.now.operations) }
+        ensures at { (value : Operation) × (slice_get (entries self.now.contents.now.operations) result ≡ Some (key.now, value)) }
+    {
+        self.contents.known_operation_place(key)
+    }
+
+    /// The index of the occurrence of an operation that is there.
+    pub fn occurrence_place_of(&self, key: &OpKey) -> usize
+        requires { contains_key self.now.contents.now.operations key.now ≡ true }
+        ensures within { result < length (entries self.now.contents.now.occurrences) }
+        ensures at { (value : OccurrenceValue) × (slice_get (entries self.now.contents.now.occurrences) result ≡ Some (key.now.occurrence, value)) }
+    {
+        self.contents.occurrence_place_of(key)
+    }
+
+    /// The index of the workstation of an operation that is there.
+    pub fn workstation_place_of(&self, operation: &OperationRecord) -> usize
+        requires { (o : OpKeyValue) × (get self.now.contents.now.operations o ≡ Some operation.now) }
+        ensures within { result < length (entries self.now.contents.now.workstations) }
+        ensures at { (value : WorkstationValue) × (slice_get (entries self.now.contents.now.workstations) result ≡ Some (operation.now.workstation, value)) }
+    {
+        self.contents.workstation_place_of(operation)
+    }
+
+    /// The occurrence of a key, if there is one.
+    pub fn occurrence(&self, key: &OccKey) -> Option<&'a Occurrence>
+        ensures found { IfSome result (λ occurrence. get self.now.contents.now.occurrences key.now ≡ Some occurrence.now) }
+        ensures absent { IsNone result → get self.now.contents.now.occurrences key.now ≡ None }
+        ensures sound { IsSound self.now.contents.now }
+    {
+        self.contents.occurrence(key)
+    }
+
+    /// The workstation of a name, if there is one.
+    pub fn workstation(&self, name: &WsName) -> Option<&'a Workstation>
+        ensures found { IfSome result (λ ws. (ws.now.0 ≡ name.now) × (get self.now.contents.now.workstations name.now ≡ Some ws.now.1)) }
+        ensures absent { IsNone result → get self.now.contents.now.workstations name.now ≡ None }
+        ensures sound { IsSound self.now.contents.now }
+    {
+        self.contents.workstation(name)
+    }
+
+    /// Whether the special resource of a name is available, if there is one.
+    pub fn resource(&self, name: &ResName) -> Option<bool>
+        ensures { result ≡ get self.now.contents.now.resources name.now }
+    {
+        self.contents.resource(name)
+    }
+
+    /// How the workstation of an operation of the plan reports.
+    pub fn attribute_of(&self, operation: &OperationRecord) -> Attr
+        requires { (o : OpKeyValue) × (get self.now.contents.now.operations o ≡ Some operation.now) }
+        ensures { HasAttribute self.now.contents.now operation.now.workstation result }
+    {
+        attribute_of(self.contents.valid(), operation)
+    }
+
+    /// Whether starts are known on the workstation of an operation of the plan: there it takes servers and special resources.
+    pub fn starts_are_known(&self, operation: &OperationRecord) -> bool
+        requires { (o : OpKeyValue) × (get self.now.contents.now.operations o ≡ Some operation.now) }
+        ensures { result ≡ takes (attribute_at self.now.contents.now operation.now.workstation) }
+    {
+        match self.attribute_of(operation) {
+            Attr::Automatic | Attr::StartAndCompletion => true,
+            Attr::CompletionOnly | Attr::Nonreporting => false,
+        }
+    }
+}

@@ -1,0 +1,19 @@
+//! What a request is shown of a plan: records of operations by one call, which counts, and all that stands beside them; and what
+//! it writes into the plan, for which no record is shown.
+#![tactic(auto)]
+
+mod beside;
+mod markings;
+mod rules;
+mod shown;
+mod writing;
+
+pub use beside::Beside;
+pub use plan_cascade::{Kept, rerun, settle_up};
+pub use plan_changes::{Marking, Occurrence};
+pub use plan_status::{
+    Changes, OperationRecord, OperationRow, PlanContents, PlanRow, RowKey, SoundContents, Standing,
+    ValidContents, attribute_of, count_one, graph_for, occurrence_status_with, row_place,
+    standings_of, status_with, statuses_of, tallies_of,
+};
+pub use shown::{Opener, Seen, Shown};
