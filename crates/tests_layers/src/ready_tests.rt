@@ -230,6 +230,10 @@ impl Gate for Servers {
     ghost use Rattle.std.specs.Prelude.{◌≡◌, ◌≢◌, ◌+◌, ◌-◌, cond, nat_lt};
     ghost use Rattle.plan_basics.specs.declared.Refusal.{Refusal};
 
+    type Source = Option<u8>;
+
+    ghost source = { λ g. g.closed };
+
     ghost answers = { λ g _ yes h. (yes ≡ nat_lt 0 g.left) × (h.left ≡ g.left - cond yes 1 0) × (h.asked ≡ g.asked + 1) };
 
     ghost refuses = { λ _ _ r. r ≢ Refusal.Memory };
