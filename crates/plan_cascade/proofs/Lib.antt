@@ -3,4 +3,3 @@ pub mod Counting
 pub mod Cascades
 pub mod Clearings
 pub mod Lowerings
-pub mod OneEdge

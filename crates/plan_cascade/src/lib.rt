@@ -5,13 +5,11 @@
 mod clearing;
 mod journal;
 mod kept;
-mod pairing;
 mod rules;
 mod settling;
 
 pub use clearing::rerun;
-pub use journal::{roll_back, take_back, write};
+pub use journal::{take_back, write};
 pub use kept::{Kept, Rule};
-pub use pairing::pair;
 pub use rules::Rules;
-pub use settling::{settle, settle_up};
+pub use settling::{settle, settle_up, spread};

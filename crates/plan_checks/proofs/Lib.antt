@@ -1,6 +1,7 @@
 pub mod AdditionLines
 pub mod ByCommand
 pub mod ByPair
+pub mod ClosedPaths
 pub mod ComingIn
 pub mod Grown
 pub mod Limits

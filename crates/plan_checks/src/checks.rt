@@ -221,7 +221,7 @@ fn check_unseen(alloc: Global, outline: &Outline<'_>, what: &What) -> Result<(),
             check_added(alloc, outline, addition.as_ref().ok_or(Refusal::BadPlan)?)
         }
         What::AddDependency(predecessor, successor) => {
-            check_paired(outline, predecessor, successor)
+            check_paired(alloc, outline, predecessor, successor)
         }
         What::SetAvailable(name, _) => check_available(outline, name),
         What::ReplaceIntervals(name, intervals) => check_open_by(alloc, outline, name, intervals),

@@ -1,6 +1,6 @@
 // What stands in the way of a dependency that is to be added.
-ghost use Rattle.std.specs.Prelude.{◌≡◌, ◌≢◌, ◌<◌, ◌⊎◌, true, false, IfErr, OnOk};
-ghost use Rattle.operation_graph.specs.Graphs.{MayTakeEdge};
+ghost use Rattle.std.specs.Prelude.{◌≡◌, ◌≢◌, ◌<◌, ◌↔◌, ◌⊎◌, true, false, IsTrue, IfOk, IfErr, OnOk};
+ghost use Rattle.operation_graph.specs.Graphs.{Closes, IsGraph, MayTakeEdge};
 ghost use Rattle.plan_basics.specs.declared.Refusal.{Refusal};
 ghost use Rattle.plan_basics.specs.Refusals.{IsLeastRefusal, NoneRefuses};
 ghost use Rattle.plan_records.specs.Acceptance.{MayBePaired};
@@ -8,11 +8,12 @@ ghost use Rattle.status_rules.specs.Classes.{is_waiting_or_ready};
 ghost use Rattle.status_rules.specs.declared.Status.{Status};
 ghost use Rattle.plan_checks.specs.Dependencies.{IsFaultAs};
 
-use operation_graph::{EdgeFault, Graph};
+use operation_graph::Graph;
 use plan_basics::limits::MOST_PAIRS;
 use plan_basics::{OpKey, Refusal};
 use plan_state::Outline;
 use status_rules::Status;
+use std::alloc::Global;
 
 // What a dependency asks of the statuses of its two operations: the first isn't deleted, the second waits or is ready.
 fn check_ends(predecessor: Status, successor: Status) -> Result<(), Refusal>
@@ -26,25 +27,53 @@ fn check_ends(predecessor: Status, successor: Status) -> Result<(), Refusal>
     }
 }
 
-// What the graph says of an edge between two of its nodes.
-fn check_edge(graph: &Graph, before: usize, after: usize) -> Result<(), Refusal>
+// Whether an edge between two nodes of a graph, which has so many, would close a path: whether the second is the first, or reaches
+// it.
+fn closes(
+    alloc: Global,
+    graph: &Graph,
+    nodes: usize,
+    before: usize,
+    after: usize,
+) -> Result<bool, Refusal>
+    requires graph { IsGraph graph.now }
+    requires nodes { nodes ≡ graph.now.nodes }
+    requires after { after < graph.now.nodes }
+    ensures closes { IfOk result (λ closes. IsTrue closes ↔ Closes graph.now before after) }
+    ensures refused { IfErr result (λ r. r ≡ Refusal.Memory) }
+{
+    let all = vec![in alloc; true; nodes]?;
+    Ok(graph.reach(after, &all)?.contains(&before))
+}
+
+// What the graph, which has so many nodes, says of an edge between two of them.
+fn check_edge(
+    alloc: Global,
+    graph: &Graph,
+    nodes: usize,
+    before: usize,
+    after: usize,
+) -> Result<(), Refusal>
+    requires nodes { nodes ≡ graph.now.nodes }
     requires before { before < graph.now.nodes }
     requires after { after < graph.now.nodes }
     ensures ok { OnOk result (MayTakeEdge graph.now before after) }
     ensures refused { IfErr result (IsFaultAs graph.now before after) }
 {
-    let mut graph = graph.try_clone()?;
-    match graph.add_edge(before, after) {
-        Ok(()) => Ok(()),
-        Err(EdgeFault::Duplicate) => Err(Refusal::Duplicate),
-        Err(EdgeFault::Cycle) => Err(Refusal::Cycle),
-        Err(EdgeFault::Memory) => Err(Refusal::Memory),
+    if graph.succs(before).contains(&after) {
+        return Err(Refusal::Duplicate);
+    }
+    if closes(alloc, graph, nodes, before, after)? {
+        Err(Refusal::Cycle)
+    } else {
+        Ok(())
     }
 }
 
 /// A dependency may be added between two operations of the plan, of which the first isn't deleted and the second waits
 /// or is ready, where it isn't there, closes no path, and there is room.
 pub fn check_paired(
+    alloc: Global,
     outline: &Outline<'_>,
     predecessor: &OpKey,
     successor: &OpKey,
@@ -61,7 +90,7 @@ pub fn check_paired(
         .place_of(successor)
         .ok_or(Refusal::UnknownOperation)?;
     check_ends(outline.status_at(before), outline.status_at(after))?;
-    check_edge(graph, before, after)?;
+    check_edge(alloc, graph, outline.statuses().len(), before, after)?;
     if pairs.len() < MOST_PAIRS {
         Ok(())
     } else {

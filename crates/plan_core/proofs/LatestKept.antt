@@ -1,18 +1,18 @@
 -- To name operations that are ready changes no latest start.
 use Rattle.std.proofs.Common.{◌≡◌, refl, sym, ap, subst, ◌∙◌, ℕ, Bool, true, false, List, [], ◌∷◌, Option, Some, None, option_map, ℤ}
 use Rattle.std.specs.FinMap.{get}
-use Rattle.plan_steps.specs.operation_graph.specs.Paths.{IsPathBy}
+use Rattle.deletion_steps.specs.plan_steps.specs.operation_graph.specs.Paths.{IsPathBy}
 use Rattle.latest_start.specs.LeastStart.{IsLeastStart}
 use Rattle.plan_basics.specs.declared.keys.OpKey.{OpKey}
 use Rattle.status_rules.specs.declared.Mark.TheVariants as mark
 use Rattle.ready_list.specs.Choice.{is_among}
-use Rattle.plan_steps.specs.plan_model.specs.Contents.{Contents, IsLive, Operation, Precedes}
-use Rattle.plan_steps.specs.plan_model.specs.Ready.{named, with_mark}
-use Rattle.plan_steps.specs.plan_model.specs.Starts.{IsLatestStart, amount_of}
-use Rattle.plan_steps.specs.plan_model.specs.Status.{IsReady}
-use Rattle.plan_steps.specs.plan_model.proofs.Looks.{get-named}
+use Rattle.deletion_steps.specs.plan_steps.specs.plan_model.specs.Contents.{Contents, IsLive, Operation, Precedes}
+use Rattle.deletion_steps.specs.plan_steps.specs.plan_model.specs.Ready.{named, with_mark}
+use Rattle.deletion_steps.specs.plan_steps.specs.plan_model.specs.Starts.{IsLatestStart, amount_of}
+use Rattle.deletion_steps.specs.plan_steps.specs.plan_model.specs.Status.{IsReady}
+use Rattle.deletion_steps.specs.plan_steps.specs.plan_model.proofs.Looks.{get-named}
 use Rattle.plan_status.proofs.Naming.{live_after, live_before, named_if}
-use Rattle.plan_steps.specs.plan_choice.proofs.ItemStarts.{deadline_in, duration_in}
+use Rattle.deletion_steps.specs.plan_steps.specs.plan_choice.proofs.ItemStarts.{deadline_in, duration_in}
 
 -- ---- any least start, where the same paths are there
 

@@ -11,6 +11,9 @@ pub mod Provided
 pub mod ReadyViews
 pub mod Refusing
 pub mod Settling
-pub mod SmallLooks
+pub mod DeletionTried
+pub mod PairTried
+pub mod SmallTried
+pub mod TriedLooks
 pub mod Trying
 pub mod WholeLooks

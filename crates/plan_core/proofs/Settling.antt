@@ -6,20 +6,20 @@ use Rattle.plan_basics.specs.Keys.{operation_cmp, operation_cmp_total, operation
 use Rattle.plan_basics.specs.declared.keys.OpKey.{OpKey}
 use Rattle.ready_list.proofs.Members.{contains_from_filter}
 use Rattle.ready_list.specs.Choice.{is_among, operations_of}
-use Rattle.plan_steps.specs.plan_model.proofs.Entries.{keys_of-entries}
-use Rattle.plan_steps.specs.plan_model.specs.Contents.{Contents}
-use Rattle.plan_steps.specs.plan_model.specs.Ready.{IsChosen, named}
-use Rattle.plan_steps.specs.plan_model.specs.Starts.{IsLatestStart}
-use Rattle.plan_steps.specs.plan_model.specs.Status.{IsReady}
-use Rattle.plan_steps.specs.plan_drafts.proofs.Lists.{from_map, length_map}
-use Rattle.plan_steps.specs.plan_drafts.proofs.MadeEntries.{each_made, entries-revise}
-use Rattle.plan_steps.specs.plan_drafts.specs.Places.{AreByPlace}
-use Rattle.plan_steps.specs.plan_drafts.specs.PlanGraphs.{IsGraphFor, IsGraphOf}
-use Rattle.plan_steps.specs.plan_model.proofs.Members.{member_if}
-use Rattle.plan_steps.specs.plan_model.proofs.Looks.{as_named}
+use Rattle.deletion_steps.specs.plan_steps.specs.plan_model.proofs.Entries.{keys_of-entries}
+use Rattle.deletion_steps.specs.plan_steps.specs.plan_model.specs.Contents.{Contents}
+use Rattle.deletion_steps.specs.plan_steps.specs.plan_model.specs.Ready.{IsChosen, named}
+use Rattle.deletion_steps.specs.plan_steps.specs.plan_model.specs.Starts.{IsLatestStart}
+use Rattle.deletion_steps.specs.plan_steps.specs.plan_model.specs.Status.{IsReady}
+use Rattle.deletion_steps.specs.plan_steps.specs.plan_drafts.proofs.Lists.{from_map, length_map}
+use Rattle.deletion_steps.specs.plan_steps.specs.plan_drafts.proofs.MadeEntries.{each_made, entries-revise}
+use Rattle.deletion_steps.specs.plan_steps.specs.plan_drafts.specs.Places.{AreByPlace}
+use Rattle.deletion_steps.specs.plan_steps.specs.plan_drafts.specs.PlanGraphs.{IsGraphFor, IsGraphOf}
+use Rattle.deletion_steps.specs.plan_steps.specs.plan_model.proofs.Members.{member_if}
+use Rattle.deletion_steps.specs.plan_steps.specs.plan_model.proofs.Looks.{as_named}
 use Rattle.std.proofs.lemmas.Option.{same_Some}
-use Rattle.plan_steps.specs.plan_choice.specs.Choices.{AreLatestStarts}
-use Rattle.plan_steps.specs.operation_graph.specs.Graphs.{Digraph}
+use Rattle.deletion_steps.specs.plan_steps.specs.plan_choice.specs.Choices.{AreLatestStarts}
+use Rattle.deletion_steps.specs.plan_steps.specs.operation_graph.specs.Graphs.{Digraph}
 use Rattle.plan_status.proofs.Naming.{naming_keeps_standings}
 use Rattle.plan_status.specs.Standings.{AreStandings, IsStanding}
 use Rattle.plan_status.specs.declared.standings.Standing.{Standing}

@@ -1,5 +1,5 @@
 -- What is looked at for a request that isn't small.
-use Rattle.std.proofs.Common.{◌≡◌, ◌⊎◌, inl, inr, refl, sym, ap, subst, ◌∙◌, arith, ℕ, ◌+◌, ◌≤◌, true, List, length, map, Option, Some, None, is_some}
+use Rattle.std.proofs.Common.{◌≡◌, ◌⊎◌, inl, inr, refl, sym, ap, subst, ◌∙◌, arith, ℕ, ◌+◌, ◌*◌, ◌≤◌, true, List, length, map, Option, Some, None, is_some}
 use Rattle.std.specs.FinMap.{FinMap, contains_key, contains_key-keys, entries, get, keys, len, len-empty, len-entries}
 use Rattle.std.specs.Cmp.{IsTotalOrder}
 use Rattle.std.specs.declared.cmp.Ordering.{Ordering}
@@ -11,20 +11,20 @@ use Rattle.plan_basics.specs.Keys.{operation_cmp, operation_cmp_total}
 use Rattle.plan_basics.specs.declared.keys.OpKey.{OpKey}
 use Rattle.plan_core.proofs.KnownRows.{known_are_few, known_fit}
 use Rattle.plan_core.specs.Looked.{AreAllowed, CoverRows}
-use Rattle.plan_steps.specs.plan_looks.specs.Laws.{WholePlansLookFew}
+use Rattle.deletion_steps.specs.plan_steps.specs.plan_looks.specs.Laws.{WholePlansLookFew}
 use Rattle.plan_records.specs.Acceptance.{NeedsPlan}
 use Rattle.plan_records.specs.Changes.{Changes}
 use Rattle.plan_records.specs.Rows.{key_of, row_cmp}
 use Rattle.plan_records.specs.declared.PlanRow.{PlanRow}
 use Rattle.plan_records.specs.declared.What.{What}
 use Rattle.plan_records.specs.declared.What.TheVariants as what
-use Rattle.plan_steps.specs.plan_kept.specs.Edits.{IsSmall}
-use Rattle.plan_steps.specs.plan_model.specs.Contents.{Contents, Operation, nothing}
-use Rattle.plan_steps.specs.plan_model.specs.Ready.{named}
-use Rattle.plan_steps.specs.plan_model.specs.Valid.{IsSound}
-use Rattle.plan_steps.specs.plan_model.proofs.Entries.{entries_in_order, keys_of-entries}
-use Rattle.plan_steps.specs.plan_model.specs.Revise.{get-joined, joined, len-revise, or_else}
-use Rattle.plan_steps.specs.plan_drafts.proofs.Lists.{length_map}
+use Rattle.deletion_steps.specs.plan_steps.specs.plan_kept.specs.Edits.{IsSmall}
+use Rattle.deletion_steps.specs.plan_steps.specs.plan_model.specs.Contents.{Contents, Operation, nothing}
+use Rattle.deletion_steps.specs.plan_steps.specs.plan_model.specs.Ready.{named}
+use Rattle.deletion_steps.specs.plan_steps.specs.plan_model.specs.Valid.{IsSound}
+use Rattle.deletion_steps.specs.plan_steps.specs.plan_model.proofs.Entries.{entries_in_order, keys_of-entries}
+use Rattle.deletion_steps.specs.plan_steps.specs.plan_model.specs.Revise.{get-joined, joined, len-revise, or_else}
+use Rattle.deletion_steps.specs.plan_steps.specs.plan_drafts.proofs.Lists.{length_map}
 
 -- ---- no operation goes
 
@@ -61,13 +61,10 @@ none_goes_named P Q os fewer = let same : len (named os Q).operations ≡ len Q.
 
 -- ---- looks
 
--- two looks, and one at each record, are allowed
-pub whole_allowed : WholePlansLookFew → (P Q : Contents) (w : What) (looks : ℕ) → ¬ IsSmall w → len P.operations ≤ len Q.operations → looks ≤ 1 + length (entries P.operations) → AreAllowed P w Q looks
-whole_allowed law P Q w looks whole stay most = by_kind w whole
+-- four looks, and four at each record, are allowed
+pub whole_allowed : WholePlansLookFew → (P Q : Contents) (w : What) (looks : ℕ) → ¬ IsSmall w → len P.operations ≤ len Q.operations → looks ≤ 4 + 4 * len P.operations → AreAllowed P w Q looks
+whole_allowed law P Q w looks whole stay few = by_kind w whole
   where
-    few : looks ≤ 2 + len P.operations
-    few = omega (arith, most, len-entries P.operations)
-
     by_kind : (w : What) → ¬ IsSmall w → AreAllowed P w Q looks
     by_kind (what.Load draft) whole n is = subst (λ z. looks ≤ z) (sym is) (law P Q looks stay few)
     by_kind (what.DeleteOccurrence c) whole n is = subst (λ z. looks ≤ z) (sym is) (law P Q looks stay few)

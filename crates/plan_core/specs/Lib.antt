@@ -1,11 +1,11 @@
-pub use Rattle.plan_steps
-pub use Rattle.plan_steps.specs.operation_graph
-pub use Rattle.plan_steps.specs.plan_drafts
-pub use Rattle.plan_steps.specs.plan_laws
-pub use Rattle.plan_steps.specs.plan_model
+pub use Rattle.deletion_steps.specs.plan_steps
+pub use Rattle.deletion_steps.specs.plan_steps.specs.operation_graph
+pub use Rattle.deletion_steps.specs.plan_steps.specs.plan_drafts
+pub use Rattle.deletion_steps.specs.plan_steps.specs.plan_laws
+pub use Rattle.deletion_steps.specs.plan_steps.specs.plan_model
 pub use Rattle.plan_opening
 pub use Rattle.plan_records
-pub use Rattle.plan_steps.specs.plan_state
+pub use Rattle.deletion_steps.specs.plan_steps.specs.plan_state
 pub use Rattle.plan_status
 pub use Rattle.ready_list
 pub mod Next
@@ -15,4 +15,5 @@ pub mod Outcomes
 pub mod Provided
 pub mod Requested
 pub mod Trials
+pub mod Tried
 pub mod Views

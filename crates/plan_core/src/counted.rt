@@ -4,15 +4,14 @@ ghost use Rattle.plan_basics.specs.declared.Refusal.{Refusal};
 ghost use Rattle.plan_core.specs.Outcomes.{IsPreparedIn};
 ghost use Rattle.plan_records.specs.Answer.{refused};
 ghost use Rattle.plan_records.specs.Step.{Step};
-ghost use Rattle.plan_steps.specs.plan_model.specs.Plan.{IsSoundPlan, plan_held};
+ghost use Rattle.deletion_steps.specs.plan_steps.specs.plan_model.specs.Plan.{IsSoundPlan, plan_held};
 
 use super::first::first_outcome;
 use super::outcomes::outcome_of;
 use super::prepared::Prepared;
+use deletion_steps::{CountedShown as Shown, LoadedPlan, Parts};
 use plan_basics::{Moment, Refusal};
 use plan_records::Request;
-use plan_steps::{LoadedPlan, Parts};
-use shown_records::Shown;
 use std::alloc::Global;
 
 // What a request leads to where no plan is loaded: there was no record to look at.
@@ -49,13 +48,20 @@ fn prepare_loaded(
 {
     let Parts {
         contents,
-        graph,
-        latest,
+        mut graph,
+        mut latest,
         figures,
     } = loaded.into_parts();
     let (shown, opener) = Shown::of(contents);
     let (shown, figures, outcome) = outcome_of(
-        alloc, shown, &graph, &latest, figures, clock, request, at,
+        alloc,
+        shown,
+        &mut graph,
+        &mut latest,
+        figures,
+        clock,
+        request,
+        at,
     );
     let (contents, work) = shown.into_contents(opener);
     let plan = LoadedPlan::of(contents, graph, latest, figures);

@@ -8,16 +8,18 @@ ghost use Rattle.plan_records.specs.Acceptance.{MayBeAccepted};
 ghost use Rattle.plan_records.specs.Answer.{refused};
 ghost use Rattle.plan_records.specs.Rows.{AreChanges};
 ghost use Rattle.plan_records.specs.Step.{Step};
-ghost use Rattle.plan_steps.specs.plan_model.specs.Contents.{nothing};
-ghost use Rattle.plan_steps.specs.plan_model.specs.Plan.{IsSoundPlan, plan_held};
+ghost use Rattle.deletion_steps.specs.plan_steps.specs.plan_drafts.specs.PlanGraphs.{IsGraphFor};
+ghost use Rattle.deletion_steps.specs.plan_steps.specs.plan_model.specs.Contents.{nothing};
+ghost use Rattle.deletion_steps.specs.plan_steps.specs.plan_model.specs.Plan.{IsSoundPlan, plan_held};
 
 use super::prepared::{Next, Outcome};
 use super::requests::drafted;
 use super::settle::settle;
+use deletion_steps::{LoadedPlan, PlanShown, Shown, changes_between, check_load};
+use operation_graph::Graph;
 use plan_basics::{Moment, Refusal};
 use plan_records::{Changes, PlanContents, Request, What};
 use plan_status::SoundContents;
-use plan_steps::{LoadedPlan, PlanShown, Shown, changes_between, check_load};
 use std::alloc::Global;
 
 // What stands in the way of a request that is made at a moment where no plan is loaded, but for that moment.
@@ -32,14 +34,16 @@ fn check_first(what: &What) -> Result<(), Refusal>
     }
 }
 
-// What a request that may be accepted where no plan is loaded, which is a load, makes the plan hold. The error is always `Memory`.
-fn first_contents(alloc: Global, request: &Request) -> Result<PlanContents, Refusal>
+// What a request that may be accepted where no plan is loaded, which is a load, makes the plan hold, and the graph of that. The error
+// is always `Memory`.
+fn first_contents(alloc: Global, request: &Request) -> Result<(PlanContents, Graph), Refusal>
     requires { (clock : ℕ) × NoneRefuses (MayBeAccepted (plan_held clock None) request.now) }
-    ensures made { IfOk result (AreMadeBy nothing request.now.what) }
+    ensures made { IfOk result (λ new. AreMadeBy nothing request.now.what new.0) }
+    ensures graph { IfOk result (λ new. IsGraphFor new.0 new.1) }
     ensures refused { IfErr result (λ r. r ≡ Refusal.Memory) }
 {
     match &request.what {
-        What::Load(draft) => Ok(drafted(alloc, draft.as_ref().unwrap())?),
+        What::Load(draft) => drafted(alloc, draft.as_ref().unwrap()),
         _ => unreachable!(),
     }
 }
@@ -78,8 +82,9 @@ fn loaded_first(
     ensures outcome { IfOk result (IsOutcomeOf (plan_held clock None) request.now at) }
     ensures refused { IfErr result (λ r. r ≡ Refusal.Memory) }
 {
-    let new = SoundContents::of(first_contents(alloc, request)?);
-    let settled = settle(alloc, new, at)?;
+    let (contents, graph) = first_contents(alloc, request)?;
+    let new = SoundContents::of(contents);
+    let settled = settle(alloc, new, graph, at)?;
     let changes = first_changes(alloc, clock, &settled.loaded, at)?;
     Ok(Outcome {
         next: Next::Whole(settled.loaded),

@@ -1,16 +1,16 @@
 // What is read off the plan.
 ghost use Rattle.std.specs.Prelude.{◌≡◌, ◌↔◌, true, IfSome, IsNone, IsSome};
 ghost use Rattle.std.specs.FinMap.{contains_key};
-ghost use Rattle.plan_steps.specs.plan_model.specs.Contents.{nothing, IsInPlan};
-ghost use Rattle.plan_steps.specs.plan_rows.specs.Shown.{plan_shown, IsShown};
+ghost use Rattle.deletion_steps.specs.plan_steps.specs.plan_model.specs.Contents.{nothing, IsInPlan};
+ghost use Rattle.deletion_steps.specs.plan_steps.specs.plan_rows.specs.Shown.{plan_shown, IsShown};
 ghost use Rattle.plan_core.specs.Views.{AreReadyViews, IsOpView, IsOccView, AreOpViews, AreOccViews};
 
 use super::lists::{Occs, Ops};
 use super::plan::Plan;
 use super::ready_views::Ready;
 use super::views::{OccView, OpView, occ_view, op_view};
+use deletion_steps::{LoadedPlan, Shown};
 use plan_basics::{OccKey, OpKey, WsName};
-use plan_steps::{LoadedPlan, Shown};
 
 impl Plan {
     /// Whether a plan is loaded.

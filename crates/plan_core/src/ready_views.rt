@@ -4,7 +4,7 @@ ghost use Rattle.std.specs.Iterator.{YieldsFirst, item_count};
 ghost use Rattle.plan_core.specs.Views.{ready_from, AreEntriesOf};
 
 use super::views::{OpView, op_view};
-use plan_steps::Shown;
+use deletion_steps::Shown;
 use ready_list::ReadyEntry;
 use std::marker::Model;
 

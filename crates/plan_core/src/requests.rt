@@ -2,18 +2,20 @@
 ghost use Rattle.std.specs.Prelude.{◌≡◌, ℕ, Some, IfOk, IfErr};
 ghost use Rattle.plan_basics.specs.Refusals.{NoneRefuses};
 ghost use Rattle.plan_basics.specs.declared.Refusal.{Refusal};
-ghost use Rattle.plan_steps.specs.plan_drafts.specs.Drafts.{IsAddition};
-ghost use Rattle.plan_steps.specs.plan_model.specs.Contents.{Contents};
+ghost use Rattle.deletion_steps.specs.plan_steps.specs.plan_drafts.specs.Drafts.{IsAddition};
+ghost use Rattle.deletion_steps.specs.plan_steps.specs.plan_drafts.specs.PlanGraphs.{IsGraphFor};
+ghost use Rattle.deletion_steps.specs.plan_steps.specs.plan_model.specs.Contents.{Contents};
 ghost use Rattle.plan_records.specs.Acceptance.{MayBeAdded, MayBeDone, NeedsPlan};
 ghost use Rattle.plan_records.specs.Changes.{with_added};
 ghost use Rattle.plan_records.specs.declared.What.{What};
 ghost use Rattle.plan_core.specs.Requested.{AreMadeBy};
-ghost use Rattle.plan_steps.specs.plan_kept.specs.Edits.{IsSmall};
+ghost use Rattle.deletion_steps.specs.plan_steps.specs.plan_kept.specs.Edits.{IsSmall};
 
+use deletion_steps::{deleted, with_addition, with_pair};
+use operation_graph::Graph;
 use plan_basics::Refusal;
 use plan_records::{Addition, PlanContents, PlanDraft, What};
 use plan_status::SoundContents;
-use plan_steps::{deleted, with_addition, with_pair};
 use std::alloc::{AllocError, Global};
 
 // The contents with what is added, of whose occurrence there is nothing yet. Its parts are looked at for the proof
@@ -57,9 +59,13 @@ pub fn changed(
     Ok(new?)
 }
 
-/// The contents of a draft, which a load makes.
-pub fn drafted(alloc: Global, draft: &PlanDraft) -> Result<PlanContents, AllocError>
-    ensures { IfOk result (λ new. (P : Contents) → AreMadeBy P (What.Load (Some draft.now)) new) }
+/// The contents of a draft, which a load makes, and their graph, both copied. The error is always `Memory`.
+pub fn drafted(alloc: Global, draft: &PlanDraft) -> Result<(PlanContents, Graph), Refusal>
+    ensures made { IfOk result (λ new. (P : Contents) → AreMadeBy P (What.Load (Some draft.now)) new.0) }
+    ensures graph { IfOk result (λ new. IsGraphFor new.0 new.1) }
+    ensures refused { IfErr result (λ r. r ≡ Refusal.Memory) }
 {
-    draft.contents().try_clone(alloc)
+    let contents = draft.contents().try_clone(alloc)?;
+    let graph = draft.graph().try_clone()?;
+    Ok((contents, graph))
 }

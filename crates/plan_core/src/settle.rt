@@ -1,15 +1,17 @@
 // What is named once a request has changed what the plan holds.
 ghost use Rattle.std.specs.Prelude.{◌≡◌, ℕ, IfOk, IfErr};
 ghost use Rattle.plan_basics.specs.declared.Refusal.{Refusal};
-ghost use Rattle.plan_steps.specs.plan_choice.specs.Choices.{AreLatestStarts, AreReadyEntries};
-ghost use Rattle.plan_steps.specs.plan_model.specs.Ready.{IsChosen, named};
+ghost use Rattle.deletion_steps.specs.plan_steps.specs.plan_choice.specs.Choices.{AreLatestStarts, AreReadyEntries};
+ghost use Rattle.deletion_steps.specs.plan_steps.specs.plan_drafts.specs.PlanGraphs.{IsGraphFor};
+ghost use Rattle.deletion_steps.specs.plan_steps.specs.plan_model.specs.Ready.{IsChosen, named};
 ghost use Rattle.plan_status.specs.Standings.{AreStandings};
 
+use deletion_steps::{LoadedPlan, chosen, latest_of, mark_all, ready_of};
 use latest_start::Latest;
+use operation_graph::Graph;
 use plan_basics::{Moment, OpKey, Refusal};
 use plan_opening::loaded_with;
-use plan_status::{SoundContents, Standing, graph_for, standings_of, statuses_of};
-use plan_steps::{LoadedPlan, chosen, latest_of, mark_all, ready_of};
+use plan_status::{SoundContents, Standing, standings_of, statuses_of};
 use ready_list::ReadyList;
 use status_rules::Mark;
 use std::alloc::Global;
@@ -47,14 +49,19 @@ fn with_named(contents: SoundContents, names: &[OpKey]) -> SoundContents
     SoundContents::of(rows)
 }
 
-/// What these contents, which were made anew, come to at a moment: the operations that are named then are marked so. The error
-/// is always `Memory`.
-pub fn settle(alloc: Global, contents: SoundContents, at: Moment) -> Result<Settled, Refusal>
+/// What these contents, which were made anew and have this graph, come to at a moment: the operations that are named then are marked
+/// so. The error is always `Memory`.
+pub fn settle(
+    alloc: Global,
+    contents: SoundContents,
+    graph: Graph,
+    at: Moment,
+) -> Result<Settled, Refusal>
+    requires { IsGraphFor contents graph }
     ensures chosen { IfOk result (λ s. IsChosen contents at s.named.items) }
     ensures loaded { IfOk result (λ s. s.loaded ≡ named s.named.items contents) }
     ensures refused { IfErr result (λ r. r ≡ Refusal.Memory) }
 {
-    let graph = graph_for(alloc, contents.valid())?;
     let standings = standings_of(alloc, contents.valid(), &graph)?;
     let latest = latest_of(alloc, &contents, &graph)?;
     let ready = ready_by(alloc, &contents, &standings, &latest)?;

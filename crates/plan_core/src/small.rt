@@ -1,29 +1,29 @@
 // What a small request leads to, tried in the plan itself.
-ghost use Rattle.std.specs.Prelude.{◌≡◌, ◌≤◌, ℕ, pos, Some, IfErr, IfOk};
+ghost use Rattle.std.specs.Prelude.{◌≡◌, ◌≤◌, ℕ, IfErr, IfOk};
 ghost use Rattle.plan_basics.specs.Refusals.{NoneRefuses};
 ghost use Rattle.plan_basics.specs.declared.Refusal.{Refusal};
-ghost use Rattle.plan_core.specs.Outcomes.{AreLooksTo, IsOutcomeOf};
 ghost use Rattle.plan_core.specs.Trials.{IsStepBy, IsStepLookedBy, IsTrialOf};
-ghost use Rattle.plan_steps.specs.Edits.{IsEditFor};
-ghost use Rattle.plan_records.specs.Acceptance.{MayBeAccepted, MayBeDone};
+ghost use Rattle.plan_core.specs.Tried.{IsTrialFor, IsTriedBy};
+ghost use Rattle.deletion_steps.specs.plan_steps.specs.Edits.{IsEditFor};
+ghost use Rattle.plan_records.specs.Acceptance.{MayBeDone};
+ghost use Rattle.plan_records.specs.declared.What.{What};
 ghost use Rattle.plan_basics.specs.Minutes.{IsMoment};
-ghost use Rattle.plan_steps.specs.plan_choice.specs.Choices.{AreLatestStarts};
-ghost use Rattle.plan_steps.specs.plan_drafts.specs.PlanGraphs.{IsGraphFor};
-ghost use Rattle.plan_steps.specs.plan_kept.specs.Edits.{IsSmall};
-ghost use Rattle.plan_steps.specs.plan_model.specs.Plan.{plan_held};
-ghost use Rattle.plan_steps.specs.plan_state.specs.Figures.{AreFigures};
-ghost use Rattle.plan_steps.specs.plan_state.specs.Frames.{IsFrameOf};
+ghost use Rattle.deletion_steps.specs.plan_steps.specs.plan_choice.specs.Choices.{AreLatestStarts};
+ghost use Rattle.deletion_steps.specs.plan_steps.specs.plan_drafts.specs.PlanGraphs.{IsGraphFor};
+ghost use Rattle.deletion_steps.specs.plan_steps.specs.plan_kept.specs.Edits.{IsSmall};
+ghost use Rattle.deletion_steps.specs.plan_steps.specs.plan_model.specs.Contents.{Contents};
+ghost use Rattle.deletion_steps.specs.plan_steps.specs.plan_state.specs.Figures.{AreFigures};
 
-use super::columns::columns_of;
-use super::prepared::{Next, Outcome, Writing};
+use super::prepared::{Next, Writing};
+use super::telling::Tried;
+use deletion_steps::{
+    CountedShown as Shown, Edit, Figures, Frame, SmallStep, edit_of, small_step,
+    small_steps_look_few,
+};
 use latest_start::Latest;
 use operation_graph::Graph;
 use plan_basics::{Moment, Refusal};
-use plan_records::{Request, What};
-use plan_steps::{
-    Edit, Figures, Frame, SmallStep, edit_of, noted_changes, small_step, small_steps_look_few,
-};
-use shown_records::Shown;
+use plan_records::What;
 use std::alloc::Global;
 
 /// What a small request writes, and what it led to where it was tried.
@@ -94,78 +94,49 @@ fn tried(
     }
 }
 
-// What a small request leads to by its trial, told by a look at each row that was noted. The error is always `Memory`.
-fn told(
-    alloc: Global,
-    shown: &mut Shown,
-    frame: Frame<'_>,
-    clock: Moment,
-    request: &Request,
-    at: Moment,
-    trial: Trial,
-) -> Result<Outcome, Refusal>
-    requires frame { IsFrameOf shown.old.contents frame }
-    requires clear { NoneRefuses (MayBeAccepted (plan_held clock (Some shown.old.contents)) request.now) }
-    requires small { IsSmall request.now.what }
-    requires at { request.now.at ≡ pos at }
-    requires trial { (first : ℕ) × (first ≤ 1) × IsTrialOf shown.old.contents request.now.what at first shown.old.looks trial }
-    ensures contents { shown.new.contents ≡ shown.old.contents }
-    ensures outcome { IfOk result (IsOutcomeOf (plan_held clock (Some shown.old.contents)) request.now at) }
-    ensures looked { IfOk result (λ x. AreLooksTo shown.old.contents request.now.what x shown.new.looks) }
-    ensures refused { IfErr result (λ r. r ≡ Refusal.Memory) }
+// What a small request leads to by its trial.
+fn by_trial(trial: Trial) -> Tried
+    ensures { (P : Contents) (w : What) (m first looks : ℕ) → IsSmall w → IsMoment m → NoneRefuses (MayBeDone P m w) → first ≤ 1 → IsTrialOf P w m first looks trial → IsTriedBy P w m looks result }
 {
     small_steps_look_few();
-    let columns = columns_of(frame);
-    let changes = noted_changes(alloc, shown, columns, clock, at, &trial.step.notes)?;
     let Trial { edit, step } = trial;
-    Ok(Outcome {
+    Tried {
         next: Next::Small(Writing {
             keys: edit.keys,
             revision: edit.revision,
             shift: step.shift,
         }),
         named: step.named,
-        changes,
-    })
+        notes: step.notes,
+    }
 }
 
-/// What a small request in whose way nothing stands leads to in a plan at its clock, of which this is shown: it is tried there,
-/// and all comes back as it was. The error is always `Memory`.
-pub fn small_outcome(
+/// What a small request in whose way nothing stands leads to in a plan, of which this is shown and one record at most was looked at:
+/// it is tried there, and all comes back as it was. The error is always `Memory`.
+pub fn tried_small(
     alloc: Global,
     shown: Shown,
     graph: &Graph,
     latest: &Latest,
     figures: Figures,
-    clock: Moment,
-    request: &Request,
+    what: &What,
     at: Moment,
-) -> (Shown, Figures, Result<Outcome, Refusal>)
+) -> (Shown, Figures, Result<Option<Tried>, Refusal>)
     requires graph { IsGraphFor shown.contents graph.now }
     requires latest { AreLatestStarts shown.contents latest.now.starts }
     requires figures { AreFigures shown.contents figures }
-    requires clear { NoneRefuses (MayBeAccepted (plan_held clock (Some shown.contents)) request.now) }
-    requires small { IsSmall request.now.what }
-    requires at { request.now.at ≡ pos at }
+    requires small { IsSmall what.now }
+    requires moment { IsMoment at }
+    requires clear { NoneRefuses (MayBeDone shown.contents at what.now) }
     requires few { shown.looks ≤ 1 }
     ensures contents { result.0.contents ≡ shown.contents }
     ensures figures { AreFigures shown.contents result.1 }
-    ensures outcome { IfOk result.2 (IsOutcomeOf (plan_held clock (Some shown.contents)) request.now at) }
-    ensures looked { IfOk result.2 (λ x. AreLooksTo shown.contents request.now.what x result.0.looks) }
+    ensures tried { IfOk result.2 (IsTrialFor shown.contents what.now at result.0.looks) }
     ensures refused { IfErr result.2 (λ r. r ≡ Refusal.Memory) }
 {
-    let what = &request.what;
-    let (mut shown, figures, trial) = tried(alloc, shown, graph, latest, figures, what, at);
+    let (shown, figures, trial) = tried(alloc, shown, graph, latest, figures, what, at);
     match trial {
-        Ok(trial) => {
-            let frame = Frame {
-                graph,
-                latest,
-                figures: &figures,
-            };
-            let outcome = told(alloc, &mut shown, frame, clock, request, at, trial);
-            (shown, figures, outcome)
-        }
+        Ok(trial) => (shown, figures, Ok(Some(by_trial(trial)))),
         Err(refusal) => (shown, figures, Err(refusal)),
     }
 }

@@ -1,25 +1,27 @@
 // What a request leads to that isn't small, worked out afresh over a copy of the plan.
-ghost use Rattle.std.specs.Prelude.{◌≡◌, ◌≤◌, pos, Some, IfErr, IfOk};
+ghost use Rattle.std.specs.Prelude.{◌≡◌, ◌+◌, ◌*◌, ◌≤◌, pos, Some, IfErr, IfOk};
 ghost use Rattle.std.specs.FinMap.{len};
 ghost use Rattle.plan_basics.specs.Refusals.{NoneRefuses};
 ghost use Rattle.plan_basics.specs.declared.Refusal.{Refusal};
 ghost use Rattle.plan_core.specs.Outcomes.{AreLooksTo, IsOutcomeOf, contents_led};
 ghost use Rattle.plan_records.specs.Acceptance.{MayBeAccepted};
 ghost use Rattle.plan_records.specs.Rows.{AreChanges};
-ghost use Rattle.plan_steps.specs.plan_kept.specs.Edits.{IsSmall};
-ghost use Rattle.plan_steps.specs.plan_model.specs.Plan.{plan_held};
-ghost use Rattle.plan_steps.specs.plan_state.specs.Frames.{IsFrameOf};
+ghost use Rattle.deletion_steps.specs.plan_steps.specs.plan_kept.specs.Edits.{IsSmall};
+ghost use Rattle.deletion_steps.specs.plan_steps.specs.plan_model.specs.Plan.{plan_held};
+ghost use Rattle.deletion_steps.specs.plan_steps.specs.plan_state.specs.Frames.{IsFrameOf};
 
 use super::columns::columns_of;
 use super::copying::copied;
 use super::prepared::{Next, Outcome};
 use super::requests::changed;
 use super::settle::settle;
+use deletion_steps::{
+    CountedShown as Counted, Frame, LoadedPlan, PlanShown, Shown, changes_between,
+    whole_plans_look_few,
+};
 use plan_basics::{Moment, Refusal};
 use plan_records::{Changes, Request};
-use plan_status::SoundContents;
-use plan_steps::{Frame, LoadedPlan, PlanShown, Shown, changes_between, whole_plans_look_few};
-use shown_records::Shown as Counted;
+use plan_status::{SoundContents, graph_for};
 use std::alloc::Global;
 
 // Which rows of the tables change from a plan at its clock, of which this is a copy, where this plan is loaded at this moment.
@@ -74,7 +76,8 @@ fn remade(
 {
     let _valid = copy.valid();
     let new = SoundContents::of(changed(alloc, copy, &request.what)?);
-    let settled = settle(alloc, new, at)?;
+    let graph = graph_for(alloc, new.valid())?;
+    let settled = settle(alloc, new, graph, at)?;
     let changes = changes_to(alloc, copy, frame, clock, &settled.loaded, at)?;
     Ok(Outcome {
         next: Next::Whole(settled.loaded),
@@ -83,8 +86,9 @@ fn remade(
     })
 }
 
-/// What a request that isn't small, and in whose way nothing stands, leads to in a plan at its clock, of which this is shown: each
-/// record is copied by a look, and all is worked out over the copy. The error is always `Memory`.
+/// What a request that isn't small, and in whose way nothing stands, leads to in a plan at its clock, of which this is shown,
+/// by three looks for each operation and four more at most: each record is copied by one more, and all is worked out over the copy.
+/// The error is always `Memory`.
 pub fn whole_outcome(
     alloc: Global,
     shown: &mut Counted,
@@ -97,7 +101,7 @@ pub fn whole_outcome(
     requires clear { NoneRefuses (MayBeAccepted (plan_held clock (Some shown.old.contents)) request.now) }
     requires whole { ¬ IsSmall request.now.what }
     requires at { request.now.at ≡ pos at }
-    requires few { shown.old.looks ≤ 1 }
+    requires few { shown.old.looks ≤ 4 + 3 * len shown.old.contents.operations }
     ensures contents { shown.new.contents ≡ shown.old.contents }
     ensures outcome { IfOk result (IsOutcomeOf (plan_held clock (Some shown.old.contents)) request.now at) }
     ensures looked { IfOk result (λ x. AreLooksTo shown.old.contents request.now.what x shown.new.looks) }

@@ -13,6 +13,7 @@ use super::builder::{DraftParts, Record, parts_of_plan, read_items};
 use super::contents::{AdditionParts, PlanContents};
 use plan_basics::Refusal;
 use plan_items::Item;
+use plan_model::Graph;
 use std::alloc::{AllocError, Global};
 use std::fmt;
 use std::marker::Model;
@@ -99,14 +100,6 @@ impl PlanDraft {
         Ok(Some(PlanDraft { parts }))
     }
 
-    /// What it holds, so that it need not be copied.
-    pub fn into_contents(self) -> PlanContents
-        ensures contents { result ≡ self }
-        ensures draft { IsDraft self }
-    {
-        self.parts.contents
-    }
-
     /// What it holds and its graph, so that neither need be made again.
     pub fn into_parts(self) -> DraftParts
         ensures contents { result.contents ≡ self }
@@ -122,6 +115,14 @@ impl PlanDraft {
         ensures draft { IsDraft self.now }
     {
         &self.parts.contents
+    }
+
+    /// Its graph, of the operations and pairs that it holds.
+    pub fn graph(&self) -> &Graph
+        ensures graph { IsGraphFor self.now result.now }
+        ensures draft { IsDraft self.now }
+    {
+        &self.parts.graph
     }
 }
 

@@ -1,4 +1,4 @@
--- Where only marks and flags change, keys, the graph, latest starts and which operations are live stay.
+-- Where only marks and flags change, keys and the graph stay; and where the same operations are live, latest starts do too.
 use Rattle.std.proofs.Common.{◌≡◌, inl, inr, refl, sym, ap, subst, ◌∙◌, arith, ℕ, suc, Bool, true, false, cond, List, [], ◌∷◌, length, Contains, Option, Some, None, option_map, slice_get, ℤ}
 use Rattle.std.proofs.lemmas.Option.{none-some, same_Some, slice_get_within}
 use Rattle.std.specs.FinMap.{entries, find, from_entries, get, get-entries, keys}
@@ -23,8 +23,8 @@ use Rattle.plan_checks.specs.plan_choice.proofs.ItemStarts.{deadline_in, duratio
 use Rattle.plan_checks.specs.plan_choice.specs.Choices.{AreLatestStarts}
 use Rattle.plan_checks.specs.workstations.specs.Timetables.{NamedWorkstation}
 use Rattle.plan_checks.specs.workstations.specs.Workstations.{Workstation}
-use Rattle.plan_checks.specs.plan_moves.specs.Moves.{IsMovedAt, IsRemarked, reporting}
-use Rattle.plan_kept.specs.Laws.{FrameStays, MovesFollow, OperationsStay}
+use Rattle.plan_checks.specs.plan_moves.specs.Moves.{AreLiveAlike, IsMovedAt, IsRemarked, reporting}
+use Rattle.plan_kept.specs.Laws.{FrameStays, LivesFollow, MovesFollow, OperationsStay}
 
 -- ---- lists
 
@@ -76,23 +76,22 @@ module _ (P Q : Contents) (places : List ℕ) (moved : IsMovedAt P Q places) whe
       let row = moved.rows at.0 o op at.1 in
       (row.before, row_found P at.0 o row.before row.was, row.remarked)
 
+  -- the row at its index after
+  there : (i : ℕ) (o : OpKey) (op : Operation) → slice_get (entries P.operations) i ≡ Some (o, op) → (after : Operation) × (slice_get (entries Q.operations) i ≡ Some (o, after)) × IsRemarked op after
+  there i o op at =
+      let lt = slice_get_within (entries P.operations) i (o, op) at in
+      let row = row_at (entries Q.operations) i (omega (arith, lt, moved.size)) in
+      let after : Operation = row.0.1 in
+      let old = moved.rows i row.0.0 after row.1 in
+      let same : ◌≡◌ {A = OpKey × Operation} (row.0.0, old.before) (o, op) = same_Some _ _ (sym old.was ∙ at) in
+      (after, row.1 ∙ ap (λ (z : OpKey × Operation). Some (z.0, after)) same, subst (λ (z : OpKey × Operation). IsRemarked z.1 after) same old.remarked)
+
   -- what it is after
   pub now : (o : OpKey) (op : Operation) → get P.operations o ≡ Some op → (after : Operation) × (get Q.operations o ≡ Some after) × IsRemarked op after
   now o op is =
       let at = row_of P o op is in
-      let lt = slice_get_within (entries P.operations) at.0 (o, op) at.1 in
-      let there = row_at (entries Q.operations) at.0 (omega (arith, lt, moved.size)) in
-      let after : Operation = there.0.1 in
-      let row = moved.rows at.0 there.0.0 after there.1 in
-      let same : ◌≡◌ {A = OpKey × Operation} (there.0.0, row.before) (o, op) = same_Some _ _ (sym row.was ∙ at.1) in
-      let here : slice_get (entries Q.operations) at.0 ≡ Some (o, after) = there.1 ∙ ap (λ (z : OpKey × Operation). Some (z.0, after)) same in
-      (after, row_found Q at.0 o after here, subst (λ (z : OpKey × Operation). IsRemarked z.1 after) same row.remarked)
-
-  live_after : (o : OpKey) → IsLive P o → IsLive Q o
-  live_after o live = let after = now o live.0 live.1 in (after.0, after.1, live_mark after.0.mark (after.2.live ∙ mark_live live.0.mark live.2))
-
-  live_before : (o : OpKey) → IsLive Q o → IsLive P o
-  live_before o live = let before = was o live.0 live.1 in (before.0, before.1, live_mark before.0.mark (sym before.2.live ∙ mark_live live.0.mark live.2))
+      let row = there at.0 o op at.1 in
+      (row.0, row_found Q at.0 o row.0 row.1, row.2)
 
   -- a number that neither marks nor flags change
   module _ (number : Operation → ℕ) (same : (before after : Operation) → IsRemarked before after → number after ≡ number before) (o : OpKey) where
@@ -113,18 +112,32 @@ module _ (P Q : Contents) (places : List ℕ) (moved : IsMovedAt P Q places) whe
   same_deadline : (o : OpKey) → deadline_in P o ≡ deadline_in Q o
   same_deadline o = amount_kept (λ op. op.deadline) (λ before after h. ap (λ (op : Operation). op.deadline) h.rest) o
 
-  latest_start_stays : (o : OpKey) (v : ℤ) → IsLatestStart P o v → IsLatestStart Q o v
-  latest_start_stays o v latest =
-      subst (λ pairs. IsLeastStart (IsPairOf pairs) (IsLive Q) (duration_in Q) (deadline_in Q) o v) (sym moved.pairs)
-      (subst (λ (f : OpKey → ℕ). IsLeastStart (Precedes P) (IsLive Q) f (deadline_in Q) o v) (λ i q. same_duration q i)
-      (subst (λ (f : OpKey → ℕ). IsLeastStart (Precedes P) (IsLive Q) (duration_in P) f o v) (λ i q. same_deadline q i)
-      (least_kept (Precedes P) (IsLive P) (IsLive Q) live_after live_before (duration_in P) (deadline_in P) o v latest)))
+  -- the same operations are live in both
+  module _ (alike : AreLiveAlike P Q) where
+    pub live_after : (o : OpKey) → IsLive P o → IsLive Q o
+    live_after o live =
+        let at = row_of P o live.0 live.1 in
+        let row = there at.0 o live.0 at.1 in
+        (row.0, row_found Q at.0 o row.0 row.1, live_mark row.0.mark (alike at.0 o live.0 row.0 at.1 row.1 ∙ mark_live live.0.mark live.2))
 
-  pub latest_stay : (starts : List ℤ) → AreLatestStarts P starts → AreLatestStarts Q starts
-  latest_stay starts are = record {
-    size = are.size ∙ sym moved.size;
-    each = λ i o op v at is. let row = moved.rows i o op at in latest_start_stays o v (are.each i o row.before v row.was is);
-  }
+    pub live_before : (o : OpKey) → IsLive Q o → IsLive P o
+    live_before o live =
+        let at = row_of Q o live.0 live.1 in
+        let row = moved.rows at.0 o live.0 at.1 in
+        (row.before, row_found P at.0 o row.before row.was, live_mark row.before.mark (sym (alike at.0 o row.before live.0 row.was at.1) ∙ mark_live live.0.mark live.2))
+
+    latest_start_stays : (o : OpKey) (v : ℤ) → IsLatestStart P o v → IsLatestStart Q o v
+    latest_start_stays o v latest =
+        subst (λ pairs. IsLeastStart (IsPairOf pairs) (IsLive Q) (duration_in Q) (deadline_in Q) o v) (sym moved.pairs)
+        (subst (λ (f : OpKey → ℕ). IsLeastStart (Precedes P) (IsLive Q) f (deadline_in Q) o v) (λ i q. same_duration q i)
+        (subst (λ (f : OpKey → ℕ). IsLeastStart (Precedes P) (IsLive Q) (duration_in P) f o v) (λ i q. same_deadline q i)
+        (least_kept (Precedes P) (IsLive P) (IsLive Q) live_after live_before (duration_in P) (deadline_in P) o v latest)))
+
+    pub latest_stay : (starts : List ℤ) → AreLatestStarts P starts → AreLatestStarts Q starts
+    latest_stay starts are = record {
+      size = are.size ∙ sym moved.size;
+      each = λ i o op v at is. let row = moved.rows i o op at in latest_start_stays o v (are.each i o row.before v row.was is);
+    }
 
   pub keys_stay : keys P.operations ≡ keys Q.operations
   keys_stay =
@@ -141,23 +154,23 @@ module _ (P Q : Contents) (places : List ℕ) (moved : IsMovedAt P Q places) whe
   graph_stays g graph =
       subst (λ pairs. IsGraphOf (keys Q.operations) pairs g) (sym moved.pairs) (subst (λ (ks : List OpKey). IsGraphOf ks P.pairs g) keys_stay graph)
 
+  pub attributes_stay : (w : Name) → attribute_at P w ≡ attribute_at Q w
+  attributes_stay w = attribute_told P w ∙ ap (find name_cmp w) (sym moved.workstations) ∙ sym (attribute_told Q w)
+
 pub frame_stays : FrameStays
-frame_stays P Q places moved = record {
-  attributes = λ w. attribute_told P w ∙ ap (find name_cmp w) (sym moved.workstations) ∙ sym (attribute_told Q w);
+frame_stays P Q places moved alike = record {
+  attributes = attributes_stay P Q places moved;
   keys = keys_stay P Q places moved;
-  live = λ o. (live_after P Q places moved o, live_before P Q places moved o);
+  live = λ o. (live_after P Q places moved alike o, live_before P Q places moved alike o);
   graph = graph_stays P Q places moved;
-  latest = latest_stay P Q places moved;
+  latest = latest_stay P Q places moved alike;
 }
 
 -- ---- one change after another
 
 module _ (before mid after : Operation) (first : IsRemarked before mid) (second : IsRemarked mid after) where
   remarked_again : IsRemarked before after
-  remarked_again = record {
-    rest = second.rest ∙ ap (λ (op : Operation). record op { mark = after.mark; held = after.held; nop = after.nop }) first.rest;
-    live = second.live ∙ first.live;
-  }
+  remarked_again = record { rest = second.rest ∙ ap (λ (op : Operation). record op { mark = after.mark; held = after.held; nop = after.nop }) first.rest }
 
 pub moves_follow : MovesFollow
 moves_follow P Q R first second places to on has = record {
@@ -175,6 +188,9 @@ moves_follow P Q R first second places to on has = record {
         elsewhere = λ other. last.elsewhere (λ h. other (has i (inr h))) ∙ old.elsewhere (λ h. other (has i (inl h)));
       };
 }
+
+pub lives_follow : LivesFollow
+lives_follow P Q R second on first later i o before after was is = let mid = on.rows i o after is in later i o mid.before after mid.was is ∙ first i o before mid.before was mid.was
 
 -- ---- changes nowhere
 

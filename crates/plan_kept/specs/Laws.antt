@@ -16,7 +16,7 @@ use Rattle.plan_records.specs.declared.What.TheVariants as what
 use Rattle.plan_records.specs.Acceptance.{MayBeDone}
 use Rattle.plan_records.specs.Changes.{Changes}
 use Rattle.plan_checks.specs.plan_choice.specs.Choices.{AreLatestStarts}
-use Rattle.plan_checks.specs.plan_moves.specs.Moves.{IsMovedAt}
+use Rattle.plan_checks.specs.plan_moves.specs.Moves.{AreLiveAlike, IsMovedAt}
 use Rattle.plan_kept.specs.Edits.{AreUnsatisfiedAt, ArePlacesOf, IsDeletedAt, IsEditedAt, IsRerun, IsSmall, KeepsOperations, KeepsResources, KeepsWorkstations}
 
 -- two plans have the same operations, of which the same are deleted, on workstations that report alike, the same graph of them, and the same latest starts
@@ -27,21 +27,25 @@ pub record HaveOneFrame (P Q : Contents) : Type 0 where
   pub graph : (g : Digraph) → IsGraphFor P g → IsGraphFor Q g
   pub latest : (starts : List ℤ) → AreLatestStarts P starts → AreLatestStarts Q starts
 
--- where only marks and flags change, the frame stays
+-- where only marks and flags change, and the same operations are deleted, the frame stays
 abbrev pub FrameStays : Type 0
-FrameStays = (P Q : Contents) (places : List ℕ) → IsMovedAt P Q places → HaveOneFrame P Q
+FrameStays = (P Q : Contents) (places : List ℕ) → IsMovedAt P Q places → AreLiveAlike P Q → HaveOneFrame P Q
 
 -- one such change after another is one, at all indices of both
 abbrev pub MovesFollow : Type 0
 MovesFollow = (P Q R : Contents) (first second places : List ℕ) → IsMovedAt P Q first → IsMovedAt Q R second → ((i : ℕ) → Contains first i ⊎ Contains second i → Contains places i) → IsMovedAt P R places
 
+-- where the same are deleted after the one as before, and after the other, the same are deleted after both
+abbrev pub LivesFollow : Type 0
+LivesFollow = (P Q R : Contents) (second : List ℕ) → IsMovedAt Q R second → AreLiveAlike P Q → AreLiveAlike Q R → AreLiveAlike P R
+
 -- where they change nowhere, the operations stay
 abbrev pub OperationsStay : Type 0
 OperationsStay = (P Q : Contents) → IsMovedAt P Q [] → Q.operations ≡ P.operations
 
--- a small request that isn't refused changes marks and flags where it edits them, and no others
+-- a small request that isn't refused changes marks and flags where it edits them, and no others; it deletes none, and none comes back
 abbrev pub SmallRequestsMove : Type 0
-SmallRequestsMove = (P Q : Contents) (w : What) (m : ℕ) (places : List ℕ) → IsValid P → IsSmall w → NoneRefuses (MayBeDone P m w) → Changes P w Q → IsEditedAt P w places → IsMovedAt P Q places
+SmallRequestsMove = (P Q : Contents) (w : What) (m : ℕ) (places : List ℕ) → IsValid P → IsSmall w → NoneRefuses (MayBeDone P m w) → Changes P w Q → IsEditedAt P w places → IsMovedAt P Q places × AreLiveAlike P Q
 
 -- and what it edits isn't satisfied, unless it is a rerun
 abbrev pub EditedAreUnsatisfied : Type 0
@@ -61,9 +65,9 @@ pub record KeepsOthers (P : Contents) (w : What) (Q : Contents) : Type 0 where
 abbrev pub SmallRequestsKeepOthers : Type 0
 SmallRequestsKeepOthers = (P Q : Contents) (w : What) → IsSmall w → Changes P w Q → KeepsOthers P w Q
 
--- to name operations that are ready changes their marks alone
+-- to name operations that are ready changes their marks alone, and deletes none
 abbrev pub NamingMoves : Type 0
-NamingMoves = (P : Contents) (os : List OpKey) (places : List ℕ) → ((o : OpKey) → is_among os o ≡ true → IsReady P o) → ArePlacesOf P os places → IsMovedAt P (named os P) places
+NamingMoves = (P : Contents) (os : List OpKey) (places : List ℕ) → ((o : OpKey) → is_among os o ≡ true → IsReady P o) → ArePlacesOf P os places → IsMovedAt P (named os P) places × AreLiveAlike P (named os P)
 
 -- what is chosen is ready, and in the plan
 abbrev pub ChosenAreReady : Type 0

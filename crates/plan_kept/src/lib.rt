@@ -1,8 +1,8 @@
-//! What stays where only marks and flags change: keys, the graph, latest starts and which operations are live. Which requests
-//! change no more than that, and at which indices they do.
+//! What stays where only marks and flags change: keys and the graph, and latest starts too where the same operations are deleted.
+//! Which requests change no more than that, and at which indices they do.
 #![tactic(auto)]
 
-ghost use Rattle.plan_kept.specs.Laws.{ChosenAreReady, EditedAreUnsatisfied, FrameStays, MovesFollow, NamingMoves, OperationsStay, ReadyAreUnsatisfied, RerunsGoOn, SmallRequestsKeepOthers, SmallRequestsMove};
+ghost use Rattle.plan_kept.specs.Laws.{ChosenAreReady, EditedAreUnsatisfied, FrameStays, LivesFollow, MovesFollow, NamingMoves, OperationsStay, ReadyAreUnsatisfied, RerunsGoOn, SmallRequestsKeepOthers, SmallRequestsMove};
 
 mod edits;
 mod places;
@@ -15,16 +15,18 @@ pub use plan_checks::{
 };
 pub use plan_records::{PlanContents, What};
 
-/// The law that keys, the graph, latest starts and which operations are deleted stay where only marks and flags change; that
+/// The law that keys, the graph and latest starts stay where only marks and flags change and the same operations are deleted; that
 /// one such change after another is one; and that where they change nowhere all operations stay. It does nothing.
 pub fn frame_stays()
     ensures frame { FrameStays }
     ensures follow { MovesFollow }
+    ensures lives { LivesFollow }
     ensures nowhere { OperationsStay }
 {}
 
-/// The law that a small request that isn't refused changes marks and flags where it edits them and nowhere else, and
-/// special resources and workstations only by the request that says so. It does nothing.
+/// The law that a small request that isn't refused changes marks and flags where it edits them and nowhere else, deletes no
+/// operation and brings none back, and changes special resources and workstations only by the request that says so. It does
+/// nothing.
 pub fn small_requests_move()
     ensures moves { SmallRequestsMove }
     ensures others { SmallRequestsKeepOthers }
@@ -37,8 +39,8 @@ pub fn edits_lead_on()
     ensures reruns { RerunsGoOn }
 {}
 
-/// The law that to name operations that are ready changes their marks alone, and that these weren't satisfied; and what is
-/// chosen is ready. It does nothing.
+/// The law that to name operations that are ready changes their marks alone and deletes none, and that these weren't satisfied;
+/// and what is chosen is ready. It does nothing.
 pub fn naming_moves()
     ensures moves { NamingMoves }
     ensures unsatisfied { ReadyAreUnsatisfied }

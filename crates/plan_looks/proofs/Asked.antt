@@ -5,16 +5,16 @@ use Rattle.std.proofs.lemmas.Bool.{cases_Bool}
 use Rattle.plan_basics.specs.declared.keys.OpKey.{OpKey}
 use Rattle.ready_list.specs.Choice.{is_among, operations_of}
 use Rattle.ready_list.specs.declared.ReadyKey.{ReadyKey}
-use Rattle.plan_kept.specs.plan_records.specs.plan_drafts.proofs.Lists.{from_map, in_map, length_map}
-use Rattle.plan_kept.specs.plan_records.specs.plan_drafts.proofs.Tables.{is_found}
-use Rattle.plan_kept.specs.plan_records.specs.plan_model.specs.Contents.{Contents}
-use Rattle.plan_kept.specs.plan_records.specs.plan_model.specs.Ready.{IsReadyList, named}
-use Rattle.plan_kept.specs.plan_records.specs.plan_model.specs.Status.{IsReady}
-use Rattle.plan_kept.specs.plan_records.specs.plan_model.specs.Valid.{IsValid}
-use Rattle.plan_kept.specs.plan_laws.proofs.Latest.{some_latest_start}
-use Rattle.plan_kept.specs.plan_choice.proofs.Naming.{ready_still}
-use Rattle.plan_kept.specs.plan_choice.proofs.Readied.{ready_in_plan}
-use Rattle.plan_kept.specs.plan_choice.proofs.ReadyLists.{ready_distinct}
+use Rattle.plan_deletions.specs.plan_kept.specs.plan_records.specs.plan_drafts.proofs.Lists.{from_map, in_map, length_map}
+use Rattle.plan_deletions.specs.plan_kept.specs.plan_records.specs.plan_drafts.proofs.Tables.{is_found}
+use Rattle.plan_deletions.specs.plan_kept.specs.plan_records.specs.plan_model.specs.Contents.{Contents}
+use Rattle.plan_deletions.specs.plan_kept.specs.plan_records.specs.plan_model.specs.Ready.{IsReadyList, named}
+use Rattle.plan_deletions.specs.plan_kept.specs.plan_records.specs.plan_model.specs.Status.{IsReady}
+use Rattle.plan_deletions.specs.plan_kept.specs.plan_records.specs.plan_model.specs.Valid.{IsValid}
+use Rattle.plan_deletions.specs.plan_kept.specs.plan_laws.proofs.Latest.{some_latest_start}
+use Rattle.plan_deletions.specs.plan_kept.specs.plan_choice.proofs.Naming.{ready_still}
+use Rattle.plan_deletions.specs.plan_kept.specs.plan_choice.proofs.Readied.{ready_in_plan}
+use Rattle.plan_deletions.specs.plan_kept.specs.plan_choice.proofs.ReadyLists.{ready_distinct}
 use Rattle.plan_looks.proofs.FewLooks.{length_within_both}
 
 module _ (Q : Contents) (os : List OpKey) (ready : (o : OpKey) → is_among os o ≡ true → IsReady Q o) (valid : IsValid (named os Q)) where

@@ -2,12 +2,12 @@
 use Rattle.std.proofs.Common.{◌≡◌, ◌⊎◌, inl, inr, refl, sym, subst, arith, ℕ, ◌+◌, ◌*◌, ◌≤◌, List, [], ◌∷◌, length, Contains, Option, Some, None}
 use Rattle.plan_basics.specs.declared.keys.OpKey.{OpKey}
 use Rattle.operation_graph.specs.Paths.{IsPathBy, ReachesBy, end_of}
-use Rattle.plan_kept.specs.plan_records.specs.Work.{IsWorkedOn}
-use Rattle.plan_kept.specs.plan_records.specs.declared.What.{What}
-use Rattle.plan_kept.specs.plan_records.specs.declared.What.TheVariants as what
-use Rattle.plan_kept.specs.plan_records.specs.plan_drafts.proofs.Lists.{contains_head, contains_none}
-use Rattle.plan_kept.specs.plan_records.specs.plan_model.specs.Contents.{Contents, IsLive, Precedes}
-use Rattle.plan_kept.specs.Edits.{Edits, target_of}
+use Rattle.plan_deletions.specs.plan_kept.specs.plan_records.specs.Work.{IsWorkedOn}
+use Rattle.plan_deletions.specs.plan_kept.specs.plan_records.specs.declared.What.{What}
+use Rattle.plan_deletions.specs.plan_kept.specs.plan_records.specs.declared.What.TheVariants as what
+use Rattle.plan_deletions.specs.plan_kept.specs.plan_records.specs.plan_drafts.proofs.Lists.{contains_head, contains_none}
+use Rattle.plan_deletions.specs.plan_kept.specs.plan_records.specs.plan_model.specs.Contents.{Contents, IsLive, Precedes}
+use Rattle.plan_deletions.specs.plan_kept.specs.Edits.{Edits, target_of}
 
 -- what there is, as a list
 abbrev pub listed : Option OpKey → List OpKey

@@ -9,9 +9,9 @@ use Rattle.plan_basics.specs.Keys.{operation_cmp, operation_cmp_total}
 use Rattle.plan_basics.specs.declared.keys.OpKey.{OpKey}
 use Rattle.operation_graph.proofs.Counts.{eqb_same}
 use Rattle.ready_list.proofs.Members.{contains_from_filter}
-use Rattle.plan_kept.specs.plan_records.specs.plan_drafts.proofs.KeyPlaces.{one_place}
-use Rattle.plan_kept.specs.plan_records.specs.plan_drafts.proofs.Lists.{contains_cases, contains_none}
-use Rattle.plan_restating.specs.Beside.{is_place_among, places_beside}
+use Rattle.plan_deletions.specs.plan_kept.specs.plan_records.specs.plan_drafts.proofs.KeyPlaces.{one_place}
+use Rattle.plan_deletions.specs.plan_kept.specs.plan_records.specs.plan_drafts.proofs.Lists.{contains_cases, contains_none}
+use Rattle.plan_deletions.specs.plan_restating.specs.Beside.{is_place_among, places_beside}
 use Rattle.plan_looks.proofs.FewLooks.{length_within, once_both}
 use Rattle.plan_looks.proofs.PlaceKeys.{as_many, key_from, key_in, keys_at, once_at}
 use Rattle.plan_looks.specs.StepLooks.{AreBoth}

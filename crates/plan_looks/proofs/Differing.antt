@@ -3,16 +3,16 @@ use Rattle.std.proofs.Common.{◌≡◌, ◌≢◌, sym, ap, subst, ◌∙◌, t
 use Rattle.std.specs.FinMap.{get}
 use Rattle.std.proofs.lemmas.Option.{same_Some}
 use Rattle.plan_basics.specs.declared.keys.OpKey.{OpKey}
-use Rattle.plan_kept.specs.plan_records.specs.plan_model.specs.Contents.{Contents, Operation}
-use Rattle.plan_kept.specs.plan_records.specs.plan_model.specs.Status.{IsSatisfied}
-use Rattle.plan_kept.specs.plan_records.specs.plan_model.specs.Valid.{IsValid}
-use Rattle.plan_kept.specs.plan_records.specs.status_rules.specs.Classes.{is_satisfied}
-use Rattle.plan_kept.specs.plan_records.specs.Rows.{IsOperationRow}
-use Rattle.plan_kept.specs.plan_records.specs.Work.{HasChangedRow}
-use Rattle.plan_kept.specs.plan_records.specs.declared.OperationRow.{OperationRow}
-use Rattle.plan_kept.specs.plan_laws.proofs.Classes.{satisfied_decides}
-use Rattle.plan_kept.specs.plan_laws.proofs.Decide.{invert}
-use Rattle.plan_kept.specs.plan_laws.proofs.Tabling.{some_row}
+use Rattle.plan_deletions.specs.plan_kept.specs.plan_records.specs.plan_model.specs.Contents.{Contents, Operation}
+use Rattle.plan_deletions.specs.plan_kept.specs.plan_records.specs.plan_model.specs.Status.{IsSatisfied}
+use Rattle.plan_deletions.specs.plan_kept.specs.plan_records.specs.plan_model.specs.Valid.{IsValid}
+use Rattle.plan_deletions.specs.plan_kept.specs.plan_records.specs.status_rules.specs.Classes.{is_satisfied}
+use Rattle.plan_deletions.specs.plan_kept.specs.plan_records.specs.Rows.{IsOperationRow}
+use Rattle.plan_deletions.specs.plan_kept.specs.plan_records.specs.Work.{HasChangedRow}
+use Rattle.plan_deletions.specs.plan_kept.specs.plan_records.specs.declared.OperationRow.{OperationRow}
+use Rattle.plan_deletions.specs.plan_kept.specs.plan_laws.proofs.Classes.{satisfied_decides}
+use Rattle.plan_deletions.specs.plan_kept.specs.plan_laws.proofs.Decide.{invert}
+use Rattle.plan_deletions.specs.plan_kept.specs.plan_laws.proofs.Tabling.{some_row}
 
 module _ (P R : Contents) (valid : IsValid R) (o : OpKey) where
   module _ (before after : Operation) (was : get P.operations o ≡ Some before) (is : get R.operations o ≡ Some after) where

@@ -12,18 +12,18 @@ use Rattle.std.proofs.lemmas.List.Sums.{sum_by-cons, sum_by-le-sum_by, length-fi
 use Rattle.std.proofs.lemmas.Map.Made.{length-le_from_is_member}
 use Rattle.plan_basics.specs.declared.keys.OpKey.{OpKey}
 use Rattle.plan_basics.specs.Keys.{operation_cmp, operation_cmp-IsAntisymmetric, operation_cmp_total}
-use Rattle.plan_kept.specs.plan_records.specs.plan_drafts.proofs.Lists.{at_member, contains_cases, contains_head, contains_later, contains_none, in_map, length_map}
-use Rattle.plan_kept.specs.plan_records.specs.plan_model.proofs.Members.{if_member, in_items, member_if}
-use Rattle.plan_kept.specs.plan_records.specs.plan_model.specs.Contents.{Contents, Precedes}
-use Rattle.plan_kept.specs.plan_records.specs.plan_model.specs.Ready.{IsReadyList}
-use Rattle.plan_kept.specs.plan_records.specs.plan_model.specs.Valid.{IsAcyclic}
-use Rattle.plan_kept.specs.plan_records.specs.operation_graph.specs.Paths.{by_edge}
-use Rattle.plan_kept.specs.plan_records.specs.ready_list.proofs.Members.{all_by_members, contains_filter, contains_from_filter}
-use Rattle.plan_kept.specs.plan_records.specs.ready_list.specs.declared.ReadyKey.{ReadyKey}
-use Rattle.plan_kept.specs.plan_records.specs.Work.{IsAllowanceByChange, by_whole_plan, neighbours}
-use Rattle.plan_kept.specs.plan_records.specs.declared.What.{What}
-use Rattle.plan_kept.specs.plan_laws.proofs.Choice.{one_ready_list}
-use Rattle.plan_kept.specs.plan_laws.proofs.Pairs.{pair_cmp-IsAntisymmetric, pair_cmp_total}
+use Rattle.plan_deletions.specs.plan_kept.specs.plan_records.specs.plan_drafts.proofs.Lists.{at_member, contains_cases, contains_head, contains_later, contains_none, in_map, length_map}
+use Rattle.plan_deletions.specs.plan_kept.specs.plan_records.specs.plan_model.proofs.Members.{if_member, in_items, member_if}
+use Rattle.plan_deletions.specs.plan_kept.specs.plan_records.specs.plan_model.specs.Contents.{Contents, Precedes}
+use Rattle.plan_deletions.specs.plan_kept.specs.plan_records.specs.plan_model.specs.Ready.{IsReadyList}
+use Rattle.plan_deletions.specs.plan_kept.specs.plan_records.specs.plan_model.specs.Valid.{IsAcyclic}
+use Rattle.plan_deletions.specs.plan_kept.specs.plan_records.specs.operation_graph.specs.Paths.{by_edge}
+use Rattle.plan_deletions.specs.plan_kept.specs.plan_records.specs.ready_list.proofs.Members.{all_by_members, contains_filter, contains_from_filter}
+use Rattle.plan_deletions.specs.plan_kept.specs.plan_records.specs.ready_list.specs.declared.ReadyKey.{ReadyKey}
+use Rattle.plan_deletions.specs.plan_kept.specs.plan_records.specs.Work.{IsAllowanceByChange, by_whole_plan, neighbours}
+use Rattle.plan_deletions.specs.plan_kept.specs.plan_records.specs.declared.What.{What}
+use Rattle.plan_deletions.specs.plan_kept.specs.plan_laws.proofs.Choice.{one_ready_list}
+use Rattle.plan_deletions.specs.plan_kept.specs.plan_laws.proofs.Pairs.{pair_cmp-IsAntisymmetric, pair_cmp_total}
 use Rattle.plan_looks.specs.FewLooks.{AreOnce, FollowsWork, IsFollower, IsTouching}
 
 -- the two keys are one
@@ -311,6 +311,6 @@ module _ {P : Contents} {w : What} {Q : Contents} {n : ℕ} (acyclic : IsAcyclic
         let entries : length after ≡ length a.after = ap length (one_ready_list Q after a.after ready a.ready_after) in
         few_looks base asked work few_first (subst (λ k. asked ≤ k + length named) entries few_asked) few
 
--- where no operation goes, two looks, and one at each record of the plan before, are within the allowance by the whole plan
-pub one_look_each : (P Q : Contents) (work : ℕ) → len P.operations ≤ len Q.operations → work ≤ 2 + len P.operations → work ≤ by_whole_plan Q
-one_look_each P Q work kept few = omega (arith, kept, few)
+-- where no operation goes, four looks, and four at each record of the plan before, are within the allowance by the whole plan
+pub four_looks_each : (P Q : Contents) (work : ℕ) → len P.operations ≤ len Q.operations → work ≤ 4 + 4 * len P.operations → work ≤ by_whole_plan Q
+four_looks_each P Q work kept few = omega (arith, kept, few)

@@ -8,7 +8,7 @@ use Rattle.std.proofs.lemmas.List.Kept.{IsStrictlySortedBy-filter}
 use Rattle.operation_graph.proofs.Telling.{Told, if_told, is_told, told_if}
 use Rattle.operation_graph.specs.Graphs.{Digraph, HasEdge, IsGraph}
 use Rattle.plan_cascade.specs.Changes.{HoldFollowers}
-use Rattle.plan_kept.specs.plan_records.specs.ready_list.proofs.Members.{contains_filter, contains_from_filter}
+use Rattle.plan_deletions.specs.plan_kept.specs.plan_records.specs.ready_list.proofs.Members.{contains_filter, contains_from_filter}
 
 module _ (g : Digraph) (graph : IsGraph g) where
   -- a predecessor below a node

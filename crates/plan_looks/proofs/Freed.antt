@@ -10,7 +10,7 @@ use Rattle.operation_graph.specs.Adjacency.{count_of}
 use Rattle.plan_cascade.proofs.Counting.{fewer_waiting, free_is_none, one_if_waiting_at_most, satisfied_is_none, waiting_is_one}
 use Rattle.plan_cascade.specs.Counters.{kept_at, one_if_waiting, waiting_count}
 use Rattle.plan_cascade.specs.declared.kept.Kept.{Kept}
-use Rattle.plan_kept.specs.plan_records.specs.ready_list.proofs.Members.{contains_filter, contains_from_filter}
+use Rattle.plan_deletions.specs.plan_kept.specs.plan_records.specs.ready_list.proofs.Members.{contains_filter, contains_from_filter}
 
 -- whether one number is below another
 told_below : (m n : ℕ) → Told (m < n)

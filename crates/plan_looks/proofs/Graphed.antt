@@ -7,16 +7,16 @@ use Rattle.plan_basics.proofs.Members.{place_of}
 use Rattle.plan_basics.specs.Keys.{operation_cmp, operation_cmp-IsAntisymmetric, operation_cmp_total}
 use Rattle.plan_basics.specs.declared.keys.OpKey.{OpKey}
 use Rattle.operation_graph.specs.Graphs.{Digraph, IsEdgeOf, edges_of}
-use Rattle.plan_kept.specs.plan_records.specs.plan_drafts.proofs.EntryRows.{among_keys}
-use Rattle.plan_kept.specs.plan_records.specs.plan_drafts.proofs.KeyPlaces.{in_listed, listed_in, pair_cmp-IsAntisymmetric, pair_cmp_total}
-use Rattle.plan_kept.specs.plan_records.specs.plan_drafts.proofs.Lists.{contains_head, contains_later}
-use Rattle.plan_kept.specs.plan_records.specs.plan_drafts.proofs.PairEdges.{IsPairAt, edge_at}
-use Rattle.plan_kept.specs.plan_records.specs.plan_drafts.specs.PlanGraphs.{AreAtPlaces, IsGraphFor}
-use Rattle.plan_kept.specs.plan_records.specs.plan_model.proofs.Entries.{entries_in_order}
-use Rattle.plan_kept.specs.plan_records.specs.plan_model.proofs.Members.{in_items}
-use Rattle.plan_kept.specs.plan_records.specs.plan_model.specs.Contents.{Contents}
-use Rattle.plan_kept.specs.plan_records.specs.plan_model.specs.Valid.{IsValid}
-use Rattle.plan_kept.specs.plan_laws.proofs.Ordered.{pairs_have_rank}
+use Rattle.plan_deletions.specs.plan_kept.specs.plan_records.specs.plan_drafts.proofs.EntryRows.{among_keys}
+use Rattle.plan_deletions.specs.plan_kept.specs.plan_records.specs.plan_drafts.proofs.KeyPlaces.{in_listed, listed_in, pair_cmp-IsAntisymmetric, pair_cmp_total}
+use Rattle.plan_deletions.specs.plan_kept.specs.plan_records.specs.plan_drafts.proofs.Lists.{contains_head, contains_later}
+use Rattle.plan_deletions.specs.plan_kept.specs.plan_records.specs.plan_drafts.proofs.PairEdges.{IsPairAt, edge_at}
+use Rattle.plan_deletions.specs.plan_kept.specs.plan_records.specs.plan_drafts.specs.PlanGraphs.{AreAtPlaces, IsGraphFor}
+use Rattle.plan_deletions.specs.plan_kept.specs.plan_records.specs.plan_model.proofs.Entries.{entries_in_order}
+use Rattle.plan_deletions.specs.plan_kept.specs.plan_records.specs.plan_model.proofs.Members.{in_items}
+use Rattle.plan_deletions.specs.plan_kept.specs.plan_records.specs.plan_model.specs.Contents.{Contents}
+use Rattle.plan_deletions.specs.plan_kept.specs.plan_records.specs.plan_model.specs.Valid.{IsValid}
+use Rattle.plan_deletions.specs.plan_kept.specs.plan_laws.proofs.Ordered.{pairs_have_rank}
 
 module _ (ks : List OpKey) where
   -- edges at the indices of these pairs' ends

@@ -11,3 +11,7 @@ pub mod StepWork
 pub mod Begun
 pub mod Counted
 pub mod StepLooks
+pub mod EdgesTo
+pub mod Ready
+pub mod PairLooks
+pub mod DeletionLooks

@@ -9,22 +9,22 @@ use Rattle.plan_basics.specs.declared.Attr.{Attr}
 use Rattle.plan_basics.specs.declared.Attr.TheVariants as attribute
 use Rattle.plan_basics.specs.declared.Refusal.TheVariants as refusal
 use Rattle.plan_basics.specs.declared.keys.OpKey.{OpKey}
-use Rattle.plan_kept.specs.Edits.{Edits, IsEditedAt, IsRerun, StandsAt, target_of}
-use Rattle.plan_kept.specs.plan_drafts.proofs.EntryRows.{row_in}
-use Rattle.plan_kept.specs.plan_drafts.proofs.Lists.{contains_none}
-use Rattle.plan_kept.specs.plan_drafts.proofs.Tables.{is_found}
-use Rattle.plan_kept.specs.plan_model.specs.Contents.{Contents, Operation, attribute_at}
-use Rattle.plan_kept.specs.plan_model.specs.Ready.{with_mark}
-use Rattle.plan_kept.specs.plan_model.specs.Status.{HasStatus, IsReady, UnmarkedStatus}
-use Rattle.plan_kept.specs.plan_model.specs.Valid.{IsSound}
-use Rattle.plan_kept.specs.plan_laws.proofs.Flags.{now_is}
-use Rattle.plan_kept.specs.plan_laws.proofs.Kept.{ready_unmarked}
+use Rattle.plan_deletions.specs.plan_kept.specs.Edits.{Edits, IsEditedAt, IsRerun, StandsAt, target_of}
+use Rattle.plan_deletions.specs.plan_kept.specs.plan_drafts.proofs.EntryRows.{row_in}
+use Rattle.plan_deletions.specs.plan_kept.specs.plan_drafts.proofs.Lists.{contains_none}
+use Rattle.plan_deletions.specs.plan_kept.specs.plan_drafts.proofs.Tables.{is_found}
+use Rattle.plan_deletions.specs.plan_kept.specs.plan_model.specs.Contents.{Contents, Operation, attribute_at}
+use Rattle.plan_deletions.specs.plan_kept.specs.plan_model.specs.Ready.{with_mark}
+use Rattle.plan_deletions.specs.plan_kept.specs.plan_model.specs.Status.{HasStatus, IsReady, UnmarkedStatus}
+use Rattle.plan_deletions.specs.plan_kept.specs.plan_model.specs.Valid.{IsSound}
+use Rattle.plan_deletions.specs.plan_kept.specs.plan_laws.proofs.Flags.{now_is}
+use Rattle.plan_deletions.specs.plan_kept.specs.plan_laws.proofs.Kept.{ready_unmarked}
 use Rattle.plan_looks.specs.Anew.{IsFlaggedSo, mark_of}
 use Rattle.plan_looks.specs.StepLooks.{AreWorkedAt, IsMarkedAnew}
-use Rattle.plan_kept.specs.plan_records.specs.Acceptance.{MayBeCompleted, MayBeDone, MayBeEnded, MayBeStarted}
-use Rattle.plan_kept.specs.plan_records.specs.Changes.{Changes, is_at, marked, revised}
-use Rattle.plan_kept.specs.plan_records.specs.declared.What.{What}
-use Rattle.plan_kept.specs.plan_records.specs.declared.What.TheVariants as what
+use Rattle.plan_deletions.specs.plan_kept.specs.plan_records.specs.Acceptance.{MayBeCompleted, MayBeDone, MayBeEnded, MayBeStarted}
+use Rattle.plan_deletions.specs.plan_kept.specs.plan_records.specs.Changes.{Changes, is_at, marked, revised}
+use Rattle.plan_deletions.specs.plan_kept.specs.plan_records.specs.declared.What.{What}
+use Rattle.plan_deletions.specs.plan_kept.specs.plan_records.specs.declared.What.TheVariants as what
 use Rattle.status_rules.specs.Table.{marked_status}
 use Rattle.status_rules.specs.declared.Mark.{Mark}
 use Rattle.status_rules.specs.declared.Mark.TheVariants as mark

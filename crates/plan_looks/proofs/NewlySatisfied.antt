@@ -4,13 +4,13 @@ use Rattle.std.specs.List.Sorted.{IsStrictlySortedBy}
 use Rattle.std.proofs.lemmas.Map.Keys.{IsDistinct-from_sorted}
 use Rattle.plan_basics.specs.Keys.{operation_cmp, operation_cmp-IsAntisymmetric, operation_cmp_total}
 use Rattle.plan_basics.specs.declared.keys.OpKey.{OpKey}
-use Rattle.plan_kept.specs.plan_records.specs.operation_graph.proofs.Telling.{told_contains, told_equal}
-use Rattle.plan_kept.specs.plan_records.specs.plan_drafts.proofs.Lists.{contains_cases, contains_head, contains_later, contains_none}
-use Rattle.plan_kept.specs.plan_records.specs.plan_model.specs.Contents.{Contents, IsLive, IsPairOf, Precedes}
-use Rattle.plan_kept.specs.plan_records.specs.plan_model.specs.Status.{IsSatisfied}
-use Rattle.plan_kept.specs.plan_records.specs.plan_model.specs.Valid.{IsValid}
-use Rattle.plan_kept.specs.plan_records.specs.Rows.{IsWaitingFor}
-use Rattle.plan_kept.specs.plan_laws.proofs.Standing.{satisfied_is_told}
+use Rattle.plan_deletions.specs.plan_kept.specs.plan_records.specs.operation_graph.proofs.Telling.{told_contains, told_equal}
+use Rattle.plan_deletions.specs.plan_kept.specs.plan_records.specs.plan_drafts.proofs.Lists.{contains_cases, contains_head, contains_later, contains_none}
+use Rattle.plan_deletions.specs.plan_kept.specs.plan_records.specs.plan_model.specs.Contents.{Contents, IsLive, IsPairOf, Precedes}
+use Rattle.plan_deletions.specs.plan_kept.specs.plan_records.specs.plan_model.specs.Status.{IsSatisfied}
+use Rattle.plan_deletions.specs.plan_kept.specs.plan_records.specs.plan_model.specs.Valid.{IsValid}
+use Rattle.plan_deletions.specs.plan_kept.specs.plan_records.specs.Rows.{IsWaitingFor}
+use Rattle.plan_deletions.specs.plan_kept.specs.plan_laws.proofs.Standing.{satisfied_is_told}
 use Rattle.plan_looks.proofs.FewLooks.{length_within}
 
 -- whether all of a list is in another, or what of it isn't

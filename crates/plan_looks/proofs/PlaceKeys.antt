@@ -7,11 +7,11 @@ use Rattle.std.specs.declared.cmp.Ordering.TheVariants.{Less}
 use Rattle.std.proofs.lemmas.Cmp.{nat_cmp_total}
 use Rattle.plan_basics.specs.Keys.{operation_cmp, operation_cmp_total}
 use Rattle.plan_basics.specs.declared.keys.OpKey.{OpKey}
-use Rattle.plan_kept.specs.plan_records.specs.plan_drafts.proofs.KeyPlaces.{one_place}
-use Rattle.plan_kept.specs.plan_records.specs.plan_drafts.proofs.Lists.{at_member, contains_head, contains_later, from_filter, in_filter}
-use Rattle.plan_kept.specs.plan_records.specs.plan_drafts.proofs.RowPlaces.{row_at}
-use Rattle.plan_kept.specs.plan_records.specs.ready_list.proofs.Members.{all_by_members}
-use Rattle.plan_kept.specs.plan_laws.proofs.Sorted.{not_itself}
+use Rattle.plan_deletions.specs.plan_kept.specs.plan_records.specs.plan_drafts.proofs.KeyPlaces.{one_place}
+use Rattle.plan_deletions.specs.plan_kept.specs.plan_records.specs.plan_drafts.proofs.Lists.{at_member, contains_head, contains_later, from_filter, in_filter}
+use Rattle.plan_deletions.specs.plan_kept.specs.plan_records.specs.plan_drafts.proofs.RowPlaces.{row_at}
+use Rattle.plan_deletions.specs.plan_kept.specs.plan_records.specs.ready_list.proofs.Members.{all_by_members}
+use Rattle.plan_deletions.specs.plan_kept.specs.plan_laws.proofs.Sorted.{not_itself}
 use Rattle.plan_looks.proofs.FewLooks.{not_same}
 use Rattle.plan_looks.specs.FewLooks.{AreOnce}
 

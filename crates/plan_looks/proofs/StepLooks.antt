@@ -11,19 +11,19 @@ use Rattle.ready_list.specs.Entries.{keys_of}
 use Rattle.ready_list.specs.declared.entry.ReadyEntry.{ReadyEntry}
 use Rattle.plan_cascade.specs.Changes.{HoldFollowers}
 use Rattle.plan_cascade.specs.Counters.{waiting_count}
-use Rattle.plan_kept.specs.plan_records.specs.Work.{IsAllowance, IsAllowanceByChange, IsWorkedOn}
-use Rattle.plan_kept.specs.plan_records.specs.declared.What.{What}
-use Rattle.plan_kept.specs.plan_records.specs.declared.What.TheVariants as what
-use Rattle.plan_kept.specs.plan_records.specs.plan_drafts.proofs.Lists.{contains_none, length_map}
-use Rattle.plan_kept.specs.plan_records.specs.plan_drafts.proofs.PairEdges.{same_key}
-use Rattle.plan_kept.specs.plan_records.specs.plan_drafts.specs.PlanGraphs.{IsGraphFor}
-use Rattle.plan_kept.specs.plan_records.specs.plan_model.proofs.Entries.{entries_in_order}
-use Rattle.plan_kept.specs.plan_records.specs.plan_model.specs.Contents.{Contents, Operation, Precedes}
-use Rattle.plan_kept.specs.plan_records.specs.plan_model.specs.Ready.{named}
-use Rattle.plan_kept.specs.Edits.{IsRerun, IsSmall}
-use Rattle.plan_kept.specs.plan_checks.specs.plan_status.proofs.LoadedRows.{row_of}
-use Rattle.plan_kept.specs.plan_checks.specs.plan_status.proofs.RowKeys.{key_of_row, row_of_key}
-use Rattle.plan_kept.specs.plan_choice.proofs.Readied.{ready_in_plan}
+use Rattle.plan_deletions.specs.plan_kept.specs.plan_records.specs.Work.{IsAllowance, IsAllowanceByChange, IsWorkedOn}
+use Rattle.plan_deletions.specs.plan_kept.specs.plan_records.specs.declared.What.{What}
+use Rattle.plan_deletions.specs.plan_kept.specs.plan_records.specs.declared.What.TheVariants as what
+use Rattle.plan_deletions.specs.plan_kept.specs.plan_records.specs.plan_drafts.proofs.Lists.{contains_none, length_map}
+use Rattle.plan_deletions.specs.plan_kept.specs.plan_records.specs.plan_drafts.proofs.PairEdges.{same_key}
+use Rattle.plan_deletions.specs.plan_kept.specs.plan_records.specs.plan_drafts.specs.PlanGraphs.{IsGraphFor}
+use Rattle.plan_deletions.specs.plan_kept.specs.plan_records.specs.plan_model.proofs.Entries.{entries_in_order}
+use Rattle.plan_deletions.specs.plan_kept.specs.plan_records.specs.plan_model.specs.Contents.{Contents, Operation, Precedes}
+use Rattle.plan_deletions.specs.plan_kept.specs.plan_records.specs.plan_model.specs.Ready.{named}
+use Rattle.plan_deletions.specs.plan_kept.specs.Edits.{IsRerun, IsSmall}
+use Rattle.plan_deletions.specs.plan_kept.specs.plan_checks.specs.plan_status.proofs.LoadedRows.{row_of}
+use Rattle.plan_deletions.specs.plan_kept.specs.plan_checks.specs.plan_status.proofs.RowKeys.{key_of_row, row_of_key}
+use Rattle.plan_deletions.specs.plan_kept.specs.plan_choice.proofs.Readied.{ready_in_plan}
 use Rattle.plan_looks.proofs.Asked.{few_asked}
 use Rattle.plan_looks.proofs.Begun.{base_few, base_of, begun_in_turn, few_first, first_of}
 use Rattle.plan_looks.proofs.Counted.{few_both}

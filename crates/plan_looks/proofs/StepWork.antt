@@ -10,23 +10,23 @@ use Rattle.ready_list.specs.Choice.{is_among}
 use Rattle.status_rules.specs.declared.Mark.TheVariants.{Named, Unmarked}
 use Rattle.plan_cascade.specs.Counters.{kept_at, nothing_kept, waiting_at}
 use Rattle.plan_cascade.specs.declared.kept.Kept.{Kept}
-use Rattle.plan_kept.specs.plan_records.specs.Work.{HasChangedRow, IsWorkedOn}
-use Rattle.plan_kept.specs.plan_records.specs.declared.What.{What}
-use Rattle.plan_kept.specs.plan_records.specs.declared.What.TheVariants as what
-use Rattle.plan_kept.specs.plan_records.specs.plan_model.specs.Contents.{Contents, IsPairOf, LivePredecessor, Operation, Precedes}
-use Rattle.plan_kept.specs.plan_records.specs.plan_model.specs.Ready.{named, with_mark}
-use Rattle.plan_kept.specs.plan_records.specs.plan_model.specs.Status.{IsReady, IsSatisfied}
-use Rattle.plan_kept.specs.plan_records.specs.plan_model.specs.Valid.{IsValid}
-use Rattle.plan_kept.specs.plan_laws.proofs.Kept.{choice_keeps_sound, ready_unmarked}
-use Rattle.plan_kept.specs.plan_checks.specs.plan_status.proofs.Counting.{some_counted}
-use Rattle.plan_kept.specs.plan_checks.specs.plan_status.proofs.LoadedRows.{row_found}
-use Rattle.plan_kept.specs.plan_checks.specs.plan_status.proofs.Naming.{named_if, row_after, same_row, stays_satisfied}
-use Rattle.plan_kept.specs.plan_checks.specs.plan_status.proofs.RowKeys.{key_of_row, row_of_key}
-use Rattle.plan_kept.proofs.ChosenEntries.{chosen_are_ready}
-use Rattle.plan_kept.proofs.OneFrame.{frame_stays, now}
-use Rattle.plan_kept.specs.Edits.{Edits, IsRerun}
-use Rattle.plan_kept.specs.Laws.{HaveOneFrame}
-use Rattle.plan_kept.specs.plan_waiting.specs.Kept.{AreKept, IsKept}
+use Rattle.plan_deletions.specs.plan_kept.specs.plan_records.specs.Work.{HasChangedRow, IsWorkedOn}
+use Rattle.plan_deletions.specs.plan_kept.specs.plan_records.specs.declared.What.{What}
+use Rattle.plan_deletions.specs.plan_kept.specs.plan_records.specs.declared.What.TheVariants as what
+use Rattle.plan_deletions.specs.plan_kept.specs.plan_records.specs.plan_model.specs.Contents.{Contents, IsPairOf, LivePredecessor, Operation, Precedes}
+use Rattle.plan_deletions.specs.plan_kept.specs.plan_records.specs.plan_model.specs.Ready.{named, with_mark}
+use Rattle.plan_deletions.specs.plan_kept.specs.plan_records.specs.plan_model.specs.Status.{IsReady, IsSatisfied}
+use Rattle.plan_deletions.specs.plan_kept.specs.plan_records.specs.plan_model.specs.Valid.{IsValid}
+use Rattle.plan_deletions.specs.plan_kept.specs.plan_laws.proofs.Kept.{choice_keeps_sound, ready_unmarked}
+use Rattle.plan_deletions.specs.plan_kept.specs.plan_checks.specs.plan_status.proofs.Counting.{some_counted}
+use Rattle.plan_deletions.specs.plan_kept.specs.plan_checks.specs.plan_status.proofs.LoadedRows.{row_found}
+use Rattle.plan_deletions.specs.plan_kept.specs.plan_checks.specs.plan_status.proofs.Naming.{named_if, row_after, same_row, stays_satisfied}
+use Rattle.plan_deletions.specs.plan_kept.specs.plan_checks.specs.plan_status.proofs.RowKeys.{key_of_row, row_of_key}
+use Rattle.plan_deletions.specs.plan_kept.proofs.ChosenEntries.{chosen_are_ready}
+use Rattle.plan_deletions.specs.plan_kept.proofs.OneFrame.{frame_stays, now}
+use Rattle.plan_deletions.specs.plan_kept.specs.Edits.{Edits, IsRerun}
+use Rattle.plan_deletions.specs.plan_kept.specs.Laws.{HaveOneFrame}
+use Rattle.plan_deletions.specs.plan_kept.specs.plan_waiting.specs.Kept.{AreKept, IsKept}
 use Rattle.plan_looks.proofs.Differing.{newly_satisfied, other_held, other_mark, other_nop}
 use Rattle.plan_looks.proofs.Freed.{IsFreed}
 use Rattle.plan_looks.proofs.NewlySatisfied.{waits_for_fewer}
@@ -47,7 +47,7 @@ reached_is_work P R w o rerun edits = absurd rerun
 -- ---- what is kept
 
 -- what is kept at an index is that of its key
-kept_there : (S : Contents) (kept : List Kept) → AreKept S kept → (i : ℕ) (o : OpKey) → slice_get (keys S.operations) i ≡ Some o → IsKept S o (kept_at kept i)
+pub kept_there : (S : Contents) (kept : List Kept) → AreKept S kept → (i : ℕ) (o : OpKey) → slice_get (keys S.operations) i ≡ Some o → IsKept S o (kept_at kept i)
 kept_there S kept are i o at =
     let row = row_of_key (entries S.operations) i o at in
     let lt = slice_get_within (entries S.operations) i (o, row.0) row.1 in
@@ -71,7 +71,7 @@ module _ {P Q : Contents} {w : What} {m : ℕ} {edits : List ℕ} {os : List OpK
   valid_named = (choice_keeps_sound Q m os step.sound_after step.chosen).valid
 
   pub one_frame : HaveOneFrame P Q
-  one_frame = frame_stays P Q edits step.moved
+  one_frame = frame_stays P Q edits step.moved step.alike
 
   pub pair_after : (p o : OpKey) → Precedes P p o → Precedes (named os Q) p o
   pair_after p o pair = subst (λ pairs. IsPairOf pairs p o) (sym step.moved.pairs) pair

@@ -1,8 +1,8 @@
 -- What a small request writes of the operation that it reports of or commands.
 use Rattle.std.specs.Prelude.{◌≡◌, true, false, Option, Some, None}
-use Rattle.plan_kept.specs.plan_model.specs.Contents.{Operation}
-use Rattle.plan_kept.specs.plan_records.specs.declared.What.{What}
-use Rattle.plan_kept.specs.plan_records.specs.declared.What.TheVariants as what
+use Rattle.plan_deletions.specs.plan_kept.specs.plan_model.specs.Contents.{Operation}
+use Rattle.plan_deletions.specs.plan_kept.specs.plan_records.specs.declared.What.{What}
+use Rattle.plan_deletions.specs.plan_kept.specs.plan_records.specs.declared.What.TheVariants as what
 use Rattle.status_rules.specs.declared.Mark.{Mark}
 use Rattle.status_rules.specs.declared.Mark.TheVariants as mark
 

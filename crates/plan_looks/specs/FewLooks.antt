@@ -4,9 +4,9 @@ use Rattle.std.specs.List.{IsDistinct}
 use Rattle.std.specs.Ordering.{eq_by_cmp}
 use Rattle.plan_basics.specs.declared.keys.OpKey.{OpKey}
 use Rattle.plan_basics.specs.Keys.{operation_cmp}
-use Rattle.plan_kept.specs.plan_records.specs.plan_model.specs.Contents.{Contents, Precedes}
-use Rattle.plan_kept.specs.plan_records.specs.Work.{IsWorkedOn}
-use Rattle.plan_kept.specs.plan_records.specs.declared.What.{What}
+use Rattle.plan_deletions.specs.plan_kept.specs.plan_records.specs.plan_model.specs.Contents.{Contents, Precedes}
+use Rattle.plan_deletions.specs.plan_kept.specs.plan_records.specs.Work.{IsWorkedOn}
+use Rattle.plan_deletions.specs.plan_kept.specs.plan_records.specs.declared.What.{What}
 
 -- no operation stands twice
 abbrev pub AreOnce : List OpKey → Type 0

@@ -7,14 +7,14 @@ use Rattle.plan_basics.specs.declared.keys.OpKey.{OpKey}
 use Rattle.plan_cascade.specs.Changes.{HoldFollowers, IsAfterOne}
 use Rattle.plan_cascade.specs.Counters.{kept_at, waiting_at, waiting_count}
 use Rattle.plan_cascade.specs.declared.kept.Kept.{Kept}
-use Rattle.plan_kept.specs.Edits.{ArePlacesOf, Edits, IsRerun, StandsAt}
-use Rattle.plan_kept.specs.operation_graph.specs.Graphs.{Digraph}
-use Rattle.plan_kept.specs.plan_choice.specs.Choices.{AreReadyEntries}
-use Rattle.plan_kept.specs.plan_drafts.specs.PlanGraphs.{IsGraphFor}
-use Rattle.plan_kept.specs.plan_model.specs.Contents.{Contents, Operation}
-use Rattle.plan_kept.specs.plan_waiting.specs.Kept.{AreKept}
-use Rattle.plan_kept.specs.plan_records.specs.declared.What.{What}
-use Rattle.plan_restating.specs.Beside.{places_beside}
+use Rattle.plan_deletions.specs.plan_kept.specs.Edits.{ArePlacesOf, Edits, IsRerun, StandsAt}
+use Rattle.plan_deletions.specs.plan_kept.specs.operation_graph.specs.Graphs.{Digraph}
+use Rattle.plan_deletions.specs.plan_kept.specs.plan_choice.specs.Choices.{AreReadyEntries}
+use Rattle.plan_deletions.specs.plan_kept.specs.plan_drafts.specs.PlanGraphs.{IsGraphFor}
+use Rattle.plan_deletions.specs.plan_kept.specs.plan_model.specs.Contents.{Contents, Operation}
+use Rattle.plan_deletions.specs.plan_kept.specs.plan_waiting.specs.Kept.{AreKept}
+use Rattle.plan_deletions.specs.plan_kept.specs.plan_records.specs.declared.What.{What}
+use Rattle.plan_deletions.specs.plan_restating.specs.Beside.{places_beside}
 use Rattle.ready_list.specs.declared.entry.ReadyEntry.{ReadyEntry}
 use Rattle.status_rules.specs.declared.Mark.TheVariants.{Unmarked}
 

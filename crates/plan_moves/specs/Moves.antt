@@ -8,10 +8,13 @@ use Rattle.plan_model.specs.status_rules.specs.Classes.{is_live}
 use Rattle.plan_model.specs.Contents.{Contents, Operation}
 use Rattle.plan_model.specs.workstations.specs.Timetables.{NamedWorkstation}
 
--- an operation with another mark or other flags; it is deleted after exactly where it was deleted before
+-- an operation with another mark or other flags
 pub record IsRemarked (before after : Operation) : Type 0 where
   pub rest : after ≡ record before { mark = after.mark; held = after.held; nop = after.nop }
-  pub live : is_live after.mark ≡ is_live before.mark
+
+-- an operation is deleted in Q exactly where it is deleted in P
+abbrev pub AreLiveAlike : Contents → Contents → Type 0
+AreLiveAlike P Q = (i : ℕ) (o : OpKey) (before after : Operation) → slice_get (entries P.operations) i ≡ Some (o, before) → slice_get (entries Q.operations) i ≡ Some (o, after) → is_live after.mark ≡ is_live before.mark
 
 -- each workstation's name, and how it reports
 abbrev pub reporting : List NamedWorkstation → List (Name × Attr)
@@ -31,3 +34,7 @@ pub record IsMovedAt (P Q : Contents) (places : List ℕ) : Type 0 where
   pub pairs : Q.pairs ≡ P.pairs
   pub size : length (entries Q.operations) ≡ length (entries P.operations)
   pub rows : (i : ℕ) (o : OpKey) (op : Operation) → slice_get (entries Q.operations) i ≡ Some (o, op) → IsMovedRow P places i o op
+
+-- P and Q differ so, whatever their pairs are
+abbrev pub IsRemarkedAt : Contents → Contents → List ℕ → Type 0
+IsRemarkedAt P Q places = IsMovedAt P (record Q { pairs = P.pairs }) places

@@ -17,7 +17,7 @@ use Rattle.plan_choice.specs.workstations.specs.Timetables.{NamedWorkstation}
 use Rattle.plan_choice.specs.workstations.specs.Workstations.{Workstation}
 use Rattle.latest_start.proofs.Placed.{same_places}
 use Rattle.plan_choice.specs.plan_drafts.proofs.RowPlaces.{row_at}
-use Rattle.plan_choice.specs.plan_moves.specs.Moves.{IsMovedAt, IsRemarked, reporting}
+use Rattle.plan_choice.specs.plan_moves.specs.Moves.{AreLiveAlike, IsMovedAt, IsRemarked, IsRemarkedAt, reporting}
 use Rattle.plan_choice.specs.plan_status.proofs.Alike.{IsOnNonreporting}
 use Rattle.plan_choice.specs.plan_status.proofs.LoadedRows.{row_found, row_of}
 use Rattle.plan_choice.specs.plan_status.proofs.RowKeys.{key_of_row, row_of_key}
@@ -83,15 +83,21 @@ module _ (P Q : Contents) (moved_at : List ℕ) (moved : IsMovedAt P Q moved_at)
   pub attribute_before : (w : Name) (a : Attr) → HasAttribute Q w a → HasAttribute P w a
   attribute_before w a on = sym (same_attribute w) ∙ on
 
-  pub predecessor_after : (p o : OpKey) → LivePredecessor P p o → LivePredecessor Q p o
-  predecessor_after p o h =
-      let a = row_after p h.1.0 h.1.1 in
-      (subst (λ s. IsPairOf s p o) (sym moved.pairs) h.0, (a.0, a.1, live_told a.0.mark (a.2.live ∙ live_is h.1.0.mark h.1.2)))
+  pub predecessor_after : AreLiveAlike P Q → (p o : OpKey) → LivePredecessor P p o → LivePredecessor Q p o
+  predecessor_after alike p o h =
+      let at = row_of P p h.1.0 h.1.1 in
+      let within = slice_get_within (entries P.operations) at.0 (p, h.1.0) at.1 in
+      let row = row_at (entries Q.operations) at.0 (omega (arith, within, moved.size)) in
+      let was = moved.rows at.0 row.0.0 row.0.1 row.1 in
+      let parts = some_pair_parts p row.0.0 h.1.0 was.before (sym at.1 ∙ was.was) in
+      let here : slice_get (entries Q.operations) at.0 ≡ Some (p, row.0.1) = subst (λ k. slice_get (entries Q.operations) at.0 ≡ Some (k, row.0.1)) (sym parts.0) row.1 in
+      (subst (λ s. IsPairOf s p o) (sym moved.pairs) h.0, (row.0.1, row_found Q at.0 p row.0.1 here, live_told row.0.1.mark (alike at.0 p h.1.0 row.0.1 at.1 here ∙ live_is h.1.0.mark h.1.2)))
 
-  pub predecessor_before : (p o : OpKey) → LivePredecessor Q p o → LivePredecessor P p o
-  predecessor_before p o h =
-      let b = row_before p h.1.0 h.1.1 in
-      (subst (λ s. IsPairOf s p o) moved.pairs h.0, (b.0, b.1, live_told b.0.mark (sym b.2.live ∙ live_is h.1.0.mark h.1.2)))
+  pub predecessor_before : AreLiveAlike P Q → (p o : OpKey) → LivePredecessor Q p o → LivePredecessor P p o
+  predecessor_before alike p o h =
+      let at = row_of Q p h.1.0 h.1.1 in
+      let was = moved.rows at.0 p h.1.0 at.1 in
+      (subst (λ s. IsPairOf s p o) moved.pairs h.0, (was.before, row_found P at.0 p was.before was.was, live_told was.before.mark (sym (alike at.0 p was.before h.1.0 was.was at.1) ∙ live_is h.1.0.mark h.1.2)))
 
   pub nonreporting_after : (p : OpKey) → IsOnNonreporting P p → IsOnNonreporting Q p
   nonreporting_after p h =
@@ -103,10 +109,16 @@ module _ (P Q : Contents) (moved_at : List ℕ) (moved : IsMovedAt P Q moved_at)
       let b = row_before p h.0 h.1 in
       (b.0, b.1, attribute_before b.0.workstation Nonreporting (subst (λ w. HasAttribute Q w Nonreporting) (ap (λ (x : Operation). x.workstation) b.2.rest) h.2))
 
+-- ---- whatever the pairs are
+
+-- where only marks and flags differ, they differ so whatever the pairs are
+pub remarked_by : (P Q : Contents) (moved_at : List ℕ) → IsMovedAt P Q moved_at → IsRemarkedAt P Q moved_at
+remarked_by P Q moved_at moved = record { workstations = moved.workstations; occurrences = moved.occurrences; pairs = refl; size = moved.size; rows = moved.rows }
+
 -- ---- the way back
 
 remarked_back : (a b : Operation) → IsRemarked a b → IsRemarked b a
-remarked_back a b h = record { rest = sym (ap (λ (x : Operation). record x { mark = a.mark; held = a.held; nop = a.nop }) h.rest); live = sym h.live }
+remarked_back a b h = record { rest = sym (ap (λ (x : Operation). record x { mark = a.mark; held = a.held; nop = a.nop }) h.rest) }
 
 -- where Q differs from P in marks and flags alone, P differs so from Q
 pub moved_back : (P Q : Contents) (moved_at : List ℕ) → IsMovedAt P Q moved_at → IsMovedAt Q P moved_at

@@ -20,7 +20,7 @@ use Rattle.plan_choice.specs.plan_drafts.specs.Places.{AreByPlace, AreStatuses}
 use Rattle.plan_choice.specs.plan_laws.proofs.Classes.{ready_by}
 use Rattle.plan_choice.specs.plan_laws.proofs.Latest.{one_latest_start}
 use Rattle.plan_choice.specs.plan_laws.proofs.Standing.{one_status}
-use Rattle.plan_choice.specs.plan_moves.specs.Moves.{IsMovedAt}
+use Rattle.plan_choice.specs.plan_moves.specs.Moves.{IsMovedAt, IsRemarkedAt}
 use Rattle.plan_choice.specs.plan_status.proofs.Alike.{count_alike}
 use Rattle.plan_choice.specs.plan_status.proofs.LoadedRows.{its_occurrence, row_of}
 use Rattle.plan_choice.specs.plan_status.proofs.OfOccurrences.{IsOfIts, IsStarted}
@@ -33,7 +33,7 @@ use Rattle.plan_choice.specs.ReadyItems.{IsKeyIn}
 use Rattle.plan_restating.specs.ByStatuses.{AreEntriesBy, AreInLine, AreTalliesBy, BelongsBy, CountsAsStarted, HasListed, IsReadyBy, IsTallyBy}
 use Rattle.plan_restating.specs.Entries.{AreEntriesAt}
 use Rattle.plan_restating.proofs.Entering.{one_key}
-use Rattle.plan_restating.proofs.Moved.{attribute_after, moved_back, row_after, same_keys, same_workstations}
+use Rattle.plan_restating.proofs.Moved.{attribute_after, moved_back, remarked_by, row_after, same_keys, same_workstations}
 
 -- an operation of the plan has a latest start
 some_start : (P : Contents) (starts : List ℤ) → AreLatestStarts P starts → (o : OpKey) (op : Operation) → get P.operations o ≡ Some op → (v : ℤ) × IsLatestStart P o v
@@ -109,7 +109,7 @@ module _ (P : Contents) (acyclic : IsAcyclic P.pairs) (statuses : List Status) (
       started = count_alike is_started of_started t.started;
     }
 
-  tallies_by : (tallies : List Counts) → AreTallies P tallies → AreTalliesBy P statuses tallies
+  pub tallies_by : (tallies : List Counts) → AreTallies P tallies → AreTalliesBy P statuses tallies
   tallies_by tallies all = record { size = all.size; each = λ i c v n row at. tally_by c n (all.each i c v n row at) }
 
   pub tallies_are : (tallies : List Counts) → AreTalliesBy P statuses tallies → AreTallies P tallies
@@ -166,23 +166,27 @@ module _ (P : Contents) (acyclic : IsAcyclic P.pairs) (statuses : List Status) (
       every = λ o is. some_entry o (listed_ready o is);
     }
 
--- ---- what goes by the same statuses in a plan that differs in marks and flags alone
+-- ---- what goes by the same statuses in a plan that differs in marks and flags alone, whatever its pairs are
 
-module _ (P Q : Contents) (moved_at : List ℕ) (moved : IsMovedAt P Q moved_at) (starts : List ℤ) (before : AreLatestStarts P starts) (after : AreLatestStarts Q starts) where
+module _ (P Q : Contents) (moved_at : List ℕ) (moved : IsRemarkedAt P Q moved_at) (starts : List ℤ) (before : AreLatestStarts P starts) (after : AreLatestStarts Q starts) where
+  -- it has the pairs of the plan before
+  abbrev with_its_pairs : Contents
+  with_its_pairs = record Q { pairs = P.pairs }
+
   start_after : (o : OpKey) → IsInPlan P o → (v : ℤ) → IsLatestStart P o v → IsLatestStart Q o v
   start_after o h v is =
-      let now = row_after P Q moved_at moved o h.0 h.1 in
+      let now = row_after P with_its_pairs moved_at moved o h.0 h.1 in
       let at = row_of P o h.0 h.1 in
       let within = slice_get_within (entries P.operations) at.0 (o, h.0) at.1 in
       let w : ℤ = get_or starts at.0 (pos 0) in
       let here : slice_get starts at.0 ≡ Some w = slice_get-get_or starts at.0 (pos 0) (omega (arith, within, before.size)) in
-      let key = row_of_key (entries Q.operations) at.0 o (subst (λ ks. slice_get ks at.0 ≡ Some o) (sym (same_keys P Q moved_at moved)) (key_of_row (entries P.operations) at.0 o h.0 at.1)) in
+      let key = row_of_key (entries Q.operations) at.0 o (subst (λ ks. slice_get ks at.0 ≡ Some o) (sym (same_keys P with_its_pairs moved_at moved)) (key_of_row (entries P.operations) at.0 o h.0 at.1)) in
       subst (IsLatestStart Q o) (one_latest_start P o w v (before.each at.0 o h.0 w at.1 here) is) (after.each at.0 o key.0 w key.1 here)
 
   key_after : (k : ReadyKey) → IsKeyIn P k → IsKeyIn Q k
   key_after k key =
       let found = key.1 in
-      let now = row_after P Q moved_at moved k.op found.0 found.1 in
+      let now = row_after P with_its_pairs moved_at moved k.op found.0 found.1 in
       let terms = key.2 in (
         start_after k.op (found.0, found.1, tt) k.latest key.0,
         (now.0, now.1, found.2 ∙ sym (ap (λ (x : Operation). x.duration) now.2.rest)),
@@ -191,28 +195,37 @@ module _ (P Q : Contents) (moved_at : List ℕ) (moved : IsMovedAt P Q moved_at)
 
   workstation_after : (e : ReadyEntry) → HasItsWorkstation P e → HasItsWorkstation Q e
   workstation_after e on =
-      let now = row_after P Q moved_at moved e.key.op on.0 on.1 in
+      let now = row_after P with_its_pairs moved_at moved e.key.op on.0 on.1 in
       let same = ap (λ (x : Operation). x.workstation) now.2.rest in
-      let placed = subst (λ ks. slice_get ks e.site ≡ Some now.0.workstation) (sym (same_workstations P Q moved_at moved)) (on.2.2 ∙ ap Some (sym same)) in
-      (now.0, now.1, (on.2.0 ∙ sym same, attribute_after P Q moved_at moved now.0.workstation e.attr (subst (λ w. HasAttribute P w e.attr) (sym same) on.2.1), placed))
+      let placed = subst (λ ks. slice_get ks e.site ≡ Some now.0.workstation) (sym (same_workstations P with_its_pairs moved_at moved)) (on.2.2 ∙ ap Some (sym same)) in
+      (now.0, now.1, (on.2.0 ∙ sym same, attribute_after P with_its_pairs moved_at moved now.0.workstation e.attr (subst (λ w. HasAttribute P w e.attr) (sym same) on.2.1), placed))
 
-  pub entries_after : (statuses : List Status) (es : List ReadyEntry) → AreEntriesBy P statuses es → AreEntriesBy Q statuses es
-  entries_after statuses es are =
-      let keys_back = sym (same_keys P Q moved_at moved) in
+  pub entries_remarked : (statuses : List Status) (es : List ReadyEntry) → AreEntriesBy P statuses es → AreEntriesBy Q statuses es
+  entries_remarked statuses es are =
+      let keys_back = sym (same_keys P with_its_pairs moved_at moved) in
       record {
         in_order = are.in_order;
         each = λ e has. let it = are.each e has in ((key_after e.key it.0.0, workstation_after e it.0.1), subst (λ ks. IsReadyBy ks statuses e.key.op) keys_back it.1);
-        every = λ o ready. are.every o (subst (λ ks. IsReadyBy ks statuses o) (same_keys P Q moved_at moved) ready);
+        every = λ o ready. are.every o (subst (λ ks. IsReadyBy ks statuses o) (same_keys P with_its_pairs moved_at moved) ready);
       }
 
   -- what is noted of one is noted of the other
-  pub noted_after : (places : List ℕ) (es : List ReadyEntry) → AreEntriesAt P places es → AreEntriesAt Q places es
-  noted_after places es are = record {
+  pub noted_remarked : (places : List ℕ) (es : List ReadyEntry) → AreEntriesAt P places es → AreEntriesAt Q places es
+  noted_remarked places es are = record {
     size = are.size;
     each = λ k i e place entry.
         let it = are.each k i e place entry in
-        ((key_after e.key it.0.0, workstation_after e it.0.1), subst (λ ks. slice_get ks i ≡ Some e.key.op) (sym (same_keys P Q moved_at moved)) it.1);
+        ((key_after e.key it.0.0, workstation_after e it.0.1), subst (λ ks. slice_get ks i ≡ Some e.key.op) (sym (same_keys P with_its_pairs moved_at moved)) it.1);
   }
+
+-- so in one that has the same pairs
+pub entries_after : (P Q : Contents) (moved_at : List ℕ) → IsMovedAt P Q moved_at → (starts : List ℤ) → AreLatestStarts P starts → AreLatestStarts Q starts → (statuses : List Status) (es : List ReadyEntry)
+    → AreEntriesBy P statuses es → AreEntriesBy Q statuses es
+entries_after P Q moved_at moved = entries_remarked P Q moved_at (remarked_by P Q moved_at moved)
+
+pub noted_after : (P Q : Contents) (moved_at : List ℕ) → IsMovedAt P Q moved_at → (starts : List ℤ) → AreLatestStarts P starts → AreLatestStarts Q starts → (places : List ℕ) (es : List ReadyEntry)
+    → AreEntriesAt P places es → AreEntriesAt Q places es
+noted_after P Q moved_at moved = noted_remarked P Q moved_at (remarked_by P Q moved_at moved)
 
 -- the way back
 pub entries_back : (P Q : Contents) (moved_at : List ℕ) → IsMovedAt P Q moved_at → (starts : List ℤ) → AreLatestStarts P starts → AreLatestStarts Q starts → (statuses : List Status) (es : List ReadyEntry)

@@ -16,7 +16,7 @@ use Rattle.plan_choice.specs.plan_records.specs.Rows.{IsWaitingFor}
 use Rattle.plan_choice.specs.plan_laws.proofs.Ordered.{pairs_have_rank}
 use Rattle.plan_choice.specs.plan_laws.proofs.Tables.{zero_is_satisfied}
 use Rattle.plan_choice.specs.plan_laws.proofs.Waiting.{one_count}
-use Rattle.plan_choice.specs.plan_moves.specs.Moves.{IsMovedAt}
+use Rattle.plan_choice.specs.plan_moves.specs.Moves.{AreLiveAlike, IsMovedAt}
 use Rattle.plan_choice.specs.plan_status.specs.Standings.{AreStandings, IsStanding}
 use Rattle.plan_choice.specs.plan_status.specs.declared.standings.Standing.{Standing}
 use Rattle.plan_choice.specs.plan_status.proofs.Alike.{decides_alike}
@@ -43,17 +43,17 @@ few_kept P valid kept are i d lt =
 restood_on : (n : ℕ) (a b c : Standing) → b.preds.live ≡ a.preds.live → b.preds.nonreporting ≡ a.preds.nonreporting → IsRestood n b c → IsRestood n a c
 restood_on n a b c live nonreporting on = record { live = on.live ∙ live; satisfied = on.satisfied; nonreporting = on.nonreporting ∙ nonreporting; waiting = on.waiting }
 
-module _ (P Q : Contents) (places : List ℕ) (moved : IsMovedAt P Q places) (valid : IsValid Q) (o : OpKey) where
+module _ (P Q : Contents) (places : List ℕ) (moved : IsMovedAt P Q places) (alike : AreLiveAlike P Q) (valid : IsValid Q) (o : OpKey) where
   -- with the right number it stands right
   pub stands_anew : (old new : Standing) (n : ℕ) → IsStanding P o old → IsWaitingFor Q o n → IsRestood n old new → IsStanding Q o new
   stands_anew old new n was waits anew = record {
     preds = record {
-      live = decides_alike {A = (p : OpKey) × LivePredecessor P p o} (λ h. (h.0, predecessor_after P Q places moved h.0 o h.1)) (λ h. (h.0, predecessor_before P Q places moved h.0 o h.1))
+      live = decides_alike {A = (p : OpKey) × LivePredecessor P p o} (λ h. (h.0, predecessor_after P Q places moved alike h.0 o h.1)) (λ h. (h.0, predecessor_before P Q places moved alike h.0 o h.1))
           (subst (λ b. Decides b ((p : OpKey) × LivePredecessor P p o)) (sym anew.live) was.preds.live);
       satisfied = decides_alike (none_waits Q valid.acyclic o n waits).0 (none_waits Q valid.acyclic o n waits).1 anew.satisfied;
       nonreporting = decides_alike {A = FollowsNonreporting P o}
-          (λ h. (h.0, predecessor_after P Q places moved h.0 o h.1, nonreporting_after P Q places moved h.0 h.2))
-          (λ h. (h.0, predecessor_before P Q places moved h.0 o h.1, nonreporting_before P Q places moved h.0 h.2))
+          (λ h. (h.0, predecessor_after P Q places moved alike h.0 o h.1, nonreporting_after P Q places moved h.0 h.2))
+          (λ h. (h.0, predecessor_before P Q places moved alike h.0 o h.1, nonreporting_before P Q places moved h.0 h.2))
           (subst (λ b. Decides b (FollowsNonreporting P o)) (sym anew.nonreporting) was.preds.nonreporting);
     };
     waiting = subst (IsWaitingFor Q o) (sym anew.waiting) waits;
@@ -120,9 +120,9 @@ others_stay places kept before after done i out s was =
     elim it.2 [ inl still ↦ here ∙ ap Some still.1 ∙ sym it.1 ∙ was | inr on ↦ absurd (out on.0) ]
 
 -- where all others had the number that is kept, the standings are right
-pub all_restood : (P Q : Contents) (moved_at : List ℕ) → IsValid Q → IsMovedAt P Q moved_at → (places : List ℕ) (kept : List Kept) (before after : List Standing)
+pub all_restood : (P Q : Contents) (moved_at : List ℕ) → IsValid Q → IsMovedAt P Q moved_at → AreLiveAlike P Q → (places : List ℕ) (kept : List Kept) (before after : List Standing)
     → AreStandings P before → AreCounters Q kept → AgreeElsewhere before kept places → AreRestoodAt places kept before after → AreStandings Q after
-all_restood P Q moved_at valid moved places kept before after stand counters agree done = record {
+all_restood P Q moved_at valid moved alike places kept before after stand counters agree done = record {
   size = done.size ∙ stand.size ∙ sym moved.size;
   each = λ i o op s row at.
       let was = done.each i s at in
@@ -134,8 +134,8 @@ all_restood P Q moved_at valid moved places kept before after stand counters agr
             let within = slice_get_within (entries Q.operations) i (o, op) row in
             let kept_at = slice_get-get_or kept i d (omega (arith, within, counters.size)) in
             let same = agree i still.0 was.0 (get_or kept i d) was.1 kept_at in
-            stands_anew P Q moved_at moved valid o was.0 s (get_or kept i d).waiting standing (counters.each i o op (get_or kept i d) row kept_at)
-            (subst (IsRestood (get_or kept i d).waiting was.0) (sym still.1) (stands_still P Q moved_at moved valid o was.0 (get_or kept i d).waiting standing same))
-        | inr on ↦ stands_anew P Q moved_at moved valid o was.0 s on.1.0.waiting standing (counters.each i o op on.1.0 row on.1.1) on.1.2
+            stands_anew P Q moved_at moved alike valid o was.0 s (get_or kept i d).waiting standing (counters.each i o op (get_or kept i d) row kept_at)
+            (subst (IsRestood (get_or kept i d).waiting was.0) (sym still.1) (stands_still P Q moved_at moved alike valid o was.0 (get_or kept i d).waiting standing same))
+        | inr on ↦ stands_anew P Q moved_at moved alike valid o was.0 s on.1.0.waiting standing (counters.each i o op on.1.0 row on.1.1) on.1.2
       ];
 }

@@ -26,3 +26,7 @@ KeepStatus P Q places =
 -- the operation at the place has this status in the plan
 abbrev pub HasStatusAt : Contents → ℕ × Status → Type 0
 HasStatusAt P value = (o : OpKey) (op : Operation) → slice_get (entries P.operations) value.0 ≡ Some (o, op) → HasStatus P o value.1
+
+-- at each other place than these the status is one that the operation there has
+abbrev pub AreRightBeside : Contents → List ℕ → List Status → Type 0
+AreRightBeside P places statuses = (i : ℕ) → ¬ Contains places i → (s : Status) → slice_get statuses i ≡ Some s → HasStatusAt P (i, s)

@@ -9,6 +9,7 @@ mod restating;
 mod retallying;
 
 pub use noting::{entries_at, entry_seen};
+pub use plan_choice::{OperationRecord, Standing};
 pub use relisting::relist_all;
 pub use restanding::restand;
-pub use restating::{restate, restate_all};
+pub use restating::{move_statuses, restate, restate_all, restate_by};

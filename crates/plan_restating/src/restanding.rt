@@ -3,7 +3,7 @@ ghost use Rattle.std.specs.Prelude.{◌≡◌, ◌<◌, ◌≤◌, ℕ, List, le
 ghost use Rattle.plan_basics.specs.declared.limits.TheConstants.{MOST_OPERATIONS};
 ghost use Rattle.plan_choice.specs.plan_model.specs.Contents.{Contents};
 ghost use Rattle.plan_choice.specs.plan_model.specs.Valid.{IsValid};
-ghost use Rattle.plan_choice.specs.plan_moves.specs.Moves.{IsMovedAt};
+ghost use Rattle.plan_choice.specs.plan_moves.specs.Moves.{AreLiveAlike, IsMovedAt};
 ghost use Rattle.plan_choice.specs.plan_status.specs.Standings.{AreStandings};
 ghost use Rattle.plan_restating.specs.Restanding.{AgreeElsewhere, AreCounters, IsRestood, StayElsewhere};
 
@@ -36,7 +36,7 @@ pub fn restand(standings: &mut [Standing], kept: &[Kept], places: &[usize])
     requires within { All (λ i. i < length standings.old) places.now }
     requires counters { (Q : Contents) × IsValid Q × AreCounters Q kept.now }
     ensures elsewhere { StayElsewhere standings.old standings.new places.now }
-    ensures right { (P Q : Contents) (moved : List ℕ) → IsValid Q → IsMovedAt P Q moved → AreStandings P standings.old → AreCounters Q kept.now → AgreeElsewhere standings.old kept.now places.now → AreStandings Q standings.new }
+    ensures right { (P Q : Contents) (moved : List ℕ) → IsValid Q → IsMovedAt P Q moved → AreLiveAlike P Q → AreStandings P standings.old → AreCounters Q kept.now → AgreeElsewhere standings.old kept.now places.now → AreStandings Q standings.new }
 {
     for place in places {
         standings[*place] = waiting_for(&standings[*place], kept[*place].waiting);

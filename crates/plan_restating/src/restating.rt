@@ -8,9 +8,10 @@ ghost use Rattle.plan_choice.specs.plan_drafts.specs.Places.{AreStatuses};
 ghost use Rattle.plan_choice.specs.plan_moves.specs.Moves.{IsMovedAt};
 ghost use Rattle.plan_choice.specs.plan_status.specs.Standings.{AreStandings, AreTallies};
 ghost use Rattle.plan_choice.specs.Choices.{AreLatestStarts, AreReadyEntries};
-ghost use Rattle.plan_restating.specs.Before.{AreReadOff, HasStatusAt, KeepStatus};
+ghost use Rattle.plan_restating.specs.Before.{AreReadOff, AreRightBeside, HasStatusAt, KeepStatus};
 ghost use Rattle.plan_restating.specs.ByStatuses.{AreInLine, HasRoomForAll};
 ghost use Rattle.plan_restating.specs.Entries.{AreEntriesAt, IsEntryAt};
+ghost use Rattle.plan_restating.specs.Overwritten.{overwritten};
 
 use super::noting::entry_seen;
 use super::relisting::relist;
@@ -59,9 +60,9 @@ fn restate_at(
 /// numbers of its occurrence and the ready list follow. It takes a look at each place at most, and notes the entry of the operation
 /// there, by which the list is led back without one. It takes no memory.
 ///
-/// What was kept before is that of a plan from which these contents differ in marks and flags alone, with the same statuses at
-/// all other places; then what is kept is that of these contents.
-pub fn restate(
+/// What was kept before goes by the statuses that were, which at all other places are those of these contents; then what is kept is
+/// that of these contents.
+pub fn restate_by(
     shown: &mut Shown,
     latest: &Latest,
     standings: &[Standing],
@@ -75,7 +76,8 @@ pub fn restate(
     requires standings { AreStandings shown.old.contents standings.now }
     requires latest { AreLatestStarts shown.old.contents latest.now.starts }
     requires room { HasRoomForAll shown.old.contents ready.old }
-    requires before { (P : Contents) × (moved : List ℕ) × IsMovedAt P shown.old.contents moved × AreReadOff P latest.now.starts statuses.old tallies.old ready.old.entries × KeepStatus P shown.old.contents places.now }
+    requires in_line { AreInLine shown.old.contents statuses.old tallies.old ready.old.entries }
+    requires others { AreRightBeside shown.old.contents places.now statuses.old }
     requires none_noted { noted.old.items ≡ [] }
     requires space { length places.now ≤ vec_capacity noted.old }
     ensures statuses { AreStatuses shown.old.contents statuses.new }
@@ -105,6 +107,74 @@ pub fn restate(
     }
 }
 
+/// At each of these places the status is worked out again, by the standings, which are those of the contents. Where it differs, the
+/// numbers of its occurrence and the ready list follow. It takes a look at each place at most, and notes the entry of the operation
+/// there, by which the list is led back without one. It takes no memory.
+///
+/// What was kept before is that of a plan from which these contents differ in marks and flags alone, with the same statuses at
+/// all other places; then what is kept is that of these contents.
+pub fn restate(
+    shown: &mut Shown,
+    latest: &Latest,
+    standings: &[Standing],
+    statuses: &mut [Status],
+    tallies: &mut [Counts],
+    ready: &mut ReadyList,
+    places: &[usize],
+    noted: &mut Vec<ReadyEntry>,
+)
+    requires within { All (λ i. i < length (entries shown.old.contents.operations)) places.now }
+    requires standings { AreStandings shown.old.contents standings.now }
+    requires latest { AreLatestStarts shown.old.contents latest.now.starts }
+    requires room { HasRoomForAll shown.old.contents ready.old }
+    requires before { (P : Contents) × (moved : List ℕ) × IsMovedAt P shown.old.contents moved × AreReadOff P latest.now.starts statuses.old tallies.old ready.old.entries × KeepStatus P shown.old.contents places.now }
+    requires none_noted { noted.old.items ≡ [] }
+    requires space { length places.now ≤ vec_capacity noted.old }
+    ensures statuses { AreStatuses shown.old.contents statuses.new }
+    ensures tallies { AreTallies shown.old.contents tallies.new }
+    ensures ready { AreReadyEntries shown.old.contents ready.new.entries }
+    ensures room { length ready.new.entries + ready.new.room ≡ length ready.old.entries + ready.old.room }
+    ensures noted { AreEntriesAt shown.old.contents places.now noted.new.items }
+    ensures contents { shown.new.contents ≡ shown.old.contents }
+    ensures fewest { shown.old.looks ≤ shown.new.looks }
+    ensures most { shown.new.looks ≤ shown.old.looks + length places.now }
+{
+    shown.beside().are_sound();
+    restate_by(
+        shown, latest, standings, statuses, tallies, ready, places, noted,
+    );
+}
+
+/// Gives the operations at these places these statuses, whether or not they have them; the numbers of their occurrences and the ready
+/// list, which go by the statuses, follow. For each there is its entry, so nothing is looked at. It takes no memory.
+pub fn move_statuses(
+    beside: &Beside<'_>,
+    statuses: &mut [Status],
+    tallies: &mut [Counts],
+    ready: &mut ReadyList,
+    to: &[(usize, Status)],
+    listed: &[ReadyEntry],
+)
+    requires listed { AreEntriesAt beside.now.contents.now (map (λ value. value.0) to.now) listed.now }
+    requires room { HasRoomForAll beside.now.contents.now ready.old }
+    requires in_line { AreInLine beside.now.contents.now statuses.old tallies.old ready.old.entries }
+    ensures statuses { statuses.new ≡ overwritten to.now statuses.old }
+    ensures in_line { AreInLine beside.now.contents.now statuses.new tallies.new ready.new.entries }
+    ensures room { length ready.new.entries + ready.new.room ≡ length ready.old.entries + ready.old.room }
+{
+    for (index, value) in to.iter().enumerate() {
+        restate_at(
+            beside,
+            &listed[index],
+            statuses,
+            tallies,
+            ready,
+            value.0,
+            value.1,
+        );
+    }
+}
+
 /// Gives the operations at these places these statuses, which are those that they have; the numbers of their occurrences and the
 /// ready list follow. For each there is its entry, so nothing is looked at. It takes no memory.
 ///
@@ -128,15 +198,5 @@ pub fn restate_all(
     ensures room { length ready.new.entries + ready.new.room ≡ length ready.old.entries + ready.old.room }
 {
     beside.are_sound();
-    for (index, value) in to.iter().enumerate() {
-        restate_at(
-            beside,
-            &listed[index],
-            statuses,
-            tallies,
-            ready,
-            value.0,
-            value.1,
-        );
-    }
+    move_statuses(beside, statuses, tallies, ready, to, listed);
 }

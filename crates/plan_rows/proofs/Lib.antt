@@ -16,4 +16,5 @@ mod TouchedTables
 mod TouchedRows
 mod PairedLists
 mod NotedTables
+mod NewPair
 pub mod Counted

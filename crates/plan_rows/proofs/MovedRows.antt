@@ -9,7 +9,7 @@ use Rattle.plan_basics.specs.declared.keys.OpKey.{OpKey}
 use Rattle.plan_state.specs.plan_drafts.proofs.EntryRows.{entry_of, row_in}
 use Rattle.plan_model.specs.Contents.{Contents, Operation}
 use Rattle.plan_model.specs.declared.Occurrence.{Occurrence}
-use Rattle.plan_state.specs.plan_moves.specs.Moves.{IsMovedAt}
+use Rattle.plan_state.specs.plan_moves.specs.Moves.{IsRemarkedAt}
 use Rattle.row_differences.proofs.Merging.{key_within}
 use Rattle.plan_rows.specs.Touched.{AreMovedAmong, AreOccurrencesOf, BelongsAt}
 
@@ -46,7 +46,7 @@ pub mapped_alike : {X Y : Type 0} (g : X → Y) (xs us : List X) (i : ℕ) → s
 mapped_alike g xs us i e = slice_get-map g xs i ∙ (ap (option_map g) e ∙ sym (slice_get-map g us i))
 
 module _ (P Q : Contents) (touched : List ℕ) (h : AreMovedAmong P Q touched) where
-  abbrev moved : IsMovedAt P Q h.places
+  abbrev moved : IsRemarkedAt P Q h.places
   moved = h.moved
 
   -- the keys stay

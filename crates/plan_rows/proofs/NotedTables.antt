@@ -1,5 +1,5 @@
 -- What rows that are noted say of a table of which no other row differs.
-use Rattle.std.proofs.Common.{◌≡◌, inl, inr, refl, sym, ap, subst, ◌∙◌, arith, ℕ, ◌+◌, ◌<◌, Bool, true, false, not, List, [], ◌∷◌, ◌++◌, length, get_or, slice_get, Contains, Some}
+use Rattle.std.proofs.Common.{◌≡◌, ◌⊎◌, inl, inr, refl, sym, ap, subst, ◌∙◌, arith, ℕ, ◌+◌, ◌<◌, Bool, true, false, not, List, [], ◌∷◌, ◌++◌, length, get_or, slice_get, Contains, Some}
 use Rattle.std.specs.Cmp.{IsTotalOrder}
 use Rattle.std.specs.FinMap.{IsAntisymmetric}
 use Rattle.std.specs.List.Sorted.{IsStrictlySortedBy}
@@ -72,9 +72,25 @@ pub all_beside : (P Q : Contents) (b : Beside) (n : NotedBeside) → StaysBeside
 all_beside P Q beside.Nothing noted.Nothing stays is = stays
 all_beside P Q beside.Nothing (noted.Resources rows) stays is = absurd is
 all_beside P Q beside.Nothing (noted.Intervals rows) stays is = absurd is
+all_beside P Q beside.Nothing (noted.Pair a b) stays is = absurd is
 all_beside P Q beside.Resources noted.Nothing stays is = absurd is
-all_beside P Q beside.Resources (noted.Resources rows) stays is = (stays, is)
+all_beside P Q beside.Resources (noted.Resources rows) stays is = (stays.0, stays.1, is)
 all_beside P Q beside.Resources (noted.Intervals rows) stays is = absurd is
+all_beside P Q beside.Resources (noted.Pair a b) stays is = absurd is
 all_beside P Q beside.Workstations noted.Nothing stays is = absurd is
 all_beside P Q beside.Workstations (noted.Resources rows) stays is = absurd is
-all_beside P Q beside.Workstations (noted.Intervals rows) stays is = (stays, is)
+all_beside P Q beside.Workstations (noted.Intervals rows) stays is = (stays.0, stays.1, is)
+all_beside P Q beside.Workstations (noted.Pair a b) stays is = absurd is
+all_beside P Q (beside.Pair p s) noted.Nothing stays is = absurd is
+all_beside P Q (beside.Pair p s) (noted.Resources rows) stays is = absurd is
+all_beside P Q (beside.Pair p s) (noted.Intervals rows) stays is = absurd is
+all_beside P Q (beside.Pair p s) (noted.Pair a b) stays is = subst (λ x. NotesBeside P Q (noted.Pair x b)) (sym is.0) (subst (λ y. NotesBeside P Q (noted.Pair p y)) (sym is.1) stays)
+
+-- where no pair is noted none differs
+pub pairs_stay : (P Q : Contents) (n : NotedBeside) → (n ≡ noted.Nothing) ⊎ (((x : _) × (n ≡ noted.Resources x)) ⊎ ((x : _) × (n ≡ noted.Intervals x))) → NotesBeside P Q n → Q.pairs ≡ P.pairs
+pairs_stay P Q noted.Nothing is notes = notes.2
+pairs_stay P Q (noted.Resources rows) is notes = notes.1
+pairs_stay P Q (noted.Intervals rows) is notes = notes.1
+pairs_stay P Q (noted.Pair p s) (inl is) notes = absurd (cc)
+pairs_stay P Q (noted.Pair p s) (inr (inl is)) notes = let e = is.1 in absurd (cc)
+pairs_stay P Q (noted.Pair p s) (inr (inr is)) notes = let e = is.1 in absurd (cc)

@@ -85,6 +85,11 @@ module _ (clock now : ℕ) (before after : Option Shown) (c : Changes) where
       let same : Q.contents.resources ≡ P.contents.resources = ap (λ C. C.resources) (sym (contents_of_plan now after)) ∙ (e ∙ ap (λ C. C.resources) (contents_of_plan clock before)) in
       table_stays 3 P Q (same_rows 3 P Q _ _ _ _ (are_resources P _ refl) (are_resources Q _ refl) (ap (λ resources. map resource_row (entries resources)) same)) c so_far
 
+  pub dependencies_stay : (contents_shown after).pairs ≡ (contents_shown before).pairs → AreChangesBelow 6 P Q c → AreChangesBelow 7 P Q c
+  dependencies_stay e so_far =
+      let same : Q.contents.pairs ≡ P.contents.pairs = ap (λ C. C.pairs) (sym (contents_of_plan now after)) ∙ (e ∙ ap (λ C. C.pairs) (contents_of_plan clock before)) in
+      table_stays 6 P Q (λ r. (dependencies_kept P Q (sym same) r, dependencies_kept Q P same r)) c so_far
+
   module _ (touched : List ℕ) (h : AreMovedAmong (contents_shown before) (contents_shown after) touched) where
     moved : AreMovedAmong P.contents Q.contents touched
     moved = subst (λ C. AreMovedAmong P.contents C touched) (contents_of_plan now after) (subst (λ C. AreMovedAmong C (contents_shown after) touched) (contents_of_plan clock before) h)
@@ -93,9 +98,6 @@ module _ (clock now : ℕ) (before after : Option Shown) (c : Changes) where
     workstations_stay so_far =
         let same = rows_reported (entries Q.contents.workstations) ∙ (ap (map (λ (x : Name × Attr). row.Workstation x.0 x.1)) moved.moved.workstations ∙ sym (rows_reported (entries P.contents.workstations))) in
         table_stays 1 P Q (same_rows 1 P Q _ _ _ _ (are_workstations P _ refl) (are_workstations Q _ refl) same) c so_far
-
-    pub dependencies_stay : AreChangesBelow 6 P Q c → AreChangesBelow 7 P Q c
-    dependencies_stay so_far = table_stays 6 P Q (λ r. (dependencies_kept P Q (sym moved.moved.pairs) r, dependencies_kept Q P moved.moved.pairs r)) c so_far
 
     pub needs_stay : AreChangesBelow 7 P Q c → AreChangesBelow 8 P Q c
     needs_stay so_far = table_stays 7 P Q (λ r. (needs_stay_after P Q touched moved r, needs_stay_before P Q touched moved r)) c so_far

@@ -12,13 +12,14 @@ ghost use Rattle.plan_rows.specs.Tables.{AreChangesBelow};
 ghost use Rattle.plan_rows.specs.declared.shown.Shown.{Shown as ShownValue};
 
 use super::columns::Columns;
+use super::dependencies::push_new_pair;
 use super::intervals::{intervals_of, push_noted_intervals};
 use super::keyed::push_noted_resources;
 use super::meta::push_meta;
 use super::noted_rows::NotedRow;
 use super::occurrences::{note_occurrences, push_noted_occurrences};
 use super::operations::{note_operations, push_noted_operations};
-use plan_basics::{Interval, Moment, ResName, WsName};
+use plan_basics::{Interval, Moment, OpKey, ResName, WsName};
 use plan_state::{Changes, Shown as Counted};
 use std::alloc::{AllocError, Global};
 
@@ -30,6 +31,8 @@ pub enum Beside {
     Resources,
     /// When workstations are open.
     Workstations,
+    /// One pair more, of a predecessor and a successor.
+    Pair(OpKey, OpKey),
 }
 
 /// What is noted beside operations and occurrences.
@@ -40,6 +43,8 @@ pub enum NotedBeside {
     Resources(Vec<(ResName, bool)>),
     /// The intervals of all workstations, each under its workstation's name and its first minute.
     Intervals(Vec<((WsName, Moment), Interval)>),
+    /// The pair that is new.
+    Pair(OpKey, OpKey),
 }
 
 /// The rows of the operations and occurrences that a step touched, as they are after it, and what changed beside them.
@@ -50,7 +55,7 @@ pub struct Notes {
     beside: NotedBeside,
 }
 
-// Notes the table of what may differ beside operations.
+// Notes what may differ beside operations.
 fn note_beside(alloc: Global, shown: &Counted, beside: Beside) -> Result<NotedBeside, AllocError>
     ensures { IfOk result (IsNotedBeside shown.now.contents beside) }
 {
@@ -62,11 +67,12 @@ fn note_beside(alloc: Global, shown: &Counted, beside: Beside) -> Result<NotedBe
             alloc,
             kept.workstations(),
         )?)),
+        Beside::Pair(predecessor, successor) => Ok(NotedBeside::Pair(predecessor, successor)),
     }
 }
 
 /// Notes the rows of a plan that is shown: those of the operations at these indices, which ascend, of their occurrences, and
-/// of the table of what may differ beside them. It takes a look at each of these operations.
+/// what may differ beside them. It takes a look at each of these operations.
 pub fn notes_of(
     alloc: Global,
     shown: &mut Counted,
@@ -119,6 +125,22 @@ fn push_noted_beside(
             rows,
             changes,
         ),
+        NotedBeside::Pair(_, _) => Ok(()),
+    }
+}
+
+// Adds what changes in the table of dependencies: the row of the pair that is noted, if one is.
+fn push_noted_pair(beside: &NotedBeside, changes: &mut Changes) -> Result<(), AllocError>
+    ensures told { (clock now : ℕ) (before after : ShownValue) → NotesBeside before.contents.now after.contents.now beside.now → AreChangesBelow 6 (plan_shown clock (Some before)) (plan_shown now (Some after)) changes.old → OnOk result (AreChangesBelow 7 (plan_shown clock (Some before)) (plan_shown now (Some after)) changes.new) }
+    ensures operations { OnOk result (count_by is_operation changes.new.rows.items ≡ count_by is_operation changes.old.rows.items) }
+{
+    match beside {
+        NotedBeside::Pair(predecessor, successor) => push_new_pair(
+            *predecessor,
+            *successor,
+            changes,
+        ),
+        NotedBeside::Nothing | NotedBeside::Resources(_) | NotedBeside::Intervals(_) => Ok(()),
     }
 }
 
@@ -148,5 +170,6 @@ pub fn noted_changes(
     push_noted_beside(alloc, shown, &notes.beside, &mut changes)?;
     push_noted_occurrences(shown, columns, &notes.occurrences, &mut changes)?;
     push_noted_operations(shown, columns, &notes.operations, &mut changes)?;
+    push_noted_pair(&notes.beside, &mut changes)?;
     Ok(changes)
 }

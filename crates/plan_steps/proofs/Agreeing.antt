@@ -11,7 +11,7 @@ use Rattle.plan_looks.specs.plan_kept.specs.plan_laws.proofs.Waiting.{one_count}
 use Rattle.plan_looks.specs.plan_kept.specs.plan_model.specs.Contents.{Contents, Operation}
 use Rattle.plan_looks.specs.plan_kept.specs.plan_model.specs.Status.{HasStatus, IsSatisfied}
 use Rattle.plan_looks.specs.plan_kept.specs.plan_model.specs.Valid.{IsValid}
-use Rattle.plan_looks.specs.plan_kept.specs.plan_moves.specs.Moves.{IsMovedAt}
+use Rattle.plan_looks.specs.plan_kept.specs.plan_moves.specs.Moves.{IsRemarkedAt}
 use Rattle.plan_looks.specs.plan_kept.specs.plan_waiting.specs.Kept.{IsKept}
 use Rattle.plan_rows.specs.Touched.{HasOneOf}
 use Rattle.plan_rows.specs.plan_status.specs.Standings.{IsStanding, IsTally}
@@ -24,7 +24,7 @@ use Rattle.plan_steps.specs.declared.excerpts.Excerpt.{Excerpt}
 use Rattle.status_rules.specs.Classes.{is_satisfied}
 
 module _ (P Q : Contents) (valid : IsValid P) (valid_after : IsValid Q) (touched : List ℕ) (at_touched : IsTouchedAt P Q touched) (l m : Columns) (are : AreColumnsOf P l) (then : AreColumnsOf Q m) where
-  abbrev moved : IsMovedAt P Q at_touched.moved.places
+  abbrev moved : IsRemarkedAt P Q at_touched.moved.places
   moved = at_touched.moved.moved
 
   -- ---- operations
@@ -44,15 +44,15 @@ module _ (P Q : Contents) (valid : IsValid P) (valid_after : IsValid Q) (touched
       let waiting : x.waiting ≡ y.waiting = one_count _ x.waiting s.0.waiting was.1 stood.waiting ∙ sym (one_count _ y.waiting s.0.waiting is.1 (same.0 s.0 stood).waiting) in
       λ j. record { satisfied = satisfied j; waiting = waiting j }
 
-  kept_agree : (i : ℕ) → ¬ Contains touched i → slice_get m.kept.items i ≡ slice_get l.kept.items i
+  pub kept_agree : (i : ℕ) → ¬ Contains touched i → slice_get m.kept.items i ≡ slice_get l.kept.items i
   kept_agree i out = alike_at (entries P.operations) (entries Q.operations) (IsKept P) (IsKept Q) l.kept.items m.kept.items moved.size are.kept then.kept i
       (λ o op at. let row = moved.rows i o op at in (row.before, row.was, kept_stays i out o row.before row.was))
 
-  standings_agree : (i : ℕ) → ¬ Contains touched i → slice_get m.standings.items i ≡ slice_get l.standings.items i
+  pub standings_agree : (i : ℕ) → ¬ Contains touched i → slice_get m.standings.items i ≡ slice_get l.standings.items i
   standings_agree i out = alike_at (entries P.operations) (entries Q.operations) (IsStanding P) (IsStanding Q) l.standings.items m.standings.items moved.size are.standings then.standings i
       (λ o op at. let row = moved.rows i o op at in (row.before, row.was, λ x y was is. one_standing Q o x y ((at_touched.same i out o row.before row.was).0 x was) is))
 
-  statuses_agree : (i : ℕ) → ¬ Contains touched i → slice_get m.statuses.items i ≡ slice_get l.statuses.items i
+  pub statuses_agree : (i : ℕ) → ¬ Contains touched i → slice_get m.statuses.items i ≡ slice_get l.statuses.items i
   statuses_agree i out = alike_at (entries P.operations) (entries Q.operations) (HasStatus P) (HasStatus Q) l.statuses.items m.statuses.items moved.size are.statuses then.statuses i
       (λ o op at. let row = moved.rows i o op at in (row.before, row.was, λ x y was is. one_status Q valid_after.acyclic o x y ((at_touched.same i out o row.before row.was).1 x was) is))
 
@@ -61,7 +61,7 @@ module _ (P Q : Contents) (valid : IsValid P) (valid_after : IsValid Q) (touched
   same_occurrences : entries Q.occurrences ≡ entries P.occurrences
   same_occurrences = ap entries moved.occurrences
 
-  tallies_agree : (i : ℕ) → ¬ HasOneOf P touched i → slice_get m.tallies.items i ≡ slice_get l.tallies.items i
+  pub tallies_agree : (i : ℕ) → ¬ HasOneOf P touched i → slice_get m.tallies.items i ≡ slice_get l.tallies.items i
   tallies_agree i none =
       alike_at (entries P.occurrences) (entries Q.occurrences) (IsTally P) (IsTally Q) l.tallies.items m.tallies.items (ap length same_occurrences) are.tallies then.tallies i
       (λ c terms at.
@@ -69,7 +69,7 @@ module _ (P Q : Contents) (valid : IsValid P) (valid_after : IsValid Q) (touched
       (terms, was, λ x y old new. one_tally Q c x y (tally_after P Q valid valid_after touched at_touched i c terms was none x old) new))
 
   -- an operation that is touched belongs to the same occurrence after
-  has_one_after : (p : ℕ) → HasOneOf P touched p → HasOneOf Q touched p
+  pub has_one_after : (p : ℕ) → HasOneOf P touched p → HasOneOf Q touched p
   has_one_after p (i, among, belongs) =
       let within = slice_get_within (entries P.operations) i (belongs.o, belongs.op) belongs.operation in
       let row = row_at (entries Q.operations) i (omega (arith, within, moved.size)) in

@@ -16,7 +16,7 @@ use Rattle.plan_looks.specs.plan_kept.specs.plan_drafts.specs.Places.{AreByPlace
 use Rattle.plan_looks.specs.plan_kept.specs.plan_laws.proofs.Latest.{one_latest_start}
 use Rattle.plan_looks.specs.plan_kept.specs.plan_laws.proofs.Standing.{one_status, some_status}
 use Rattle.plan_looks.specs.plan_kept.specs.plan_laws.proofs.Waiting.{one_count}
-use Rattle.plan_looks.specs.plan_kept.specs.plan_moves.specs.Moves.{IsMovedAt}
+use Rattle.plan_looks.specs.plan_kept.specs.plan_moves.specs.Moves.{IsRemarkedAt}
 use Rattle.plan_looks.specs.plan_records.specs.Rows.{IsCount}
 use Rattle.plan_looks.specs.plan_kept.specs.plan_choice.specs.Choices.{AreLatestStarts}
 use Rattle.plan_rows.specs.Shown.{IsShown, known_of}
@@ -101,7 +101,7 @@ module _ {K V X : Type 0} (before after : List (K × V)) (was is : K → X → T
 
 module _ (P Q : Contents) (valid : IsValid P) (valid_after : IsValid Q) (touched : List ℕ) (at_touched : IsTouchedAt P Q touched) where
   -- marks and flags at these places alone differ
-  abbrev moved : IsMovedAt P Q at_touched.moved.places
+  abbrev moved : IsRemarkedAt P Q at_touched.moved.places
   moved = at_touched.moved.moved
 
   -- an occurrence at this place, none of whose operations is touched
@@ -154,14 +154,14 @@ module _ (P Q : Contents) (valid : IsValid P) (valid_after : IsValid Q) (touched
 -- ---- what is shown
 
 module _ (s t : Shown) (shown : IsShown s) (shown_after : IsShown t) (touched : List ℕ) (at_touched : IsTouchedAt s.contents.now t.contents.now touched)
-    (latest : (starts : List ℤ) → AreLatestStarts s.contents.now starts → AreLatestStarts t.contents.now starts) where
+    (start_alike : (i : ℕ) → ¬ Contains touched i → slice_get t.latest.now.starts i ≡ slice_get s.latest.now.starts i) where
   abbrev P : Contents
   P = s.contents.now
 
   abbrev Q : Contents
   Q = t.contents.now
 
-  abbrev moves : IsMovedAt P Q at_touched.moved.places
+  abbrev moves : IsRemarkedAt P Q at_touched.moved.places
   moves = at_touched.moved.moved
 
   -- of an operation that isn't touched the standing stays
@@ -174,16 +174,11 @@ module _ (s t : Shown) (shown : IsShown s) (shown_after : IsShown t) (touched : 
   status_alike i not = alike_at (entries P.operations) (entries Q.operations) (HasStatus P) (HasStatus Q) s.statuses.now t.statuses.now moves.size shown.statuses shown_after.statuses i
       (λ o op at. let row = moves.rows i o op at in (row.before, row.was, λ x y was is. one_status Q shown_after.sound.valid.acyclic o x y ((at_touched.same i not o row.before row.was).1 x was) is))
 
-  -- and each operation's latest start
-  start_alike : (i : ℕ) → slice_get t.latest.now.starts i ≡ slice_get s.latest.now.starts i
-  start_alike i = alike_at (entries Q.operations) (entries Q.operations) (IsLatestStart Q) (IsLatestStart Q) s.latest.now.starts t.latest.now.starts refl (latest s.latest.now.starts shown.latest) shown_after.latest i
-      (λ o op at. (op, at, one_latest_start Q o))
-
   -- so that all that is known of it stays
   known_alike : (i : ℕ) → ¬ Contains touched i → slice_get (known_of t) i ≡ slice_get (known_of s) i
   known_alike i not =
       zipped_alike t.standings.now s.standings.now (zip t.statuses.now t.latest.now.starts) (zip s.statuses.now s.latest.now.starts) i (standing_alike i not)
-      (zipped_alike t.statuses.now s.statuses.now t.latest.now.starts s.latest.now.starts i (status_alike i not) (start_alike i))
+      (zipped_alike t.statuses.now s.statuses.now t.latest.now.starts s.latest.now.starts i (status_alike i not) (start_alike i not))
 
   -- the numbers of an occurrence of which no operation is touched stay
   tallies_alike : (i : ℕ) → ¬ HasOneOf P touched i → slice_get t.tallies.now i ≡ slice_get s.tallies.now i
@@ -195,7 +190,7 @@ module _ (s t : Shown) (shown : IsShown s) (shown_after : IsShown t) (touched : 
       (terms, was, λ x y old new. one_tally Q c x y (tally_after P Q shown.sound.valid shown_after.sound.valid touched at_touched i c terms was none x old) new))
 
   -- nothing else differs
-  shown_alike : AreTouched (Some s) (Some t) touched
+  pub shown_alike : AreTouched (Some s) (Some t) touched
   shown_alike = record {
     moved = at_touched.moved;
     ascend = at_touched.ascend;
@@ -204,10 +199,18 @@ module _ (s t : Shown) (shown : IsShown s) (shown_after : IsShown t) (touched : 
     tallies = tallies_alike;
   }
 
+-- where latest starts stay, each is shown alike
+starts_shown : (s t : Shown) → IsShown s → IsShown t → ((starts : List ℤ) → AreLatestStarts s.contents.now starts → AreLatestStarts t.contents.now starts) → (i : ℕ) → slice_get t.latest.now.starts i ≡ slice_get s.latest.now.starts i
+starts_shown s t shown shown_after latest i =
+    let Q = t.contents.now in
+    alike_at (entries Q.operations) (entries Q.operations) (IsLatestStart Q) (IsLatestStart Q) s.latest.now.starts t.latest.now.starts refl (latest s.latest.now.starts shown.latest) shown_after.latest i
+    (λ o op at. (op, at, one_latest_start Q o))
+
 -- where a step touches these places, what is shown after it differs at these alone
 pub touched_shown : (P Q : Contents) (touched : List ℕ) → IsTouchedAt P Q touched → ((starts : List ℤ) → AreLatestStarts P starts → AreLatestStarts Q starts)
     → (s t : Shown) → s.contents.now ≡ P → t.contents.now ≡ Q → IsShown s → IsShown t → AreTouched (Some s) (Some t) touched
 touched_shown P Q touched at_touched latest s t before after shown shown_after =
     let there : IsTouchedAt s.contents.now t.contents.now touched = subst (λ R. IsTouchedAt R t.contents.now touched) (sym before) (subst (λ R. IsTouchedAt P R touched) (sym after) at_touched) in
-    shown_alike s t shown shown_after touched there
-    (λ starts are. subst (λ R. AreLatestStarts R starts) (sym after) (latest starts (subst (λ R. AreLatestStarts R starts) before are)))
+    let stay : (starts : List ℤ) → AreLatestStarts s.contents.now starts → AreLatestStarts t.contents.now starts =
+    λ starts are. subst (λ R. AreLatestStarts R starts) (sym after) (latest starts (subst (λ R. AreLatestStarts R starts) before are)) in
+    shown_alike s t shown shown_after touched there (λ i out. starts_shown s t shown shown_after stay i)

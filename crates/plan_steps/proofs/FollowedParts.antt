@@ -4,6 +4,7 @@ use Rattle.plan_basics.specs.declared.keys.OpKey.{OpKey}
 use Rattle.plan_looks.specs.plan_kept.specs.Edits.{ArePlacesOf}
 use Rattle.plan_looks.specs.plan_kept.specs.plan_model.specs.Contents.{Contents}
 use Rattle.plan_looks.specs.plan_kept.specs.plan_moves.specs.Moves.{IsMovedAt}
+use Rattle.plan_looks.specs.plan_restating.proofs.Moved.{remarked_by}
 use Rattle.plan_looks.specs.plan_restating.proofs.Read.{noted_after}
 use Rattle.plan_looks.specs.plan_restating.specs.Before.{KeepStatus}
 use Rattle.plan_looks.specs.StepLooks.{AreBoth}
@@ -65,7 +66,7 @@ module _ (P R : Contents) (m : ℕ) (edited : List ℕ) (starts : List ℤ) (l :
 
   touched_at : IsTouchedAt P R touched
   touched_at = record {
-    moved = record { places = places; moved = moved_then; among = λ i has. (was.followed.joined.both i).1 (inr has) };
+    moved = record { places = places; moved = remarked_by P R places moved_then; among = λ i has. (was.followed.joined.both i).1 (inr has) };
     ascend = places_before.ascend;
     within = places_before.within;
     same = same_beside;
@@ -98,4 +99,4 @@ module _ (P R : Contents) (m : ℕ) (edited : List ℕ) (starts : List ℤ) (l :
   pub list_home : (k : Columns) → AreAlike k l → (q : ReadyEntries) → GoesByStatuses R k.statuses.items q → IsReadyListOf P q
   list_home k alike q goes =
       list_is P was.followed.naming.sound k.statuses.items (columns_alike P k l alike was.columns).statuses q
-      (goes_before P R places moved_then starts (latest_after P R os places starts l r was_named) k.statuses.items q goes)
+      (goes_before P R places moved_then starts was.latest (latest_after P R os places starts l r was_named) k.statuses.items q goes)

@@ -12,7 +12,7 @@ use Rattle.plan_looks.specs.plan_kept.specs.plan_laws.proofs.Waiting.{one_count}
 use Rattle.plan_looks.specs.plan_kept.specs.plan_model.specs.Contents.{Contents, HasAttribute, Operation}
 use Rattle.plan_looks.specs.plan_kept.specs.plan_model.specs.Status.{HasStatus}
 use Rattle.plan_looks.specs.plan_kept.specs.plan_model.specs.Valid.{IsValid}
-use Rattle.plan_looks.specs.plan_kept.specs.plan_moves.specs.Moves.{IsMovedAt}
+use Rattle.plan_looks.specs.plan_kept.specs.plan_moves.specs.Moves.{AreLiveAlike, IsMovedAt}
 use Rattle.plan_looks.specs.plan_restating.proofs.Moved.{attribute_after}
 use Rattle.plan_looks.specs.plan_restating.proofs.Restood.{stands_anew, stands_still}
 use Rattle.plan_rows.specs.plan_status.proofs.ByStanding.{status_on}
@@ -38,7 +38,7 @@ module _ (P Q : Contents) (moved_at : List ℕ) (moved : IsMovedAt P Q moved_at)
       let op_same : row.0.1 ≡ op = was.elsewhere out ∙ sym parts.1 in
       row.1 ∙ (λ j. Some (sym parts.0 j, op_same j))
 
-  module _ (valid : IsValid P) (still : IsValid Q) (kept now : List Kept) (were : AreKept P kept) (are : AreKept Q now) (standings : List Standing) (stood : AreStandings P standings) where
+  module _ (alike : AreLiveAlike P Q) (valid : IsValid P) (still : IsValid Q) (kept now : List Kept) (were : AreKept P kept) (are : AreKept Q now) (standings : List Standing) (stood : AreStandings P standings) where
     module _ (i : ℕ) (o : OpKey) (op : Operation) (at : slice_get (entries P.operations) i ≡ Some (o, op)) (out : ¬ Contains moved_at i) (same : kept_at now i ≡ kept_at kept i) where
       was : IsKept P o (kept_at kept i)
       was = kept_there P kept were i o op at
@@ -49,7 +49,7 @@ module _ (P Q : Contents) (moved_at : List ℕ) (moved : IsMovedAt P Q moved_at)
       standing_stays : (s : Standing) → IsStanding P o s → IsStanding Q o s
       standing_stays s h =
           let waits : s.waiting ≡ (kept_at kept i).waiting = one_count _ s.waiting (kept_at kept i).waiting h.waiting was.1 in
-          stands_anew P Q moved_at moved still o s s (kept_at kept i).waiting h is.1 (stands_still P Q moved_at moved still o s (kept_at kept i).waiting h waits)
+          stands_anew P Q moved_at moved alike still o s s (kept_at kept i).waiting h is.1 (stands_still P Q moved_at moved alike still o s (kept_at kept i).waiting h waits)
 
       status_stays : (t : Status) → HasStatus P o t → HasStatus Q o t
       status_stays t h =

@@ -1,13 +1,12 @@
 -- A ready list that goes by statuses, and that of a plan.
 use Rattle.std.proofs.Common.{◌≡◌, sym, subst, ◌∙◌, ℕ, ℤ, ◌+◌, ◌≤◌, List, length, map}
-use Rattle.plan_looks.specs.plan_kept.proofs.OneFrame.{frame_stays}
 use Rattle.plan_looks.specs.plan_kept.specs.plan_choice.specs.Choices.{AreLatestStarts}
 use Rattle.plan_looks.specs.plan_kept.specs.plan_drafts.specs.Places.{AreStatuses}
 use Rattle.plan_looks.specs.plan_kept.specs.plan_model.specs.Contents.{Contents}
 use Rattle.plan_looks.specs.plan_kept.specs.plan_model.specs.Valid.{IsSound}
-use Rattle.plan_looks.specs.plan_kept.specs.plan_moves.specs.Moves.{IsMovedAt}
-use Rattle.plan_looks.specs.plan_restating.proofs.Moved.{moved_back}
-use Rattle.plan_looks.specs.plan_restating.proofs.Read.{entries_after, entries_are, entries_by}
+use Rattle.plan_looks.specs.plan_kept.specs.plan_moves.specs.Moves.{IsMovedAt, IsRemarkedAt}
+use Rattle.plan_looks.specs.plan_restating.proofs.Moved.{moved_back, remarked_by}
+use Rattle.plan_looks.specs.plan_restating.proofs.Read.{entries_are, entries_by, entries_remarked}
 use Rattle.plan_looks.specs.plan_restating.specs.ByStatuses.{HasRoomForAll}
 use Rattle.plan_looks.specs.plan_restating.specs.Entries.{AreEntriesAt, CanBeRelisted}
 use Rattle.plan_rows.specs.plan_status.proofs.LoadedRows.{its_occurrence}
@@ -31,19 +30,19 @@ module _ (P : Contents) (sound : IsSound P) (statuses : List Status) (are : AreS
   pub list_is : GoesByStatuses P statuses r → IsReadyListOf P r
   list_is goes = record { listed = entries_are P sound.valid.acyclic statuses are r.entries goes.listed; room = goes.room }
 
--- it goes by them in a plan too that differs in marks and flags alone
-pub goes_after : (P Q : Contents) (moved_at : List ℕ) → IsMovedAt P Q moved_at → (starts : List ℤ) → AreLatestStarts P starts → (statuses : List Status) (r : ReadyEntries)
+-- it goes by them too in a plan that differs in marks and flags alone, whatever its pairs are, and has the same latest starts
+pub goes_after : (P Q : Contents) (moved_at : List ℕ) → IsRemarkedAt P Q moved_at → (starts : List ℤ) → AreLatestStarts P starts → AreLatestStarts Q starts → (statuses : List Status) (r : ReadyEntries)
     → GoesByStatuses P statuses r → GoesByStatuses Q statuses r
-goes_after P Q moved_at moved starts latest statuses r goes = record {
+goes_after P Q moved_at moved starts before after statuses r goes = record {
   size = goes.size ∙ sym moved.size;
-  listed = entries_after P Q moved_at moved starts latest ((frame_stays P Q moved_at moved).latest starts latest) statuses r.entries goes.listed;
+  listed = entries_remarked P Q moved_at moved starts before after statuses r.entries goes.listed;
   room = subst (λ n. n ≤ length r.entries + r.room) (sym moved.size) goes.room;
 }
 
 -- so it does in the one before
-pub goes_before : (P Q : Contents) (moved_at : List ℕ) → IsMovedAt P Q moved_at → (starts : List ℤ) → AreLatestStarts Q starts → (statuses : List Status) (r : ReadyEntries)
+pub goes_before : (P Q : Contents) (moved_at : List ℕ) → IsMovedAt P Q moved_at → (starts : List ℤ) → AreLatestStarts P starts → AreLatestStarts Q starts → (statuses : List Status) (r : ReadyEntries)
     → GoesByStatuses Q statuses r → GoesByStatuses P statuses r
-goes_before P Q moved_at moved = goes_after Q P moved_at (moved_back P Q moved_at moved)
+goes_before P Q moved_at moved starts before after = goes_after Q P moved_at (remarked_by Q P moved_at (moved_back P Q moved_at moved)) starts after before
 
 -- there is room for as many operations as there were
 pub room_after : (P Q : Contents) (moved_at : List ℕ) → IsMovedAt P Q moved_at → (r : ReadyEntries) → IsReadyListOf P r → HasRoomForAll Q r

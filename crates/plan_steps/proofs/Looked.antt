@@ -7,7 +7,7 @@ use Rattle.std.specs.List.Sorted.{IsStrictlySortedBy}
 use Rattle.std.specs.Cmp.{nat_cmp_total}
 use Rattle.std.specs.Ordering.{nat_cmp}
 use Rattle.plan_basics.proofs.Members.{contains_cases, contains_none}
-use Rattle.plan_looks.specs.plan_kept.proofs.OneFrame.{frame_stays}
+use Rattle.plan_looks.specs.plan_kept.proofs.OneFrame.{graph_stays}
 use Rattle.plan_looks.specs.plan_kept.specs.plan_laws.proofs.Sorted.{sorted_unique}
 use Rattle.plan_looks.specs.plan_kept.specs.plan_model.specs.Contents.{Contents}
 use Rattle.plan_looks.specs.StepLooks.{AreBoth, IsStepLooked}
@@ -60,7 +60,7 @@ pub step_looked : (P Q : Contents) (e : Edit) (starts : List ℤ) (l : Columns) 
     → IsStepLooked P Q e.is_rerun e.places.items s.named.items (operations_noted s.notes) before after
 step_looked P Q e starts l r g has m b before between after s fewest counted (moved, from, to, is) =
     let on = has.worked_out.moved_on in
-    let graph_after = (frame_stays P Q e.places.items has.moved).graph in
+    let graph_after = graph_stays P Q e.places.items has.moved in
     record {
       kept = l.kept.items;
       kept_then = then P Q e.places.items starts l r g has;

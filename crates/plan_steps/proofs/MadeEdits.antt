@@ -11,7 +11,7 @@ use Rattle.plan_basics.specs.Minutes.{IsMoment}
 use Rattle.plan_basics.specs.Refusals.{NoneRefuses}
 use Rattle.plan_basics.specs.declared.keys.OpKey.{OpKey}
 use Rattle.plan_changes.specs.Markings.{DifferInMarks, marking_at}
-use Rattle.plan_looks.specs.plan_kept.proofs.NewMarks.{unmoved}
+use Rattle.plan_looks.specs.plan_kept.proofs.NewMarks.{still_live, unmoved}
 use Rattle.plan_looks.specs.plan_kept.proofs.Rerunning.{reruns_go_on}
 use Rattle.plan_looks.specs.plan_kept.proofs.SmallMoves.{small_requests_move}
 use Rattle.plan_looks.specs.plan_kept.proofs.Targets.{edited_are_unsatisfied}
@@ -64,23 +64,26 @@ module _ (P : Contents) (m : ℕ) (w : What) (e : Edit) (small : IsSmall w) (cle
   changes_so = noted.writes.changes e.keys.items are
 
   pub is_edit_for : IsSound P → IsMoment m → IsEditFor P e
-  is_edit_for sound moment = record {
-    sound = sound;
-    sound_after = edited_sound P (edited e P) m w sound moment small clear noted.writes.legal changes_so;
-    edit = record {
-      moved = small_requests_move P (edited e P) w m e.places.items sound.valid small clear changes_so noted.at;
-      marked = marked_there P e.keys.items e.marks.items noted.were e.places.items noted.stand;
-      ascend = noted.at.ascend;
-      within = noted.at.within;
-      unsatisfied = λ none i has there. edited_are_unsatisfied P w m e.places.items sound.valid (λ is. true≢false (sym (noted.rerun.1 is) ∙ none)) clear noted.at i there.0 there.1 has there.2 there.3;
-      follow = λ yes g graph i j has edge.
-          let of = rerun_of w (noted.rerun.0 yes) in
-          reruns_go_on P of.0 e.places.items g graph (subst (λ v. IsEditedAt P v e.places.items) of.1 noted.at) i j has edge;
-    };
-    has_place = noted.writes.has_place;
-    remarks = noted.writes.remarks e.keys.items are;
-    marked = noted.were;
-  }
+  is_edit_for sound moment =
+      let moves = small_requests_move P (edited e P) w m e.places.items sound.valid small clear changes_so noted.at in
+      record {
+        sound = sound;
+        sound_after = edited_sound P (edited e P) m w sound moment small clear noted.writes.legal changes_so;
+        edit = record {
+          moved = moves.0;
+          alike = moves.1;
+          marked = marked_there P e.keys.items e.marks.items noted.were e.places.items noted.stand;
+          ascend = noted.at.ascend;
+          within = noted.at.within;
+          unsatisfied = λ none i has there. edited_are_unsatisfied P w m e.places.items sound.valid (λ is. true≢false (sym (noted.rerun.1 is) ∙ none)) clear noted.at i there.0 there.1 has there.2 there.3;
+          follow = λ yes g graph i j has edge.
+              let of = rerun_of w (noted.rerun.0 yes) in
+              reruns_go_on P of.0 e.places.items g graph (subst (λ v. IsEditedAt P v e.places.items) of.1 noted.at) i j has edge;
+        };
+        has_place = noted.writes.has_place;
+        remarks = noted.writes.remarks e.keys.items are;
+        marked = noted.were;
+      }
 
   -- the marking of what is edited is among those that were noted
   noted_marking : (o : OpKey) (op : Operation) → Edits P w o → get P.operations o ≡ Some op → Contains e.marks.items (marking_of op)
@@ -146,6 +149,7 @@ module _ (P : Contents) (m : ℕ) (w : What) (e n : Edit) (clear : NoneRefuses (
       sound_after = subst IsSound (sym edited_same) sound;
       edit = subst (λ Q. IsEditOf P Q n) (sym edited_same) (record {
         moved = unmoved P P.workstations P.resources n.places.items refl;
+        alike = still_live P P refl;
         marked = record { size = ap length nothing.marks ∙ sym (ap length nothing.places); each = λ k i mk at_k its. absurd (none-some i (sym (ap (λ ps. slice_get ps k) nothing.places) ∙ at_k)) };
         ascend = subst (IsStrictlySortedBy nat_cmp) (sym nothing.places) none_ascend;
         within = λ i has. absurd (no_place i has);

@@ -9,6 +9,8 @@ use Rattle.plan_looks.specs.plan_kept.specs.plan_choice.specs.Choices.{AreLatest
 use Rattle.plan_looks.specs.plan_kept.specs.plan_laws.proofs.Kept.{choice_keeps_sound}
 use Rattle.plan_looks.specs.plan_kept.specs.plan_model.specs.Contents.{Contents}
 use Rattle.plan_looks.specs.plan_kept.specs.plan_model.specs.Ready.{IsChosen, named}
+use Rattle.plan_looks.specs.plan_kept.specs.plan_state.specs.Figures.{KeepsFrame}
+use Rattle.plan_looks.specs.plan_restating.proofs.Moved.{remarked_by}
 use Rattle.plan_looks.specs.plan_restating.proofs.Read.{noted_after}
 use Rattle.plan_looks.specs.plan_restating.specs.Beside.{places_beside}
 use Rattle.plan_looks.specs.plan_restating.specs.Entries.{AreEntriesAt}
@@ -18,7 +20,7 @@ use Rattle.plan_rows.specs.declared.notes.Beside.{Beside}
 use Rattle.plan_steps.proofs.ColumnParts.{are_columns, columns_alike, is_list}
 use Rattle.plan_steps.proofs.Looked.{from_before, touched_beside}
 use Rattle.plan_steps.proofs.MovedColumns.{then_known}
-use Rattle.plan_steps.proofs.NamedFigures.{named_touched, naming_moved}
+use Rattle.plan_steps.proofs.NamedFigures.{named_touched, naming_alike, naming_moved}
 use Rattle.plan_steps.proofs.SmallSteps.{keeps_frame, step_notes, touched_by_both}
 use Rattle.plan_steps.specs.Columns.{AreAlike, AreColumnsOf, AreSharesOf, IsReadyListOf, figures_of}
 use Rattle.plan_steps.specs.Edits.{WasEdited}
@@ -47,7 +49,7 @@ module _ (Q : Contents) (m : ℕ) (edited : List ℕ) (l : Columns) (f : Followe
   pub entries_named : AreEntriesAt (named os Q) f.touched.items f.entries.items
   entries_named =
       let moved = naming_moved Q m os is.naming.chosen places is.naming.places in
-      noted_after Q (named os Q) places moved starts latest ((frame_stays Q (named os Q) places moved).latest starts latest) f.touched.items f.entries.items is.entries
+      noted_after Q (named os Q) places moved starts latest ((frame_stays Q (named os Q) places moved (naming_alike Q m os is.naming.chosen places is.naming.places)).latest starts latest) f.touched.items f.entries.items is.entries
 
   -- what follows, with what was noted then, is a step
   pub step_of : (ready : ReadyEntries) → IsReadyListOf Q ready → (b : Beside) (before between after : ℕ) → before ≤ between → between ≤ before + length ready.entries + length (places_beside edited f.touched.items)
@@ -84,6 +86,7 @@ worked_out P Q e d starts l r s was m alike g is = record {
   sound = was.sound;
   sound_after = was.sound_after;
   moved = was.edit.moved;
+  alike = was.edit.alike;
   latest = was.latest;
   columns = columns_alike P m l alike (are_columns P l r s was.figures);
   ready = is_list P l r s was.figures;
@@ -94,8 +97,12 @@ module _ (P Q : Contents) (edits : List ℕ) (starts : List ℤ) (l : Columns) (
   -- no more is touched by it than its places
   pub step_touched : IsTouchedAt P (named s.named.items Q) is.touched
   step_touched =
-      touched_by_both P Q edits has.moved m s.named.items is.chosen is.places is.are_places is.at_places.same g.touched.items is.touched
+      touched_by_both P Q m s.named.items is.chosen is.places is.are_places edits (remarked_by P Q edits has.moved) is.at_places.same g.touched.items is.touched
       has.worked_out.moved_on.touched (then_known P Q edits starts l r g has) is.joined.ascend is.joined.both
+
+  -- the frame stays
+  pub step_frame : KeepsFrame P (named s.named.items Q)
+  step_frame = keeps_frame P Q m s.named.items is.chosen is.places is.are_places edits has.moved has.alike
 
   -- it leads from the one figures to the others
   pub step_shift : IsShift P (named s.named.items Q) s.shift
@@ -103,7 +110,8 @@ module _ (P Q : Contents) (edits : List ℕ) (starts : List ℤ) (l : Columns) (
     sound = has.sound;
     sound_after = choice_keeps_sound Q m s.named.items has.sound_after is.chosen;
     starts = starts;
-    latest = (keeps_frame P Q edits has.moved m s.named.items is.chosen is.places is.are_places).latest starts has.latest;
+    before = has.latest;
+    latest = step_frame.latest starts has.latest;
     touched = is.touched;
     at_touched = step_touched;
     columns = is.columns;
@@ -113,4 +121,4 @@ module _ (P Q : Contents) (edits : List ℕ) (starts : List ℤ) (l : Columns) (
 
   -- and its rows are noted
   pub step_noted : StaysBeside b P Q → AreStepNotes P (named s.named.items Q) s.notes
-  step_noted stays = step_notes P Q edits has.moved m s.named.items is.chosen is.places is.are_places b stays is.touched step_touched s.notes is.notes
+  step_noted stays = step_notes P Q s.named.items b stays step_frame.latest is.touched step_touched s.notes is.notes

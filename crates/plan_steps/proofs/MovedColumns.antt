@@ -2,6 +2,7 @@
 use Rattle.std.proofs.Common.{subst, ℕ, ℤ, ◌<◌, List}
 use Rattle.plan_cascade.specs.declared.kept.Kept.{Kept}
 use Rattle.plan_looks.specs.plan_kept.specs.plan_model.specs.Contents.{Contents}
+use Rattle.plan_looks.specs.plan_restating.proofs.Moved.{remarked_by}
 use Rattle.plan_steps.proofs.Agreeing.{leads_back}
 use Rattle.plan_steps.proofs.KnownAlike.{known_alike}
 use Rattle.plan_steps.specs.Columns.{AreColumnsOf, MakesOf}
@@ -24,14 +25,14 @@ module _ (P Q : Contents) (edits : List ℕ) (starts : List ℤ) (l : Columns) (
   pub then_known : AreKnownAlike P Q touched
   then_known =
       let on = has.worked_out.moved_on in
-      known_alike P Q edits has.moved has.sound.valid has.sound_after.valid l.kept.items then has.columns.kept on.kept_then l.standings.items has.columns.standings touched on.touched.among on.beside
+      known_alike P Q edits has.moved has.alike has.sound.valid has.sound_after.valid l.kept.items then has.columns.kept on.kept_then l.standings.items has.columns.standings touched on.touched.among on.beside
 
   -- no more than that is touched by the edit
   pub then_touched : IsTouchedAt P Q touched
   then_touched =
       let on = has.worked_out.moved_on in
       record {
-        moved = record { places = edits; moved = has.moved; among = on.touched.among };
+        moved = record { places = edits; moved = remarked_by P Q edits has.moved; among = on.touched.among };
         ascend = on.touched.ascend;
         within = λ i h. subst (λ n. i < n) has.moved.size (on.touched.within i h);
         same = then_known;

@@ -7,7 +7,7 @@ use Rattle.plan_looks.specs.plan_kept.specs.plan_model.proofs.Looks.{as_named}
 use Rattle.plan_looks.specs.plan_kept.specs.plan_model.specs.Contents.{Contents}
 use Rattle.plan_looks.specs.plan_kept.specs.plan_model.specs.Ready.{IsChosen, named}
 use Rattle.plan_looks.specs.plan_kept.specs.plan_model.specs.Valid.{IsSound}
-use Rattle.plan_looks.specs.plan_kept.specs.plan_moves.specs.Moves.{IsMovedAt}
+use Rattle.plan_looks.specs.plan_kept.specs.plan_moves.specs.Moves.{AreLiveAlike, IsMovedAt}
 use Rattle.plan_looks.specs.plan_kept.specs.plan_drafts.proofs.MadeEntries.{entries-revise}
 use Rattle.plan_looks.specs.plan_kept.specs.plan_drafts.specs.Places.{AreByPlace}
 use Rattle.plan_looks.specs.plan_kept.proofs.ChosenEntries.{chosen_are_ready}
@@ -18,6 +18,7 @@ use Rattle.plan_looks.specs.plan_kept.proofs.OneFrame.{frame_stays}
 use Rattle.plan_looks.specs.plan_kept.specs.plan_choice.specs.Choices.{AreLatestStarts}
 use Rattle.plan_looks.specs.plan_kept.specs.plan_waiting.specs.Kept.{AreKept}
 use Rattle.plan_cascade.specs.declared.kept.Kept.{Kept}
+use Rattle.plan_looks.specs.plan_restating.proofs.Moved.{remarked_by}
 use Rattle.plan_steps.specs.declared.columns.Columns.{Columns}
 use Rattle.ready_list.specs.Entries.{ReadyEntries}
 use Rattle.plan_rows.specs.plan_status.proofs.Naming.{naming_keeps_standings}
@@ -38,19 +39,23 @@ module _ (P : Contents) (m : ℕ) (os : List OpKey) (chosen : IsChosen P m os) w
   module _ (places : List ℕ) (are : ArePlacesOf P os places) where
     -- their marks alone change
     pub naming_moved : IsMovedAt P (named os P) places
-    naming_moved = naming_moves P os places (chosen_are_ready P m os chosen).0 are
+    naming_moved = (naming_moves P os places (chosen_are_ready P m os chosen).0 are).0
+
+    -- and none is deleted
+    pub naming_alike : AreLiveAlike P (named os P)
+    naming_alike = (naming_moves P os places (chosen_are_ready P m os chosen).0 are).1
 
     -- what is known of all others stays
     pub named_alike : IsSound P → (kept : List Kept) → AreKept P kept → (standings : List Standing) → AreStandings P standings → AreKnownAlike P (named os P) places
     named_alike sound kept were standings stood =
-        known_alike P (named os P) places naming_moved sound.valid (choice_keeps_sound P m os sound chosen).valid
+        known_alike P (named os P) places naming_moved naming_alike sound.valid (choice_keeps_sound P m os sound chosen).valid
         kept kept were (naming_keeps_kept P os (chosen_are_ready P m os chosen).0 kept were) standings stood
         places (λ i has. has) (λ i out. refl)
 
     -- so that no more is touched
     pub named_touched : IsSound P → (l : Columns) → AreColumnsOf P l → IsTouchedAt P (named os P) places
     named_touched sound l columns = record {
-      moved = record { places = places; moved = naming_moved; among = λ i has. has };
+      moved = record { places = places; moved = remarked_by P (named os P) places naming_moved; among = λ i has. has };
       ascend = are.ascend;
       within = are.within;
       same = named_alike sound l.kept.items columns.kept l.standings.items columns.standings;
@@ -81,11 +86,14 @@ module _ (P R : Contents) (os : List OpKey) (places : List ℕ) (starts : List �
   pub moved_on : IsMovedAt P R places
   moved_on = subst (λ S. IsMovedAt P S places) (sym was.after) (naming_moved P m os chosen places was.places)
 
+  pub alike_on : AreLiveAlike P R
+  alike_on = subst (AreLiveAlike P) (sym was.after) (naming_alike P m os chosen places was.places)
+
   pub standings_after : AreStandings R l.standings.items
   standings_after = subst (λ S. AreStandings S l.standings.items) (sym was.after) (named_standings P m os chosen l.standings.items was.columns.standings)
 
   pub latest_after : AreLatestStarts R starts
-  latest_after = (frame_stays P R places moved_on).latest starts was.latest
+  latest_after = (frame_stays P R places moved_on alike_on).latest starts was.latest
 
   pub kept_after : AreKept R kept
   kept_after = subst (λ S. AreKept S kept) (sym was.after) (naming_keeps_kept P os (chosen_are_ready P m os chosen).0 kept was.columns.kept)

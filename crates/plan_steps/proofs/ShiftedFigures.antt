@@ -1,10 +1,8 @@
 -- Figures moved on by a shift.
 use Rattle.std.proofs.Common.{◌≡◌, sym, subst}
-use Rattle.plan_looks.specs.plan_kept.proofs.OneFrame.{frame_stays}
 use Rattle.plan_looks.specs.plan_kept.specs.plan_model.specs.Contents.{Contents}
 use Rattle.plan_looks.specs.plan_kept.specs.plan_state.specs.Figures.{AreFigures}
 use Rattle.plan_looks.specs.plan_kept.specs.plan_state.specs.declared.figures.Figures.{Figures}
-use Rattle.plan_looks.specs.plan_restating.proofs.Moved.{moved_back}
 use Rattle.plan_looks.specs.plan_restating.specs.Entries.{CanBeRelisted}
 use Rattle.plan_steps.proofs.Agreeing.{leads_on}
 use Rattle.plan_steps.proofs.ColumnParts.{are_columns, are_figures, columns_alike, is_list}
@@ -27,10 +25,8 @@ module _ (P R : Contents) (f : Figures) (are : AreFigures P f) (x : Shift) (is :
 
   goes_then : GoesByStatuses R l.statuses.items r
   goes_then =
-      let moved = is.at_touched.moved.moved in
-      let at = is.at_touched.moved.places in
-      let before = (frame_stays R P at (moved_back P R at moved)).latest is.starts is.latest in
-      goes_after P R at moved is.starts before l.statuses.items r (goes_by P is.sound l.statuses.items were.statuses r is.starts before (is_list P l r s were))
+      goes_after P R is.at_touched.moved.places is.at_touched.moved.moved is.starts is.before is.latest l.statuses.items r
+      (goes_by P is.sound l.statuses.items were.statuses r is.starts is.before (is_list P l r s were))
 
   -- and its entries lead the ready list
   pub relistable_then : CanBeRelisted R l.statuses.items r x.columns.statuses.items x.entries.items

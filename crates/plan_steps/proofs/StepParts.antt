@@ -8,11 +8,11 @@ use Rattle.plan_cascade.specs.Counters.{kept_at, nothing_kept}
 use Rattle.plan_cascade.specs.declared.kept.Kept.{Kept}
 use Rattle.plan_looks.specs.plan_kept.specs.plan_drafts.proofs.RowPlaces.{row_at}
 use Rattle.plan_looks.specs.plan_kept.specs.plan_drafts.specs.PlanGraphs.{IsGraphFor}
-use Rattle.plan_looks.specs.plan_kept.proofs.OneFrame.{frame_stays}
+use Rattle.plan_looks.specs.plan_kept.proofs.OneFrame.{graph_stays}
 use Rattle.plan_looks.specs.plan_kept.specs.plan_laws.proofs.Waiting.{one_count}
 use Rattle.plan_looks.specs.plan_kept.specs.plan_model.specs.Contents.{Contents}
 use Rattle.plan_looks.specs.plan_kept.specs.plan_model.specs.Valid.{IsValid}
-use Rattle.plan_looks.specs.plan_kept.specs.plan_moves.specs.Moves.{IsMovedAt}
+use Rattle.plan_looks.specs.plan_kept.specs.plan_moves.specs.Moves.{AreLiveAlike, IsMovedAt}
 use Rattle.plan_looks.specs.plan_restating.specs.Before.{KeepStatus}
 use Rattle.plan_looks.specs.plan_restating.specs.Restanding.{AgreeElsewhere, AreCounters}
 use Rattle.plan_rows.specs.plan_status.specs.Standings.{AreStandings}
@@ -37,7 +37,7 @@ counters P kept are = record { size = are.size; each = λ i o op k at there. (ar
 
 module _ (P Q : Contents) (moved_at : List ℕ) (moved : IsMovedAt P Q moved_at) where
   pub graph_after : (g : Digraph) → IsGraphFor P g → IsGraphFor Q g
-  graph_after = (frame_stays P Q moved_at moved).graph
+  graph_after = graph_stays P Q moved_at moved
 
   -- where the same is kept, each standing has the number that is kept
   pub agree : (kept now : List Kept) → AreKept P kept → (standings : List Standing) → AreStandings P standings → (touched : List ℕ) → IsKeptBeside touched kept now → AgreeElsewhere standings now touched
@@ -54,9 +54,9 @@ module _ (P Q : Contents) (moved_at : List ℕ) (moved : IsMovedAt P Q moved_at)
   keep_status touched known i out o op at = let was = moved.rows i o op at in (known i out o was.before was.was).1
 
 -- standings brought in line with what is kept, as they are read of what is lent
-pub restood : (P Q : Contents) (moved_at : List ℕ) → IsMovedAt P Q moved_at → IsValid Q → (kept now : List Kept) → AreKept P kept → AreKept Q now → (standings : List Standing) → AreStandings P standings
+pub restood : (P Q : Contents) (moved_at : List ℕ) → IsMovedAt P Q moved_at → AreLiveAlike P Q → IsValid Q → (kept now : List Kept) → AreKept P kept → AreKept Q now → (standings : List Standing) → AreStandings P standings
     → (touched : List ℕ) → IsKeptBeside touched kept now → (xs : List Standing) (ks : List Kept) (ts : List ℕ) → xs ≡ standings → ks ≡ now → ts ≡ touched → (after : List Standing)
-    → ((R S : Contents) (places : List ℕ) → IsValid S → IsMovedAt R S places → AreStandings R xs → AreCounters S ks → AgreeElsewhere xs ks ts → AreStandings S after) → AreStandings Q after
-restood P Q moved_at moved valid kept now were are standings stood touched beside xs ks ts x k t after right =
-    right P Q moved_at valid moved (subst (AreStandings P) (sym x) stood) (subst (AreCounters Q) (sym k) (counters Q now are))
+    → ((R S : Contents) (places : List ℕ) → IsValid S → IsMovedAt R S places → AreLiveAlike R S → AreStandings R xs → AreCounters S ks → AgreeElsewhere xs ks ts → AreStandings S after) → AreStandings Q after
+restood P Q moved_at moved alike valid kept now were are standings stood touched beside xs ks ts x k t after right =
+    right P Q moved_at valid moved alike (subst (AreStandings P) (sym x) stood) (subst (AreCounters Q) (sym k) (counters Q now are))
     (subst (λ zs. AgreeElsewhere zs ks ts) (sym x) (subst (λ zs. AgreeElsewhere standings zs ts) (sym k) (subst (AgreeElsewhere standings now) (sym t) (agree P Q moved_at moved kept now were standings stood touched beside))))

@@ -20,10 +20,10 @@ pub leaves_others : (x : Revision) → ((r : Name) (available : Bool) → x ≡ 
     → (keys : List OpKey) (P : Contents) → StaysBeside kind.Nothing P (written keys x P)
 leaves_others (revision.Available r available) no_resource no_workstation keys P = absurd (no_resource r available refl)
 leaves_others (revision.Opened w) no_resource no_workstation keys P = absurd (no_workstation w refl)
-leaves_others revision.Nothing no_resource no_workstation keys P = (refl, refl)
-leaves_others (revision.Mark mark) no_resource no_workstation keys P = (refl, refl)
-leaves_others (revision.Held o held) no_resource no_workstation keys P = (refl, refl)
-leaves_others (revision.Nop o nop) no_resource no_workstation keys P = (refl, refl)
+leaves_others revision.Nothing no_resource no_workstation keys P = (refl, refl, refl)
+leaves_others (revision.Mark mark) no_resource no_workstation keys P = (refl, refl, refl)
+leaves_others (revision.Held o held) no_resource no_workstation keys P = (refl, refl, refl)
+leaves_others (revision.Nop o nop) no_resource no_workstation keys P = (refl, refl, refl)
 
 -- it puts back nothing
 pub puts_nothing_back : (x : Revision) → ((r : Name) (available : Bool) → x ≡ revision.Available r available → ⊥) → ((w : NamedWorkstation) → x ≡ revision.Opened w → ⊥)

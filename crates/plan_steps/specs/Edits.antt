@@ -11,7 +11,7 @@ use Rattle.plan_looks.specs.plan_kept.specs.plan_choice.specs.Choices.{AreLatest
 use Rattle.plan_looks.specs.plan_kept.specs.plan_drafts.specs.PlanGraphs.{IsGraphFor, StandAt}
 use Rattle.plan_looks.specs.plan_kept.specs.plan_model.specs.Contents.{Contents}
 use Rattle.plan_looks.specs.plan_kept.specs.plan_model.specs.Valid.{IsSound}
-use Rattle.plan_looks.specs.plan_kept.specs.plan_moves.specs.Moves.{IsMovedAt}
+use Rattle.plan_looks.specs.plan_kept.specs.plan_moves.specs.Moves.{AreLiveAlike, IsMovedAt}
 use Rattle.plan_looks.specs.plan_kept.specs.plan_state.specs.Figures.{AreFigures}
 use Rattle.plan_looks.specs.plan_kept.specs.plan_state.specs.declared.figures.Figures.{Figures}
 use Rattle.plan_looks.specs.plan_kept.specs.plan_waiting.specs.Changes.{IsDeletedAt, IsSatisfiedAt}
@@ -22,9 +22,10 @@ use Rattle.plan_steps.specs.declared.edits.Edit.{Edit}
 use Rattle.plan_steps.specs.declared.revisions.Revision.{Revision}
 use Rattle.plan_takings.specs.Before.{WereMarked}
 
--- marks and flags change at these places, ascending, where these markings stood, and nowhere else; none of them was satisfied, or what follows one of them is one of them or deleted
+-- marks and flags change at these places, ascending, where these markings stood, and nowhere else, and the same operations are deleted; none of them was satisfied, or what follows one of them is one of them or deleted
 pub record IsEditOf (P Q : Contents) (e : Edit) : Type 0 where
   pub moved : IsMovedAt P Q e.places.items
+  pub alike : AreLiveAlike P Q
   pub marked : WereMarked P e.places.items e.marks.items
   pub ascend : IsStrictlySortedBy nat_cmp e.places.items
   pub within : (i : ℕ) → Contains e.places.items i → i < length (entries P.operations)

@@ -8,7 +8,7 @@ use Rattle.plan_looks.specs.plan_kept.specs.plan_choice.specs.Choices.{AreLatest
 use Rattle.plan_looks.specs.plan_kept.specs.plan_drafts.specs.PlanGraphs.{IsGraphFor}
 use Rattle.plan_looks.specs.plan_kept.specs.plan_model.specs.Contents.{Contents}
 use Rattle.plan_looks.specs.plan_kept.specs.plan_model.specs.Valid.{IsSound}
-use Rattle.plan_looks.specs.plan_kept.specs.plan_moves.specs.Moves.{IsMovedAt}
+use Rattle.plan_looks.specs.plan_kept.specs.plan_moves.specs.Moves.{AreLiveAlike, IsMovedAt}
 use Rattle.plan_looks.specs.plan_kept.specs.plan_waiting.specs.Kept.{AreKept}
 use Rattle.plan_looks.specs.StepLooks.{IsKeptBeside}
 use Rattle.plan_looks.specs.plan_restating.specs.Overwritten.{overwritten}
@@ -36,11 +36,12 @@ pub record IsGroundwork (Q : Contents) (edits : List ℕ) (l : Columns) (g : Gro
   pub moved_on : IsMovedOn Q edits g.touched.items g.kept.items l.kept.items
   pub old : IsExcerptOf Q g.touched.items l g.old
 
--- the edits made Q of P, both sound; P has these latest starts, columns and ready list, of which this was worked out
+-- the edits made Q of P, both sound, and deleted none; P has these latest starts, columns and ready list, of which this was worked out
 pub record HasGroundwork (P Q : Contents) (edits : List ℕ) (starts : List ℤ) (l : Columns) (r : ReadyEntries) (g : Groundwork) : Type 0 where
   pub sound : IsSound P
   pub sound_after : IsSound Q
   pub moved : IsMovedAt P Q edits
+  pub alike : AreLiveAlike P Q
   pub latest : AreLatestStarts P starts
   pub columns : AreColumnsOf P l
   pub ready : IsReadyListOf P r

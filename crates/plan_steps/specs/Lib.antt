@@ -6,6 +6,10 @@ pub use Rattle.plan_looks.specs.plan_kept
 pub use Rattle.plan_looks.specs.plan_kept.specs.plan_laws
 pub use Rattle.plan_looks.specs.plan_kept.specs.plan_model
 pub use Rattle.plan_looks
+pub use Rattle.plan_looks.specs.plan_deletions
+pub use Rattle.plan_looks.specs.plan_pairs
+pub use Rattle.plan_looks.specs.plan_restating
+pub use Rattle.plan_looks.specs.plan_records
 pub use Rattle.plan_looks.specs.plan_changes
 pub use Rattle.plan_rows
 pub use Rattle.plan_looks.specs.plan_kept.specs.plan_state

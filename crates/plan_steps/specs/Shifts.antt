@@ -16,11 +16,12 @@ pub record HasColumnsAt (R : Contents) (places : List ℕ) (x : Excerpt) : Type 
   pub are : AreColumnsOf R columns
   pub excerpt : IsExcerptOf R places columns x
 
--- from the sound plan P it leads to the sound plan R, which has these latest starts: it has the figures of R, and the entries of operations, at all places that are touched on the way
+-- from the sound plan P it leads to the sound plan R, both of which have these latest starts: it has the figures of R, and the entries of operations, at all places that are touched on the way
 pub record IsShift (P R : Contents) (s : Shift) : Type 0 where
   pub sound : IsSound P
   pub sound_after : IsSound R
   pub starts : List ℤ
+  pub before : AreLatestStarts P starts
   pub latest : AreLatestStarts R starts
   pub touched : List ℕ
   pub at_touched : IsTouchedAt P R touched

@@ -19,7 +19,7 @@ IsKnownAlike P Q o = ((s : Standing) → IsStanding P o s → IsStanding Q o s) 
 abbrev pub AreKnownAlike : Contents → Contents → List ℕ → Type 0
 AreKnownAlike P Q places = (i : ℕ) → ¬ Contains places i → (o : OpKey) (op : Operation) → slice_get (entries P.operations) i ≡ Some (o, op) → IsKnownAlike P Q o
 
--- no more than the operations at these places, ascending, differ between P and Q, nor what is known of others
+-- of operations no more than those at these places, ascending, differ between P and Q, nor what is known of others
 pub record IsTouchedAt (P Q : Contents) (touched : List ℕ) : Type 0 where
   pub moved : AreMovedAmong P Q touched
   pub ascend : IsStrictlySortedBy nat_cmp touched

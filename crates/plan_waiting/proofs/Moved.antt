@@ -102,8 +102,12 @@ module _ (P Q : Contents) (g : Digraph) (graph : IsGraphFor Q g) (kept : List Ke
       others = same_rule P Q places risen.moved;
       given = λ n has on.
           let lt = All-contains (λ i. i < length kept) places n risen.within has in
-          let row = stands_there P g (graph_before P Q places risen.moved g graph) n (omega (arith, lt, risen.right.size)) in
-          absurd (risen.unsatisfied n has (row.0, row.1, row.2, (kept_there P kept risen.right n row.0 row.1 row.2).0.0 on));
+          elim (risen.unsatisfied n has) [
+            | inl never ↦
+                let row = stands_there P g (graph_before P Q places risen.moved g graph) n (omega (arith, lt, risen.right.size)) in
+                absurd (never (row.0, row.1, row.2, (kept_there P kept risen.right n row.0 row.1 row.2).0.0 on))
+            | inr dead ↦ is_given Q n dead.0 dead.1 dead.2 (inr dead.3)
+          ];
     },
   )
 

@@ -18,12 +18,12 @@ IsSatisfiedAt P i = (o : OpKey) × (op : Operation) × (slice_get (entries P.ope
 abbrev pub IsDeletedAt : Contents → ℕ → Type 0
 IsDeletedAt P i = (o : OpKey) × (op : Operation) × (slice_get (entries P.operations) i ≡ Some (o, op)) × (op.mark ≡ Deleted)
 
--- only operations at these places differ between P and Q, none of which was satisfied in P; and what is kept is right for P
+-- only operations at these places differ between P and Q, none of which was satisfied in P, unless it is deleted in Q; and what is kept is right for P
 pub record IsRisen (P Q : Contents) (kept : List Kept) (places : List ℕ) : Type 0 where
   pub moved : IsMovedAt P Q places
   pub right : AreKept P kept
   pub within : All (λ i. i < length kept) places
-  pub unsatisfied : (i : ℕ) → Contains places i → ¬ IsSatisfiedAt P i
+  pub unsatisfied : (i : ℕ) → Contains places i → ¬ IsSatisfiedAt P i ⊎ IsDeletedAt Q i
 
 -- only operations at these places differ between P and Q, and what follows one of them is one of them or deleted; and what is kept is right for P
 pub record IsTakenBack (P Q : Contents) (g : Digraph) (kept : List Kept) (places : List ℕ) : Type 0 where

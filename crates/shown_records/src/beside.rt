@@ -1,5 +1,5 @@
 // All of a plan but its operations' records.
-ghost use Rattle.std.specs.Prelude.{◌≡◌, ◌<◌, true, None, Some, IfSome, IsNone, length, slice_get};
+ghost use Rattle.std.specs.Prelude.{◌≡◌, ◌<◌, true, None, Some, IfOk, IfSome, IsNone, length, slice_get};
 ghost use Rattle.std.specs.FinMap.{contains_key, entries, get};
 ghost use Rattle.std.specs.FinSet as set;
 ghost use Rattle.std.specs.List.Sorted.{IsStrictlySortedBy};
@@ -15,6 +15,7 @@ ghost use Rattle.workstations.specs.Workstations.{Workstation as WorkstationValu
 use plan_basics::{Attr, OccKey, OpKey, ResName, WsName};
 use plan_changes::Occurrence;
 use plan_status::{OperationRecord, SoundContents, attribute_of};
+use std::alloc::{AllocError, Global};
 use workstations::Workstation;
 
 /// All that a plan holds beside its operations' records: workstations, special resources, occurrences, pairs, and the keys of
@@ -76,6 +77,19 @@ impl<'a> Beside<'a> {
         ensures sound { IsSound self.now.contents.now }
     {
         self.contents.pairs()
+    }
+
+    /// Its pairs and one more, by predecessor and then successor. One that is there already stays.
+    pub fn pairs_with(
+        &self,
+        alloc: Global,
+        predecessor: &OpKey,
+        successor: &OpKey,
+    ) -> Result<Vec<(OpKey, OpKey)>, AllocError>
+        ensures pairs { IfOk result (λ v. set.from_list {R = pair_cmp} v.items ≡ set.insert self.now.contents.now.pairs (predecessor.now, successor.now)) }
+        ensures in_order { IfOk result (λ v. IsStrictlySortedBy pair_cmp v.items) }
+    {
+        self.contents.rows().pairs_with(alloc, predecessor, successor)
     }
 
     /// How many operations there are.

@@ -5,14 +5,18 @@ use plan_records::{PlanRow, Request};
 use std::alloc::Global;
 
 /// A request, made after those above it, and how many records it may look at: four, and four for each entry of the ready lists
-/// before and after and for each operation whose row changes and each pair that it is in; a load four for each operation
-/// and each pair.
+/// before and after and for each operation whose row changes and each pair that it is in; a load, and a dependency by which
+/// latest starts change, four for each operation and each pair, and four.
+///
+/// A dependency by which none changes is tried in the plan: it is checked by a look, both of its ends are looked at, all that is
+/// ready, and the successor twice for its row. So is the deletion of a chain that nothing leads to: by a look to check it, all that
+/// is ready, and at each of its operations one to delete it, one for what leads to it, and two for its row.
 struct Look {
     turn: &'static str,
     most: u64,
 }
 
-const LOOKS: [Look; 6] = [
+const LOOKS: [Look; 9] = [
     Look {
         turn: "22:00 load-chains | names -",
         most: 40_724,
@@ -36,6 +40,18 @@ const LOOKS: [Look; 6] = [
     Look {
         turn: "22:00 hold J20.255 | names -",
         most: 164,
+    },
+    Look {
+        turn: "22:00 depend J02.4 on J01.3 | names -",
+        most: 25,
+    },
+    Look {
+        turn: "22:00 depend J02.3 on J01.3 | names -",
+        most: 40_732,
+    },
+    Look {
+        turn: "22:00 delete J20 | names -",
+        most: 1_041,
     },
 ];
 

@@ -4,6 +4,7 @@ use Rattle.plan_basics.specs.declared.limits.TheConstants.{MOST_PAIRS}
 use Rattle.plan_model.specs.Contents.{Contents}
 use Rattle.plan_checks.proofs.ByPair.{AreFound, HasRow, IsBarredPair, IsToldAt, after_within, barred_by_edge, barred_by_ends, barred_by_room, before_within, handed_on, may_be_paired}
 use Rattle.plan_checks.proofs.Limits.{pairs_counted}
+use Rattle.plan_checks.proofs.ReachedKeys.{as_many}
 use Rattle.plan_checks.proofs.Searching.{found_in}
 use Rattle.status_rules.specs.declared.Status.{Status}
 use Rattle.plan_checks.proofs.dependencies.check_paired.Goals as goal
@@ -19,6 +20,13 @@ found c x y told_x told_y =
     let a = found_in c.place_of.result (λ i. HasRow P i p) c.in_ok-before.before c.in_ok-before.ensures.ok_part c.place_of.ensures.found in
     let b = found_in c.place_of-2.result (λ i. HasRow P i s) c.in_ok-after.after c.in_ok-after.ensures.ok_part c.place_of-2.ensures.found in
     record { valid = c.beside.ensures.sound.valid; graph = c.graph-graph.ensures; before = a; after = b; first = told_x p a.0 a.1; second = told_y s b.0 b.1 }
+
+pub check_edge-requires-clause-nodes : goal.check_edge-requires-clause-nodes
+check_edge-requires-clause-nodes c =
+    let P = c.args.outline.now in
+    let nodes = as_many P c.beside.ensures.sound.valid c.graph-graph.result.now c.graph-graph.ensures in
+    let size = c.statuses.ensures.size in
+    search rules
 
 pub check_edge-requires-clause-before : goal.check_edge-requires-clause-before
 check_edge-requires-clause-before c = before_within (found (goal.at.check_edge-requires-clause-before c).In_ok-after c.status_at.result c.status_at-2.result c.status_at.ensures c.status_at-2.ensures)

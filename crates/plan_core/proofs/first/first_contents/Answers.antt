@@ -1,13 +1,14 @@
 use Rattle.std.proofs.Common.{rules, ◌≡◌, ◌∙◌, sym, ap, subst, true≢false, None, Some, option_copied}
 use Rattle.plan_basics.specs.declared.Refusal.TheVariants as refusal
+use Rattle.deletion_steps.specs.plan_steps.specs.plan_changes.proofs.Answered.{if_ok}
 use Rattle.plan_core.proofs.Preparing.{has_draft}
 use Rattle.plan_core.proofs.first.first_contents.Goals as goal
 use Rattle.plan_core.specs.Requested.{AreMadeBy}
 use Rattle.plan_records.specs.Acceptance.{NeedsPlan}
 use Rattle.plan_records.specs.declared.What.{What}
 use Rattle.plan_records.specs.declared.What.TheVariants as what
-use Rattle.plan_steps.specs.plan_model.specs.Contents.{nothing}
-use Rattle.plan_steps.specs.plan_model.specs.Plan.{plan_held}
+use Rattle.deletion_steps.specs.plan_steps.specs.plan_model.specs.Contents.{nothing}
+use Rattle.deletion_steps.specs.plan_steps.specs.plan_model.specs.Plan.{plan_held}
 
 pub unwrap-requires : goal.unwrap-requires
 unwrap-requires c = c.as_ref.ensures.variant ∙ has_draft (plan_held c.requires.0 None) c.args.request.now c.requires.1 c.in-Load.draft c.in-Load.is
@@ -19,6 +20,5 @@ unreachable-requires c =
 
 pub returns-clause-made : goal.returns-clause-made
 returns-clause-made c =
-    let new = c.in_ok-drafted-in-Load.field-0 in
     let is : c.args.request.now.what ≡ what.Load (Some c.unwrap.result.now) = c.in-Load.is ∙ ap what.Load (sym c.as_ref.ensures.value ∙ ap option_copied c.unwrap.ensures) in
-    subst (λ (w : What). AreMadeBy nothing w new) (sym is) (c.in_ok-drafted-in-Load.ensures nothing)
+    if_ok c.drafted.result (λ new h. subst (λ (w : What). AreMadeBy nothing w new.0) (sym is) (h nothing)) c.drafted.ensures.made

@@ -4,8 +4,8 @@ use Rattle.plan_basics.specs.Refusals.{NoneRefuses}
 use Rattle.plan_core.proofs.Refusing.{is_refused, may_be_accepted}
 use Rattle.plan_core.proofs.outcomes.outcome_of.Goals as goal
 use Rattle.plan_records.specs.Acceptance.{MayBeAccepted}
-use Rattle.plan_steps.specs.plan_model.specs.Contents.{Contents}
-use Rattle.plan_steps.specs.plan_model.specs.Plan.{plan_held}
+use Rattle.deletion_steps.specs.plan_steps.specs.plan_model.specs.Contents.{Contents}
+use Rattle.deletion_steps.specs.plan_steps.specs.plan_model.specs.Plan.{plan_held}
 
 pub accepted_outcome-requires-clause-clear : goal.accepted_outcome-requires-clause-clear
 accepted_outcome-requires-clause-clear c =

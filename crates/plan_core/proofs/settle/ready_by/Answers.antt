@@ -1,5 +1,5 @@
 use Rattle.std.proofs.Common.{sym, subst}
-use Rattle.plan_steps.specs.plan_drafts.specs.Places.{AreStatuses}
+use Rattle.deletion_steps.specs.plan_steps.specs.plan_drafts.specs.Places.{AreStatuses}
 use Rattle.plan_core.proofs.settle.ready_by.Goals as goal
 
 pub ready_of-requires-clause-statuses : goal.ready_of-requires-clause-statuses

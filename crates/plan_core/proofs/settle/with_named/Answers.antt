@@ -1,7 +1,7 @@
 use Rattle.std.proofs.Common.{sym, subst, ap, ◌∙◌}
-use Rattle.plan_steps.specs.plan_laws.proofs.Kept.{choice_keeps_sound}
-use Rattle.plan_steps.specs.plan_model.specs.Ready.{named}
-use Rattle.plan_steps.specs.plan_model.specs.Valid.{IsSound}
+use Rattle.deletion_steps.specs.plan_steps.specs.plan_laws.proofs.Kept.{choice_keeps_sound}
+use Rattle.deletion_steps.specs.plan_steps.specs.plan_model.specs.Ready.{named}
+use Rattle.deletion_steps.specs.plan_steps.specs.plan_model.specs.Valid.{IsSound}
 use Rattle.plan_core.proofs.settle.with_named.Goals as goal
 
 pub of-requires : goal.of-requires

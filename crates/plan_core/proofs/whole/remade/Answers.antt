@@ -8,8 +8,8 @@ use Rattle.plan_core.proofs.whole.remade.Goals as goal
 use Rattle.plan_core.proofs.whole.remade.Goals.{After-of-new}
 use Rattle.plan_core.specs.Requested.{AreMadeBy}
 use Rattle.plan_records.specs.Acceptance.{minute_of}
-use Rattle.plan_steps.specs.plan_model.specs.Contents.{Contents}
-use Rattle.plan_steps.specs.plan_model.specs.Plan.{plan_held}
+use Rattle.deletion_steps.specs.plan_steps.specs.plan_model.specs.Contents.{Contents}
+use Rattle.deletion_steps.specs.plan_steps.specs.plan_model.specs.Plan.{plan_held}
 
 pub changed-requires-clause-needs : goal.changed-requires-clause-needs
 changed-requires-clause-needs c = needs_plan c.args.copy.now c.args.clock c.args.request.now c.requires.clear

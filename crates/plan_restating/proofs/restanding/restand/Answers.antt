@@ -36,6 +36,6 @@ pub returns-clause-elsewhere : goal.returns-clause-elsewhere
 returns-clause-elsewhere c = others_stay c.args.places.now c.args.kept.now c.args.standings.now c.loop-place.standings (all_in_line ((goal.at.returns-clause-elsewhere c).After-loop-place) c.loop-place-test.false)
 
 pub returns-clause-right : goal.returns-clause-right
-returns-clause-right c P Q moved_at valid moved stand counters agree =
-    all_restood P Q moved_at valid moved c.args.places.now c.args.kept.now c.args.standings.now c.loop-place.standings stand counters agree
+returns-clause-right c P Q moved_at valid moved alike stand counters agree =
+    all_restood P Q moved_at valid moved alike c.args.places.now c.args.kept.now c.args.standings.now c.loop-place.standings stand counters agree
     (all_in_line ((goal.at.returns-clause-right c).After-loop-place) c.loop-place-test.false)

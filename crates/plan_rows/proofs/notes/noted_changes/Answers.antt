@@ -8,7 +8,7 @@ use Rattle.plan_rows.proofs.Counted.{no_operation_below}
 use Rattle.plan_rows.proofs.MovedRows.{same_occurrences}
 use Rattle.plan_rows.proofs.NotedTables.{all_beside, noted_within}
 use Rattle.plan_rows.proofs.OccurrencesOf.{places_within}
-use Rattle.plan_rows.proofs.TouchedTables.{dependencies_stay, needs_stay, workstations_stay}
+use Rattle.plan_rows.proofs.TouchedTables.{needs_stay, workstations_stay}
 use Rattle.plan_rows.proofs.notes.noted_changes.Goals as goal
 use Rattle.plan_rows.proofs.notes.noted_changes.Goals.{After-deref-2}
 use Rattle.plan_rows.specs.Notes.{AreNotedAt, AreWithin, IsNotedStep}
@@ -74,16 +74,20 @@ returns-clause-changes c = λ R step.
     let P = plan_shown was (Some s) in
     let Q = plan_shown now (Some after) in
     let same = c.in_ok-push_noted_occurrences.ensures.unchanged in
-    let all = c.push_noted_operations.new.changes in
+    let so_far = c.push_noted_operations.new.changes in
+    let all = c.push_noted_pair.new.changes in
     let operations =
-    subst (λ (x : ShownState). AreChangesBelow 6 (plan_shown was (Some (shown_with x.contents l))) Q all) same
+    subst (λ (x : ShownState). AreChangesBelow 6 (plan_shown was (Some (shown_with x.contents l))) Q so_far) same
     (c.in_ok-push_noted_operations.ensures.told was now after step.touched step.shown
     (subst (λ (x : ShownState). AreTouched (Some (shown_with x.contents l)) (Some after) step.touched) (sym same) step.among)
     (subst (AreNotedAt (rows_of (keyed_operations after)) step.touched) (sym c.deref-2.ensures.value) step.noted.operations)
     (subst (λ (x : ShownState). AreChangesBelow 5 (plan_shown was (Some (shown_with x.contents l))) Q c.push_noted_occurrences.new.changes) (sym same) (before_operations ((goal.at.returns-clause-changes c).After-deref-2) R step)))
     in
-    let moved = step.among.moved in
-    let below = needs_stay was now (Some s) (Some after) all step.touched moved (dependencies_stay was now (Some s) (Some after) all step.touched moved operations) in
+    let dependencies =
+    c.in_ok-push_noted_pair.ensures.told was now s after
+    (all_beside c.args.shown.now.contents after.contents.now step.beside c.args.notes.now.beside step.stays step.noted.beside) operations
+    in
+    let below = needs_stay was now (Some s) (Some after) all step.touched step.among.moved dependencies in
     subst (λ (Z : Contents). AreChanges P (plan_held now (Some Z)) all.rows.items all.gone.items) step.holds (in_all_tables P Q all.rows.items all.gone.items below)
 
 pub returns-clause-operations : goal.returns-clause-operations
@@ -95,4 +99,4 @@ returns-clause-operations c =
     (before_operations ((goal.at.returns-clause-operations c).After-deref-2) R step)
     in
     let size = ap length c.deref-2.ensures.value in
-    omega (arith, none, size, c.in_ok-push_noted_operations.ensures.operations)
+    omega (arith, none, size, c.in_ok-push_noted_operations.ensures.operations, c.in_ok-push_noted_pair.ensures.operations)

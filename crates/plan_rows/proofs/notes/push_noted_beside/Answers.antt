@@ -16,13 +16,13 @@ pub push_noted_resources-requires-clause-after : goal.push_noted_resources-requi
 push_noted_resources-requires-clause-after c =
     let (after, shown, notes) = c.requires.noted in
     let h = subst (NotesBeside c.args.shown.now.contents after.contents.now) c.in-Resources.is notes in
-    subst (λ (xs : List (Name × Bool)). IsStrictlySortedBy name_cmp (keys_of xs)) (sym (c.deref.ensures.value ∙ h.1)) (entries_in_order name_cmp after.contents.now.resources)
+    subst (λ (xs : List (Name × Bool)). IsStrictlySortedBy name_cmp (keys_of xs)) (sym (c.deref.ensures.value ∙ h.2)) (entries_in_order name_cmp after.contents.now.resources)
 
 pub push_noted_intervals-requires-clause-in_order : goal.push_noted_intervals-requires-clause-in_order
 push_noted_intervals-requires-clause-in_order c =
     let (after, shown, notes) = c.requires.noted in
     let h = subst (NotesBeside c.args.shown.now.contents after.contents.now) c.in-Intervals.is notes in
-    intervals_ascend (entries after.contents.now.workstations) (entries_in_order name_cmp after.contents.now.workstations) c.deref-in-Intervals.result.now (c.deref-in-Intervals.ensures.value ∙ h.1)
+    intervals_ascend (entries after.contents.now.workstations) (entries_in_order name_cmp after.contents.now.workstations) c.deref-in-Intervals.result.now (c.deref-in-Intervals.ensures.value ∙ h.2)
 
 pub returns-in-Nothing : goal.returns-in-Nothing
 returns-in-Nothing c = λ clock now before after same was is notes so_far.
@@ -35,7 +35,7 @@ returns-in-Resources c = λ clock now before after same was is notes so_far.
     let h = subst (NotesBeside c.args.shown.now.contents after.contents.now) c.in-Resources.is notes in
     c.push_noted_resources.ensures (plan_shown clock (Some before)) (plan_shown now (Some after))
     (c.resources.ensures.rows ∙ ap (λ (P : Contents). entries P.resources) (c.beside-kept.ensures.contents ∙ sym same))
-    (c.deref.ensures.value ∙ h.1)
+    (c.deref.ensures.value ∙ h.2)
     (intervals_stay clock now (Some before) (Some after) c.args.changes.now (h.0 ∙ ap (λ (P : Contents). P.workstations) (sym same)) so_far)
 
 pub returns-in-Intervals : goal.returns-in-Intervals
@@ -44,4 +44,10 @@ returns-in-Intervals c = λ clock now before after same was is notes so_far.
     on_ok_weaker c.push_noted_intervals.result (resources_stay clock now (Some before) (Some after) c.push_noted_intervals.new.changes (h.0 ∙ ap (λ (P : Contents). P.resources) (sym same)))
     (c.push_noted_intervals.ensures clock now (Some before) (Some after) was is
     (c.workstations.ensures.rows ∙ ap (λ (P : Contents). entries P.workstations) (c.beside-kept.ensures.contents ∙ sym same))
-    (c.deref-in-Intervals.ensures.value ∙ h.1) so_far)
+    (c.deref-in-Intervals.ensures.value ∙ h.2) so_far)
+
+pub returns-in-Pair : goal.returns-in-Pair
+returns-in-Pair c = λ clock now before after same was is notes so_far.
+    let h = subst (NotesBeside c.args.shown.now.contents after.contents.now) c.in-Pair.is notes in
+    resources_stay clock now (Some before) (Some after) c.args.changes.now (h.1 ∙ ap (λ (P : Contents). P.resources) (sym same))
+    (intervals_stay clock now (Some before) (Some after) c.args.changes.now (h.0 ∙ ap (λ (P : Contents). P.workstations) (sym same)) so_far)

@@ -1,4 +1,4 @@
-use Rattle.std.proofs.Common.{◌≡◌, sym, subst, ℕ, ◌<◌, List, map, length, []}
+use Rattle.std.proofs.Common.{◌≡◌, inl, sym, subst, ℕ, ◌<◌, List, map, length, []}
 use Rattle.plan_cascade.specs.Journal.{AreWithin, IsJournaled}
 use Rattle.plan_cascade.specs.declared.kept.Kept.{Kept}
 use Rattle.plan_looks.specs.plan_kept.specs.plan_drafts.proofs.Lists.{contains_none, from_map}
@@ -49,7 +49,7 @@ satisfy-requires-clause-moved c =
     let right = c.requires.before.1.kept in (
       P,
       subst (IsRisen P Q kept) (sym c.deref-else-edit.ensures.value)
-          (record { moved = edit.moved; right = right; within = all_below (length kept) places (λ i has. subst (λ n. i < n) (sym right.size) (edit.within i has)); unsatisfied = edit.unsatisfied c.if-edit.false }),
+          (record { moved = edit.moved; right = right; within = all_below (length kept) places (λ i has. subst (λ n. i < n) (sym right.size) (edit.within i has)); unsatisfied = λ i has. inl (edit.unsatisfied c.if-edit.false i has) }),
     )
 
 pub returns-then-edit-clause-noted : goal.returns-then-edit-clause-noted

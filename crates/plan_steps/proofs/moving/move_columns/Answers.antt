@@ -55,7 +55,7 @@ stands c =
     let g = c.args.groundwork.now in
     let has = c.requires.groundwork.2 in
     let on = has.worked_out.moved_on in
-    restood P Q c.requires.groundwork.1 has.moved has.sound_after.valid l.kept.items (then P Q c.requires.groundwork.1 c.args.latest.now.starts l c.args.ready.now g has) has.columns.kept on.kept_then
+    restood P Q c.requires.groundwork.1 has.moved has.alike has.sound_after.valid l.kept.items (then P Q c.requires.groundwork.1 c.args.latest.now.starts l c.args.ready.now g has) has.columns.kept on.kept_then
     l.standings.items has.columns.standings g.touched.items on.beside c.deref_mut-2.result.now c.deref-2.result.now c.deref-3.result.now
     c.deref_mut-2.ensures.value (kept_is c) c.deref-3.ensures.value c.restand.new.standings c.restand.ensures.right
 
@@ -76,7 +76,7 @@ restate-requires-clause-standings c =
     subst (AreStandings c.args.shown.now.contents) (sym (c.deref-4.ensures.value ∙ stands_back k)) (stands k)
 
 pub restate-requires-clause-latest : goal.restate-requires-clause-latest
-restate-requires-clause-latest c = (frame_stays c.requires.groundwork.0 c.args.shown.now.contents c.requires.groundwork.1 c.requires.groundwork.2.moved).latest c.args.latest.now.starts c.requires.groundwork.2.latest
+restate-requires-clause-latest c = (frame_stays c.requires.groundwork.0 c.args.shown.now.contents c.requires.groundwork.1 c.requires.groundwork.2.moved c.requires.groundwork.2.alike).latest c.args.latest.now.starts c.requires.groundwork.2.latest
 
 pub restate-requires-clause-before : goal.restate-requires-clause-before
 restate-requires-clause-before c =

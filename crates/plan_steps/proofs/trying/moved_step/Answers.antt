@@ -12,7 +12,7 @@ use Rattle.plan_steps.specs.Naming.{IsStepOf}
 pub named_step-requires-clause-latest : goal.named_step-requires-clause-latest
 named_step-requires-clause-latest c =
     let (P, edits, has) = c.requires.groundwork in
-    subst (λ (Q : Contents). AreLatestStarts Q c.args.latest.now.starts) (sym c.move_columns.ensures.contents) ((frame_stays P c.args.after.contents edits has.moved).latest c.args.latest.now.starts has.latest)
+    subst (λ (Q : Contents). AreLatestStarts Q c.args.latest.now.starts) (sym c.move_columns.ensures.contents) ((frame_stays P c.args.after.contents edits has.moved has.alike).latest c.args.latest.now.starts has.latest)
 
 pub named_step-requires-clause-edited : goal.named_step-requires-clause-edited
 named_step-requires-clause-edited c =

@@ -46,7 +46,7 @@ returns-in-Ok-clause-shift c =
 
 pub returns-in-Ok-clause-frame : goal.returns-in-Ok-clause-frame
 returns-in-Ok-clause-frame c =
-    if_ok c.undone_step.result.1 (λ s is P was. keeps_frame P c.args.after.contents c.args.edit.now.places.items was.edit.moved c.args.at s.named.items is.3.chosen is.3.places is.3.are_places)
+    if_ok c.undone_step.result.1 (λ s is P was. keeps_frame P c.args.after.contents c.args.at s.named.items is.3.chosen is.3.places is.3.are_places c.args.edit.now.places.items was.edit.moved was.edit.alike)
     (step (goal.at.returns-in-Ok-clause-frame c).After-undone_step)
 
 pub returns-in-Ok-clause-notes : goal.returns-in-Ok-clause-notes

@@ -18,7 +18,7 @@ relistable_back c =
     let statuses = c.moved_step-same.new.columns.statuses.items in
     let ready = c.moved_step-same.new.ready in
     let old = c.args.groundwork.now.old in
-    let goes = goes_by Q has.sound_after statuses c.moved_step-same.ensures.columns.statuses ready starts ((frame_stays P Q edits has.moved).latest starts has.latest) c.moved_step-same.ensures.ready in
+    let goes = goes_by Q has.sound_after statuses c.moved_step-same.ensures.columns.statuses ready starts ((frame_stays P Q edits has.moved has.alike).latest starts has.latest) c.moved_step-same.ensures.ready in
     relistable Q statuses ready goes old.statuses.items c.args.columns.now.statuses.items c.moved_step-same.ensures.back.statuses c.args.groundwork.now.touched.items has.worked_out.old.in_order c.moved_step-same.new.entries.items c.moved_step-same.ensures.entries
 
 pub returns-clause-unchanged : goal.returns-clause-unchanged
@@ -43,4 +43,4 @@ returns-clause-ready c P edits has =
     let can = subst (CanBeRelisted Q c.moved_step-same.new.columns.statuses.items c.moved_step-same.new.ready c.args.groundwork.now.old.statuses.items) (sym c.deref.ensures.value)
     (relistable_back (goal.at.returns-clause-ready c).After-moved_step-same) in
     list_is P has.sound new.statuses.items (columns_alike P new l alike has.columns).statuses ready
-    (goes_before P Q edits has.moved starts ((frame_stays P Q edits has.moved).latest starts has.latest) new.statuses.items ready (c.put_excerpt.ensures.ready Q can))
+    (goes_before P Q edits has.moved starts has.latest ((frame_stays P Q edits has.moved has.alike).latest starts has.latest) new.statuses.items ready (c.put_excerpt.ensures.ready Q can))

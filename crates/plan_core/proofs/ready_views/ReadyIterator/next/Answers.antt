@@ -1,7 +1,7 @@
 use Rattle.std.proofs.Common.{◌≡◌, ◌+◌, ◌∷◌, sym, ◌∙◌, arith, slice_index_or}
 use Rattle.std.specs.FinMap.{get}
 use Rattle.std.proofs.lemmas.Option.{slice_get-get_or}
-use Rattle.plan_steps.specs.plan_drafts.proofs.Tables.{some_is}
+use Rattle.deletion_steps.specs.plan_steps.specs.plan_drafts.proofs.Tables.{some_is}
 use Rattle.plan_core.proofs.FromPlace.{fewer, one_left}
 use Rattle.plan_core.proofs.ReadyViews.{one_ready, view_is}
 use Rattle.plan_core.specs.Views.{ready_from}

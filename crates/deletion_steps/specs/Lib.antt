@@ -1,0 +1,13 @@
+pub use Rattle.pair_steps
+pub use Rattle.pair_steps.specs.plan_steps
+pub mod Deletions
+pub mod Noted
+pub mod Starts
+pub mod LiveBy
+pub mod Counting
+pub mod Restanding
+pub mod DeletionWritings
+pub mod DeletionShifts
+pub mod Trials
+pub mod Followed
+pub mod Releasing

@@ -1,0 +1,10 @@
+pub use Rattle.plan_steps
+pub use Rattle.plan_steps.specs.plan_kept
+pub use Rattle.plan_steps.specs.plan_looks
+pub use Rattle.plan_steps.specs.plan_rows
+pub use Rattle.plan_steps.specs.plan_pairs
+pub use Rattle.plan_steps.specs.plan_deletions
+pub use Rattle.plan_steps.specs.plan_restating
+pub mod Pairs
+pub mod PairTrials
+pub mod PairWritings
