@@ -89,7 +89,9 @@ impl<'a> Beside<'a> {
         ensures pairs { IfOk result (λ v. set.from_list {R = pair_cmp} v.items ≡ set.insert self.now.contents.now.pairs (predecessor.now, successor.now)) }
         ensures in_order { IfOk result (λ v. IsStrictlySortedBy pair_cmp v.items) }
     {
-        self.contents.rows().pairs_with(alloc, predecessor, successor)
+        self.contents
+            .rows()
+            .pairs_with(alloc, predecessor, successor)
     }
 
     /// How many operations there are.

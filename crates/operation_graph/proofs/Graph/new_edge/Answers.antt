@@ -26,9 +26,11 @@ pub edge_in-edge-requires : goal.edge_in-edge-requires
 edge_in-edge-requires c =
     let succs = rows_of c.self.inside.lists.succs.items in
     let preds = rows_of c.self.inside.lists.preds.items in (
-      succs, preds, c.args.self.now,
+      succs,
+      preds,
+      c.args.self.now,
       subst (λ rs. IsJoining succs preds rs c.args.self.now c.args.before c.args.after (rows_of c.join.new.self.succs.items) (rows_of c.join.new.self.preds.items)) (sym c.deref.ensures.value)
-      (joining (goal.at.edge_in-edge-requires c).In_ok-join),
+          (joining (goal.at.edge_in-edge-requires c).In_ok-join),
     )
 
 pub part-requires-clause-after : goal.part-requires-clause-after
