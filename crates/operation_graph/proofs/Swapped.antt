@@ -1,10 +1,10 @@
 -- An edge that is put in by the lists and ranks that there are with it.
-use Rattle.std.proofs.Common.{◌≡◌, ◌≢◌, ◌⊎◌, inl, inr, refl, sym, ap, subst, ◌∙◌, arith, ℕ, zero, suc, ◌+◌, ◌<◌, ◌≤◌, Bool, true, false, List, [], ◌∷◌, length, length-set, set, get_or, get_or-set_other, get_or-set_same, slice_index, Contains, Result, Ok, Err, IfOk, OnOk}
+use Rattle.std.proofs.Common.{◌≡◌, ◌⊎◌, inl, inr, refl, sym, ap, subst, ◌∙◌, arith, ℕ, zero, suc, ◌<◌, ◌≤◌, Bool, true, false, List, [], ◌∷◌, length, length-set, set, get_or-set_other, get_or-set_same, slice_index, Contains, Result, Ok, Err, IfOk, OnOk}
 use Rattle.std.proofs.lemmas.Bool.{cases_eq}
 use Rattle.std.specs.FinSet.{contains, insert, same_set}
 use Rattle.operation_graph.specs.Paths.{IsRankBy, LeadsBy}
-use Rattle.operation_graph.specs.Graphs.{AreDifferent, AreExactly, Digraph, Edges, HasEdge, IsEdgeMore, IsEdgeOf, MayTakeEdge}
-use Rattle.operation_graph.specs.Adjacency.{AreRanks, IsKept, IsMirror, Rows, count_of, edges_in, graph_of, joined, row}
+use Rattle.operation_graph.specs.Graphs.{AreDifferent, AreExactly, Digraph, Edges, IsEdgeMore, IsEdgeOf, MayTakeEdge}
+use Rattle.operation_graph.specs.Adjacency.{AreRanks, IsKept, Rows, count_of, edges_in, graph_of, joined, row}
 use Rattle.operation_graph.specs.Joinings.{IsAsked, IsJoining, RanksFit}
 use Rattle.operation_graph.specs.NewEdges.{FitsEdge}
 use Rattle.operation_graph.specs.declared.EdgeFault.{EdgeFault}

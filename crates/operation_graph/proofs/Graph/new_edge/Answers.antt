@@ -1,4 +1,4 @@
-use Rattle.std.proofs.Common.{◌≡◌, ◌∙◌, sym, ap, subst, arith, length, true≢false}
+use Rattle.std.proofs.Common.{◌∙◌, sym, subst, arith, true≢false}
 use Rattle.operation_graph.specs.Adjacency.{rows_of}
 use Rattle.operation_graph.specs.Joinings.{IsAsked, IsJoining}
 use Rattle.operation_graph.proofs.Adding.{edge_there}

@@ -1,8 +1,7 @@
-use Rattle.std.proofs.Common.{◌≡◌, ◌∙◌, sym, ap, subst, ℕ, set, length}
+use Rattle.std.proofs.Common.{◌∙◌, sym, ap, subst, set}
 use Rattle.std.specs.FinSet.{insert}
 use Rattle.operation_graph.specs.Adjacency.{IsKept, edges_in, rows_of}
 use Rattle.operation_graph.specs.Joinings.{IsAsked}
-use Rattle.operation_graph.specs.NewEdges.{FitsEdge}
 use Rattle.operation_graph.proofs.JoinedRows.{rows_set}
 use Rattle.operation_graph.proofs.Keeping.{graph_is}
 use Rattle.operation_graph.proofs.Swapped.{edge_put, fits_own, kept_put}

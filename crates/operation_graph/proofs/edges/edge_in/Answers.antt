@@ -1,4 +1,4 @@
-use Rattle.std.proofs.Common.{◌≡◌, ◌∙◌, refl, sym, ap, subst, arith, length}
+use Rattle.std.proofs.Common.{◌∙◌, refl, ap, arith, length}
 use Rattle.operation_graph.specs.Adjacency.{row, rows_of}
 use Rattle.operation_graph.proofs.Opened.{length_rows}
 use Rattle.operation_graph.proofs.Swapped.{fits, second_listed}

@@ -1,4 +1,4 @@
-use Rattle.std.proofs.Common.{◌≡◌, ◌∙◌, sym, ap, subst, arith, length}
+use Rattle.std.proofs.Common.{◌∙◌, sym, ap, subst, arith, length}
 use Rattle.operation_graph.specs.Paths.{IsAcyclicBy}
 use Rattle.operation_graph.specs.Graphs.{IsEdgeOf}
 use Rattle.operation_graph.specs.Adjacency.{AreRanks, edges_in, rows_of}
