@@ -1,7 +1,7 @@
 #!/usr/bin/env python3
 """Writes a plan of a given size, and the same graph for ninja.
 
-    generate.py OPERATIONS PLAN.csv [--ninja build.ninja] [--no-resources] [--ascending] [--in-order]
+    generate.py OPERATIONS PLAN.csv [--ninja build.ninja] [--no-resources] [--ascending] [--in-order] [--chains]
 
 The plan is the same each time: nothing in it is drawn by chance. README.md says how it is made.
 """
@@ -15,6 +15,8 @@ RESOURCES = 999
 MEMBERS = 4              # operations of an occurrence
 PAIRS_EACH = 5           # pairs to an operation, on average
 FARTHEST = 2_000         # a predecessor comes at most so many operations before
+CHAIN = 20               # operations of a chain, where they stand in chains
+REACH = 6                # how many before it in its chain come before an operation
 NOON = 12 * 60           # first minute of the first interval, on the first day
 
 
@@ -93,6 +95,17 @@ def all_predecessors(operations):
     for i in range(missing):
         wanted[able[i * len(able) // missing]] += 1
     return [predecessors(t, wanted.get(t, 0)) for t in range(operations.count)]
+
+
+def predecessors_in_chains(operations):
+    """Each operation's predecessors by turn, where operations stand in chains, each after the REACH before it: an end releases
+    the next one. The last of a chain has one more, so that they are PAIRS_EACH times as many in all."""
+    found = []
+    for turn in range(operations.count):
+        member = turn % CHAIN
+        wanted = min(member, REACH) + (member == CHAIN - 1)
+        found.append([turn - 1 - i for i in range(wanted)])
+    return found
 
 
 def workstation_records(operations):
@@ -188,11 +201,12 @@ def main():
     words.add_argument("--no-resources", action="store_true", help="no special resources, and no needs of them")
     words.add_argument("--ascending", action="store_true", help="each pair leads from a smaller to a greater key")
     words.add_argument("--in-order", action="store_true", help="records of a kind in the order of turns, not spread")
+    words.add_argument("--chains", action="store_true", help="operations in chains of twenty, so that an end releases the next one")
     given = words.parse_args()
     if not 40 <= given.operations <= FULL or given.operations % (5 * MEMBERS):
         words.error(f"a multiple of 20 from 40 to {FULL}")
     operations = Operations(given.operations, given.ascending)
-    before = all_predecessors(operations)
+    before = predecessors_in_chains(operations) if given.chains else all_predecessors(operations)
     write_plan(given.plan, plan_records(operations, before, not given.no_resources), given.in_order)
     if given.ninja:
         write_ninja(given.ninja, operations, before)

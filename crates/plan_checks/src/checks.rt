@@ -55,7 +55,16 @@ fn check_started(
             let operation = reported.operation;
             let taken = outline.given_out_at(operation);
             let beside = outline.beside();
-            check_start(&beside, key, operation, &taken, outline.holdings(), at)
+            let place = reported.place;
+            check_start(
+                &beside,
+                key,
+                operation,
+                place,
+                &taken,
+                outline.holdings(),
+                at,
+            )
         }
         Attr::CompletionOnly | Attr::Nonreporting => Err(Refusal::WrongWorkstation),
     }

@@ -30,11 +30,11 @@ ready_in_plan P o (inr (inr h)) = (h.0, h.1)
 -- ---- row by row
 
 -- with its latest start an operation has this entry
-pub has_entry : (P : Contents) (o : OpKey) (op : Operation) (v : ℤ) (site : ℕ) → get P.operations o ≡ Some op → {q : OpKey} {latest : ℤ} {duration priority : ℕ} {ws : Name} {attr : Attr}
+pub has_entry : (P : Contents) (o : OpKey) (op : Operation) (v : ℤ) (site place : ℕ) → get P.operations o ≡ Some op → {q : OpKey} {latest : ℤ} {duration priority : ℕ} {ws : Name} {attr : Attr}
     → q ≡ o → latest ≡ v → duration ≡ op.duration → (t : Occurrence) × (get P.occurrences o.occurrence ≡ Some t) × (priority ≡ t.priority)
     → ws ≡ op.workstation → HasAttribute P op.workstation attr → slice_get (keys P.workstations) site ≡ Some op.workstation
-    → IsLatestStart P o v → IsEntryIn P (record { key = record { latest = latest; priority = priority; duration = duration; op = q }; ws = ws; attr = attr; site = site })
-has_entry P o op v site found {q} {latest} {duration} {priority} {ws} {attr} is_op is_latest is_duration terms is_ws reports placed start = (
+    → IsLatestStart P o v → IsEntryIn P (record { key = record { latest = latest; priority = priority; duration = duration; op = q }; ws = ws; attr = attr; site = site; place = place })
+has_entry P o op v site place found {q} {latest} {duration} {priority} {ws} {attr} is_op is_latest is_duration terms is_ws reports placed start = (
   (
     subst (λ z. IsLatestStart P z latest) (sym is_op) (subst (IsLatestStart P o) (sym is_latest) start),
     (op, ap (get P.operations) is_op ∙ found, is_duration),

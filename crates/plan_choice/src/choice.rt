@@ -42,9 +42,9 @@ fn name_at(
         operation,
         beside,
     } = shown.see(place);
-    let station = beside.workstation_place_of(operation);
+    let station = beside.workstation_place_near(operation, place);
     let taken = given[station];
-    if check_start(&beside, key, operation, &taken, holdings, at).is_err() {
+    if check_start(&beside, key, operation, place, &taken, holdings, at).is_err() {
         return Ok(false);
     }
     take_needs(holdings, key, operation)?;
@@ -107,7 +107,8 @@ impl Gate for StartGate {
         if is_told_shut(&self.shut, entry.site) {
             return Ok(false);
         }
-        let Some(place) = self.shown.beside().operation_place(&entry.key.op) else {
+        let beside = self.shown.beside();
+        let Some(place) = beside.operation_place_near(&entry.key.op, entry.place) else {
             return Ok(false);
         };
         let given = self.given.as_mut_slice();

@@ -17,20 +17,25 @@ use shown_records::{Beside, OperationRecord, SoundContents};
 use status_rules::Status;
 use std::alloc::{AllocError, Global};
 
-// The priority of the occurrence of an operation of the plan.
-fn priority_of(beside: &Beside<'_>, key: &OpKey) -> u8
+// The priority of the occurrence of an operation of the plan. Where that stands at this place, no search is made.
+fn priority_of(beside: &Beside<'_>, key: &OpKey, place: usize) -> u8
     requires { (op : Operation) × (get beside.now.contents.now.operations key.now ≡ Some op) }
     ensures { (c : Occurrence) × (get beside.now.contents.now.occurrences key.now.occurrence ≡ Some c) × (result ≡ c.priority) }
 {
-    beside.occurrence(&key.occurrence).unwrap().priority
+    beside
+        .occurrence_near(&key.occurrence, place)
+        .unwrap()
+        .priority
 }
 
-/// The entry of an operation of the plan with its latest start, whether or not it is ready.
+/// The entry of an operation of the plan with its latest start, whether or not it is ready. Where the operation stands at this
+/// place, no search is made.
 pub fn entry_with(
     beside: &Beside<'_>,
     key: &OpKey,
     operation: &OperationRecord,
     latest: i64,
+    place: usize,
 ) -> ReadyEntry
     requires { get beside.now.contents.now.operations key.now ≡ Some operation.now }
     ensures op { result.key.op ≡ key.now }
@@ -39,13 +44,14 @@ pub fn entry_with(
     ReadyEntry {
         key: ReadyKey {
             latest,
-            priority: priority_of(beside, key),
+            priority: priority_of(beside, key, place),
             duration: operation.duration,
             op: *key,
         },
         ws: operation.workstation,
-        attr: beside.attribute_of(operation),
-        site: beside.workstation_place_of(operation),
+        attr: beside.attribute_of(operation, place),
+        site: beside.workstation_place_near(operation, place),
+        place,
     }
 }
 
@@ -58,7 +64,7 @@ pub fn entry_at(contents: &SoundContents, latest: &Latest, place: usize) -> Read
 {
     let (key, operation) = &contents.operations()[place];
     let beside = Beside::of(contents);
-    entry_with(&beside, key, operation, latest.of(place))
+    entry_with(&beside, key, operation, latest.of(place), place)
 }
 
 // The entries of what is ready, in key order.

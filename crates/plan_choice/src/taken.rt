@@ -111,11 +111,12 @@ fn has_resources(
 /// and `holdings` are held. The first that applies refuses it: `Held` (it is held), `TooEarly` (before its not-before),
 /// `Closed` (no interval contains the moment), `NoServer` (all servers are taken), `NoFixed` (R1 or R2 lacks),
 /// `ResourceBusy` (a special resource isn't available, another operation holds it exclusively, or another holds it at all
-/// and the need is exclusive).
+/// and the need is exclusive). Where the operation stands at this place, its workstation isn't searched for.
 pub fn check_start(
     beside: &Beside<'_>,
     key: &OpKey,
     operation: &OperationRecord,
+    place: usize,
     taken: &Capacity,
     holdings: &Holdings,
     at: Moment,
@@ -132,7 +133,9 @@ pub fn check_start(
     if at.minute() < operation.not_before.minute() {
         return Err(Refusal::TooEarly);
     }
-    let workstation = beside.workstation(&operation.workstation).unwrap();
+    let workstation = beside
+        .workstation_near(&operation.workstation, place)
+        .unwrap();
     workstation.fits(at, taken, u32::from(operation.r1), u32::from(operation.r2))?;
     if has_resources(beside, key, operation, holdings) {
         Ok(())

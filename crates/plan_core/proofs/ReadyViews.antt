@@ -1,5 +1,5 @@
 -- The views of what is ready are those of the ready list's operations.
-use Rattle.std.proofs.Common.{◌≡◌, refl, sym, ap, subst, ◌∙◌, ℕ, zero, suc, ◌+◌, Bool, true, false, cond, List, [], ◌∷◌, Contains, filter, map, drop, slice_get, Option, Some, inl, inr}
+use Rattle.std.proofs.Common.{◌≡◌, refl, sym, ap, subst, ◌∙◌, ℕ, zero, suc, Bool, true, false, cond, List, [], ◌∷◌, Contains, filter, map, slice_get, Option, Some, inl, inr}
 use Rattle.std.specs.FinMap.{entries, get}
 use Rattle.std.specs.List.{cons_option}
 use Rattle.std.specs.Map.{keys_of}
@@ -113,6 +113,6 @@ module _ (s : Shown) (shown : IsShown s) where
       each = each_is (on_workstation w listed) (of_listed w);
     }
 
-  -- what is left begins with the view of the entry at the index
-  pub one_ready : (es : List ReadyEntry) (i : ℕ) (e : ReadyEntry) (v : OpView) → drop i es ≡ e ∷ drop (i + 1) es → view_at s e.key.op ≡ Some v → ready_views s (drop i es) ≡ v ∷ ready_views s (drop (i + 1) es)
-  one_ready es i e v left is = ap (ready_views s) left ∙ ap (λ (o : Option OpView). cons_option o (ready_views s (drop (i + 1) es))) is
+  -- what is left begins with the view of the first entry
+  pub one_ready : {es : List ReadyEntry} {e : ReadyEntry} {others : List ReadyEntry} {v : OpView} → es ≡ e ∷ others → view_at s e.key.op ≡ Some v → ready_views s es ≡ v ∷ ready_views s others
+  one_ready {others = others} left is = ap (ready_views s) left ∙ ap (λ (o : Option OpView). cons_option o (ready_views s others)) is

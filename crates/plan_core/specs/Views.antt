@@ -127,10 +127,6 @@ view_at s o = get {R = operation_cmp} (from_entries (map (λ v. (v.key, v)) (op_
 abbrev pub ready_views : Shown → List ReadyEntry → List OpView
 ready_views s es = filter_map (λ e. view_at s e.key.op) es
 
--- those from an index on
-abbrev pub ready_from : Shown → List ReadyEntry → ℕ → List OpView
-ready_from s es place = ready_views s (drop place es)
-
 -- a plan is shown, and has the operations of these entries
 abbrev pub AreEntriesOf : Shown → List ReadyEntry → Type 0
 AreEntriesOf s es = IsShown s × All (λ e. IsInPlan s.contents.now e.key.op) es

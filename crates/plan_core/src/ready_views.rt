@@ -1,45 +1,40 @@
 // What is ready on a workstation, one operation after the other.
 ghost use Rattle.std.specs.Prelude.{◌≡◌};
 ghost use Rattle.std.specs.Iterator.{YieldsFirst, item_count};
-ghost use Rattle.plan_core.specs.Views.{ready_from, AreEntriesOf};
+ghost use Rattle.plan_core.specs.Views.{ready_views, AreEntriesOf};
 
 use super::views::{OpView, op_view};
 use deletion_steps::Shown;
-use ready_list::ReadyEntry;
+use ready_list::OnWorkstation;
 use std::marker::Model;
 
-/// The operations that are ready on a workstation, from an index on, in the order of the ready list. Contracts see the
-/// list of those that are left.
+/// The operations that are ready on a workstation, in the order of the ready list. Contracts see the list of those that
+/// are left.
 #[derive(Drop)]
 pub struct Ready<'a> {
     shown: Shown<'a>,
-    entries: &'a [ReadyEntry],
-    place: usize,
+    entries: OnWorkstation<'a>,
 }
 
 impl<'a> Model for Ready<'a> {
     ghost use Rattle.std.specs.Prelude.{List};
     ghost use Rattle.plan_core.specs.declared.views.OpView.{OpView};
-    ghost use Rattle.plan_core.specs.Views.{ready_from, AreEntriesOf};
+    ghost use Rattle.plan_core.specs.Views.{ready_views, AreEntriesOf};
 
     ghost Value = { List OpView };
 
-    ghost view = { λ a. ready_from a.shown a.entries.now a.place };
+    ghost view = { λ a. ready_views a.shown a.entries };
 
-    ghost invariant = { λ a. AreEntriesOf a.shown a.entries.now };
+    ghost invariant = { λ a. AreEntriesOf a.shown a.entries };
 }
 
 impl<'a> Ready<'a> {
     /// The operations of these entries, which the plan that is shown has.
-    pub(crate) fn new(shown: Shown<'a>, entries: &'a [ReadyEntry]) -> Ready<'a>
-        requires { AreEntriesOf shown entries.now }
-        ensures { result ≡ ready_from shown.entry entries.now 0 }
+    pub(crate) fn new(shown: Shown<'a>, entries: OnWorkstation<'a>) -> Ready<'a>
+        requires { AreEntriesOf shown entries }
+        ensures { result ≡ ready_views shown.entry entries.entry }
     {
-        Ready {
-            shown,
-            entries,
-            place: 0,
-        }
+        Ready { shown, entries }
     }
 }
 
@@ -51,13 +46,8 @@ impl<'a> Iterator for Ready<'a> {
     ghost remaining = { item_count (λ left. left) };
 
     fn next(&mut self) -> Option<OpView> {
-        let place = self.place;
-        if place >= self.entries.len() {
-            return None;
-        }
-        let key = self.entries[place].key.op;
-        self.place = place + 1;
-        let row = self.shown.contents.known_operation_place(&key);
+        let entry = self.entries.next()?;
+        let row = self.shown.contents.known_operation_place(&entry.key.op);
         Some(op_view(self.shown, row))
     }
 }

@@ -61,7 +61,7 @@ fn with_predecessor(shown: &mut Shown, preds: Preds, place: usize) -> Preds
         beside,
         ..
     } = shown.see(place);
-    let attribute = beside.attribute_of(operation);
+    let attribute = beside.attribute_of(operation, place);
     let live = is_there(operation);
     let silent = is_silent(operation, attribute);
     with_one_more(preds, live, silent)

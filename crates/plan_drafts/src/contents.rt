@@ -6,12 +6,17 @@ ghost use Rattle.std.specs.List.Sorted.{IsStrictlySortedBy};
 ghost use Rattle.std.specs.Map.{keys_of};
 ghost use Rattle.plan_basics.specs.Keys.{name_cmp, occurrence_cmp, operation_cmp};
 ghost use Rattle.plan_model.specs.Contents.{pair_cmp, Operation};
+ghost use Rattle.plan_model.specs.Ready.{with_mark};
 ghost use Rattle.plan_model.specs.declared.Occurrence.{Occurrence as OccurrenceValue};
 ghost use Rattle.plan_model.specs.workstations.specs.Workstations.{Workstation as WorkstationValue};
 
-use super::places::{known_row, known_workstation, row_place, workstation_place};
+use super::found::{Found, found_at, found_of};
+use super::places::{
+    known_row, known_row_near, known_workstation, known_workstation_near, row_place,
+    row_place_near, workstation_place, workstation_place_near,
+};
 use plan_basics::{OccKey, OpKey, ResName, WsName};
-use plan_model::{Occurrence, OperationRecord, Workstation};
+use plan_model::{Mark, Occurrence, OperationRecord, Workstation};
 use std::alloc::{AllocError, Global};
 use std::marker::Model;
 
@@ -26,6 +31,8 @@ pub struct PlanContents {
     occurrences: Vec<(OccKey, Occurrence)>,
     operations: Vec<(OpKey, OperationRecord)>,
     pairs: Vec<(OpKey, OpKey)>,
+    // Where the occurrence and the workstation of each operation were found, by which they are found again without a search.
+    found: Vec<Found>,
 }
 
 impl Model for PlanContents {
@@ -77,6 +84,13 @@ fn with_pair(
     }
 }
 
+// The operation of a row is marked so from now on.
+fn mark_row(row: &mut (OpKey, OperationRecord), mark: &Mark)
+    ensures { row.new ≡ (row.old.0, with_mark mark.now row.old.1) }
+{
+    row.1.mark = *mark;
+}
+
 impl PlanContents {
     /// The contents of these rows.
     pub fn of_rows(
@@ -93,13 +107,25 @@ impl PlanContents {
         requires pairs { IsStrictlySortedBy pair_cmp pairs.items }
         ensures { result ≡ record { workstations = from_entries workstations.items; resources = from_entries resources.items; occurrences = from_entries occurrences.items; operations = from_entries operations.items; pairs = set.from_list pairs.items } }
     {
+        let found = found_of(
+            *operations.allocator(),
+            &workstations,
+            &occurrences,
+            &operations,
+        );
         PlanContents {
             workstations,
             resources,
             occurrences,
             operations,
             pairs,
+            found,
         }
+    }
+
+    // Where the occurrence and the workstation of the operation at an index were found.
+    fn found_at(&self, operation: usize) -> Found {
+        found_at(&self.found, operation)
     }
 
     /// An equal one.
@@ -112,6 +138,7 @@ impl PlanContents {
             occurrences: Vec::from_slice(alloc, &self.occurrences)?,
             operations: Vec::from_slice(alloc, &self.operations)?,
             pairs: Vec::from_slice(alloc, &self.pairs)?,
+            found: Vec::from_slice(alloc, &self.found)?,
         })
     }
 
@@ -163,6 +190,15 @@ impl PlanContents {
         row_place(&self.operations, key)
     }
 
+    /// The index of the operation of a key, if there is one. It is looked for at an index first, and no search is made where it is
+    /// there.
+    pub fn operation_place_near(&self, key: &OpKey, near: usize) -> Option<usize>
+        ensures found { IfSome result (λ i. (value : Operation) × (slice_get (entries self.now.operations) i ≡ Some (key.now, value))) }
+        ensures absent { IsNone result → get self.now.operations key.now ≡ None }
+    {
+        row_place_near(&self.operations, key, near)
+    }
+
     /// The index of the occurrence of a key, if there is one.
     pub fn occurrence_place(&self, key: &OccKey) -> Option<usize>
         ensures found { IfSome result (λ i. (value : OccurrenceValue) × (slice_get (entries self.now.occurrences) i ≡ Some (key.now, value))) }
@@ -189,6 +225,16 @@ impl PlanContents {
         known_row(&self.occurrences, key)
     }
 
+    /// The index of the occurrence of a key that is there. No search is made where it is that of the operation at an index.
+    pub fn known_occurrence_place_near(&self, key: &OccKey, operation: usize) -> usize
+        requires { contains_key self.now.occurrences key.now ≡ true }
+        ensures within { result < length (entries self.now.occurrences) }
+        ensures at { (value : OccurrenceValue) × (slice_get (entries self.now.occurrences) result ≡ Some (key.now, value)) }
+    {
+        let at = self.found_at(operation);
+        known_row_near(&self.occurrences, key, at.occurrence)
+    }
+
     /// The index of the workstation of a name that is there.
     pub fn known_workstation_place(&self, name: &WsName) -> usize
         requires { contains_key self.now.workstations name.now ≡ true }
@@ -196,6 +242,16 @@ impl PlanContents {
         ensures at { (value : WorkstationValue) × (slice_get (entries self.now.workstations) result ≡ Some (name.now, value)) }
     {
         known_workstation(&self.workstations, name)
+    }
+
+    /// The index of the workstation of a name that is there. No search is made where it is that of the operation at an index.
+    pub fn known_workstation_place_near(&self, name: &WsName, operation: usize) -> usize
+        requires { contains_key self.now.workstations name.now ≡ true }
+        ensures within { result < length (entries self.now.workstations) }
+        ensures at { (value : WorkstationValue) × (slice_get (entries self.now.workstations) result ≡ Some (name.now, value)) }
+    {
+        let at = self.found_at(operation);
+        known_workstation_near(&self.workstations, name, at.workstation)
     }
 
     /// The operation of a key, if there is one.
@@ -220,6 +276,18 @@ impl PlanContents {
         }
     }
 
+    /// The occurrence of a key, if there is one. No search is made where it is that of the operation at an index.
+    pub fn occurrence_near(&self, key: &OccKey, operation: usize) -> Option<&Occurrence>
+        ensures found { IfSome result (λ occurrence. get self.now.occurrences key.now ≡ Some occurrence.now) }
+        ensures absent { IsNone result → get self.now.occurrences key.now ≡ None }
+    {
+        let at = self.found_at(operation);
+        match row_place_near(&self.occurrences, key, at.occurrence) {
+            Some(place) => Some(&self.occurrences[place].1),
+            None => None,
+        }
+    }
+
     /// Whether the special resource of a name is available, if there is one.
     pub fn resource(&self, name: &ResName) -> Option<bool>
         ensures { result ≡ get self.now.resources name.now }
@@ -239,12 +307,34 @@ impl PlanContents {
         self.operations[place] = (*key, operation);
     }
 
+    /// The operation of a key is marked so from now on, if there is one.
+    pub fn set_mark(&mut self, key: &OpKey, mark: &Mark)
+        ensures there { (op : Operation) → get self.old.operations key.now ≡ Some op → self.new ≡ record self.old { operations = insert self.old.operations key.now (with_mark mark.now op) } }
+        ensures absent { get self.old.operations key.now ≡ None → self.new ≡ self.old }
+    {
+        if let Some(place) = row_place(&self.operations, key) {
+            mark_row(&mut self.operations[place], mark);
+        }
+    }
+
     /// The workstation of a name, if there is one.
     pub fn workstation(&self, name: &WsName) -> Option<&Workstation>
         ensures found { IfSome result (λ ws. (ws.now.0 ≡ name.now) × (get self.now.workstations name.now ≡ Some ws.now.1)) }
         ensures absent { IsNone result → get self.now.workstations name.now ≡ None }
     {
         match workstation_place(&self.workstations, name) {
+            Some(place) => Some(&self.workstations[place]),
+            None => None,
+        }
+    }
+
+    /// The workstation of a name, if there is one. No search is made where it is that of the operation at an index.
+    pub fn workstation_near(&self, name: &WsName, operation: usize) -> Option<&Workstation>
+        ensures found { IfSome result (λ ws. (ws.now.0 ≡ name.now) × (get self.now.workstations name.now ≡ Some ws.now.1)) }
+        ensures absent { IsNone result → get self.now.workstations name.now ≡ None }
+    {
+        let at = self.found_at(operation);
+        match workstation_place_near(&self.workstations, name, at.workstation) {
             Some(place) => Some(&self.workstations[place]),
             None => None,
         }

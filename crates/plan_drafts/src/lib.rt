@@ -10,6 +10,7 @@ mod additions;
 mod builder;
 mod contents;
 mod drafts;
+mod found;
 mod graphs;
 mod in_order;
 mod intervals;

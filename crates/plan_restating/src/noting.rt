@@ -17,7 +17,13 @@ pub fn entry_seen(seen: &Seen<'_>, latest: &Latest, place: usize) -> ReadyEntry
     requires latest { AreLatestStarts seen.now.beside.contents.now latest.now.starts }
     ensures { IsEntryAt seen.now.beside.contents.now place result }
 {
-    entry_with(&seen.beside, seen.key, seen.operation, latest.of(place))
+    entry_with(
+        &seen.beside,
+        seen.key,
+        seen.operation,
+        latest.of(place),
+        place,
+    )
 }
 
 // The index of a place among places in order, by a search.

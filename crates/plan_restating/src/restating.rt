@@ -27,7 +27,7 @@ fn status_at(seen: &Seen<'_>, standings: &[Standing], place: usize) -> Status
     requires standings { AreStandings seen.now.beside.contents.now standings.now }
     ensures { (o : OpKey) (op : Operation) → slice_get (entries seen.now.beside.contents.now.operations) place ≡ Some (o, op) → HasStatus seen.now.beside.contents.now o result }
 {
-    let attribute = seen.beside.attribute_of(seen.operation);
+    let attribute = seen.beside.attribute_of(seen.operation, place);
     status_with(seen.operation, attribute, &standings[place])
 }
 
@@ -50,7 +50,7 @@ fn restate_at(
 {
     let old = statuses[place];
     if old != status {
-        retally(beside, &entry.key.op, tallies, old, status);
+        retally(beside, &entry.key.op, place, tallies, old, status);
         relist(ready, entry, old, status);
         statuses[place] = status;
     }

@@ -26,13 +26,20 @@ fn count_out(counts: &mut Counts, status: Status)
 }
 
 /// The operation of this key has another status: in its occurrence's numbers that of the old one falls, and that of the new one
-/// rises.
-pub fn retally(beside: &Beside<'_>, key: &OpKey, tallies: &mut [Counts], old: Status, new: Status)
+/// rises. Where the operation stands at this index, no search is made.
+pub fn retally(
+    beside: &Beside<'_>,
+    key: &OpKey,
+    near: usize,
+    tallies: &mut [Counts],
+    old: Status,
+    new: Status,
+)
     requires { (place : ℕ) × (statuses : List StatusValue) × (slice_get (keys beside.now.contents.now.operations) place ≡ Some key.now) × (slice_get statuses place ≡ Some old) × AreTalliesBy beside.now.contents.now statuses tallies.old }
     ensures { (place : ℕ) (statuses : List StatusValue) → slice_get (keys beside.now.contents.now.operations) place ≡ Some key.now → slice_get statuses place ≡ Some old → AreTalliesBy beside.now.contents.now statuses tallies.old → AreTalliesBy beside.now.contents.now (slice_set statuses place new) tallies.new }
 {
     beside.are_sound();
-    let counts = &mut tallies[beside.occurrence_place_of(key)];
+    let counts = &mut tallies[beside.occurrence_place_of(key, near)];
     count_out(counts, old);
     count_one(counts, new);
 }

@@ -15,7 +15,7 @@ fn occurrence_place(shown: &Shown, place: usize) -> usize
 {
     let beside = shown.beside();
     let operation = beside.operation_key(place);
-    beside.occurrence_place_of(operation)
+    beside.occurrence_place_of(operation, place)
 }
 
 /// The indices of the occurrences to which the operations at these indices belong, each once, in order. It looks at no record.

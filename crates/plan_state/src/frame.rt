@@ -34,6 +34,8 @@ pub struct Frame<'a> {
 #[derive(Clone, Copy)]
 pub struct Reported<'a> {
     pub operation: &'a OperationRecord,
+    /// The index at which its row stood: what it names is looked for by that first.
+    pub place: usize,
     /// How its workstation reports.
     pub attribute: Attr,
     pub status: Status,
@@ -162,7 +164,8 @@ impl<'a> Outline<'a> {
     {
         Reported {
             operation,
-            attribute: self.beside.attribute_of(operation),
+            place,
+            attribute: self.beside.attribute_of(operation, place),
             status: self.status_at(place),
         }
     }

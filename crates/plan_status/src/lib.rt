@@ -16,7 +16,7 @@ pub use plan_laws::{
     Changes, OperationRecord, OperationRow, PlanContents, PlanRow, RowKey, row_place,
 };
 pub use sound::SoundContents;
-pub use standings::{Standing, attribute_of, standings_of};
+pub use standings::{Standing, attribute_near, attribute_of, standings_of};
 pub use statuses::{status_with, statuses_of};
 pub use tallies::{count_one, occurrence_status_with, tallies_of};
 pub use valid::ValidContents;

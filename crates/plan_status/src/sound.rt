@@ -126,6 +126,15 @@ impl SoundContents {
         self.rows().operation_place(key)
     }
 
+    /// The index of the operation of a key, if there is one. It is looked for at an index first, and no search is made where it is
+    /// there.
+    pub fn operation_place_near(&self, key: &OpKey, near: usize) -> Option<usize>
+        ensures found { IfSome result (λ i. (value : Operation) × (slice_get (entries self.now.operations) i ≡ Some (key.now, value))) }
+        ensures absent { IsNone result → get self.now.operations key.now ≡ None }
+    {
+        self.rows().operation_place_near(key, near)
+    }
+
     /// The index of the occurrence of a key, if there is one.
     pub fn occurrence_place(&self, key: &OccKey) -> Option<usize>
         ensures found { IfSome result (λ i. (value : OccurrenceValue) × (slice_get (entries self.now.occurrences) i ≡ Some (key.now, value))) }
@@ -143,13 +152,14 @@ impl SoundContents {
         self.rows().known_operation_place(key)
     }
 
-    /// The index of the occurrence of an operation that is there.
-    pub fn occurrence_place_of(&self, key: &OpKey) -> usize
+    /// The index of the occurrence of an operation that is there. Where that stands at this place, no search is made.
+    pub fn occurrence_place_of(&self, key: &OpKey, place: usize) -> usize
         requires { contains_key self.now.operations key.now ≡ true }
         ensures within { result < length (entries self.now.occurrences) }
         ensures at { (value : OccurrenceValue) × (slice_get (entries self.now.occurrences) result ≡ Some (key.now.occurrence, value)) }
     {
-        self.rows().known_occurrence_place(&key.occurrence)
+        self.rows()
+            .known_occurrence_place_near(&key.occurrence, place)
     }
 
     /// The index of the workstation of an operation that is there.
@@ -159,6 +169,16 @@ impl SoundContents {
         ensures at { (value : WorkstationValue) × (slice_get (entries self.now.workstations) result ≡ Some (operation.now.workstation, value)) }
     {
         self.rows().known_workstation_place(&operation.workstation)
+    }
+
+    /// The index of the workstation of an operation that is there. Where that stands at this place, no search is made.
+    pub fn workstation_place_near(&self, operation: &OperationRecord, place: usize) -> usize
+        requires { (o : OpKeyValue) × (get self.now.operations o ≡ Some operation.now) }
+        ensures within { result < length (entries self.now.workstations) }
+        ensures at { (value : WorkstationValue) × (slice_get (entries self.now.workstations) result ≡ Some (operation.now.workstation, value)) }
+    {
+        self.rows()
+            .known_workstation_place_near(&operation.workstation, place)
     }
 
     /// The operation of a key, if there is one.
@@ -179,6 +199,15 @@ impl SoundContents {
         self.rows().occurrence(key)
     }
 
+    /// The occurrence of a key, if there is one. No search is made where it is that of the operation at this place.
+    pub fn occurrence_near(&self, key: &OccKey, place: usize) -> Option<&Occurrence>
+        ensures found { IfSome result (λ occurrence. get self.now.occurrences key.now ≡ Some occurrence.now) }
+        ensures absent { IsNone result → get self.now.occurrences key.now ≡ None }
+        ensures sound { IsSound self.now }
+    {
+        self.rows().occurrence_near(key, place)
+    }
+
     /// The workstation of a name, if there is one.
     pub fn workstation(&self, name: &WsName) -> Option<&Workstation>
         ensures found { IfSome result (λ ws. (ws.now.0 ≡ name.now) × (get self.now.workstations name.now ≡ Some ws.now.1)) }
@@ -186,6 +215,15 @@ impl SoundContents {
         ensures sound { IsSound self.now }
     {
         self.rows().workstation(name)
+    }
+
+    /// The workstation of a name, if there is one. No search is made where it is that of the operation at this place.
+    pub fn workstation_near(&self, name: &WsName, place: usize) -> Option<&Workstation>
+        ensures found { IfSome result (λ ws. (ws.now.0 ≡ name.now) × (get self.now.workstations name.now ≡ Some ws.now.1)) }
+        ensures absent { IsNone result → get self.now.workstations name.now ≡ None }
+        ensures sound { IsSound self.now }
+    {
+        self.rows().workstation_near(name, place)
     }
 
     /// Whether the special resource of a name is available, if there is one.

@@ -46,6 +46,17 @@ pub fn attribute_of(contents: &ValidContents, operation: &OperationRecord) -> At
         .attribute()
 }
 
+/// How the workstation of an operation of the plan reports. Where that operation stands at this place, no search is made.
+pub fn attribute_near(contents: &ValidContents, operation: &OperationRecord, place: usize) -> Attr
+    requires { (o : OpKey) × (get contents.now.operations o ≡ Some operation.now) }
+    ensures { HasAttribute contents.now operation.now.workstation result }
+{
+    contents
+        .workstation_near(&operation.workstation, place)
+        .unwrap()
+        .attribute()
+}
+
 // Whether an operation is satisfied, by its standing: its status is complete or deleted.
 fn is_satisfied(operation: &OperationRecord, attr: Attr, standing: &Standing) -> bool
     ensures { (P : Contents) (o : OpKey) → IsOperationOn P o operation.now attr → IsStanding P o standing.now → Decides result (IsSatisfied P o) }
@@ -109,7 +120,7 @@ pub fn standings_of(
     let mut standings = vec![in alloc; FIRST; rows.len()]?;
     for (before, after) in &graph.edges_in_turn()? {
         let predecessor = &rows[*before].1;
-        let attr = attribute_of(contents, predecessor);
+        let attr = attribute_near(contents, predecessor, *before);
         standings[*after] = standing_after(
             &standings[*after],
             predecessor,

@@ -8,7 +8,7 @@ ghost use Rattle.plan_laws.specs.plan_drafts.specs.Places.{AreStatuses};
 ghost use Rattle.plan_status.specs.Standings.{IsStanding, AreStandings};
 
 use super::sound::SoundContents;
-use super::standings::{Standing, attribute_of};
+use super::standings::{Standing, attribute_near};
 use plan_basics::Attr;
 use plan_laws::OperationRecord;
 use status_rules::{Status, status_of};
@@ -40,7 +40,7 @@ pub fn statuses_of(
     let mut statuses = Vec::with_capacity(alloc, standings.len())?;
     for (i, standing) in standings.iter().enumerate() {
         let operation = &rows[i].1;
-        let attribute = attribute_of(contents.valid(), operation);
+        let attribute = attribute_near(contents.valid(), operation, i);
         statuses.push(status_with(operation, attribute, standing))?;
     }
     Ok(statuses)

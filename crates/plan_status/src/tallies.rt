@@ -59,7 +59,7 @@ pub fn tallies_of(
     let mut tallies = vec![in alloc; NONE_COUNTED; occurrences]?;
     for (i, status) in statuses.iter().enumerate() {
         let key = &rows[i].0;
-        let place = contents.occurrence_place_of(key);
+        let place = contents.occurrence_place_of(key, i);
         count_one(&mut tallies[place], *status);
     }
     Ok(tallies)

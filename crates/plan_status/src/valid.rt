@@ -95,4 +95,13 @@ impl ValidContents {
     {
         self.contents.workstation(name)
     }
+
+    /// The workstation of a name, if there is one. No search is made where it is that of the operation at this place.
+    pub fn workstation_near(&self, name: &WsName, place: usize) -> Option<&Workstation>
+        ensures found { IfSome result (λ ws. (ws.now.0 ≡ name.now) × (get self.now.workstations name.now ≡ Some ws.now.1)) }
+        ensures absent { IsNone result → get self.now.workstations name.now ≡ None }
+        ensures valid { IsValid self.now }
+    {
+        self.contents.workstation_near(name, place)
+    }
 }

@@ -41,7 +41,7 @@ fn occurrence_at(beside: &Beside<'_>, place: usize) -> usize
     ensures within { result < length (entries beside.now.contents.now.occurrences) }
     ensures belongs { BelongsAt beside.now.contents.now place result }
 {
-    beside.occurrence_place_of(beside.operation_key(place))
+    beside.occurrence_place_of(beside.operation_key(place), place)
 }
 
 /// The indices of the occurrences to which the operations at these indices belong.

@@ -38,11 +38,11 @@ fn retake_at(
         operation,
         beside,
     } = shown.see(place);
-    if !beside.starts_are_known(operation) {
+    if !beside.starts_are_known(operation, place) {
         return Ok(());
     }
     let old = marking.put_on(operation);
-    let station = beside.workstation_place_of(operation);
+    let station = beside.workstation_place_near(operation, place);
     given[station] = given_anew(&given[station], &old, operation);
     retake_needs(holdings, key, operation)
 }

@@ -14,7 +14,7 @@ ghost use Rattle.workstations.specs.Workstations.{Workstation as WorkstationValu
 
 use plan_basics::{Attr, OccKey, OpKey, ResName, WsName};
 use plan_changes::Occurrence;
-use plan_status::{OperationRecord, SoundContents, attribute_of};
+use plan_status::{OperationRecord, SoundContents, attribute_near};
 use std::alloc::{AllocError, Global};
 use workstations::Workstation;
 
@@ -119,6 +119,15 @@ impl<'a> Beside<'a> {
         self.contents.operation_place(key)
     }
 
+    /// The index of the operation of a key, if there is one. It is looked for at an index first, and no search is made where it is
+    /// there.
+    pub fn operation_place_near(&self, key: &OpKey, near: usize) -> Option<usize>
+        ensures found { IfSome result (λ i. (value : Operation) × (slice_get (entries self.now.contents.now.operations) i ≡ Some (key.now, value))) }
+        ensures absent { IsNone result → get self.now.contents.now.operations key.now ≡ None }
+    {
+        self.contents.operation_place_near(key, near)
+    }
+
     /// The index of the occurrence of a key, if there is one.
     pub fn occurrence_place(&self, key: &OccKey) -> Option<usize>
         ensures found { IfSome result (λ i. (value : OccurrenceValue) × (slice_get (entries self.now.contents.now.occurrences) i ≡ Some (key.now, value))) }
@@ -136,13 +145,13 @@ impl<'a> Beside<'a> {
         self.contents.known_operation_place(key)
     }
 
-    /// The index of the occurrence of an operation that is there.
-    pub fn occurrence_place_of(&self, key: &OpKey) -> usize
+    /// The index of the occurrence of an operation that is there. Where that stands at this place, no search is made.
+    pub fn occurrence_place_of(&self, key: &OpKey, place: usize) -> usize
         requires { contains_key self.now.contents.now.operations key.now ≡ true }
         ensures within { result < length (entries self.now.contents.now.occurrences) }
         ensures at { (value : OccurrenceValue) × (slice_get (entries self.now.contents.now.occurrences) result ≡ Some (key.now.occurrence, value)) }
     {
-        self.contents.occurrence_place_of(key)
+        self.contents.occurrence_place_of(key, place)
     }
 
     /// The index of the workstation of an operation that is there.
@@ -154,6 +163,15 @@ impl<'a> Beside<'a> {
         self.contents.workstation_place_of(operation)
     }
 
+    /// The index of the workstation of an operation that is there. Where that stands at this place, no search is made.
+    pub fn workstation_place_near(&self, operation: &OperationRecord, place: usize) -> usize
+        requires { (o : OpKeyValue) × (get self.now.contents.now.operations o ≡ Some operation.now) }
+        ensures within { result < length (entries self.now.contents.now.workstations) }
+        ensures at { (value : WorkstationValue) × (slice_get (entries self.now.contents.now.workstations) result ≡ Some (operation.now.workstation, value)) }
+    {
+        self.contents.workstation_place_near(operation, place)
+    }
+
     /// The occurrence of a key, if there is one.
     pub fn occurrence(&self, key: &OccKey) -> Option<&'a Occurrence>
         ensures found { IfSome result (λ occurrence. get self.now.contents.now.occurrences key.now ≡ Some occurrence.now) }
@@ -161,6 +179,15 @@ impl<'a> Beside<'a> {
         ensures sound { IsSound self.now.contents.now }
     {
         self.contents.occurrence(key)
+    }
+
+    /// The occurrence of a key, if there is one. No search is made where it is that of the operation at this place.
+    pub fn occurrence_near(&self, key: &OccKey, place: usize) -> Option<&'a Occurrence>
+        ensures found { IfSome result (λ occurrence. get self.now.contents.now.occurrences key.now ≡ Some occurrence.now) }
+        ensures absent { IsNone result → get self.now.contents.now.occurrences key.now ≡ None }
+        ensures sound { IsSound self.now.contents.now }
+    {
+        self.contents.occurrence_near(key, place)
     }
 
     /// The workstation of a name, if there is one.
@@ -172,6 +199,15 @@ impl<'a> Beside<'a> {
         self.contents.workstation(name)
     }
 
+    /// The workstation of a name, if there is one. No search is made where it is that of the operation at this place.
+    pub fn workstation_near(&self, name: &WsName, place: usize) -> Option<&'a Workstation>
+        ensures found { IfSome result (λ ws. (ws.now.0 ≡ name.now) × (get self.now.contents.now.workstations name.now ≡ Some ws.now.1)) }
+        ensures absent { IsNone result → get self.now.contents.now.workstations name.now ≡ None }
+        ensures sound { IsSound self.now.contents.now }
+    {
+        self.contents.workstation_near(name, place)
+    }
+
     /// Whether the special resource of a name is available, if there is one.
     pub fn resource(&self, name: &ResName) -> Option<bool>
         ensures { result ≡ get self.now.contents.now.resources name.now }
@@ -179,20 +215,20 @@ impl<'a> Beside<'a> {
         self.contents.resource(name)
     }
 
-    /// How the workstation of an operation of the plan reports.
-    pub fn attribute_of(&self, operation: &OperationRecord) -> Attr
+    /// How the workstation of an operation of the plan reports. Where that operation stands at this place, no search is made.
+    pub fn attribute_of(&self, operation: &OperationRecord, place: usize) -> Attr
         requires { (o : OpKeyValue) × (get self.now.contents.now.operations o ≡ Some operation.now) }
         ensures { HasAttribute self.now.contents.now operation.now.workstation result }
     {
-        attribute_of(self.contents.valid(), operation)
+        attribute_near(self.contents.valid(), operation, place)
     }
 
     /// Whether starts are known on the workstation of an operation of the plan: there it takes servers and special resources.
-    pub fn starts_are_known(&self, operation: &OperationRecord) -> bool
+    pub fn starts_are_known(&self, operation: &OperationRecord, place: usize) -> bool
         requires { (o : OpKeyValue) × (get self.now.contents.now.operations o ≡ Some operation.now) }
         ensures { result ≡ takes (attribute_at self.now.contents.now operation.now.workstation) }
     {
-        match self.attribute_of(operation) {
+        match self.attribute_of(operation, place) {
             Attr::Automatic | Attr::StartAndCompletion => true,
             Attr::CompletionOnly | Attr::Nonreporting => false,
         }

@@ -32,6 +32,9 @@ impl Rules for Shown {
 
     fn rule_of(&mut self, node: usize) -> Rule {
         let seen = self.see(node);
-        rule_on(seen.beside.attribute_of(seen.operation), seen.operation)
+        rule_on(
+            seen.beside.attribute_of(seen.operation, node),
+            seen.operation,
+        )
     }
 }

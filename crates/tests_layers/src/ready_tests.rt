@@ -3,7 +3,7 @@ ghost use Rattle.std.specs.Prelude.{◌≢◌, All, IsTrue};
 ghost use Rattle.std.specs.List.{AllPairs};
 
 use super::named::{operation, workstation};
-use plan_basics::{Attr, OpKey, Refusal};
+use plan_basics::{Attr, OpKey, Refusal, WsName};
 use ready_list::{Gate, ReadyEntry, ReadyKey, ReadyList};
 use std::alloc::Global;
 use std::process::Abort;
@@ -26,6 +26,7 @@ fn entry(rt: &impl Abort, row: &Row) -> ReadyEntry {
         ws,
         attr,
         site: 0,
+        place: 0,
     }
 }
 
@@ -55,6 +56,14 @@ fn has_just(entries: &[ReadyEntry], rows: &[ReadyEntry], places: &[usize]) -> bo
         && entries.iter().zip(places).all(|(entry, place)| rows
             .get(*place)
             .is_some_and(|row| row.key == entry.key))
+}
+
+// Whether just the entries at these indices are on a workstation, in this order.
+fn has_just_on(list: &ReadyList, ws: &WsName, rows: &[ReadyEntry], places: &[usize]) -> bool {
+    let wanted = places
+        .iter()
+        .map(|place| rows.get(*place).map(|row| row.key));
+    list.of_ws(ws).map(|entry| Some(entry.key)).eq(wanted)
 }
 
 // Whether none of these has this key.
@@ -135,8 +144,8 @@ fn built_from_any_order(rt: HostRuntime) {
             "{order:?}"
         );
         for (name, places) in ON_STATIONS {
-            let on_it = list.of_ws(&workstation(&rt, name));
-            assert!(rt; has_just(on_it, &rows, places), "{order:?}");
+            let ws = workstation(&rt, name);
+            assert!(rt; has_just_on(&list, &ws, &rows, places), "{order:?}");
         }
     }
 }
@@ -148,8 +157,8 @@ fn built_and_edited(rt: HostRuntime) {
     put(&rt, &mut list, &rows[1]);
     list.remove(&rows[4].key);
     assert!(rt; has_just(list.entries(), &rows, &[1, 2]));
-    assert!(rt; has_just(list.of_ws(&workstation(&rt, b"CPU1")), &rows, &[1, 2]));
-    assert!(rt; list.of_ws(&workstation(&rt, b"PRT1")).is_empty());
+    assert!(rt; has_just_on(&list, &workstation(&rt, b"CPU1"), &rows, &[1, 2]));
+    assert!(rt; has_just_on(&list, &workstation(&rt, b"PRT1"), &rows, &[]));
 }
 
 #[test]
@@ -158,13 +167,13 @@ fn one_is_put_in_again(rt: HostRuntime) {
     let mut list = built_of(&rt, rt.alloc(), &rows, &[0, 1, 2]);
     put(&rt, &mut list, &rows[1]);
     assert!(rt; has_just(list.entries(), &rows, &[0, 1, 2]));
-    assert!(rt; has_just(list.of_ws(&workstation(&rt, b"CPU1")), &rows, &[1, 2]));
+    assert!(rt; has_just_on(&list, &workstation(&rt, b"CPU1"), &rows, &[1, 2]));
     let mut moved = rows[1];
     moved.ws = rows[0].ws;
     put(&rt, &mut list, &moved);
     assert!(rt; has_just(list.entries(), &rows, &[0, 1, 2]));
-    assert!(rt; has_just(list.of_ws(&workstation(&rt, b"CPU1")), &rows, &[2]));
-    assert!(rt; has_just(list.of_ws(&moved.ws), &rows, &[0, 1]));
+    assert!(rt; has_just_on(&list, &workstation(&rt, b"CPU1"), &rows, &[2]));
+    assert!(rt; has_just_on(&list, &moved.ws, &rows, &[0, 1]));
 }
 
 const ON_ONE: [Row; 4] = [
@@ -186,7 +195,7 @@ fn one_is_taken_out(rt: HostRuntime) {
         list.remove(&rows[1].key);
         assert!(rt; !list.contains(&rows[1].key));
         assert!(rt; has_just(list.entries(), &rows, &[0, 2]));
-        assert!(rt; has_just(list.of_ws(&cpu1), &rows, &[0, 2]));
+        assert!(rt; has_just_on(&list, &cpu1, &rows, &[0, 2]));
     }
     put(&rt, &mut list, &rows[1]);
     assert!(rt; has_just(list.entries(), &rows, &[0, 1, 2]));
@@ -212,8 +221,8 @@ fn each_workstation_has_its_own(rt: HostRuntime) {
     let rows = ON_TWO.map(|row| entry(&rt, &row));
     let list = list_of(&rt, rt.alloc(), &rows, &[3, 2, 0, 1]);
     for (name, places) in ON_EACH {
-        let on_it = list.of_ws(&workstation(&rt, name));
-        assert!(rt; has_just(on_it, &rows, places));
+        let ws = workstation(&rt, name);
+        assert!(rt; has_just_on(&list, &ws, &rows, places));
     }
 }
 

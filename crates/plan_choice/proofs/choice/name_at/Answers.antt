@@ -30,21 +30,21 @@ found_beside c = subst (λ (Q : Contents). get Q.operations c.see.result.key.now
 its_key : (c : After-see) (o : OpKey) (op : Operation) → slice_get (entries c.args.shown.now.contents.operations) c.args.place ≡ Some (o, op) → c.see.result.key.now ≡ o
 its_key c o op at = ap (λ (row : OpKey × Operation). row.0) (same_Some (c.see.result.key.now, c.see.result.operation.now) (o, op) (sym c.see.ensures.row ∙ at))
 
-pub workstation_place_of-station-requires : goal.workstation_place_of-station-requires
-workstation_place_of-station-requires c = let p = (goal.at.workstation_place_of-station-requires c).After-see in (p.see.result.key.now, found_beside p)
+pub workstation_place_near-station-requires : goal.workstation_place_near-station-requires
+workstation_place_near-station-requires c = let p = (goal.at.workstation_place_near-station-requires c).After-see in (p.see.result.key.now, found_beside p)
 
 pub check_start-requires : goal.check_start-requires
 check_start-requires c = found_beside (goal.at.check_start-requires c).After-see
 
 module _ (c : After-check_start) where
   -- the index of the operation's workstation
-  its_place : (ws : Workstation) × (slice_get (entries c.args.shown.now.contents.workstations) c.workstation_place_of-station.result ≡ Some (c.see.result.operation.now.workstation, ws))
+  its_place : (ws : Workstation) × (slice_get (entries c.args.shown.now.contents.workstations) c.workstation_place_near-station.result ≡ Some (c.see.result.operation.now.workstation, ws))
   its_place =
-      subst (λ (Q : Contents). (ws : Workstation) × (slice_get (entries Q.workstations) c.workstation_place_of-station.result ≡ Some (c.see.result.operation.now.workstation, ws)))
-      c.see.ensures.beside c.workstation_place_of-station.ensures.at
+      subst (λ (Q : Contents). (ws : Workstation) × (slice_get (entries Q.workstations) c.workstation_place_near-station.result ≡ Some (c.see.result.operation.now.workstation, ws)))
+      c.see.ensures.beside c.workstation_place_near-station.ensures.at
 
-  within : c.workstation_place_of-station.result < length c.args.given.now
-  within = omega (arith, c.workstation_place_of-station.ensures.within, c.requires.shut.sized, ap (λ (Q : Contents). length (entries Q.workstations)) c.see.ensures.beside)
+  within : c.workstation_place_near-station.result < length c.args.given.now
+  within = omega (arith, c.workstation_place_near-station.ensures.within, c.requires.shut.sized, ap (λ (Q : Contents). length (entries Q.workstations)) c.see.ensures.beside)
 
 -- the operation of this key can't start, where this counts
 abbrev Cannot : Counted → OpKey → Type 0
@@ -57,7 +57,7 @@ returns-then-is_err-clause-answered c e op at =
     let g = before p in
     let key = c.see.result.key.now in
     let row = c.see.result.operation.now in
-    let station = c.workstation_place_of-station.result in
+    let station = c.workstation_place_near-station.result in
     let there = slice_get-get_or c.args.given.now station _ (within q) in
     let told = c.check_start.ensures in
     let one = c.see.follows.holds-at-none in
@@ -77,7 +77,7 @@ returns-clause-answered c e op at =
     let g = before p in
     let key = c.see.result.key.now in
     let row = c.see.result.operation.now in
-    let station = c.workstation_place_of-station.result in
+    let station = c.workstation_place_near-station.result in
     let there = slice_get-get_or c.args.given.now station _ (within q) in
     let told = c.check_start.ensures in
     let one = c.see.follows.holds-at-none in
@@ -102,10 +102,10 @@ returns-clause-answered c e op at =
 pub returns-clause-shut : goal.returns-clause-shut
 returns-clause-shut c =
     let rows = entries c.args.shown.now.contents.workstations in
-    let station = c.workstation_place_of-station.result in
+    let station = c.workstation_place_near-station.result in
     let w = c.index-workstations-station.result in
     let is = c.workstations.ensures.rows ∙ ap (λ (Q : Contents). entries Q.workstations) c.see.ensures.beside in
-    let within : station < length c.workstations.result.now = omega (arith, c.workstation_place_of-station.ensures.within, ap length c.workstations.ensures.rows) in
+    let within : station < length c.workstations.result.now = omega (arith, c.workstation_place_near-station.ensures.within, ap length c.workstations.ensures.rows) in
     subst (λ (Q : Contents). AreShut (entries Q.workstations) c.args.at (set c.args.given.now station c.with_operation-taken.result) (set c.args.shut.now station c.is_shut.result)) (sym c.see.follows.holds-at-none.contents)
     (told_one rows c.args.at c.args.given.now c.args.shut.now c.requires.shut station w (row_shown c.workstations.result.now rows is station w within c.index-workstations-station.is)
     c.with_operation-taken.result c.is_shut.result c.is_shut.ensures.0)

@@ -8,7 +8,7 @@ pub unwrap-requires : goal.unwrap-requires
 unwrap-requires c =
     let P = c.args.beside.now.contents.now in
     let key = c.args.key.now in
-    there c.occurrence.result (get P.occurrences key.occurrence) c.occurrence.ensures.absent (its_occurrence P c.occurrence.ensures.sound.valid key c.requires.0 c.requires.1)
+    there c.occurrence_near.result (get P.occurrences key.occurrence) c.occurrence_near.ensures.absent (its_occurrence P c.occurrence_near.ensures.sound.valid key c.requires.0 c.requires.1)
 
 pub returns : goal.returns
-returns c = (c.unwrap.result.now, rw c.unwrap.ensures at c.occurrence.ensures.found, refl)
+returns c = (c.unwrap.result.now, rw c.unwrap.ensures at c.occurrence_near.ensures.found, refl)

@@ -14,7 +14,7 @@ use Rattle.plan_choice.proofs.taken.check_start.Goals as goal
 use Rattle.plan_choice.proofs.taken.check_start.Goals.{After-fits}
 
 pub unwrap-workstation-requires : goal.unwrap-workstation-requires
-unwrap-workstation-requires c = workplace_found c.args.beside.now.contents.now c.workstation.ensures.sound.valid c.operation.view_is (c.args.key.now, c.requires) c.workstation.result c.workstation.ensures.absent
+unwrap-workstation-requires c = workplace_found c.args.beside.now.contents.now c.workstation_near.ensures.sound.valid c.operation.view_is (c.args.key.now, c.requires) c.workstation_near.result c.workstation_near.ensures.absent
 
 module _ (c : After-fits) where
   abbrev workstation : Workstation
@@ -22,7 +22,7 @@ module _ (c : After-fits) where
 
   its_workstation : get c.args.beside.now.contents.now.workstations c.args.operation.now.workstation ≡ Some workstation
   its_workstation =
-      let found = rw c.unwrap-workstation.ensures at c.workstation.ensures.found in
+      let found = rw c.unwrap-workstation.ensures at c.workstation_near.ensures.found in
       ap (λ (op : Operation). get c.args.beside.now.contents.now.workstations op.workstation) (sym c.operation.view_is) ∙ found.1
 
   same_needs : ◌≡◌ {A = ℕ × ℕ} (c.from.result, c.from-2.result) (c.args.operation.now.r1, c.args.operation.now.r2)

@@ -46,10 +46,10 @@ offset_bounds-rows-before c =
     let within = ends_within P _ (joined a c.loop-before.before-index c.loop-before-test.true) in
     omega (arith, within.0, few_rows P c.operations-rows.ensures.valid)
 
-pub attribute_of-attr-requires : goal.attribute_of-attr-requires
-attribute_of-attr-requires c =
+pub attribute_near-attr-requires : goal.attribute_near-attr-requires
+attribute_near-attr-requires c =
     let P = c.args.contents.now in
-    let a : After-deref-before-items = (goal.at.attribute_of-attr-requires c).After-deref-before-items in
+    let a : After-deref-before-items = (goal.at.attribute_near-attr-requires c).After-deref-before-items in
     let e = edge a c.loop-before.before-index in
     let within = ends_within P e (joined a c.loop-before.before-index c.loop-before-test.true) in
     let rows = c.operations-rows.result.now in
@@ -116,7 +116,7 @@ loop-before-preserved c =
     let is_standing = standing_at rows e.1 (keys.1, pair.after) pair.second standings so_far.size standing c.index.ensures in
     let before = pairs_so_far rows edges i in
     let next = comes_after P c.operations-rows.ensures.valid graph c.requires edges all i lt e at in
-    let on : IsOperationOn P keys.0 row.1 c.attribute_of-attr.result = (known, c.attribute_of-attr.ensures) in
+    let on : IsOperationOn P keys.0 row.1 c.attribute_near-attr.result = (known, c.attribute_near-attr.ensures) in
     let stands = c.standing_after.ensures.standing P before keys on next
     (so_far.each e.0 keys.0 pair.before its pair.first is_its) (so_far.each e.1 keys.1 pair.after standing pair.second is_standing) in
     let more = pairs_more P c.operations-rows.ensures.valid graph c.requires edges all i lt e at in

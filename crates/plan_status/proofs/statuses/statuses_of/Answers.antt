@@ -9,8 +9,8 @@ use Rattle.plan_status.proofs.RowKeys.{row_read}
 use Rattle.plan_status.proofs.SoFar.{one_more}
 use Rattle.plan_status.proofs.statuses.statuses_of.Goals as goal
 
-pub attribute_of-attribute-requires : goal.attribute_of-attribute-requires
-attribute_of-attribute-requires c =
+pub attribute_near-attribute-requires : goal.attribute_near-attribute-requires
+attribute_near-attribute-requires c =
     let P = c.args.contents.now in
     let rows = c.operations-rows.result.now in
     let i = c.loop-i.i in
@@ -24,7 +24,7 @@ loop-i-preserved c =
     let rows = c.operations-rows.result.now in
     let i = c.loop-i.i in
     let row : OpKey × Operation = get_or rows i c.index-rows-i.result in
-    let on = subst (λ (Q : Contents). HasAttribute Q row.1.workstation c.attribute_of-attribute.result) c.valid.ensures.contents c.attribute_of-attribute.ensures in
+    let on = subst (λ (Q : Contents). HasAttribute Q row.1.workstation c.attribute_near-attribute.result) c.valid.ensures.contents c.attribute_near-attribute.ensures in
     let at : slice_get (entries P.operations) i ≡ Some row = row_read rows (entries P.operations) c.operations-rows.ensures.rows i c.index-rows-i.result (omega (arith, c.loop-i-test.true, c.requires.size)) in
     rw c.in_ok-push.ensures.items
     (one_more (entries P.operations) (HasStatus P) i c.loop-i.statuses.items c.loop-i.invariant c.status_with.result (λ k v here.

@@ -29,8 +29,8 @@ known_there c {b} = subst (λ (Q : Contents). b ≡ takes (attribute_at Q (row_s
 pub starts_are_known-requires : goal.starts_are_known-requires
 starts_are_known-requires c = found_there (goal.at.starts_are_known-requires c).After-see
 
-pub workstation_place_of-station-requires : goal.workstation_place_of-station-requires
-workstation_place_of-station-requires c = found_there (goal.at.workstation_place_of-station-requires c).After-see
+pub workstation_place_near-station-requires : goal.workstation_place_near-station-requires
+workstation_place_near-station-requires c = found_there (goal.at.workstation_place_near-station-requires c).After-see
 
 pub returns-then-not-starts_are_known-clause-given : goal.returns-then-not-starts_are_known-clause-given
 returns-then-not-starts_are_known-clause-given c P from =
@@ -49,8 +49,8 @@ returns-clause-given c =
     let p = (goal.at.returns-clause-given c).After-see in
     let Q = c.args.shown.now.contents in
     let known = sym (known_there p c.starts_are_known.ensures) ∙ c.if-not-starts_are_known.false in
-    let place = c.workstation_place_of-station.result in
-    let station = subst (λ (R : Contents). (value : Workstation) × (slice_get (entries R.workstations) place ≡ Some ((row_seen p).1.workstation, value))) c.see.ensures.beside c.workstation_place_of-station.ensures.at in
+    let place = c.workstation_place_near-station.result in
+    let station = subst (λ (R : Contents). (value : Workstation) × (slice_get (entries R.workstations) place ≡ Some ((row_seen p).1.workstation, value))) c.see.ensures.beside c.workstation_place_near-station.ensures.at in
     let within : place < length c.args.given.now = omega (arith, c.requires.stations, slice_get_within (entries Q.workstations) place _ station.1) in
     on_ok_weaker c.retake_needs.result
     (λ retaken P from. given_anew_there P Q c.args.place c.args.marking.now c.args.given.now c.args.holdings.now.held from (row_seen p) c.see.ensures.row known
