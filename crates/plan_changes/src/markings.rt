@@ -1,20 +1,11 @@
 // Markings of some operations, noted and put back.
-ghost use Rattle.std.specs.Prelude.{◌≡◌, true, All, Some, length};
-ghost use Rattle.std.specs.FinMap.{contains_key, get};
+ghost use Rattle.std.specs.Prelude.{◌≡◌, All, length};
 ghost use Rattle.plan_records.specs.plan_model.specs.Contents.{Contents, IsInPlan};
 ghost use Rattle.plan_changes.specs.Markings.{DifferBothWays, DifferInMarks, DifferencesFollow, HoldingRemarks, MarkingRemarks, NopRemarks, OperationsStayInPlan, RemakingRemarks, WereMarked};
 
 use plan_basics::OpKey;
 use plan_moves::Marking;
-use plan_records::{OperationRecord, PlanContents};
-
-// The operation of a key that has one.
-fn known_operation<'a>(contents: &'a PlanContents, key: &OpKey) -> &'a OperationRecord
-    requires { contains_key contents.now.operations key.now ≡ true }
-    ensures { get contents.now.operations key.now ≡ Some result.now }
-{
-    contents.operation(key).unwrap()
-}
+use plan_records::PlanContents;
 
 /// Puts these markings on these operations, one for each. It takes no memory.
 pub fn put_markings(contents: &mut PlanContents, keys: &[OpKey], marks: &[Marking])
@@ -23,8 +14,7 @@ pub fn put_markings(contents: &mut PlanContents, keys: &[OpKey], marks: &[Markin
     ensures { (P : Contents) → DifferInMarks P contents.old keys.now → WereMarked P keys.now marks.now → contents.new ≡ P }
 {
     for (i, key) in keys.iter().enumerate() {
-        let operation = marks[i].put_on(known_operation(contents, key));
-        contents.set_operation(key, operation);
+        contents.set_marking(key, &marks[i]);
     }
 }
 

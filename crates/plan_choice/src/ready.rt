@@ -102,5 +102,5 @@ pub fn ready_of(
     ensures refused { IfErr result (λ r. r ≡ Refusal.Memory) }
 {
     let entries = ready_entries(alloc, contents, statuses, latest)?;
-    ReadyList::build(alloc, entries)
+    ReadyList::build(entries)
 }

@@ -38,7 +38,7 @@ fn holds_a_server(contents: &SoundContents, operation: &OperationRecord) -> bool
     requires { (o : OpKey) × (get contents.now.operations o ≡ Some operation.now) }
     ensures { result ≡ takes_server contents.now operation.now }
 {
-    starts_are_known(contents.valid(), operation) && operation.mark.holds_server()
+    operation.mark.holds_server() && starts_are_known(contents.valid(), operation)
 }
 
 // What is given out, with this much more.

@@ -11,7 +11,8 @@ use super::outcomes::outcome_of;
 use super::prepared::Prepared;
 use deletion_steps::{CountedShown as Shown, LoadedPlan, Parts};
 use plan_basics::{Moment, Refusal};
-use plan_records::Request;
+use plan_records::{Request, What};
+use plan_status::SoundContents;
 use std::alloc::Global;
 
 // What a request leads to where no plan is loaded: there was no record to look at.
@@ -29,6 +30,26 @@ fn prepare_first(
 {
     let outcome = first_outcome(alloc, clock, request, at)?;
     Ok(Prepared::of(at, outcome, 0))
+}
+
+// The same contents, in which the operation that a report or a command is of is found without a search.
+fn seeking(contents: SoundContents, what: &What) -> SoundContents
+    ensures { result ≡ contents }
+{
+    match what {
+        What::Started(key)
+        | What::Ended(key)
+        | What::Error(key, _)
+        | What::Interrupted(key)
+        | What::Unknown(key)
+        | What::Hold(key)
+        | What::Release(key)
+        | What::Nop(key)
+        | What::Unnop(key)
+        | What::Rerun(key)
+        | What::Complete(key) => contents.seeking(key),
+        _ => contents,
+    }
 }
 
 // What a request leads to in a plan that is loaded, which comes back as it was. All that works it out is shown the records one by
@@ -52,7 +73,7 @@ fn prepare_loaded(
         mut latest,
         figures,
     } = loaded.into_parts();
-    let (shown, opener) = Shown::of(contents);
+    let (shown, opener) = Shown::of(seeking(contents, &request.what));
     let (shown, figures, outcome) = outcome_of(
         alloc,
         shown,

@@ -50,3 +50,11 @@ module _ {K X : Type 0} {R : K → K → Ordering} (o : IsTotalOrder R) (exact :
 
     pub put_is : (x : X) → from_entries {R = R} (set rows i (k, x)) ≡ insert (from_entries rows) k x
     put_is x = from_set R o exact k (λ _. x) rows sorted i found.0 at ∙ sym (insert_known R o exact k x found.0 (from_entries rows) (get_at R o exact rows sorted i k found.0 at))
+
+    -- a row there that has the same key
+    module _ (row : K × X) (x : X) (puts : row ≡ (k, x)) where
+      pub row_in_order : IsStrictlySortedBy R (keys_of (set rows i row))
+      row_in_order = subst (λ (r : K × X). IsStrictlySortedBy R (keys_of (set rows i r))) (sym puts) (put_in_order x)
+
+      pub row_is : from_entries {R = R} (set rows i row) ≡ insert (from_entries rows) k x
+      row_is = ap (λ (r : K × X). from_entries {R = R} (set rows i r)) puts ∙ put_is x

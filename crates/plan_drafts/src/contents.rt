@@ -7,16 +7,18 @@ ghost use Rattle.std.specs.Map.{keys_of};
 ghost use Rattle.plan_basics.specs.Keys.{name_cmp, occurrence_cmp, operation_cmp};
 ghost use Rattle.plan_model.specs.Contents.{pair_cmp, Operation};
 ghost use Rattle.plan_model.specs.Ready.{with_mark};
+ghost use Rattle.plan_moves.specs.Markings.{with_marking};
 ghost use Rattle.plan_model.specs.declared.Occurrence.{Occurrence as OccurrenceValue};
 ghost use Rattle.plan_model.specs.workstations.specs.Workstations.{Workstation as WorkstationValue};
 
-use super::found::{Found, found_at, found_of};
+use super::found::{Found, Lately, NOTHING_MARKED, found_at, found_of};
 use super::places::{
-    known_row, known_row_near, known_workstation, known_workstation_near, row_place,
-    row_place_near, workstation_place, workstation_place_near,
+    known_row, known_row_lately, known_row_near, known_workstation, known_workstation_near,
+    row_place, row_place_lately, row_place_near, workstation_place, workstation_place_near,
 };
 use plan_basics::{OccKey, OpKey, ResName, WsName};
 use plan_model::{Mark, Occurrence, OperationRecord, Workstation};
+use plan_moves::Marking;
 use std::alloc::{AllocError, Global};
 use std::marker::Model;
 
@@ -33,6 +35,8 @@ pub struct PlanContents {
     pairs: Vec<(OpKey, OpKey)>,
     // Where the occurrence and the workstation of each operation were found, by which they are found again without a search.
     found: Vec<Found>,
+    // Where operations were last found that were marked: an operation is looked for there first.
+    lately: Lately,
 }
 
 impl Model for PlanContents {
@@ -91,6 +95,15 @@ fn mark_row(row: &mut (OpKey, OperationRecord), mark: &Mark)
     row.1.mark = *mark;
 }
 
+// The operation of a row has this marking from now on.
+fn put_marking(row: &mut (OpKey, OperationRecord), marking: &Marking)
+    ensures { row.new ≡ (row.old.0, with_marking marking.now row.old.1) }
+{
+    row.1.mark = marking.mark;
+    row.1.held = marking.held;
+    row.1.nop = marking.nop;
+}
+
 impl PlanContents {
     /// The contents of these rows.
     pub fn of_rows(
@@ -120,6 +133,7 @@ impl PlanContents {
             operations,
             pairs,
             found,
+            lately: NOTHING_MARKED,
         }
     }
 
@@ -139,6 +153,7 @@ impl PlanContents {
             operations: Vec::from_slice(alloc, &self.operations)?,
             pairs: Vec::from_slice(alloc, &self.pairs)?,
             found: Vec::from_slice(alloc, &self.found)?,
+            lately: NOTHING_MARKED,
         })
     }
 
@@ -187,7 +202,7 @@ impl PlanContents {
         ensures found { IfSome result (λ i. (value : Operation) × (slice_get (entries self.now.operations) i ≡ Some (key.now, value))) }
         ensures absent { IsNone result → get self.now.operations key.now ≡ None }
     {
-        row_place(&self.operations, key)
+        row_place_lately(&self.operations, key, self.lately)
     }
 
     /// The index of the operation of a key, if there is one. It is looked for at an index first, and no search is made where it is
@@ -213,7 +228,7 @@ impl PlanContents {
         ensures within { result < length (entries self.now.operations) }
         ensures at { (value : Operation) × (slice_get (entries self.now.operations) result ≡ Some (key.now, value)) }
     {
-        known_row(&self.operations, key)
+        known_row_lately(&self.operations, key, self.lately)
     }
 
     /// The index of the occurrence of a key that is there.
@@ -259,7 +274,7 @@ impl PlanContents {
         ensures found { IfSome result (λ op. get self.now.operations key.now ≡ Some op.now) }
         ensures absent { IsNone result → get self.now.operations key.now ≡ None }
     {
-        match row_place(&self.operations, key) {
+        match row_place_lately(&self.operations, key, self.lately) {
             Some(place) => Some(&self.operations[place].1),
             None => None,
         }
@@ -303,17 +318,42 @@ impl PlanContents {
         requires { contains_key self.old.operations key.now ≡ true }
         ensures { self.new ≡ record self.old { operations = insert self.old.operations key.now operation } }
     {
-        let place = known_row(&self.operations, key);
+        let place = known_row_lately(&self.operations, key, self.lately);
         self.operations[place] = (*key, operation);
     }
 
-    /// The operation of a key is marked so from now on, if there is one.
+    /// The same, in which an operation, if it is there, is found without a search until two others are marked.
+    pub fn seeking(self, key: &OpKey) -> PlanContents
+        ensures { result ≡ self }
+    {
+        let mut same = self;
+        if let Some(place) = same.operation_place(key) {
+            same.lately = same.lately.then(place);
+        }
+        same
+    }
+
+    /// The operation of a key is marked so from now on, if there is one. No search is made where it is one of
+    /// the last two that were marked.
     pub fn set_mark(&mut self, key: &OpKey, mark: &Mark)
         ensures there { (op : Operation) → get self.old.operations key.now ≡ Some op → self.new ≡ record self.old { operations = insert self.old.operations key.now (with_mark mark.now op) } }
         ensures absent { get self.old.operations key.now ≡ None → self.new ≡ self.old }
     {
-        if let Some(place) = row_place(&self.operations, key) {
+        if let Some(place) = row_place_lately(&self.operations, key, self.lately) {
             mark_row(&mut self.operations[place], mark);
+            self.lately = self.lately.then(place);
+        }
+    }
+
+    /// The operation of a key has this marking from now on, if there is one. No search is made where it is one of
+    /// the last two that were marked.
+    pub fn set_marking(&mut self, key: &OpKey, marking: &Marking)
+        ensures there { (op : Operation) → get self.old.operations key.now ≡ Some op → self.new ≡ record self.old { operations = insert self.old.operations key.now (with_marking marking.now op) } }
+        ensures absent { get self.old.operations key.now ≡ None → self.new ≡ self.old }
+    {
+        if let Some(place) = row_place_lately(&self.operations, key, self.lately) {
+            put_marking(&mut self.operations[place], marking);
+            self.lately = self.lately.then(place);
         }
     }
 

@@ -16,6 +16,29 @@ pub struct Found {
     pub workstation: usize,
 }
 
+/// Where an operation was last found that was marked, and where the one before it was.
+#[derive(Clone, Copy, Debug)]
+pub struct Lately {
+    pub last: usize,
+    pub before: usize,
+}
+
+/// Nothing was marked yet.
+pub const NOTHING_MARKED: Lately = Lately { last: 0, before: 0 };
+
+impl Lately {
+    /// The same, once an operation was found at an index.
+    pub fn then(self, place: usize) -> Lately {
+        if place == self.last {
+            return self;
+        }
+        Lately {
+            last: place,
+            before: self.last,
+        }
+    }
+}
+
 /// Nothing was found yet.
 const NOTHING_FOUND: Found = Found {
     occurrence: 0,

@@ -8,6 +8,7 @@ ghost use Rattle.plan_model.specs.Valid.{IsAcyclic};
 ghost use Rattle.plan_drafts.specs.PlanGraphs.{AreAmong, AreAtPlaces, IsGraphOf, JoinOperations};
 
 use super::contents::PlanContents;
+use super::hints::Hints;
 use super::in_order::are_pairs_acyclic;
 use super::key_order::keys;
 use plan_basics::OpKey;
@@ -33,8 +34,16 @@ fn place_near(keys: &[OpKey], near: usize, key: &OpKey) -> Option<usize>
     searched_place(keys, key)
 }
 
+// The index of a key among keys in order: where a hint says, or by a search.
+fn place_by(keys: &[OpKey], hints: &Hints, key: &OpKey) -> Option<usize>
+    requires { IsStrictlySortedBy operation_cmp keys.now }
+    ensures { MatchOption result (¬ Contains keys.now key.now) (λ i. slice_get keys.now i ≡ Some key.now) }
+{
+    place_near(keys, hints.near(key), key)
+}
+
 // An edge for each pair, from the index of the predecessor to that of the successor; `None` where an end isn't among the keys.
-// Pairs that follow one another mostly have one predecessor.
+// Pairs that follow one another mostly have one predecessor; a successor is looked for where a hint says first.
 fn edges_among(
     alloc: Global,
     keys: &[OpKey],
@@ -43,13 +52,14 @@ fn edges_among(
     requires { IsStrictlySortedBy operation_cmp keys.now }
     ensures { IfOk result (λ found. MatchOption found (¬ AreAmong keys.now pairs.now) (λ edges. AreAtPlaces keys.now pairs.now edges.items)) }
 {
+    let hints = Hints::of(alloc, keys)?;
     let mut edges = Vec::with_capacity(alloc, pairs.len())?;
     let mut near = 0;
     for pair in pairs {
         let Some(before) = place_near(keys, near, &pair.0) else {
             return Ok(None);
         };
-        let Some(after) = searched_place(keys, &pair.1) else {
+        let Some(after) = place_by(keys, &hints, &pair.1) else {
             return Ok(None);
         };
         edges.push((before, after))?;
@@ -62,7 +72,7 @@ fn edges_among(
 /// pairs returns to its start.
 ///
 /// A node is the index of a key. It is an error where a growth was refused. It takes time linear in keys and pairs,
-/// beside a search among the keys for each successor, and for each predecessor where it isn't that of the pair before.
+/// beside a search among the keys for each end where no hint is right.
 pub fn graph_among(
     alloc: Global,
     keys: &[OpKey],
@@ -86,7 +96,7 @@ pub fn graph_among(
 /// The graph of these pairs between operations of these keys; `None` where some path of pairs returns to its start.
 ///
 /// A node is the index of a key. It is an error where a growth was refused. It takes time linear in keys and pairs,
-/// beside a search among the keys for each end.
+/// beside a search among the keys for each end where no hint is right.
 pub fn graph_of(
     alloc: Global,
     keys: &[OpKey],

@@ -12,6 +12,7 @@ mod contents;
 mod drafts;
 mod found;
 mod graphs;
+mod hints;
 mod in_order;
 mod intervals;
 mod key_order;

@@ -1,15 +1,15 @@
 -- Plain numerals are just the texts of numbers.
 use Rattle.std.proofs.Common.{◌≡◌, ℕ, ◌<◌, ◌^◌, List, suc, zero, length, get_or, sym, subst, ap, lit<, arith}
-use Rattle.std.proofs.Common.{◌≤◌, Result, Ok, Err, MatchOption}
-use Rattle.std.specs.Result.{result_ok}
+use Rattle.std.proofs.Common.{◌≤◌, ◌+◌, ◌*◌, ◌-◌, ◌∙◌, [], ◌∷◌, drop}
 use Rattle.std.specs.Fmt.{decimal}
-use Rattle.std.specs.Str.{IsUtf8}
 use Rattle.std.specs.List.{All}
 use Rattle.std.proofs.lemmas.List.Elements.{All-nil, All-cons, All-head, All-tail}
-use Rattle.std.specs.Str.Parse.{digits_value, ParsesUnsigned}
-use Rattle.std.proofs.lemmas.Str.Parse.{IsNumeralModel, IsDigitsTest, numerals_by_value, parse_digits}
-use Rattle.std.proofs.lemmas.Str.{IsUtf8-from_ascii}
-use Rattle.std.proofs.lemmas.Fmt.{IsAscii-from_digits, digits_decimal, digits_value-decimal, decimal_nonempty, first_decimal, decimal-digits_value, decimal_digit}
+use Rattle.std.specs.Char.{digit_value}
+use Rattle.std.specs.Str.Parse.{digits_value, digits_value_after}
+use Rattle.std.proofs.lemmas.Bool.Decides.{nat_tests}
+use Rattle.std.proofs.lemmas.List.{drop_more}
+use Rattle.std.proofs.lemmas.Str.Parse.{IsNumeralModel, IsDigitsTest, numerals_by_value}
+use Rattle.std.proofs.lemmas.Fmt.{digits_decimal, digits_value-decimal, decimal_nonempty, first_decimal, decimal-digits_value, decimal_digit}
 use Rattle.plan_items.specs.Numerals.{IsDigit, IsPlainNumeral}
 
 tells_digits : IsDigitsTest (All IsDigit)
@@ -35,14 +35,17 @@ plain_decimal t n h e = subst (λ (u : List ℕ). IsPlainNumeral u × (digits_va
 pub decimal_of_plain : (t : List ℕ) → IsPlainNumeral t → digits_value 10 t < 2 ^ 64 → t ≡ decimal (digits_value 10 t)
 decimal_of_plain t h small = sym (decimal-digits_value own t h.digits h.some h.no_zero_before small)
 
--- digits are text
-pub text_of_plain : (t : List ℕ) → IsPlainNumeral t → IsUtf8 t
-text_of_plain t h = IsUtf8-from_ascii t (IsAscii-from_digits t (own.to t h.digits))
+-- what digits write is no less than what those before them do
+pub no_less : (n : ℕ) (ds : List ℕ) → n ≤ digits_value_after 10 n ds
+no_less n [] = omega arith
+no_less n (d ∷ ds) = let more = no_less (n * 10 + digit_value d) ds in omega (arith, more)
 
-not_below : (m n : ℕ) → ¬ (m < n) → n ≤ m
-not_below m n h = omega arith
+-- a digit's value
+pub value_of_digit : (d : ℕ) → IsDigit d → digit_value d ≡ d - 48
+value_of_digit d is = grind (arith, nat_tests, is.0, is.1)
 
--- what `parse` reads of a plain numeral
-pub parsed : {E : Type 0} (t : List ℕ) (r : Result ℕ E) → IsPlainNumeral t → ParsesUnsigned 16 10 t r → MatchOption (result_ok r) (65536 ≤ digits_value 10 t) (λ n. n ≡ digits_value 10 t)
-parsed {E = E} t (Ok x) p h = (parse_digits own {E = E} 16 t (Ok x) h p.digits).1
-parsed {E = E} t (Err e) p h = let k = parse_digits own {E = E} 16 t (Err e) h p.digits in not_below (digits_value 10 t) 65536 (λ l. k (p.some, l))
+-- one digit more
+pub digit_more : (ds : List ℕ) (i n d : ℕ) → i < length ds → All IsDigit ds → d ≡ get_or ds i d → digits_value_after 10 n (drop i ds) ≡ digits_value_after 10 (n * 10 + (d - 48)) (drop (i + 1) ds)
+digit_more ds i n d within all is =
+    ap (digits_value_after 10 n) (drop_more ds i d within)
+    ∙ ap (λ v. digits_value_after 10 (n * 10 + v) (drop (i + 1) ds)) (value_of_digit (get_or ds i d) (all i d within) ∙ ap (λ x. x - 48) (sym is))

@@ -27,10 +27,14 @@ fn value_of_digits(digits: &[u8]) -> Option<u16>
     requires { IsPlainNumeral digits.now }
     ensures { MatchOption result (2 ^ 16 ≤ digits_value 10 digits.now) (λ n. n ≡ digits_value 10 digits.now) }
 {
-    let Ok(text) = str::from_utf8(digits) else {
-        return None;
-    };
-    text.parse().ok()
+    let mut value: u32 = 0;
+    for digit in digits {
+        value = value * 10 + u32::from(*digit - b'0');
+        if value > 65_535 {
+            return None;
+        }
+    }
+    Some(value as u16)
 }
 
 // A whole number of at most `most`: decimal digits without sign and without leading zeros.

@@ -66,6 +66,14 @@ impl SoundContents {
         self.contents.into_rows()
     }
 
+    /// The same, in which an operation, if it is there, is found without a search until two others are marked.
+    pub fn seeking(self, key: &OpKey) -> SoundContents
+        ensures { result ≡ self }
+    {
+        let contents = self.into_rows();
+        SoundContents::of(contents.seeking(key))
+    }
+
     /// The same, as contents of which no more than that they are valid is known.
     pub fn valid(&self) -> &ValidContents
         ensures contents { result.now ≡ self.now }

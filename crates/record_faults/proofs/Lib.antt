@@ -15,3 +15,4 @@ pub mod Loading
 pub mod Circling
 pub mod Whole
 pub mod Returning
+pub mod PlainTexts

@@ -93,7 +93,7 @@ fn built_of(rt: &impl Abort, alloc: Global, rows: &[ReadyEntry], places: &[usize
     for place in places {
         add(rt, &mut entries, at(rt, rows, *place));
     }
-    ReadyList::build(alloc, entries).expect(rt, "a list")
+    ReadyList::build(entries).expect(rt, "a list")
 }
 
 const BY_FIVE_CRITERIA: [Row; 6] = [

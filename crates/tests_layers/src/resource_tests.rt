@@ -176,16 +176,28 @@ const SHARED: [Held; 5] = [
 // Special resources, and the numbers of their holders.
 const HOLDERS: [(&[u8], &[u8]); 3] = [(FILE, &[10, 20, 30]), (COPY, &[8, 9]), (b"TAPE", &[])];
 
-#[test]
-fn holders_stand_in_key_order(rt: HostRuntime) {
-    let holdings = holdings_of(&rt, rt.alloc(), &SHARED);
+// Holders are these.
+fn are_holders(rt: &impl Abort, holdings: &Holdings) {
     for (name, numbers) in HOLDERS {
-        let holders = holdings.holders(&resource(&rt, name));
+        let holders = holdings.holders(&resource(rt, name));
         assert_eq!(rt; holders.len(), numbers.len());
         for (holder, number) in holders.iter().zip(numbers) {
             assert_eq!(rt; holder.operation.number, *number);
         }
     }
+}
+
+#[test]
+fn holders_stand_in_key_order(rt: HostRuntime) {
+    are_holders(&rt, &holdings_of(&rt, rt.alloc(), &SHARED));
+}
+
+#[test]
+fn a_copy_holds_the_same(rt: HostRuntime) {
+    let holdings = holdings_of(&rt, rt.alloc(), &SHARED);
+    let copy = holdings.try_clone().expect(&rt, "a copy");
+    are_holders(&rt, &copy);
+    assert!(rt; copy.room() >= 2 * MOST_NEEDS);
 }
 
 #[test]

@@ -6,6 +6,6 @@ pub returns-in_default : goal.returns-in_default
 returns-in_default c = λ among.
     (rw c.in_default.is at c.place_near.ensures) (subst (λ (x : OpKey × OpKey). Contains c.args.keys.now x.0) (sym c.pair-item.is) (among c.loop-pair.pair-index c.pair-item.result c.loop-pair-test.true).0)
 
-pub returns-in_default-searched_place : goal.returns-in_default-searched_place
-returns-in_default-searched_place c = λ among.
-    (rw c.in_default-searched_place.is at c.searched_place.ensures) (subst (λ (x : OpKey × OpKey). Contains c.args.keys.now x.1) (sym c.pair-item.is) (among c.loop-pair.pair-index c.pair-item.result c.loop-pair-test.true).1)
+pub returns-in_default-place_by : goal.returns-in_default-place_by
+returns-in_default-place_by c = λ among.
+    (rw c.in_default-place_by.is at c.place_by.ensures) (subst (λ (x : OpKey × OpKey). Contains c.args.keys.now x.1) (sym c.pair-item.is) (among c.loop-pair.pair-index c.pair-item.result c.loop-pair-test.true).1)

@@ -1,8 +1,16 @@
-use Rattle.plan_items.proofs.NumeralLaws.{text_of_plain, parsed}
+use Rattle.std.proofs.Common.{arith, ◌+◌, ◌-◌, ◌*◌, drop, get_or}
+use Rattle.std.proofs.lemmas.List.{get_or_default}
+use Rattle.plan_items.proofs.NumeralLaws.{digit_more, no_less}
 use Rattle.plan_items.proofs.numbers.value_of_digits.Goals as goal
 
-pub returns-in_default : goal.returns-in_default
-returns-in_default c = absurd (c.in_default.ensures.cases.0 (text_of_plain c.args.digits.now c.requires))
-
-pub returns : goal.returns
-returns c = rw c.ok.ensures.value (parsed c.args.digits.now c.parse.result c.requires (rw c.in-Ok.ensures.cases.0 at c.parse.ensures.value.0))
+pub returns-then-value-gt65535 : goal.returns-then-value-gt65535
+returns-then-value-gt65535 c =
+    let ds = c.args.digits.now in
+    let i = c.loop-digit.digit-index in
+    let n = c.loop-digit.value in
+    let d = get_or ds i 0 in
+    let h = c.loop-digit.invariant in
+    let step = digit_more ds i n d c.loop-digit-test.true c.requires.digits (get_or_default ds i 0 d c.loop-digit-test.true) in
+    let least = no_less (n * 10 + (d - 48)) (drop (i + 1) ds) in
+    let digit = c.requires.digits i 0 c.loop-digit-test.true in
+    omega (arith, h.1, step, least, digit.0, c.from.ensures, c.if-value-gt65535.true)

@@ -1,4 +1,4 @@
-use Rattle.plan_items.proofs.NumeralLaws.{text_of_plain, parsed}
+use Rattle.record_faults.proofs.PlainTexts.{text_of_plain, parsed}
 use Rattle.record_faults.proofs.fields.plain_value.Goals as goal
 
 pub returns-in-Err : goal.returns-in-Err

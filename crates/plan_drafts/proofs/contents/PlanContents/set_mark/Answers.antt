@@ -1,18 +1,15 @@
-use Rattle.std.proofs.Common.{◌≡◌, ◌∙◌, sym, ap, subst, Some, set, slice_get}
+use Rattle.std.proofs.Common.{◌≡◌, ◌∙◌, sym, ap, Some, slice_get}
 use Rattle.std.specs.FinMap.{get, insert}
-use Rattle.std.specs.Map.{keys_of}
-use Rattle.std.specs.List.Sorted.{IsStrictlySortedBy}
-use Rattle.std.specs.Vec.{with_item}
 use Rattle.std.proofs.lemmas.Option.{same_Some, none-some}
-use Rattle.plan_basics.specs.Keys.{operation_cmp, operation_cmp_total, operation_cmp-IsAntisymmetric}
+use Rattle.plan_basics.specs.Keys.{operation_cmp_total, operation_cmp-IsAntisymmetric}
 use Rattle.plan_basics.specs.declared.keys.OpKey.{OpKey}
 use Rattle.plan_model.specs.Contents.{Contents, Operation}
 use Rattle.plan_model.specs.Ready.{with_mark}
 use Rattle.plan_drafts.specs.Contents.{held_in}
-use Rattle.plan_drafts.proofs.Held.{looked_up, put_in_order, put_is, row_read}
+use Rattle.plan_drafts.proofs.Held.{looked_up, row_in_order, row_is, row_read}
 use Rattle.plan_drafts.proofs.contents.PlanContents.set_mark.Goals as goal
 
-module _ (c : goal.After-self-1) where
+module _ (c : goal.After-self-in-Some-1) where
   -- the row that is there
   found : (op : Operation) × (slice_get c.deref.result.now c.in-Some.place ≡ Some (c.args.key.now, op))
   found = c.in-Some.ensures.found
@@ -34,17 +31,15 @@ invariant_of-self c = record {
   workstations = c.self.invariant.workstations;
   resources = c.self.invariant.resources;
   occurrences = c.self.invariant.occurrences;
-  operations = subst (λ (row : OpKey × Operation). IsStrictlySortedBy operation_cmp (keys_of (set c.self.inside.operations.items c.in-Some.place row))) (sym (put c))
-      (put_in_order operation_cmp_total operation_cmp-IsAntisymmetric c.deref.result.now c.self.inside.operations.items c.deref.ensures.value c.args.self.now.operations (ap (λ v. v.operations) c.self.view_is) c.self.invariant.operations c.args.key.now c.in-Some.place (found c) (with_mark c.args.mark.now (found c).0));
+  operations = row_in_order operation_cmp_total operation_cmp-IsAntisymmetric c.deref.result.now c.self.inside.operations.items c.deref.ensures.value c.args.self.now.operations (ap (λ v. v.operations) c.self.view_is) c.self.invariant.operations c.args.key.now c.in-Some.place (found c) c.mark_row.new.row (with_mark c.args.mark.now (found c).0) (put c);
   pairs = c.self.invariant.pairs;
 }
 
 pub returns-in-Some-clause-there : goal.returns-in-Some-clause-there
 returns-in-Some-clause-there c op is =
     let operation = with_mark c.args.mark.now (found c).0 in
-    ap (λ (row : OpKey × Operation). held_in (record c.self.inside { operations = with_item c.self.inside.operations c.in-Some.place row })) (put c)
-    ∙ ap (λ m. record (held_in c.self.inside) { operations = m })
-    (put_is operation_cmp_total operation_cmp-IsAntisymmetric c.deref.result.now c.self.inside.operations.items c.deref.ensures.value c.args.self.now.operations (ap (λ v. v.operations) c.self.view_is) c.self.invariant.operations c.args.key.now c.in-Some.place (found c) operation)
+    ap (λ m. record (held_in c.self.inside) { operations = m })
+    (row_is operation_cmp_total operation_cmp-IsAntisymmetric c.deref.result.now c.self.inside.operations.items c.deref.ensures.value c.args.self.now.operations (ap (λ v. v.operations) c.self.view_is) c.self.invariant.operations c.args.key.now c.in-Some.place (found c) c.mark_row.new.row operation (put c))
     ∙ ap (λ (v : Contents). record v { operations = insert v.operations c.args.key.now operation }) c.self.view_is
     ∙ ap (λ (x : Operation). record c.args.self.now { operations = insert c.args.self.now.operations c.args.key.now (with_mark c.args.mark.now x) }) (same_Some (found c).0 op (sym (there c) ∙ is))
 
