@@ -10,8 +10,6 @@ mod reading;
 mod replies;
 mod routes;
 mod statuses;
-#[cfg(test)]
-mod tests;
 
 pub use asking::{
     Asked, ExchangeFault, MOST_BODY_BYTES, MOST_FIELDS, MOST_HEAD_BYTES, Rejection, read_exchange,

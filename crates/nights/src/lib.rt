@@ -1,29 +1,58 @@
 //! Worked nights, as texts that read like an operator's log: requests in turn, each with its answer, and what the plan
-//! shows afterwards. They are played by whatever answers requests (`Player`): a plan in memory, or a desk. Only crates of
-//! tests stand on this one.
+//! shows afterwards. They are played by whatever answers requests (`Player`): a plan in memory here, in three ways, or a
+//! desk. And which rows requests change, plans from rows, how many records requests look at, why operations don't go on, and
+//! calls without memory. Only crates of tests stand on this one.
 #![tactic(auto)]
 
 mod additions;
+mod afresh;
+mod answers;
 mod beginnings;
+mod chains;
 mod changes;
 mod commands;
 mod crowds;
 mod days;
+mod growths;
+mod kept_rows;
 mod latest;
 mod looks;
+mod memory;
 mod names;
 mod pairs;
 mod parts;
+mod players;
 mod playing;
+mod plays;
+mod reasons;
 mod reports;
 mod requests;
 mod resources;
+mod rows;
 mod sections;
+mod small_day;
+mod steps;
+mod taking;
+mod told;
 mod topics;
 mod words;
 
-pub use changes::are_changes;
-pub use looks::{is_like, is_ready_alike, is_seen};
-pub use playing::{Deviation, Player, after, pass};
+pub use chains::looks_at_a_plan_of_chains;
+pub use growths::{imports_are_refused_growth_by_growth, loads_are_refused_growth_by_growth};
+pub use memory::{
+    a_draft_without_memory_is_refused, a_load_without_memory_changes_nothing,
+    a_run_without_memory_changes_nothing, an_addition_without_memory_is_refused,
+    an_import_without_memory_answers_so,
+};
+pub use playing::{Deviation, Player, after};
+pub use plays::{
+    kept_as_worked_out_afresh, nights_at_once, nights_one_by_one, plans_as_full_as_may_be,
+};
 pub use requests::request;
+pub use rows::{
+    columns_that_follow_are_not_believed, row_given_twice_is_of_no_plan,
+    rows_in_another_order_are_the_same_plan,
+};
+pub use steps::rows_that_a_request_changes;
+pub use told::{nothing_of_what_is_not_in_the_plan, reasons_and_roots};
 pub use topics::play_all;

@@ -40,8 +40,10 @@ pub struct Deviation<'a> {
 fn requests<'a>(alloc: Global, turns: &[&'a str]) -> Result<Vec<Request>, &'a str> {
     let mut all = Vec::new(alloc);
     for turn in turns {
-        let request = request(alloc, turn).ok_or(*turn)?;
-        all.push(request).ok().ok_or(*turn)?;
+        match request(alloc, turn) {
+            Some(request) => all.push(request).ok().ok_or(*turn)?,
+            None => return Err(turn),
+        }
     }
     Ok(all)
 }
@@ -59,22 +61,33 @@ fn are_told<'a>(replies: &[Reply], turns: &[&'a str]) -> Result<(), &'a str> {
     Ok(())
 }
 
-// The player after the turns; or the turn that is answered otherwise.
-fn play_turns<'a, P: Player>(alloc: Global, player: P, turns: &[&'a str]) -> Result<P, &'a str> {
-    let requests = requests(alloc, turns)?;
-    match player.play(&requests) {
-        Ok((player, replies)) => {
-            are_told(&replies, turns)?;
-            Ok(player)
-        }
+// The player after these requests; or the turn that is answered otherwise.
+fn play_requests<'a, P: Player>(
+    player: P,
+    requests: &[Request],
+    turns: &[&'a str],
+) -> Result<P, &'a str> {
+    match player.play(requests) {
+        Ok((player, replies)) => match are_told(&replies, turns) {
+            Ok(()) => Ok(player),
+            Err(turn) => Err(turn),
+        },
         Err(refusal) => Err(refusal.name()),
     }
 }
 
-// One at which nothing is loaded.
-fn begin<P: Player>(alloc: Global) -> Result<P, &'static str> {
+// The player after the turns; or the turn that is answered otherwise.
+fn play_turns<'a, P: Player>(alloc: Global, player: P, turns: &[&'a str]) -> Result<P, &'a str> {
+    match requests(alloc, turns) {
+        Ok(requests) => play_requests(player, &requests, turns),
+        Err(turn) => Err(turn),
+    }
+}
+
+// One at which nothing is loaded, and then the turns are played.
+fn begin<'a, P: Player>(alloc: Global, turns: &[&'a str]) -> Result<P, &'a str> {
     match P::begin(alloc) {
-        Ok(player) => Ok(player),
+        Ok(player) => play_turns(alloc, player, turns),
         Err(refusal) => Err(refusal.name()),
     }
 }
@@ -115,63 +128,93 @@ pub fn after<'a, P: Player>(alloc: Global, name: &'a str, more: &[&'a str]) -> R
     let mut turns = Vec::new(alloc);
     add_turns(&mut turns, beginning(name)?)?;
     turns.extend_from_slice(more).ok().ok_or("no memory")?;
-    play_turns(alloc, begin(alloc)?, &turns)
+    begin(alloc, &turns)
 }
 
-// The player's plan shows what a line says; or else the line.
-fn look<'a, P: Player>(
+/// The same, after turns that stand a line each.
+pub fn after_lines<'a, P: Player>(
     alloc: Global,
-    player: &P,
+    name: &'a str,
+    lines: &'a str,
+) -> Result<P, &'a str> {
+    let mut more = Vec::new(alloc);
+    add_turns(&mut more, lines)?;
+    after(alloc, name, &more)
+}
+
+// Whether a plan is like that after a beginning.
+fn is_like_after<P: Player>(alloc: Global, plan: &Plan, name: &str) -> Option<bool> {
+    match after::<P>(alloc, name, &[]) {
+        Ok(other) => is_like(plan, other.plan()),
+        Err(_) => None,
+    }
+}
+
+// Whether the plan shows what a line says.
+fn look<P: Player>(alloc: Global, plan: &Plan, keys: &str, line: &str) -> Option<bool> {
+    match line.strip_prefix("like ") {
+        Some(name) => is_like_after::<P>(alloc, plan, name),
+        None => is_seen(plan, keys, line),
+    }
+}
+
+// The player, if its plan shows what a line says; or else the line.
+fn looked<'a, P: Player>(
+    alloc: Global,
+    player: P,
     keys: &str,
     line: &'a str,
-) -> Result<(), &'a str> {
-    let is_so = match line.strip_prefix("like ") {
-        Some(name) => {
-            let other: P = after(alloc, name, &[])?;
-            is_like(player.plan(), other.plan())
-        }
-        None => is_seen(player.plan(), keys, line),
-    };
-    if is_so == Some(true) {
-        Ok(())
+) -> Result<P, &'a str> {
+    if look::<P>(alloc, player.plan(), keys, line) == Some(true) {
+        Ok(player)
     } else {
         Err(line)
     }
 }
 
-// The player after a line of a night. A turn is kept until the next look, before which all that are kept are made.
-fn after_line<'a, P: Player>(
+// The player after the turns, and a look at it.
+fn after_look<'a, P: Player>(
     alloc: Global,
     player: P,
-    kept: &mut Vec<&'a str>,
+    turns: &[&'a str],
     keys: &str,
     line: &'a str,
 ) -> Result<P, &'a str> {
-    if line.contains('|') {
-        kept.push(line).ok().ok_or(line)?;
-        return Ok(player);
+    match play_turns(alloc, player, turns) {
+        Ok(player) => looked(alloc, player, keys, line),
+        Err(line) => Err(line),
     }
-    if line.starts_with("keys ") {
-        return Ok(player);
-    }
-    let player = play_turns(alloc, player, kept)?;
-    kept.clear();
-    look(alloc, &player, keys, line)?;
-    Ok(player)
 }
 
-// Plays a night after a beginning, with a look at its end; or else the line at which it goes otherwise.
-fn play<'a, P: Player>(alloc: Global, before: &'a str, night: &'a str) -> Result<(), &'a str> {
-    let keys = keys_of(night).or(keys_of(beginning(before)?)).unwrap_or("");
-    let mut player: P = after(alloc, before, &[])?;
+// The player after the looks of a night, before each of which the turns between are made; and no turns are left.
+fn after_looks<'a, P: Player>(
+    alloc: Global,
+    mut player: P,
+    keys: &str,
+    night: &'a str,
+) -> Result<(), &'a str> {
     let mut kept = Vec::new(alloc);
     for line in night.lines() {
-        player = after_line(alloc, player, &mut kept, keys, line)?;
+        if line.contains('|') {
+            kept.push(line).ok().ok_or(line)?;
+        } else if !line.starts_with("keys ") {
+            player = after_look(alloc, player, &kept, keys, line)?;
+            kept.clear();
+        }
     }
     if kept.is_empty() {
         Ok(())
     } else {
         Err("no look at the end")
+    }
+}
+
+// Plays a night after a beginning, with a look at its end; or else the line at which it goes otherwise.
+fn play<'a, P: Player>(alloc: Global, before: &'a str, night: &'a str) -> Result<(), &'a str> {
+    let keys = keys_of(night).or(keys_of(beginning(before)?)).unwrap_or("");
+    match after::<P>(alloc, before, &[]) {
+        Ok(player) => after_looks(alloc, player, keys, night),
+        Err(line) => Err(line),
     }
 }
 

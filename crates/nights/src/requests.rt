@@ -24,11 +24,8 @@ pub fn request(alloc: Global, turn: &str) -> Option<Request> {
 fn what(alloc: Global, word: &str, rest: &str) -> Option<What> {
     match word {
         "tick" => tick(rest),
-        "load" => load(alloc, &joined(alloc, rest)?),
-        "load-crowd" => load(alloc, &crowd(alloc, rest.parse().ok()?).ok()?),
-        "load-chains" => load(alloc, &chains(alloc).ok()?),
-        "load-filled" => load(alloc, &filled(joined(alloc, rest)?).ok()?),
-        "add" => add(alloc, &joined(alloc, rest)?),
+        "load" | "load-crowd" | "load-chains" | "load-filled" => load(alloc, word, rest),
+        "add" => add(alloc, rest),
         "open" => open(alloc, rest),
         "open-times" => open_times(alloc, rest),
         "away" => Some(What::SetAvailable(resource(rest)?, false)),
@@ -48,24 +45,62 @@ fn tick(rest: &str) -> Option<What> {
     }
 }
 
-// The plan of a text is loaded. Something is wrong with the text exactly where it denotes none.
-fn load(alloc: Global, text: &str) -> Option<What> {
-    let told = faults_of_text(alloc, text.as_bytes()).ok()?;
-    let draft = read_plan(alloc, &mut Watched::new(text.as_bytes())).ok()?;
-    if told.faults.is_empty() != draft.is_some() {
-        return None;
+// The text that is loaded.
+fn text_of(alloc: Global, word: &str, rest: &str) -> Option<String> {
+    match word {
+        "load" => joined(alloc, rest),
+        "load-crowd" => crowd(alloc, rest.parse().ok()?).ok(),
+        "load-chains" => chains(alloc).ok(),
+        _ => filled(joined(alloc, rest)?).ok(),
     }
-    Some(What::Load(draft))
+}
+
+fn load(alloc: Global, word: &str, rest: &str) -> Option<What> {
+    match text_of(alloc, word, rest) {
+        Some(text) => load_text(alloc, text.as_bytes()),
+        None => None,
+    }
+}
+
+// Whether nothing is wrong with the text of a plan.
+fn is_faultless(alloc: Global, text: &[u8]) -> Option<bool> {
+    match faults_of_text(alloc, text) {
+        Ok(told) => Some(told.faults.is_empty()),
+        Err(_) => None,
+    }
+}
+
+// The plan of a text is loaded. Something is wrong with the text exactly where it denotes none.
+fn load_text(alloc: Global, text: &[u8]) -> Option<What> {
+    let is_faultless = is_faultless(alloc, text)?;
+    match read_plan(alloc, &mut Watched::new(text)) {
+        Ok(draft) if draft.is_some() == is_faultless => Some(What::Load(draft)),
+        _ => None,
+    }
+}
+
+fn add(alloc: Global, rest: &str) -> Option<What> {
+    match joined(alloc, rest) {
+        Some(text) => add_text(alloc, text.as_bytes()),
+        None => None,
+    }
+}
+
+// Whether nothing is wrong with the text of an addition.
+fn is_faultless_addition(alloc: Global, text: &[u8]) -> Option<bool> {
+    match faults_of_addition_text(alloc, text) {
+        Ok(told) => Some(told.faults.is_empty()),
+        Err(_) => None,
+    }
 }
 
 // The occurrence of a text is added. Something is wrong with the text exactly where it denotes none.
-fn add(alloc: Global, text: &str) -> Option<What> {
-    let told = faults_of_addition_text(alloc, text.as_bytes()).ok()?;
-    let addition = read_occurrence(alloc, &mut Watched::new(text.as_bytes())).ok()?;
-    if told.faults.is_empty() != addition.is_some() {
-        return None;
+fn add_text(alloc: Global, text: &[u8]) -> Option<What> {
+    let is_faultless = is_faultless_addition(alloc, text)?;
+    match read_occurrence(alloc, &mut Watched::new(text)) {
+        Ok(addition) if addition.is_some() == is_faultless => Some(What::AddOccurrence(addition)),
+        _ => None,
     }
-    Some(What::AddOccurrence(addition))
 }
 
 // What is asked of one operation.

@@ -253,6 +253,3 @@ pub fn read_occurrence<R: Read>(
         Err(_) => Err(ImportFault::Memory),
     }
 }
-
-#[cfg(test)]
-mod tests;

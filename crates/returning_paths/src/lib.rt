@@ -5,8 +5,6 @@ ghost use Rattle.std.specs.Prelude.{◌≡◌, ◌<◌, All, IfOk, IfSome, Match
 ghost use Rattle.returning_paths.specs.Returns.{NoneReturns, IsFirstToReturn, IsReturn};
 
 mod first;
-#[cfg(test)]
-mod tests;
 mod way;
 
 use first::{first_to_return, graph_of};

@@ -9,8 +9,6 @@ ghost use Rattle.row_differences.specs.Differences.{AreDifferences, HaveOneKey};
 ghost use Rattle.row_differences.specs.Fronts.{IsFirst};
 
 mod rows;
-#[cfg(test)]
-mod tests;
 
 pub use rows::{KeyedRows, push_made};
 use std::alloc::{AllocError, Global};

@@ -1,15 +1,30 @@
 //! Sessions: runs of the program's commands over the files of a folder, and connections to a desk, with what comes of
-//! them. For tests alone; a test that plays one names neither the commands nor a desk, whose contracts take the prover
-//! long.
+//! them. For the crate of tests alone: each public function plays one matter, and its error is the line or the row that
+//! goes otherwise.
 #![tactic(auto)]
 
+mod answers;
 mod connections;
+mod faults;
+mod files;
+mod folders;
+mod helps;
+mod plays;
 mod runs;
+mod scripts;
+mod serving;
 mod streams;
 
-pub use connections::answers_of;
-pub use runs::{plays_so, told_by};
-pub use streams::{ends_without_output, ends_without_streams};
+pub use answers::texts_and_their_answers;
+pub use helps::each_command_tells_its_help;
+pub use plays::{
+    databases_without_a_desk, empty_desks_take_a_load, faults_are_told, loaded_desks_are_opened,
+    other_databases_are_told_apart, samples_of_reports, sessions,
+};
+pub use serving::{
+    a_silent_client_is_let_go, ports_that_are_not_had, three_clients_are_served_in_turn,
+};
+pub use streams::faults_of_the_streams;
 
 /// What a session fails for where it is no difference.
-const FAILED: &str = "no memory, or a file or stream of the test failed";
+const FAILED: &str = "no memory, or a file or stream of the play failed";

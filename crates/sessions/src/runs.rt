@@ -1,5 +1,6 @@
 // Runs: what goes to both streams, and the exit status.
 use super::FAILED;
+use super::folders::{is_absent, removed, session_folder};
 use desk_commands::desk_run;
 use plan_basics::Watched;
 use sqlite::Connection;
@@ -79,14 +80,15 @@ fn play_line(rt: &HostRuntime, folder: &PathBuf, line: &str, told: &mut String) 
             change(rt, folder, statements)?;
             write!(told, "{line}\n").ok()
         }
+        Some(("-", name)) if is_absent(rt, folder, name)? => write!(told, "{line}\n").ok(),
         Some(("#", _)) => write!(told, "{line}\n").ok(),
         _ => Some(()),
     }
 }
 
 /// Plays a session in a folder, and holds what comes of it to what the session tells: `$` stands before the words of a
-/// run, `%` before a change by another program, `#` before what the next run shows. An error is the first line that
-/// isn't told so.
+/// run, `%` before a change by another program, `-` before the name of a file that isn't there, `#` before what the next
+/// run shows. An error is the first line that isn't told so.
 pub fn plays_so(
     rt: &HostRuntime,
     folder: &PathBuf,
@@ -110,4 +112,22 @@ fn is_told(told: &str, wanted: &'static str) -> Result<(), &'static str> {
         return Err("more is told, or less");
     }
     Ok(())
+}
+
+// Plays these sessions in a folder, one after another.
+fn play_each(
+    rt: &HostRuntime,
+    folder: &PathBuf,
+    sessions: &[&'static str],
+) -> Result<(), &'static str> {
+    for session in sessions {
+        plays_so(rt, folder, session)?;
+    }
+    Ok(())
+}
+
+/// Plays these sessions in a folder of this name, one after another.
+pub fn play(rt: &HostRuntime, name: &str, sessions: &[&'static str]) -> Result<(), &'static str> {
+    let folder = session_folder(rt, name)?;
+    removed(rt, &folder, play_each(rt, &folder, sessions))
 }

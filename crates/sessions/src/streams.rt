@@ -1,4 +1,5 @@
 // Streams that fail.
+use super::folders::{removed, session_folder};
 use super::runs::words_in;
 use desk_commands::desk_run;
 use plan_basics::Watched;
@@ -26,14 +27,9 @@ impl Write for Failing {
     }
 }
 
-/// What a run with the words of a line tells of its faults, and its status, where what it shows fails: at each write,
-/// or only where it is passed on. None where memory lacks.
-pub fn ends_without_output(
-    rt: &HostRuntime,
-    folder: &PathBuf,
-    line: &str,
-    takes: bool,
-) -> Option<(Vec<u8>, u8)> {
+// Whether a run with the words of a line fails by a fault of files, where what it shows fails: at each write, or only
+// where it is passed on.
+fn fails(rt: &HostRuntime, folder: &PathBuf, line: &str, takes: bool) -> Option<bool> {
     let words = words_in(rt, folder, line)?;
     let mut err: Vec<u8> = Vec::new(rt.alloc());
     let status = desk_run(
@@ -42,11 +38,11 @@ pub fn ends_without_output(
         &mut Watched::new(Failing { takes }),
         &mut Watched::new(&mut err),
     );
-    Some((err, status))
+    Some(err.as_slice() == b"fault file\n".as_slice() && status == 3)
 }
 
-/// The status of a run without words whose streams both fail at each write. None where memory lacks.
-pub fn ends_without_streams(rt: &HostRuntime) -> Option<u8> {
+// The status of a run without words whose streams both fail at each write.
+fn status_without_streams(rt: &HostRuntime) -> Option<u8> {
     let mut none = Vec::new(rt.alloc());
     none.push(String::from_str(rt.alloc(), "plandesk").ok()?)
         .ok()?;
@@ -56,4 +52,25 @@ pub fn ends_without_streams(rt: &HostRuntime) -> Option<u8> {
         &mut Watched::new(Failing { takes: false }),
         &mut Watched::new(Failing { takes: false }),
     ))
+}
+
+// Runs over a folder whose streams fail.
+fn failing_runs(rt: &HostRuntime, folder: &PathBuf) -> Result<(), &'static str> {
+    let line = "check --plan @empty --at 2024-03-01T22:00";
+    if fails(rt, folder, line, false) != Some(true) {
+        return Err("a stream that fails at each write");
+    }
+    if fails(rt, folder, line, true) != Some(true) {
+        return Err("a stream that fails where it passes on what it took");
+    }
+    if status_without_streams(rt) != Some(3) {
+        return Err("two streams that fail");
+    }
+    Ok(())
+}
+
+/// Streams that fail.
+pub fn faults_of_the_streams(rt: &HostRuntime) -> Result<(), &'static str> {
+    let folder = session_folder(rt, "streams")?;
+    removed(rt, &folder, failing_runs(rt, &folder))
 }

@@ -2,8 +2,6 @@
 #![tactic(auto)]
 
 mod faults;
-#[cfg(test)]
-mod tests;
 mod texts;
 
 pub use faults::{TextFaults, faults_of_text};

@@ -35,6 +35,3 @@ pub fn records_of_text(alloc: Global, text: &[u8]) -> Result<TextRecords, AllocE
     let lines = lines_of_text(alloc, text)?;
     Ok(TextRecords { records, lines })
 }
-
-#[cfg(test)]
-mod tests;

@@ -11,6 +11,3 @@ pub use judging::Judged;
 pub use kept::{Receipt, Receipts};
 pub use replies::{keys_of_text, reply_text};
 pub use stored::{ReceiptRow, receipts_of};
-
-#[cfg(test)]
-mod tests;

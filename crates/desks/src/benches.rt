@@ -1,0 +1,88 @@
+// Desks over a store, of which contracts see nothing.
+use plan_basics::{Refusal, TrackerName};
+use plan_records::{Reply, Request};
+use plan_tables::{Desk, Plan, run_all};
+use sqlite::{Alter, Connection, MemStore};
+use std::alloc::Global;
+use std::marker::Model;
+
+/// A desk over a store. Contracts see nothing of it: plays compare what it answers and tells as they run.
+#[derive(Drop)]
+pub struct Bench<S: Alter + Drop> {
+    pub desk: Desk<S>,
+}
+
+impl<S: Alter + Drop> Model for Bench<S> {
+    ghost use Rattle.std.specs.Prelude.{Bool, true};
+
+    ghost Value = { Bool };
+
+    ghost view = { λ _. true };
+}
+
+impl<S: Alter + Drop> Bench<S> {
+    /// One that is made over a connection.
+    pub fn created(alloc: Global, conn: Connection<S>) -> Result<Self, Refusal> {
+        if conn.is_autocommit() {
+            match Desk::create(alloc, conn) {
+                Ok(desk) => Ok(Bench { desk }),
+                Err((refusal, _)) => Err(refusal),
+            }
+        } else {
+            Err(Refusal::Store)
+        }
+    }
+
+    /// The one that is opened over a connection.
+    pub fn opened(alloc: Global, conn: Connection<S>) -> Result<Self, Refusal> {
+        if conn.is_autocommit() {
+            match Desk::open(alloc, conn) {
+                Ok(desk) => Ok(Bench { desk }),
+                Err((refusal, _)) => Err(refusal),
+            }
+        } else {
+            Err(Refusal::Store)
+        }
+    }
+
+    /// Its connection.
+    pub fn close(self) -> Connection<S> {
+        self.desk.close()
+    }
+
+    /// The plan that it has come to.
+    pub fn plan(&self) -> &Plan {
+        self.desk.plan()
+    }
+
+    /// What it replies to a request.
+    pub fn call(&mut self, request: &Request) -> Reply {
+        self.desk.call(request)
+    }
+
+    /// What it replies to requests, which are made at once.
+    pub fn call_all(&mut self, requests: &[Request]) -> Result<Vec<Reply>, Refusal> {
+        run_all(&mut self.desk, requests)
+    }
+
+    /// What it replies to a tracker's request of this number and this text.
+    pub fn call_numbered(
+        &mut self,
+        tracker: &TrackerName,
+        number: u64,
+        text: &[u8],
+        request: &Request,
+    ) -> Reply {
+        self.desk.call_numbered(tracker, number, text, request)
+    }
+}
+
+impl Bench<MemStore> {
+    /// One in memory, at which nothing is loaded.
+    pub fn empty(alloc: Global) -> Result<Self, Refusal> {
+        match Connection::open_in_memory(alloc) {
+            Ok(conn) => Bench::created(alloc, conn),
+            Err(_) => Err(Refusal::Memory),
+        }
+    }
+}

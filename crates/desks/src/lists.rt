@@ -1,0 +1,69 @@
+// The lists that a desk tells.
+use super::FAILED;
+use super::benches::Bench;
+use super::exchanges::{and_five, loaded, send};
+use super::wire_texts::{get, reply};
+use super::wires::After;
+use sqlite::MemStore;
+use status_rules::{Mark, Status};
+use std::alloc::Global;
+
+const SETP: &str =
+    "[{\"duration\":10,\"held\":false,\"latest\":\"2024-03-02T02:59\",\"op\":\"PAYROLL/2024-03-01T22:00/005\",\"priority\":5,\"status\":\"A\"}]";
+
+const OCCURRENCES: &str =
+    "[{\"deadline\":\"2024-03-02T05:00\",\"occ\":\"PAYROLL/2024-03-01T22:00\",\"priority\":5,\"status\":\"W\"}]";
+
+const UNKNOWN: &str = "{\"name\":\"UnknownWorkstation\",\"refusal\":7}";
+
+const NOT_LOADED: &str = "{\"name\":\"NotLoaded\",\"refusal\":3}";
+
+// A path, and the status, the length and the body of the reply.
+type Row = (&'static str, &'static str, usize, &'static str);
+
+const LISTS: [Row; 8] = [
+    ("/ready/SETP", "200 OK", 120, SETP),
+    ("/ready/%53ETP", "200 OK", 120, SETP),
+    ("/ready/CPU1", "200 OK", 2, "[]"),
+    ("/ready/XXXX", "409 Conflict", 41, UNKNOWN),
+    ("/ready/%2F", "409 Conflict", 41, UNKNOWN),
+    ("/ready/%", "409 Conflict", 41, UNKNOWN),
+    ("/occurrences", "200 OK", 92, OCCURRENCES),
+    ("/occurrences?all=1", "200 OK", 92, OCCURRENCES),
+];
+
+const BEFORE_A_LOAD: [Row; 3] = [
+    ("/ready/SETP", "409 Conflict", 32, NOT_LOADED),
+    ("/ready/%2F", "409 Conflict", 32, NOT_LOADED),
+    ("/occurrences", "409 Conflict", 32, NOT_LOADED),
+];
+
+// A path is told so, and no more is read than the head: the reader would answer a fault.
+fn list(alloc: Global, bench: &mut Bench<MemStore>, row: &Row) -> Option<()> {
+    let (path, status, length, body) = *row;
+    let input = get(alloc, path)?;
+    let reply = reply(alloc, status, "", length, body)?;
+    send(alloc, bench, &input, After::Fault, &reply)
+}
+
+// Each path of these rows is told so.
+fn each_list(alloc: Global, bench: &mut Bench<MemStore>, rows: &[Row]) -> Result<(), &'static str> {
+    for row in rows {
+        list(alloc, bench, row).ok_or(row.0)?;
+    }
+    Ok(())
+}
+
+/// The lists of a loaded plan.
+pub fn lists_of_a_loaded_plan(alloc: Global) -> Result<(), &'static str> {
+    let mut bench = loaded(alloc)?;
+    let came = each_list(alloc, &mut bench, &LISTS);
+    and_five(&bench, came, Some((Mark::Unmarked, Status::Arriving)))
+}
+
+/// No list is told before a plan is loaded.
+pub fn no_list_before_a_plan_is_loaded(alloc: Global) -> Result<(), &'static str> {
+    let mut bench = Bench::empty(alloc).ok().ok_or(FAILED)?;
+    let came = each_list(alloc, &mut bench, &BEFORE_A_LOAD);
+    and_five(&bench, came, None)
+}

@@ -1,0 +1,23 @@
+// All nights, at desks.
+use super::players::{AtOnce, Reopened};
+use nights::{Deviation, play_all};
+use std::alloc::Global;
+
+// All nights went as they say; or the line at which one went otherwise.
+fn are_all(played: Result<u32, Deviation<'static>>) -> Result<(), &'static str> {
+    match played {
+        Ok(73) => Ok(()),
+        Ok(_) => Err("73 nights"),
+        Err(deviation) => Err(deviation.line),
+    }
+}
+
+/// All nights, at desks at which requests are made at once.
+pub fn nights_at_once(alloc: Global) -> Result<(), &'static str> {
+    are_all(play_all::<AtOnce>(alloc))
+}
+
+/// All nights, at desks that are closed and opened again after each request.
+pub fn nights_opened_again_after_each_turn(alloc: Global) -> Result<(), &'static str> {
+    are_all(play_all::<Reopened>(alloc))
+}

@@ -1,0 +1,162 @@
+// The reports of desks in memory.
+use super::FAILED;
+use super::benches::Bench;
+use super::samples::{SAMPLES, Sample};
+use nights::request;
+use plan_basics::{Refusal, Watched, WsName};
+use plan_records::Reply;
+use plan_reports::{ReportFault, error_report, late_report, occurrence_report, ready_report};
+use sqlite::MemStore;
+use std::alloc::Global;
+use std::io::Write;
+
+// Whether a turn is accepted.
+fn is_accepted(alloc: Global, bench: &mut Bench<MemStore>, turn: &str) -> bool {
+    match request(alloc, turn) {
+        Some(request) => matches!(bench.call(&request), Reply::Accepted { .. }),
+        None => false,
+    }
+}
+
+// Whether these turns are accepted, one a line.
+fn are_accepted(alloc: Global, bench: &mut Bench<MemStore>, turns: &str) -> bool {
+    for turn in turns.lines() {
+        if !is_accepted(alloc, bench, turn) {
+            return false;
+        }
+    }
+    true
+}
+
+// A desk at which these turns were made, each of them accepted.
+fn bench_after(alloc: Global, turns: &str) -> Option<Bench<MemStore>> {
+    let mut bench = Bench::empty(alloc).ok()?;
+    if are_accepted(alloc, &mut bench, turns) {
+        Some(bench)
+    } else {
+        None
+    }
+}
+
+// Writes what is ready at a workstation.
+fn write_ready<W: Write>(
+    alloc: Global,
+    bench: &Bench<MemStore>,
+    name: &str,
+    writer: &mut Watched<W>,
+) -> Result<(), ReportFault> {
+    match WsName::from_text(name.as_bytes()) {
+        Some(workstation) => ready_report(alloc, &bench.desk, &workstation, writer),
+        None => Err(ReportFault::Refused(Refusal::UnknownWorkstation)),
+    }
+}
+
+// Writes the report of this name: `occurrences`, `errors`, `late`, or a workstation's name for what is ready there.
+fn write_report<W: Write>(
+    alloc: Global,
+    bench: &Bench<MemStore>,
+    name: &str,
+    writer: &mut Watched<W>,
+) -> Result<(), ReportFault> {
+    match name {
+        "occurrences" => occurrence_report(alloc, &bench.desk, writer),
+        "errors" => error_report(alloc, &bench.desk, writer),
+        "late" => late_report(alloc, &bench.desk, writer),
+        _ => write_ready(alloc, bench, name, writer),
+    }
+}
+
+// Whether the report of this name is this text.
+fn is_report(alloc: Global, bench: &Bench<MemStore>, name: &str, text: &str) -> bool {
+    let mut writer = Watched::new(Vec::new(alloc));
+    let is_written = write_report(alloc, bench, name, &mut writer).is_ok();
+    is_written && writer.into_inner().as_slice() == text.as_bytes()
+}
+
+// Whether a sample's report is its text.
+fn is_shown(alloc: Global, sample: &Sample) -> bool {
+    match bench_after(alloc, sample.turns) {
+        Some(bench) => is_report(alloc, &bench, sample.report, sample.text),
+        None => false,
+    }
+}
+
+// Whether the reports of these samples are their texts.
+fn are_shown(alloc: Global, samples: &[Sample]) -> Result<(), &'static str> {
+    for sample in samples {
+        if !is_shown(alloc, sample) {
+            return Err(sample.what);
+        }
+    }
+    Ok(())
+}
+
+/// What reports show after some turns.
+pub fn samples_of_reports(alloc: Global) -> Result<(), &'static str> {
+    are_shown(alloc, &SAMPLES)
+}
+
+// What the report of this name is refused as, if it is refused and nothing is written.
+fn refusal(alloc: Global, bench: &Bench<MemStore>, name: &str) -> Option<Refusal> {
+    let mut writer = Watched::new(Vec::new(alloc));
+    let reported = write_report(alloc, bench, name, &mut writer);
+    let is_empty = writer.into_inner().is_empty();
+    match reported {
+        Err(ReportFault::Refused(refusal)) if is_empty => Some(refusal),
+        _ => None,
+    }
+}
+
+// Whether each of these reports is refused before a plan is loaded.
+fn are_refused(
+    alloc: Global,
+    bench: &Bench<MemStore>,
+    names: &'static str,
+) -> Result<(), &'static str> {
+    for name in names.split_whitespace() {
+        if refusal(alloc, bench, name) != Some(Refusal::NotLoaded) {
+            return Err(name);
+        }
+    }
+    Ok(())
+}
+
+/// No report before a plan is loaded.
+pub fn refused_before_a_plan_is_loaded(alloc: Global) -> Result<(), &'static str> {
+    match Bench::empty(alloc) {
+        Ok(bench) => are_refused(alloc, &bench, "occurrences errors late CPU1"),
+        Err(_) => Err(FAILED),
+    }
+}
+
+const OPEN_AND_OLD: &str = "21:00 load OPEN OLD | names -";
+
+// Whether the ready list of a workstation that isn't there is refused, and that of one that is isn't.
+fn is_unknown_refused(alloc: Global, bench: &Bench<MemStore>) -> bool {
+    refusal(alloc, bench, "CPU2") == Some(Refusal::UnknownWorkstation)
+        && refusal(alloc, bench, "CPU1").is_none()
+}
+
+/// No ready list of a workstation that isn't in the plan.
+pub fn refused_for_a_workstation(alloc: Global) -> Result<(), &'static str> {
+    match bench_after(alloc, OPEN_AND_OLD) {
+        Some(bench) if is_unknown_refused(alloc, &bench) => Ok(()),
+        _ => Err("CPU2 alone is unknown"),
+    }
+}
+
+// Whether a ready list fails as its writer's once these twenty bytes are written.
+fn is_cut_at_twenty(alloc: Global, bench: &Bench<MemStore>, front: &[u8; 20]) -> bool {
+    let mut room = [0; 20];
+    let mut writer = Watched::new(&mut room[..]);
+    let reported = write_report(alloc, bench, "CPU1", &mut writer);
+    matches!(reported, Err(ReportFault::Writer)) && room == *front
+}
+
+/// A report that its writer doesn't take whole.
+pub fn cut_by_its_writer(alloc: Global) -> Result<(), &'static str> {
+    match bench_after(alloc, OPEN_AND_OLD) {
+        Some(bench) if is_cut_at_twenty(alloc, &bench, b"READY CPU1 AT 2024-0") => Ok(()),
+        _ => Err("READY CPU1 AT 2024-0"),
+    }
+}

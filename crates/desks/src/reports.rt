@@ -1,0 +1,95 @@
+// A report of a tracker, in pieces and cut short; and requests of operators.
+use super::FAILED;
+use super::benches::Bench;
+use super::exchanges::{Exchange, and_five, loaded, make_exchange, send};
+use super::wire_texts::{START, accepted, fault, post, reply};
+use super::wires::After;
+use sqlite::MemStore;
+use status_rules::{Mark, Status};
+use std::alloc::Global;
+
+// The start is reported in pieces of so many bytes, and accepted.
+fn in_pieces(alloc: Global, bench: &mut Bench<MemStore>, most: usize) -> Option<()> {
+    let input = START.request(alloc)?;
+    let reply = accepted(alloc)?;
+    let mut pieces = Exchange::new(&input, After::Fault, &reply);
+    pieces.most = most;
+    make_exchange(alloc, bench, &pieces)
+}
+
+// The start is reported and accepted, in pieces of each of these sizes; each after the first is a repetition.
+fn in_each(alloc: Global, bench: &mut Bench<MemStore>, sizes: &[usize]) -> Option<()> {
+    for most in sizes {
+        in_pieces(alloc, bench, *most)?;
+    }
+    Some(())
+}
+
+/// A start that is reported in pieces.
+pub fn a_start_is_reported_in_pieces(alloc: Global) -> Result<(), &'static str> {
+    let mut bench = loaded(alloc)?;
+    let came = in_each(alloc, &mut bench, &[8192, 1, 2, 7, 64]).ok_or("a start in pieces");
+    and_five(&bench, came, Some((Mark::Running, Status::Started)))
+}
+
+// The front of a report, which is no request.
+fn cut_short(alloc: Global, bench: &mut Bench<MemStore>, front: &str) -> Option<()> {
+    let reply = fault(alloc, "400 Bad Request", "")?;
+    send(alloc, bench, front, After::End, &reply)
+}
+
+// The report of the start, cut after each byte but the last, is no request.
+fn each_cut_short(alloc: Global, bench: &mut Bench<MemStore>) -> Option<()> {
+    let report = START.request(alloc)?;
+    for end in 0..report.len() {
+        cut_short(alloc, bench, report.get(..end)?)?;
+    }
+    Some(())
+}
+
+/// A report cut after each byte.
+pub fn a_report_cut_after_each_byte(alloc: Global) -> Result<(), &'static str> {
+    let mut bench = loaded(alloc)?;
+    let came = each_cut_short(alloc, &mut bench).ok_or("a report cut short");
+    and_five(&bench, came, Some((Mark::Unmarked, Status::Arriving)))
+}
+
+// A tick of an operator gets this reply.
+fn tick(alloc: Global, bench: &mut Bench<MemStore>, reply: &str) -> Option<()> {
+    let body = "{\"at\":\"2024-03-01T21:00\",\"do\":\"tick\"}";
+    let input = post(alloc, "/operator", body)?;
+    send(alloc, bench, &input, After::End, reply)
+}
+
+// A tick is refused, since no plan is loaded.
+fn refused_tick(alloc: Global, bench: &mut Bench<MemStore>) -> Option<()> {
+    let body = "{\"name\":\"NotLoaded\",\"refusal\":3}";
+    let refused = reply(alloc, "409 Conflict", "", 32, body)?;
+    tick(alloc, bench, &refused)
+}
+
+// A tick is accepted.
+fn accepted_tick(alloc: Global, bench: &mut Bench<MemStore>) -> Option<()> {
+    let accepted = accepted(alloc)?;
+    tick(alloc, bench, &accepted)
+}
+
+// A tick of an operator before a plan is loaded.
+fn a_tick_before_a_load(alloc: Global) -> Result<(), &'static str> {
+    let mut bench = Bench::empty(alloc).ok().ok_or(FAILED)?;
+    let came = refused_tick(alloc, &mut bench).ok_or("a tick before a load");
+    and_five(&bench, came, None)
+}
+
+// A tick of an operator once a plan is loaded.
+fn a_tick_after_a_load(alloc: Global) -> Result<(), &'static str> {
+    let mut bench = loaded(alloc)?;
+    let came = accepted_tick(alloc, &mut bench).ok_or("a tick after a load");
+    and_five(&bench, came, Some((Mark::Unmarked, Status::Arriving)))
+}
+
+/// A tick of an operator, before a plan is loaded and after it.
+pub fn a_tick_of_an_operator(alloc: Global) -> Result<(), &'static str> {
+    a_tick_before_a_load(alloc)?;
+    a_tick_after_a_load(alloc)
+}

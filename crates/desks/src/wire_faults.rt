@@ -1,0 +1,66 @@
+// Readers and writers that fail.
+use super::benches::Bench;
+use super::exchanges::{Exchange, and_five, loaded, make_exchange};
+use super::wire_texts::{START, accepted};
+use super::wires::After;
+use sqlite::MemStore;
+use status_rules::{Mark, Status};
+use std::alloc::Global;
+use tracker_http::WireFault;
+
+// A reader's fault after the front of a report, of which a byte is read a call: it is told, and nothing is written.
+fn reader_fault(alloc: Global, bench: &mut Bench<MemStore>, front: &str) -> Option<()> {
+    let mut failing = Exchange::new(front, After::Fault, "");
+    failing.most = 1;
+    failing.fault = Some(WireFault::Reader);
+    make_exchange(alloc, bench, &failing)
+}
+
+// The reader's fault at each read but the last is told.
+fn reader_faults(alloc: Global, bench: &mut Bench<MemStore>) -> Option<()> {
+    let report = START.request(alloc)?;
+    for end in 0..report.len() {
+        reader_fault(alloc, bench, report.get(..end)?)?;
+    }
+    Some(())
+}
+
+/// A reader that fails at each read.
+pub fn a_reader_that_fails_at_each_read(alloc: Global) -> Result<(), &'static str> {
+    let mut bench = loaded(alloc)?;
+    let came = reader_faults(alloc, &mut bench).ok_or("a reader's fault");
+    and_five(&bench, came, Some((Mark::Unmarked, Status::Arriving)))
+}
+
+// The start, whose reply is begun where the writer fails after so many calls, and whole where only its flush does.
+fn writer_fault(alloc: Global, bench: &mut Bench<MemStore>, calls: u32) -> Option<()> {
+    let input = START.request(alloc)?;
+    let reply = accepted(alloc)?;
+    let mut failing = Exchange::new(&input, After::End, &reply);
+    failing.calls = calls;
+    failing.fault = Some(WireFault::Writer);
+    failing.is_whole = calls >= 7;
+    make_exchange(alloc, bench, &failing)
+}
+
+// The start again, to a writer that takes the reply.
+fn repeated(alloc: Global, bench: &mut Bench<MemStore>) -> Option<()> {
+    let input = START.request(alloc)?;
+    let reply = accepted(alloc)?;
+    make_exchange(alloc, bench, &Exchange::new(&input, After::End, &reply))
+}
+
+// A writer that fails at each of its calls is told; the start acts once, and is then repeated.
+fn writer_faults(alloc: Global, bench: &mut Bench<MemStore>) -> Option<()> {
+    for calls in 0..8 {
+        writer_fault(alloc, bench, calls)?;
+    }
+    repeated(alloc, bench)
+}
+
+/// A writer that fails at each write.
+pub fn a_writer_that_fails_at_each_write(alloc: Global) -> Result<(), &'static str> {
+    let mut bench = loaded(alloc)?;
+    let came = writer_faults(alloc, &mut bench).ok_or("a writer's fault");
+    and_five(&bench, came, Some((Mark::Running, Status::Started)))
+}

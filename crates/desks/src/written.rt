@@ -1,0 +1,171 @@
+// How many rows a desk hands to its store for each request, which a store that counts its calls sees.
+use super::FAILED;
+use super::benches::Bench;
+use super::counted::{Counted, Written};
+use nights::request;
+use plan_basics::TrackerName;
+use plan_records::{Reply, Request};
+use sqlite::{Connection, MemStore};
+use std::alloc::Global;
+
+/// A request, and how many rows the tables get by it. Each is put into its table, in place of the one that has its key or
+/// as a new one; a new one also gets an entry in the index of the table's keys, and one in place of another none.
+#[derive(Clone, Copy)]
+struct Step {
+    /// The tracker's number of it; or it isn't numbered.
+    number: Option<u64>,
+    turn: &'static str,
+    rows: u32,
+    new: u32,
+}
+
+const STEPS: [Step; 10] = [
+    // The row of the plan itself is there before; all others are new.
+    Step {
+        number: None,
+        turn: "21:00 load STATIONS RUNS PRINTING CHAIN LAST FILE KEEPS | -",
+        rows: 19,
+        new: 18,
+    },
+    // The plan's row, the occurrence and its first operation.
+    Step {
+        number: None,
+        turn: "22:00 started 5 | -",
+        rows: 3,
+        new: 0,
+    },
+    // The plan's row and two operations.
+    Step {
+        number: None,
+        turn: "22:10 ended 5 | -",
+        rows: 3,
+        new: 0,
+    },
+    // Nothing changes at the clock's own moment.
+    Step {
+        number: None,
+        turn: "22:10 tick | -",
+        rows: 0,
+        new: 0,
+    },
+    // The plan's row and two operations.
+    Step {
+        number: None,
+        turn: "22:40 ended 10 | -",
+        rows: 3,
+        new: 0,
+    },
+    // The plan's row, and what is new: the occurrence, its operation and its need.
+    Step {
+        number: None,
+        turn: "22:45 add BILLS | -",
+        rows: 4,
+        new: 3,
+    },
+    // The plan's row, the bills' occurrence and operation, the operation that ended and the two after it.
+    Step {
+        number: None,
+        turn: "23:40 ended 20 | -",
+        rows: 6,
+        new: 0,
+    },
+    // The plan's row, the occurrence and its last operation; and the tracker's first receipt.
+    Step {
+        number: Some(1),
+        turn: "23:50 ended 40 | -",
+        rows: 4,
+        new: 1,
+    },
+    // The plan's row, the bills' occurrence and operation; and the receipt in place of the first.
+    Step {
+        number: Some(2),
+        turn: "23:55 ended BILLING.10 | -",
+        rows: 4,
+        new: 0,
+    },
+    // What is answered already is answered again, and nothing is written.
+    Step {
+        number: Some(2),
+        turn: "23:55 ended BILLING.10 | -",
+        rows: 0,
+        new: 0,
+    },
+];
+
+// A desk over a store that counts.
+fn begun(alloc: Global) -> Option<Bench<Counted<MemStore>>> {
+    let store = MemStore::new(alloc, &[]).ok()?;
+    let conn = Connection::over(alloc, Counted::new(store)).ok()?;
+    Bench::created(alloc, conn).ok()
+}
+
+// What a desk replies to a step, which asks this.
+fn reply(bench: &mut Bench<Counted<MemStore>>, step: &Step, request: &Request) -> Option<Reply> {
+    match step.number {
+        Some(number) => {
+            let tracker = TrackerName::from_text(b"T1")?;
+            Some(bench.call_numbered(&tracker, number, step.turn.as_bytes(), request))
+        }
+        None => Some(bench.call(request)),
+    }
+}
+
+// Whether a step is accepted.
+fn is_taken(alloc: Global, bench: &mut Bench<Counted<MemStore>>, step: &Step) -> bool {
+    match request(alloc, step.turn) {
+        Some(request) => matches!(reply(bench, step, &request), Some(Reply::Accepted { .. })),
+        None => false,
+    }
+}
+
+// Whether these steps are accepted, one after another.
+fn are_taken(alloc: Global, bench: &mut Bench<Counted<MemStore>>, steps: &[Step]) -> bool {
+    for step in steps {
+        if !is_taken(alloc, bench, step) {
+            return false;
+        }
+    }
+    true
+}
+
+// What is written when these steps are taken, one after another; nothing where one is refused.
+fn written(alloc: Global, steps: &[Step]) -> Option<Written> {
+    let mut bench = begun(alloc)?;
+    if are_taken(alloc, &mut bench, steps) {
+        Some(bench.close().into_store().written())
+    } else {
+        None
+    }
+}
+
+// What is written by the last of these steps alone: how many rows, and how many of them are new. Nothing where anything is
+// taken out of a table or an index.
+fn by_last(alloc: Global, steps: &[Step]) -> Option<(u32, u32)> {
+    let (_, before) = steps.split_last()?;
+    let before = written(alloc, before)?;
+    let after = written(alloc, steps)?;
+    if after.deleted != before.deleted || after.removed != before.removed {
+        return None;
+    }
+    let rows = after.put.checked_sub(before.put)?;
+    Some((rows, after.inserted.checked_sub(before.inserted)?))
+}
+
+// Whether the last of these steps writes as many rows as it says.
+fn is_last_written(alloc: Global, steps: &[Step]) -> Result<(), &'static str> {
+    match steps.last() {
+        Some(step) if by_last(alloc, steps) == Some((step.rows, step.new)) => Ok(()),
+        Some(step) => Err(step.turn),
+        None => Err(FAILED),
+    }
+}
+
+/// How many rows are written by each step.
+pub fn rows_that_are_written(alloc: Global) -> Result<(), &'static str> {
+    let steps: &[Step] = &STEPS;
+    for count in 1..=steps.len() {
+        let (taken, _) = steps.split_at(count);
+        is_last_written(alloc, taken)?;
+    }
+    Ok(())
+}

@@ -1,0 +1,155 @@
+// Want of memory, met on purpose: each call that can want memory, without any. What comes after all memory is taken is
+// refused, and what the calls leave is looked at.
+use super::small_day::{
+    Outcome, adding, drafting, first, is_day, is_untouched, load, reading, records,
+};
+use super::taking::Held;
+use plan_basics::{OpKey, Refusal};
+use plan_core::Plan;
+use plan_records::{Reply, Request};
+use std::alloc::Global;
+
+/// An import without memory answers so, and with memory it is done.
+pub fn an_import_without_memory_answers_so(alloc: Global) -> bool {
+    let held = Held::all(alloc);
+    let without = reading(alloc);
+    held.give_back() && without == Outcome::WithoutMemory && reading(alloc) == Outcome::Done
+}
+
+// What comes of building a draft of the day's records.
+fn drafted(alloc: Global) -> Option<Outcome> {
+    match records(alloc, 0) {
+        Ok(records) => Some(drafting(records)),
+        Err(_) => None,
+    }
+}
+
+// The same while all memory is taken.
+fn drafted_without(alloc: Global) -> Option<Outcome> {
+    match records(alloc, 0) {
+        Ok(records) => {
+            let held = Held::all(alloc);
+            let outcome = drafting(records);
+            if held.give_back() {
+                Some(outcome)
+            } else {
+                None
+            }
+        }
+        Err(_) => None,
+    }
+}
+
+/// A draft is refused without memory, and built with it.
+pub fn a_draft_without_memory_is_refused(alloc: Global) -> bool {
+    drafted_without(alloc) == Some(Outcome::WithoutMemory) && drafted(alloc) == Some(Outcome::Done)
+}
+
+// What comes of building an addition of the day's records, without those of its workstation and interval.
+fn added(alloc: Global) -> Option<Outcome> {
+    match records(alloc, 2) {
+        Ok(records) => Some(adding(records)),
+        Err(_) => None,
+    }
+}
+
+// The same while all memory is taken.
+fn added_without(alloc: Global) -> Option<Outcome> {
+    match records(alloc, 2) {
+        Ok(records) => {
+            let held = Held::all(alloc);
+            let outcome = adding(records);
+            if held.give_back() {
+                Some(outcome)
+            } else {
+                None
+            }
+        }
+        Err(_) => None,
+    }
+}
+
+/// An addition is refused without memory, and built with it.
+pub fn an_addition_without_memory_is_refused(alloc: Global) -> bool {
+    added_without(alloc) == Some(Outcome::WithoutMemory) && added(alloc) == Some(Outcome::Done)
+}
+
+// Whether these name the day's first operation alone.
+fn name_first(named: &[OpKey]) -> bool {
+    match first() {
+        Some(first) => named == [first].as_slice(),
+        None => false,
+    }
+}
+
+// What a request is refused while all memory is taken.
+fn refused_without(alloc: Global, plan: &mut Plan, request: &Request) -> Option<Refusal> {
+    let held = Held::all(alloc);
+    let refusal = plan.prepare(request).err();
+    if held.give_back() { refusal } else { None }
+}
+
+// Whether a request is prepared, and while all memory is taken then applied, and names the first operation alone.
+fn is_applied_without(alloc: Global, plan: &mut Plan, request: &Request) -> bool {
+    match plan.prepare(request) {
+        Ok(prepared) => {
+            let held = Held::all(alloc);
+            let named = plan.apply(prepared);
+            held.give_back() && name_first(&named)
+        }
+        Err(_) => false,
+    }
+}
+
+fn is_refused_then_made(alloc: Global, plan: &mut Plan, request: &Request) -> bool {
+    refused_without(alloc, plan, request) == Some(Refusal::Memory)
+        && is_untouched(plan) == Some(true)
+        && is_applied_without(alloc, plan, request)
+        && is_day(plan) == Some(true)
+}
+
+/// A load is refused without memory, and changes nothing; once it is prepared, it is made without any.
+pub fn a_load_without_memory_changes_nothing(alloc: Global) -> bool {
+    match load(alloc) {
+        Some(request) => is_refused_then_made(alloc, &mut Plan::empty(alloc), &request),
+        None => false,
+    }
+}
+
+// What a run is refused while all memory is taken.
+fn run_refused_without(alloc: Global, plan: &mut Plan, requests: &[Request]) -> Option<Refusal> {
+    let held = Held::all(alloc);
+    let refusal = plan.run(requests).err();
+    if held.give_back() { refusal } else { None }
+}
+
+// Whether there is one reply, which accepts, and names the first operation alone.
+fn accept_first(replies: &[Reply]) -> bool {
+    match replies {
+        [Reply::Accepted { named }] => name_first(named),
+        _ => false,
+    }
+}
+
+// Whether a run names the first operation alone.
+fn runs(plan: &mut Plan, requests: &[Request]) -> bool {
+    match plan.run(requests) {
+        Ok(replies) => accept_first(&replies),
+        Err(_) => false,
+    }
+}
+
+fn is_refused_then_run(alloc: Global, plan: &mut Plan, requests: &[Request]) -> bool {
+    run_refused_without(alloc, plan, requests) == Some(Refusal::Memory)
+        && is_untouched(plan) == Some(true)
+        && runs(plan, requests)
+        && is_day(plan) == Some(true)
+}
+
+/// A run is refused without memory, and changes nothing; with it, it is made.
+pub fn a_run_without_memory_changes_nothing(alloc: Global) -> bool {
+    match load(alloc) {
+        Some(request) => is_refused_then_run(alloc, &mut Plan::empty(alloc), &[request]),
+        None => false,
+    }
+}

@@ -1,0 +1,111 @@
+// A day of two operations, and what comes of its import, its build and its load.
+use plan_basics::{OpKey, Refusal, Watched};
+use plan_core::Plan;
+use plan_import::{ImportFault, read_plan};
+use plan_records::{Addition, PlanDraft, Record, Request, What};
+use std::alloc::{AllocError, Global};
+use std::array;
+
+const DAY: &str = "W,CPU1,A,,,,,,,
+I,CPU1,1972-01-01T00:00,2071-12-31T23:59,2,0,0,,,
+O,DAILY,2024-03-01T22:00,5,2024-03-02T05:00,,,,,
+P,DAILY,2024-03-01T22:00,10,CPU1,30,0,0,,
+P,DAILY,2024-03-01T22:00,20,CPU1,60,0,0,,
+D,DAILY,2024-03-01T22:00,10,DAILY,2024-03-01T22:00,20,,,
+";
+
+/// The minute of 2024-03-01T22:00.
+const EVENING: i64 = 27_437_640;
+
+/// What comes of a try.
+#[derive(Clone, Copy, PartialEq, Eq)]
+pub enum Outcome {
+    Done,
+    WithoutMemory,
+    DenotesNothing,
+    OtherFault,
+    OtherNames,
+    PlanChanged,
+}
+
+/// What comes of reading the day's text.
+pub fn reading(alloc: Global) -> Outcome {
+    match read_plan(alloc, &mut Watched::new(DAY.as_bytes())) {
+        Ok(Some(_)) => Outcome::Done,
+        Ok(None) => Outcome::DenotesNothing,
+        Err(ImportFault::Memory) => Outcome::WithoutMemory,
+        Err(ImportFault::Reader) => Outcome::OtherFault,
+    }
+}
+
+// The fields of a line without quotes.
+fn record(alloc: Global, line: &str) -> Result<Record, AllocError> {
+    array::try_from_fn(|place| line
+        .split(',')
+        .nth(place)
+        .unwrap_or("")
+        .as_bytes()
+        .to_vec(alloc))
+}
+
+/// The records of the day's text, without so many of its first lines.
+pub fn records(alloc: Global, without: usize) -> Result<Vec<Record>, AllocError> {
+    let mut all = Vec::new(alloc);
+    for line in DAY.lines().skip(without) {
+        all.push(record(alloc, line)?)?;
+    }
+    Ok(all)
+}
+
+// What comes of a refusal to build or to load.
+fn refused(refusal: Refusal) -> Outcome {
+    if refusal == Refusal::Memory {
+        Outcome::WithoutMemory
+    } else {
+        Outcome::OtherFault
+    }
+}
+
+/// What comes of building a plan's draft of records.
+pub fn drafting(records: Vec<Record>) -> Outcome {
+    match PlanDraft::build(records) {
+        Ok(Some(_)) => Outcome::Done,
+        Ok(None) => Outcome::DenotesNothing,
+        Err(refusal) => refused(refusal),
+    }
+}
+
+/// What comes of building an addition of records.
+pub fn adding(records: Vec<Record>) -> Outcome {
+    match Addition::build(records) {
+        Ok(Some(_)) => Outcome::Done,
+        Ok(None) => Outcome::DenotesNothing,
+        Err(refusal) => refused(refusal),
+    }
+}
+
+/// The load of the day in the evening.
+pub fn load(alloc: Global) -> Option<Request> {
+    match read_plan(alloc, &mut Watched::new(DAY.as_bytes())) {
+        Ok(draft) => Some(Request {
+            at: EVENING,
+            what: What::Load(draft),
+        }),
+        Err(_) => None,
+    }
+}
+
+/// The day's first operation.
+pub fn first() -> Option<OpKey> {
+    OpKey::from_text(b"DAILY/2024-03-01T22:00/010")
+}
+
+/// Whether nothing is loaded, and the clock is at its first minute.
+pub fn is_untouched(plan: &Plan) -> Option<bool> {
+    Some(!plan.is_loaded() && plan.view_op(&first()?).is_none() && plan.clock().minute() == 0)
+}
+
+/// Whether the day is loaded in the evening.
+pub fn is_day(plan: &Plan) -> Option<bool> {
+    Some(plan.is_loaded() && plan.view_op(&first()?).is_some() && plan.clock().minute() == EVENING)
+}

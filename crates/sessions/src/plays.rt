@@ -1,0 +1,39 @@
+// Sessions, each in a folder of its own.
+use super::faults::{EMPTY_DESKS, FAULTS, LOADED_DESKS, NO_DESKS, OTHER_DATABASES};
+use super::runs::play;
+use super::scripts::{JUDGED, ORDER, PLAYS, SAMPLES, SESSION, WHYS};
+
+/// A night, why its operations don't go on, what is tried out, and what is judged.
+pub fn sessions(rt: &HostRuntime) -> Result<(), &'static str> {
+    play(rt, "sessions", &[SESSION, WHYS, PLAYS, JUDGED, ORDER])
+}
+
+/// What reports show.
+pub fn samples_of_reports(rt: &HostRuntime) -> Result<(), &'static str> {
+    play(rt, "samples", &[SAMPLES])
+}
+
+/// Faults of moments, files and words.
+pub fn faults_are_told(rt: &HostRuntime) -> Result<(), &'static str> {
+    play(rt, "faults", &[FAULTS])
+}
+
+/// Databases at which there is no desk.
+pub fn databases_without_a_desk(rt: &HostRuntime) -> Result<(), &'static str> {
+    play(rt, "no_desks", &[NO_DESKS])
+}
+
+/// A load makes a desk, once.
+pub fn loaded_desks_are_opened(rt: &HostRuntime) -> Result<(), &'static str> {
+    play(rt, "loaded", &[LOADED_DESKS])
+}
+
+/// Desks at which nothing is loaded.
+pub fn empty_desks_take_a_load(rt: &HostRuntime) -> Result<(), &'static str> {
+    play(rt, "empty", &[EMPTY_DESKS])
+}
+
+/// Databases that another program made.
+pub fn other_databases_are_told_apart(rt: &HostRuntime) -> Result<(), &'static str> {
+    play(rt, "others", &[OTHER_DATABASES])
+}

@@ -1,0 +1,164 @@
+// Sessions: runs of the program one after another over the files of a folder, and what each answers.
+
+/// Loads, requests and reports over one database.
+pub const SESSION: &str = r#"$ load --db @night.db --plan @empty --at 2024-03-01T21:00
+refused 21 BadPlan
+=1
+$ report --db @night.db --kind late
+refused 3 NotLoaded
+=1
+$ do --db @night.db --request {"at":"2024-03-01T22:00","do":"tick"}
+refused 3 NotLoaded
+=1
+$ load --db @night.db --plan @night.csv --at 2024-03-01T21:00
+accepted
+$ report --db @night.db --kind ready --ws SETP
+READY SETP AT 2024-03-01T21:00
+PAYROLL          2024-03-01T22:00   5 A - 5   10 2024-03-02T02:59
+END 1
+$ report --db @night.db --kind ready --ws XXXX
+refused 7 UnknownWorkstation
+=1
+$ report --db @night.db --kind ready
+!fault words
+=2
+$ report --db @night.db --kind ready --ws SETUP
+!fault words
+=2
+$ do --db @night.db --request {"at":"2024-03-01T21:59","do":"started","op":"PAYROLL/2024-03-01T22:00/005"}
+refused 13 Closed
+=1
+$ do --db @night.db --request {"at":"2024-03-01T22:00","do":"tick","op":"X"}
+!fault request
+=2
+$ do --db @night.db --request {"at":"2024-03-01T22:00","do":"started","op":"PAYROLL/2024-03-01T22:00/005"}
+accepted
+$ do --db @night.db --request {"at":"2024-03-01T22:10","do":"ended","op":"PAYROLL/2024-03-01T22:00/005"}
+accepted
+starts PAYROLL/2024-03-01T22:00/010
+$ do --db @night.db --request {"at":"2024-03-01T22:40","do":"ended","op":"PAYROLL/2024-03-01T22:00/010"}
+accepted
+starts PAYROLL/2024-03-01T22:00/020
+$ do --db @night.db --request {"at":"2024-03-01T22:45","do":"add","records":"O,BILLING,2024-03-01T22:00,5,2024-03-02T03:00,,,,,\nP,BILLING,2024-03-01T22:00,10,CPU1,30,0,0,,\nN,BILLING,2024-03-01T22:00,10,CUSTFILE,S,F,,,"}
+accepted
+$ do --db @night.db --request {"at":"2024-03-01T23:00","do":"error","op":"PAYROLL/2024-03-01T22:00/020","code":"S0C7"}
+accepted
+$ report --db @night.db --kind occurrences
+OCCURRENCES AT 2024-03-01T23:00
+BILLING          2024-03-01T22:00 5 W 2024-03-02T03:00     1     0
+PAYROLL          2024-03-01T22:00 5 E 2024-03-02T05:00     5     2
+END 2
+$ report --db @night.db --kind errors --ws no_name
+ERRORS AT 2024-03-01T23:00
+PAYROLL          2024-03-01T22:00  20 CPU1 S0C7
+END 1
+$ do --db @night.db --request {"at":"2024-03-01T22:00","do":"tick"}
+refused 1 Past
+=1
+$ report --db @night.db --kind late
+LATE AT 2024-03-01T23:00
+END 0
+"#;
+
+/// What is late when the set-up's workstation has closed, and a latest start before the first minute that a plan can name.
+pub const SAMPLES: &str = r#"$ load --db @late.db --plan @night.csv --at 2024-03-01T21:00
+accepted
+$ do --db @late.db --request {"at":"2024-03-02T03:00","do":"tick"}
+accepted
+$ report --db @late.db --kind late
+LATE AT 2024-03-02T03:00
+PAYROLL          2024-03-01T22:00   5 SETP A 2024-03-02T02:59
+END 1
+$ load --db @old.db --plan @old.csv --at 2024-03-01T21:00
+accepted
+$ report --db @old.db --kind ready --ws CPU1
+READY CPU1 AT 2024-03-01T21:00
+OLD              1972-01-01T00:00  10 A - 5   20 ----------------
+AAA              2024-03-01T22:00  10 A - 5   30 2024-03-02T03:30
+END 2
+"#;
+
+/// What is tried out in memory.
+pub const PLAYS: &str = r#"$ play --plan @night.csv --at 2024-03-01T21:00 --requests @played
+1 2024-03-01T21:59
+refused 13 Closed
+2 2024-03-01T22:00
+accepted
+4 2024-03-01T22:10
+accepted
+starts PAYROLL/2024-03-01T22:00/010
+=1
+$ play --plan @night.csv --at 2024-03-01T21:00 --requests @broken_off
+1 2024-03-01T22:00
+accepted
+2
+!fault request
+=2
+$ play --plan @night.csv --at 2024-03-01T21:00 --requests @empty
+$ play --plan @empty --at 2024-03-01T21:00 --requests @played
+refused 21 BadPlan
+=1
+$ play --plan @night.csv --at 2024-03-01T21:00 --requests @absent
+!fault file
+=3
+"#;
+
+/// Why operations of that night don't go on, at the desk and at one in memory.
+pub const WHYS: &str = r#"$ why --db @night.db --op BILLING/2024-03-01T22:00/010
+BILLING/2024-03-01T22:00/010 A 2024-03-01T23:00
+CUSTFILE held by PAYROLL/2024-03-01T22:00/020 exclusive
+END 1
+$ why --db @night.db --op PAYROLL/2024-03-01T22:00/040 --at 2024-03-02T00:00
+PAYROLL/2024-03-01T22:00/040 W 2024-03-02T00:00
+waits for PAYROLL/2024-03-01T22:00/030 W
+root PAYROLL/2024-03-01T22:00/020 E
+END 2
+$ why --plan @night.csv --at 2024-03-01T21:00 --op PAYROLL/2024-03-01T22:00/005
+PAYROLL/2024-03-01T22:00/005 A 2024-03-01T21:00
+SETP closed until 2024-03-01T22:00
+END 1
+$ why --db @night.db --op PAYROLL/2024-03-01T22:00/050
+refused 5 UnknownOperation
+=1
+$ why --db @night.db --op PAYROLL/2024-03-01T22:00/040 --at 1971-12-31T23:59
+refused 2 MomentRange
+=1
+$ why --plan @empty --at 2024-03-01T21:00 --op PAYROLL/2024-03-01T22:00/005
+refused 21 BadPlan
+=1
+$ why --db @absent.db --op PAYROLL
+!fault words
+=2
+$ why --db @absent.db --op PAYROLL/2024-03-01T22:00/040 --at 22:00
+!fault moment
+=2
+"#;
+
+/// Texts of plans that are judged.
+pub const JUDGED: &str = r#"$ validate --plan @night.csv
+no faults
+$ validate --plan @empty
+line 1: workstation: the plan has none: it must have at least one
+line 1: occurrence: the plan has none: it must have at least one
+2 faults
+=1
+$ validate --plan @wrong.csv
+line 5: workstation CPU1: given before, in line 1: each is given once
+1 faults
+=1
+"#;
+
+/// What is judged first: the words, the request, the files.
+pub const ORDER: &str = r#"$ report --db @absent.db --kind ready --ws ''
+!fault words
+=2
+$ do --db @absent.db --request x
+!fault request
+=2
+$ do --db @absent.db --request {"tracker":"T1","number":1,"at":"2024-03-01T22:00","do":"tick"}
+!fault request
+=2
+$ play --plan @absent --at 22:00 --requests @absent
+!fault moment
+=2
+"#;

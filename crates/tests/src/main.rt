@@ -1,0 +1,15 @@
+//! All tests: a module for each library of plays, which tells what it plays. The program does nothing.
+#![tactic(auto)]
+
+#[cfg(test)]
+mod desk_plays;
+#[cfg(test)]
+mod layer_plays;
+#[cfg(test)]
+mod night_plays;
+#[cfg(test)]
+mod session_plays;
+#[cfg(test)]
+mod text_plays;
+
+fn main() {}

@@ -1,0 +1,93 @@
+// Worked nights in memory: each is played by `Plan::run`, one by one by `prepare` and `apply`, and beside plans that are made
+// of its rows. What is told of operations that don't go on. Calls without memory.
+use std::test::Fail;
+
+#[test]
+fn nights_at_once(rt: HostRuntime) -> Result<(), Fail> {
+    Ok(nights::nights_at_once(rt.alloc())?)
+}
+
+#[test]
+fn nights_one_by_one(rt: HostRuntime) -> Result<(), Fail> {
+    Ok(nights::nights_one_by_one(rt.alloc())?)
+}
+
+#[test]
+fn kept_as_worked_out_afresh(rt: HostRuntime) -> Result<(), Fail> {
+    Ok(nights::kept_as_worked_out_afresh(rt.alloc())?)
+}
+
+#[test]
+fn plans_as_full_as_may_be(rt: HostRuntime) -> Result<(), Fail> {
+    Ok(nights::plans_as_full_as_may_be(rt.alloc())?)
+}
+
+#[test]
+fn rows_that_a_request_changes(rt: HostRuntime) -> Result<(), &'static str> {
+    nights::rows_that_a_request_changes(rt.alloc())
+}
+
+#[test]
+fn looks_at_a_plan_of_chains(rt: HostRuntime) -> Result<(), &'static str> {
+    nights::looks_at_a_plan_of_chains(rt.alloc())
+}
+
+#[test]
+fn rows_in_another_order_are_the_same_plan(rt: HostRuntime) -> Result<(), &'static str> {
+    nights::rows_in_another_order_are_the_same_plan(rt.alloc())
+}
+
+#[test]
+fn columns_that_follow_are_not_believed(rt: HostRuntime) -> Result<(), &'static str> {
+    nights::columns_that_follow_are_not_believed(rt.alloc())
+}
+
+#[test]
+fn reasons_and_roots(rt: HostRuntime) -> Result<(), &'static str> {
+    nights::reasons_and_roots(rt.alloc())
+}
+
+#[test]
+fn nothing_of_what_is_not_in_the_plan(rt: HostRuntime) -> Result<(), &'static str> {
+    nights::nothing_of_what_is_not_in_the_plan(rt.alloc())
+}
+
+#[test]
+fn row_given_twice_is_of_no_plan(rt: HostRuntime) {
+    assert!(rt; nights::row_given_twice_is_of_no_plan(rt.alloc()));
+}
+
+#[test]
+fn an_import_without_memory_answers_so(rt: HostRuntime) {
+    assert!(rt; nights::an_import_without_memory_answers_so(rt.alloc()));
+}
+
+#[test]
+fn a_draft_without_memory_is_refused(rt: HostRuntime) {
+    assert!(rt; nights::a_draft_without_memory_is_refused(rt.alloc()));
+}
+
+#[test]
+fn an_addition_without_memory_is_refused(rt: HostRuntime) {
+    assert!(rt; nights::an_addition_without_memory_is_refused(rt.alloc()));
+}
+
+#[test]
+fn a_load_without_memory_changes_nothing(rt: HostRuntime) {
+    assert!(rt; nights::a_load_without_memory_changes_nothing(rt.alloc()));
+}
+
+#[test]
+fn a_run_without_memory_changes_nothing(rt: HostRuntime) {
+    assert!(rt; nights::a_run_without_memory_changes_nothing(rt.alloc()));
+}
+
+#[test]
+fn imports_are_refused_growth_by_growth(rt: HostRuntime) {
+    assert!(rt; nights::imports_are_refused_growth_by_growth(rt.alloc()));
+}
+
+#[test]
+fn loads_are_refused_growth_by_growth(rt: HostRuntime) {
+    assert!(rt; nights::loads_are_refused_growth_by_growth(rt.alloc()));
+}
