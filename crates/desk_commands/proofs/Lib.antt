@@ -1,5 +1,6 @@
 pub mod Appended
 pub mod Loaded
+pub mod Opened
 pub mod Played
 pub mod Statuses
 pub mod Told

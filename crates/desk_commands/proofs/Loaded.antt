@@ -7,7 +7,7 @@ use Rattle.plan_loads.specs.plan_model.specs.Contents.{Contents}
 use Rattle.plan_records.specs.Answer.{Answer, accepted, refused}
 use Rattle.sqlite.specs.State.{State as StoreState}
 use Rattle.desk_commands.specs.Answers.{IsShown}
-use Rattle.desk_commands.specs.Loads.{IsCheckAnswer, IsCheckShown, IsLoadAnswer, IsLoadShown}
+use Rattle.desk_commands.specs.Loads.{IsCheckAnswer, IsCheckShown, IsLoadAnswer, IsLoadOf, IsLoadShown}
 use Rattle.desk_commands.specs.declared.endings.Ending.{Ending}
 use Rattle.desk_commands.specs.declared.endings.Fault.{Fault}
 
@@ -18,11 +18,18 @@ load_answer before after at found (refused r) (inl opening, stays) = inr (r, ope
 load_answer before after at found (refused r) (inr (s, from, step), stays) = inl (s, s, step)
 
 -- it was shown
-pub load_shown : (moment : List ℕ) (at : ℤ) (found : Option Contents) (before after : StoreState) (a : Answer) (r : Result Ending Fault) (old new : Option (List ℕ))
-    → IsMinuteText moment at → IsAnswerToLoad before after at found a → IfOk r (IsShown a old new) → IfOk r (IsLoadShown moment old new)
-load_shown moment at found before after a r old new says answers shown =
-    IfOk-weaker r (IsShown a old new) (IsLoadShown moment old new)
-    (λ (e : Ending) (is : IsShown a old new e). (at, says, found, a, load_answer before after at found a answers, is)) shown
+pub load_told : (at : ℤ) (found : Option Contents) (before after : StoreState) (a : Answer) (r : Result Ending Fault) (old new : Option (List ℕ))
+    → IsAnswerToLoad before after at found a → IfOk r (IsShown a old new) → IfOk r (IsLoadOf at found old new)
+load_told at found before after a r old new answers shown =
+    IfOk-weaker r (IsShown a old new) (IsLoadOf at found old new)
+    (λ (e : Ending) (is : IsShown a old new e). (a, load_answer before after at found a answers, is)) shown
+
+-- at the moment that the words give
+pub load_shown : (moment : List ℕ) (at : ℤ) (found : Option Contents) (r : Result Ending Fault) (old new : Option (List ℕ))
+    → IsMinuteText moment at → IfOk r (IsLoadOf at found old new) → IfOk r (IsLoadShown moment old new)
+load_shown moment at found r old new says shown =
+    IfOk-weaker r (IsLoadOf at found old new) (IsLoadShown moment old new)
+    (λ (e : Ending) (was : IsLoadOf at found old new e). (at, says, found, was.0, was.1, was.2)) shown
 
 -- so is that of an empty plan
 pub check_shown : (moment : List ℕ) (at : ℤ) (found : Option Contents) (a : Answer) (r : Result Ending Fault) (old new : Option (List ℕ))

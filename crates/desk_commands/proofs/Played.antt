@@ -2,20 +2,27 @@
 use Rattle.std.proofs.Common.{◌≡◌, ℕ, ◌+◌, ◌<◌, ◌≤◌, ◌||◌, Bool, true, false, List, [], ◌∷◌, ◌++◌, length, length-drop, append_assoc, append-nil, refl, inl, inr, sym, subst, subst₂, arith, ℤ, Option, Result, Ok, Err, IfOk, IfErr}
 use Rattle.std.specs.Io.KnownBytes.{Appends}
 use Rattle.std.proofs.KnownBytes.{Appends-nil, Appends-trans}
+use Rattle.plan_basics.specs.Minutes.{IsShownAs}
 use Rattle.plan_basics.specs.declared.Refusal.{Refusal}
 use Rattle.plan_basics.specs.declared.keys.OpKey.{OpKey}
 use Rattle.plan_loads.specs.Databases.{load_request}
 use Rattle.plan_loads.specs.plan_model.specs.Contents.{Contents}
 use Rattle.plan_records.specs.Answer.{Answer, accepted, refused}
 use Rattle.plan_records.specs.Run.{Answers, State, Usable, empty_state, plain}
+use Rattle.plan_records.specs.declared.Request.{Request}
 use Rattle.plan_loads.specs.plan_tables.specs.Desk.{usability}
+use Rattle.request_texts.specs.Requests.{ReadsAsRequest}
 use Rattle.desk_commands.specs.Statuses.{IsOfSurroundings}
-use Rattle.desk_commands.specs.Answers.{IsShown}
-use Rattle.desk_commands.specs.Turns.{IsFirstLine, IsLinePlayed, IsLoadRefusal, IsLoaded, IsPlanPlayed, IsPlayed, Plays, PlaysLine, breaks_off, goes_on, joined, no_more, number_line}
+use Rattle.desk_commands.specs.Answers.{IsShown, answer_text}
+use Rattle.desk_commands.specs.Asked.{IsNoRequest}
+use Rattle.desk_commands.specs.Opened.{IsFaultOfNone, IsWhyNoDesk, IsNoneShown}
+use Rattle.desk_commands.specs.Turns.{IsFirstLine, IsLinePlayed, IsLoadRefusal, IsLoaded, IsNumberShown, IsPlanPlayed, IsPlayed, IsTurnShown, Plays, PlaysLine, breaks_off, goes_on, joined, no_more, number_line, turn_head}
 use Rattle.desk_commands.specs.declared.endings.Ending.{Ending}
 use Rattle.desk_commands.specs.declared.endings.Ending.TheVariants as ending
 use Rattle.desk_commands.specs.declared.endings.Fault.{Fault}
 use Rattle.desk_commands.specs.declared.endings.Fault.TheVariants as fault
+use Rattle.desk_commands.specs.declared.endings.NoDesk.{NoDesk}
+use Rattle.desk_commands.specs.declared.endings.NoDesk.TheVariants as no_desk
 
 -- refused by either of two is refused by the one and then by the other
 joined-or : (b c : Bool) (outcome : Result Ending Fault) → joined (b || c) outcome ≡ joined b (joined c outcome)
@@ -100,6 +107,34 @@ line_fails n text s u old new r f t v is of = subst (λ x. IsLinePlayed n text s
     by fault.Network h = h
     by fault.Memory h = h
 
+-- a request was answered, and the answer was shown
+pub turn_answered : (q : Request) (a : Answer) (s : State) (u : Usable) (old new : Option (List ℕ)) (r : Result Bool Fault) (t : State) (v : Usable)
+    → Answers s u (plain q) a t v → IfOk r (IsTurnShown a old new)
+    → IfOk r (λ refuses. (b : Answer) × Answers s u (plain q) b t v × IsTurnShown b old new refuses)
+turn_answered q a s u old new (Ok refuses) t v answers shown = (a, answers, shown)
+turn_answered q a s u old new (Err f) t v answers shown = tt
+
+-- the head of a line was shown, and then the answer to its request
+pub turn_played : (n : ℕ) (q : Request) (moment : List ℕ) (s : State) (u : Usable) (old between new : Option (List ℕ)) (r : Result Bool Fault) (t : State) (v : Usable)
+    → IsShownAs q.at moment → Appends old between (turn_head n moment)
+    → IfOk r (λ refuses. (a : Answer) × Answers s u (plain q) a t v × IsTurnShown a between new refuses) → IfErr r IsOfSurroundings
+    → (line : List ℕ) → ReadsAsRequest line q → IsLinePlayed n line s u old new r t v
+turn_played n q moment s u old between new (Ok refuses) t v at head (a, answers, told) of line reads =
+    (turn_head n moment ++ answer_text a, inr (q, reads, moment, at, a, answers, refl, told.1), Appends-trans old between new (turn_head n moment) (answer_text a) head told.0)
+turn_played n q moment s u old between new (Err f) t v at head played of line reads = line_fails n line s u old new (Err f) f t v refl of
+
+-- a line is no request, and its number was shown
+pub line_unread : (n : ℕ) (line : List ℕ) (s : State) (u : Usable) (old new : Option (List ℕ)) (r : Result Bool Fault)
+    → IsNoRequest line → IsNumberShown n old new r → IsLinePlayed n line s u old new r s u
+line_unread n line s u old new (Ok refuses) none shown = absurd shown
+line_unread n line s u old new (Err fault.Request) none shown = (none, shown)
+line_unread n line s u old new (Err fault.Encoding) none of = of
+line_unread n line s u old new (Err fault.Words) none of = of
+line_unread n line s u old new (Err fault.Moment) none of = of
+line_unread n line s u old new (Err fault.File) none of = of
+line_unread n line s u old new (Err fault.Network) none of = of
+line_unread n line s u old new (Err fault.Memory) none of = of
+
 -- a new desk takes a load
 pub loaded : (s : State) (b : Bool) (at : ℤ) (found : Option Contents) (a : Answer) (t : State) (v : Usable)
     → s ≡ empty_state → b ≡ true → Answers s (usability b) (plain (load_request at found)) a t v → IsLoaded at found a t
@@ -116,10 +151,6 @@ module _ (at : ℤ) (found : Option Contents) (text : List ℕ) (old new : Optio
   plan_at_fault fault.Network h = h
   plan_at_fault fault.Memory h = h
 
-  -- the new desk isn't there
-  pub plan_fails : (r : Result Ending Fault) (f : Fault) → r ≡ Err f → IsOfSurroundings f → IsPlanPlayed at found text old new r
-  plan_fails r f is of = subst (IsPlanPlayed at found text old new) (sym is) (plan_at_fault f of)
-
   -- the plan was loaded, and the text played
   pub plan_played : (named : List OpKey) (s : State) (b : Bool) (r : Result Ending Fault)
       → IsLoaded at found (accepted named) s → b ≡ true → IsPlayed text s (usability b) old new r → IsPlanPlayed at found text old new r
@@ -134,7 +165,15 @@ module _ (at : ℤ) (found : Option Contents) (text : List ℕ) (old new : Optio
   plan_played named s false r loads is played = absurd (cc)
 
   -- its load was refused, and that was shown
-  pub plan_refused : (refusal : Refusal) (r : Result Ending Fault)
+  plan_refused : (refusal : Refusal) (r : Result Ending Fault)
       → IsLoadRefusal at found refusal → IfOk r (IsShown (refused refusal) old new) → IfErr r IsOfSurroundings → IsPlanPlayed at found text old new r
   plan_refused refusal (Ok e) why shown of = inr (refusal, why, shown)
   plan_refused refusal (Err f) why shown of = plan_at_fault f of
+
+  -- why there is no desk was shown, or its fault handed on
+  pub plan_unplayed : (none : NoDesk) (r : Result Ending Fault)
+      → IsWhyNoDesk (IsLoadRefusal at found) none → IfOk r (IsNoneShown none old new) → IfErr r (IsFaultOfNone none) → IsPlanPlayed at found text old new r
+  plan_unplayed (no_desk.Refused q) (Ok e) why shown of = plan_refused q (Ok e) why shown tt
+  plan_unplayed (no_desk.Refused q) (Err g) why shown of = plan_refused q (Err g) why tt of
+  plan_unplayed (no_desk.Faulty f) (Ok e) why shown of = absurd shown
+  plan_unplayed (no_desk.Faulty f) (Err g) why shown of = plan_at_fault g (rw of why)

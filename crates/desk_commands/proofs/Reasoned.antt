@@ -8,16 +8,20 @@ use Rattle.plan_loads.specs.plan_model.specs.Contents.{Contents}
 use Rattle.plan_loads.specs.plan_model.specs.Plan.{Plan}
 use Rattle.plan_records.specs.Answer.{accepted, refused}
 use Rattle.plan_records.specs.Run.{State}
+use Rattle.plan_loads.specs.plan_tables.specs.Faults.{IsOpeningRefusal}
 use Rattle.plan_reports.specs.Reports.{IsOwed, IsWhyReport, IsWritten, why_refusal_of}
 use Rattle.plan_reports.specs.declared.reports.ReportFault.{ReportFault}
 use Rattle.plan_reports.specs.declared.reports.ReportFault.TheVariants as report_fault
 use Rattle.desk_commands.specs.Answers.{IsShown}
+use Rattle.desk_commands.specs.Opened.{IsWhyNoDesk, IsNoneShown}
 use Rattle.desk_commands.specs.Shown.{IsEndOf}
 use Rattle.desk_commands.specs.Turns.{IsLoadRefusal, IsLoaded}
-use Rattle.desk_commands.specs.Whys.{IsMinuteGiven, IsWhyAsked, IsWhyOfDesk, IsWhyPlanned, IsWhyShown, minute_asked}
+use Rattle.desk_commands.specs.Whys.{IsMinuteGiven, IsWhyAsked, IsWhyOfDesk, IsWhyOfText, IsWhyPlanned, IsWhyShown, minute_asked}
 use Rattle.desk_commands.specs.declared.endings.Ending.{Ending}
 use Rattle.desk_commands.specs.declared.endings.Fault.{Fault}
+use Rattle.desk_commands.specs.declared.endings.NoDesk.{NoDesk}
 use Rattle.desk_commands.proofs.Ended.{told}
+use Rattle.desk_commands.proofs.Opened.{none_shown}
 
 module _ (o : OpKey) (old new : Option (List ℕ)) (r : Result Ending Fault) where
   -- at a desk, behind the report
@@ -37,15 +41,22 @@ module _ (o : OpKey) (old new : Option (List ℕ)) (r : Result Ending Fault) whe
       (λ (e : Ending) (was : IsWhyShown o z usable s.plan old new e). inl (named, s, loads, subst (λ (u : Bool). IsWhyShown o z u s.plan old new e) is was)) shown
 
   -- the load was refused
-  pub why_unplanned : (z : ℤ) (found : Option Contents) (q : Refusal) → IsLoadRefusal z found q → IfOk r (IsShown (refused q) old new) → IfOk r (IsWhyPlanned o z found old new)
-  why_unplanned z found q why shown =
-      IfOk-weaker r (IsShown (refused q) old new) (IsWhyPlanned o z found old new) (λ (e : Ending) (was : IsShown (refused q) old new e). inr (q, why, was)) shown
+  pub why_unplanned : (z : ℤ) (found : Option Contents) (none : NoDesk) → IsWhyNoDesk (IsLoadRefusal z found) none → IfOk r (IsNoneShown none old new) → IfOk r (IsWhyPlanned o z found old new)
+  why_unplanned z found none why shown =
+      IfOk-weaker r (λ e. (q : Refusal) × IsLoadRefusal z found q × IsShown (refused q) old new e) (IsWhyPlanned o z found old new)
+      (λ (e : Ending) (was : (q : Refusal) × IsLoadRefusal z found q × IsShown (refused q) old new e). inr was) (none_shown (IsLoadRefusal z found) none r old new why shown)
+
+  -- no desk could be opened
+  pub why_unopened : (z : Option ℤ) (none : NoDesk) → IsWhyNoDesk IsOpeningRefusal none → IfOk r (IsNoneShown none old new) → IfOk r (IsWhyOfDesk o z old new)
+  why_unopened z none why shown =
+      IfOk-weaker r (λ e. (q : Refusal) × IsOpeningRefusal q × IsShown (refused q) old new e) (IsWhyOfDesk o z old new)
+      (λ (e : Ending) (was : (q : Refusal) × IsOpeningRefusal q × IsShown (refused q) old new e). inr was) (none_shown IsOpeningRefusal none r old new why shown)
 
   -- at a desk that was there
-  pub why_of_desk : (z : Option ℤ) (usable : Bool) (P : Plan) (m : ℤ) → m ≡ minute_asked z P → IfOk r (IsWhyShown o m usable P old new) → IfOk r (IsWhyOfDesk o z old new)
-  why_of_desk z usable P m is shown =
-      IfOk-weaker r (IsWhyShown o m usable P old new) (IsWhyOfDesk o z old new)
-      (λ (e : Ending) (was : IsWhyShown o m usable P old new e). inl (usable, P, subst (λ (n : ℤ). IsWhyShown o n usable P old new e) is was)) shown
+  pub why_of_desk : (z : Option ℤ) (usable : Bool) (P : Plan) → IfOk r (IsWhyShown o (minute_asked z P) usable P old new) → IfOk r (IsWhyOfDesk o z old new)
+  why_of_desk z usable P shown =
+      IfOk-weaker r (IsWhyShown o (minute_asked z P) usable P old new) (IsWhyOfDesk o z old new)
+      (λ (e : Ending) (was : IsWhyShown o (minute_asked z P) usable P old new e). inl (usable, P, was)) shown
 
   module _ (op : List ℕ) (at : Option (List ℕ)) (z : Option ℤ) (names : IsOperationText op o) (given : IsMinuteGiven at z) where
     -- as the words ask for, at a desk that was there
@@ -53,7 +64,7 @@ module _ (o : OpKey) (old new : Option (List ℕ)) (r : Result Ending Fault) whe
     why_asked shown = IfOk-weaker r (IsWhyOfDesk o z old new) (IsWhyAsked op at old new) (λ (e : Ending) (was : IsWhyOfDesk o z old new e). (o, names, z, given, inl was)) shown
 
     -- at one of a plan's text
-    pub why_asked_of_plan : (m : ℤ) → z ≡ Some m → (found : Option Contents) → IfOk r (IsWhyPlanned o m found old new) → IfOk r (IsWhyAsked op at old new)
-    why_asked_of_plan m is found shown =
-        IfOk-weaker r (IsWhyPlanned o m found old new) (IsWhyAsked op at old new)
-        (λ (e : Ending) (was : IsWhyPlanned o m found old new e). (o, names, z, given, inr (m, is, found, was))) shown
+    pub why_asked_of_plan : (m : ℤ) → z ≡ Some m → IfOk r (IsWhyOfText o m old new) → IfOk r (IsWhyAsked op at old new)
+    why_asked_of_plan m is shown =
+        IfOk-weaker r (IsWhyOfText o m old new) (IsWhyAsked op at old new)
+        (λ (e : Ending) (was : IsWhyOfText o m old new e). (o, names, z, given, inr (m, is, was.0, was.1))) shown

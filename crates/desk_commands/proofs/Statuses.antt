@@ -5,7 +5,9 @@ use Rattle.std.specs.declared.io.ErrorKind.TheVariants as kind
 use Rattle.sqlite.specs.declared.error.Error.{Error as StoreError}
 use Rattle.sqlite.specs.declared.error.Error.TheVariants.{SqliteFailure}
 use Rattle.sqlite.specs.declared.error.ErrorCode.TheVariants as code
-use Rattle.desk_commands.specs.Statuses.{ending_status, fault_status, fault_of_kind, fault_of_store, IsOfSurroundings, IsStatusOf}
+use Rattle.plan_import.specs.declared.ImportFault.{ImportFault}
+use Rattle.plan_import.specs.declared.ImportFault.TheVariants as import_fault
+use Rattle.desk_commands.specs.Statuses.{ending_status, fault_status, fault_of_import, fault_of_kind, fault_of_store, IsOfSurroundings, IsStatusOf}
 use Rattle.desk_commands.specs.declared.endings.Ending.{Ending}
 use Rattle.desk_commands.specs.declared.endings.Ending.TheVariants as ending
 use Rattle.desk_commands.specs.declared.endings.Fault.{Fault}
@@ -37,3 +39,7 @@ of_the_surroundings _ = refl
 pub of_the_store : (e : StoreError) → IsOfSurroundings (fault_of_store e)
 of_the_store (SqliteFailure code.OutOfMemory) = refl
 of_the_store _ = refl
+
+pub of_the_import : (f : ImportFault) → IsOfSurroundings (fault_of_import f)
+of_the_import import_fault.Reader = refl
+of_the_import import_fault.Memory = refl

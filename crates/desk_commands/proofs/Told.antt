@@ -9,13 +9,16 @@ use Rattle.plan_records.specs.declared.Request.{Request}
 use Rattle.plan_loads.specs.plan_tables.specs.Faults.{IsOpeningRefusal}
 use Rattle.request_texts.specs.Requests.{ReadsAsRequest}
 use Rattle.desk_commands.specs.Answers.{IsShown}
-use Rattle.desk_commands.specs.Asked.{AsksReport, IsRequestShown}
+use Rattle.desk_commands.specs.Asked.{AsksReport, IsRequestAnswered, IsRequestShown}
 use Rattle.desk_commands.specs.Shown.{IsReportAsked, IsReportShown}
+use Rattle.desk_commands.specs.Opened.{IsWhyNoDesk, IsNoneShown}
 use Rattle.desk_commands.specs.Statuses.{IsOfSurroundings}
 use Rattle.desk_commands.specs.declared.endings.Ending.{Ending}
 use Rattle.desk_commands.specs.declared.endings.Fault.{Fault}
 use Rattle.desk_commands.specs.declared.endings.Fault.TheVariants as fault
+use Rattle.desk_commands.specs.declared.endings.NoDesk.{NoDesk}
 use Rattle.desk_commands.specs.declared.given.Kind.{Kind}
+use Rattle.desk_commands.proofs.Opened.{none_shown}
 
 -- a fault of the surroundings is one of theirs, or another
 pub of_them : (Other : Fault → Type 0) (r : Result Ending Fault) → IfErr r IsOfSurroundings → IfErr r (λ f. IsOfSurroundings f ⊎ Other f)
@@ -37,19 +40,25 @@ no_request X f is (inl memory) = absurd (cc)
 no_request X f is (inr none) = none.1
 
 module _ (r : Result Ending Fault) (old new : Option (List ℕ)) where
-  -- a desk's answer to the request that a text says
-  pub request_shown : (text : List ℕ) (q : Request) (s : State) (u : Usable) (a : Answer) (t : State) (v : Usable)
-      → ReadsAsRequest text q → Answers s u (plain q) a t v → IfOk r (IsShown a old new) → IfOk r (IsRequestShown text old new)
-  request_shown text q s u a t v says answers shown =
-      IfOk-weaker r (IsShown a old new) (IsRequestShown text old new)
-      (λ (e : Ending) (is : IsShown a old new e). (q, says, a, inl (s, u, t, v, answers), is)) shown
+  -- a desk's answer to a request
+  pub request_answered : (q : Request) (s : State) (u : Usable) (a : Answer) (t : State) (v : Usable)
+      → Answers s u (plain q) a t v → IfOk r (IsShown a old new) → IfOk r (IsRequestAnswered q old new)
+  request_answered q s u a t v answers shown =
+      IfOk-weaker r (IsShown a old new) (IsRequestAnswered q old new)
+      (λ (e : Ending) (is : IsShown a old new e). (a, inl (s, u, t, v, answers), is)) shown
 
   -- why no desk could be opened for it
-  pub request_refused : (text : List ℕ) (q : Request) (refusal : Refusal)
-      → ReadsAsRequest text q → IsOpeningRefusal refusal → IfOk r (IsShown (refused refusal) old new) → IfOk r (IsRequestShown text old new)
-  request_refused text q refusal says opening shown =
-      IfOk-weaker r (IsShown (refused refusal) old new) (IsRequestShown text old new)
-      (λ (e : Ending) (is : IsShown (refused refusal) old new e). (q, says, refused refusal, inr (refusal, opening, refl), is)) shown
+  pub request_refused : (q : Request) (none : NoDesk) → IsWhyNoDesk IsOpeningRefusal none → IfOk r (IsNoneShown none old new) → IfOk r (IsRequestAnswered q old new)
+  request_refused q none why shown =
+      IfOk-weaker r (λ e. (p : Refusal) × IsOpeningRefusal p × IsShown (refused p) old new e) (IsRequestAnswered q old new)
+      (λ (e : Ending) (was : (p : Refusal) × IsOpeningRefusal p × IsShown (refused p) old new e). (refused was.0, inr (was.0, was.1, refl), was.2))
+      (none_shown IsOpeningRefusal none r old new why shown)
+
+  -- of the request that a text says
+  pub request_shown : (text : List ℕ) (q : Request) → ReadsAsRequest text q → IfOk r (IsRequestAnswered q old new) → IfOk r (IsRequestShown text old new)
+  request_shown text q says shown =
+      IfOk-weaker r (IsRequestAnswered q old new) (IsRequestShown text old new)
+      (λ (e : Ending) (was : IsRequestAnswered q old new e). (q, says, was.0, was.1, was.2)) shown
 
   -- the report that words ask for, of a desk
   pub report_shown : (word : List ℕ) (ws : Option (List ℕ)) (k : Kind) (usable : Bool) (P : Plan)
@@ -59,8 +68,9 @@ module _ (r : Result Ending Fault) (old new : Option (List ℕ)) where
       (λ (e : Ending) (is : IsReportShown k usable P old new e). (k, asks, inl (usable, P, is))) shown
 
   -- why no desk could be opened for it
-  pub report_refused : (word : List ℕ) (ws : Option (List ℕ)) (k : Kind) (refusal : Refusal)
-      → AsksReport word ws k → IsOpeningRefusal refusal → IfOk r (IsShown (refused refusal) old new) → IfOk r (IsReportAsked word ws old new)
-  report_refused word ws k refusal asks opening shown =
-      IfOk-weaker r (IsShown (refused refusal) old new) (IsReportAsked word ws old new)
-      (λ (e : Ending) (is : IsShown (refused refusal) old new e). (k, asks, inr (refusal, opening, is))) shown
+  pub report_refused : (word : List ℕ) (ws : Option (List ℕ)) (k : Kind) (none : NoDesk)
+      → AsksReport word ws k → IsWhyNoDesk IsOpeningRefusal none → IfOk r (IsNoneShown none old new) → IfOk r (IsReportAsked word ws old new)
+  report_refused word ws k none asks why shown =
+      IfOk-weaker r (λ e. (p : Refusal) × IsOpeningRefusal p × IsShown (refused p) old new e) (IsReportAsked word ws old new)
+      (λ (e : Ending) (was : (p : Refusal) × IsOpeningRefusal p × IsShown (refused p) old new e). (k, asks, inr was))
+      (none_shown IsOpeningRefusal none r old new why shown)

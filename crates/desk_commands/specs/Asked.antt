@@ -22,6 +22,10 @@ IsAnswerTo q a =
     ((s : State) × (u : Usable) × (t : State) × (v : Usable) × Answers s u (plain q) a t v)
     ⊎ ((r : Refusal) × IsOpeningRefusal r × (a ≡ refused r))
 
+-- the answer to this request was shown
+abbrev pub IsRequestAnswered : Request → Option (List ℕ) → Option (List ℕ) → Ending → Type 0
+IsRequestAnswered q old new ending = (a : Answer) × IsAnswerTo q a × IsShown a old new ending
+
 -- the answer was shown to the request that this text says
 abbrev pub IsRequestShown : List ℕ → Option (List ℕ) → Option (List ℕ) → Ending → Type 0
 IsRequestShown text old new ending = (q : Request) × ReadsAsRequest text q × (a : Answer) × IsAnswerTo q a × IsShown a old new ending

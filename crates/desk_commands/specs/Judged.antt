@@ -14,6 +14,10 @@ count_line count = if count == 0 then line (codes "no faults") else line (decima
 abbrev pub ending_of_count : ℕ → Ending
 ending_of_count count = if count == 0 then ending.Done else ending.Refused
 
+-- something was shown of so many faults, and then how many they are
+abbrev pub AreFaultsShown : ℕ → Option (List ℕ) → Option (List ℕ) → Ending → Type 0
+AreFaultsShown count old new e = (told : List ℕ) × Appends old new (told ++ count_line count) × (e ≡ ending_of_count count)
+
 -- a text was judged: something was shown of its faults, and then how many there are; none exactly where it denotes a plan
 abbrev pub IsJudged : List ℕ → Option (List ℕ) → Option (List ℕ) → Ending → Type 0
 IsJudged text old new e =

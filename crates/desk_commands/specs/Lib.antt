@@ -1,6 +1,7 @@
 pub mod Answers
 pub mod Asked
 pub mod Loads
+pub mod Opened
 pub mod Shown
 pub mod Statuses
 pub mod Turns

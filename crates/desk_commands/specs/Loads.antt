@@ -33,6 +33,10 @@ IsLoadAnswer at found a =
     ((s : State) × (t : State) × CallStep s (plain (load_request at found)) a t)
     ⊎ ((r : Refusal) × IsOpeningRefusal r × (a ≡ refused r))
 
+-- the answer to the load of this draft at this minute was shown
+abbrev pub IsLoadOf : ℤ → Option Contents → Option (List ℕ) → Option (List ℕ) → Ending → Type 0
+IsLoadOf at found old new ending = (a : Answer) × IsLoadAnswer at found a × IsShown a old new ending
+
 -- the answer to the load of a draft at the moment of this text was shown
 abbrev pub IsLoadShown : List ℕ → Option (List ℕ) → Option (List ℕ) → Ending → Type 0
 IsLoadShown moment old new ending =

@@ -77,6 +77,16 @@ IsLinePlayed n text s u old new (Ok refuses) t v = (shown : List ℕ) × PlaysLi
 IsLinePlayed n text s u old new (Err fault.Request) t v = IsNoRequest text × Appends old new (number_line n)
 IsLinePlayed n text s u old new (Err f) t v = IsOfSurroundings f
 
+-- the answer was shown, and it is said whether it refuses
+abbrev pub IsTurnShown : Answer → Option (List ℕ) → Option (List ℕ) → Bool → Type 0
+IsTurnShown a old new refuses = Appends old new (answer_text a) × (refuses ≡ is_refusal a)
+
+-- the number of a line was shown that is no request; or the surroundings are at fault
+abbrev pub IsNumberShown : ℕ → Option (List ℕ) → Option (List ℕ) → Result Bool Fault → Type 0
+IsNumberShown n old new (Ok refuses) = ⊥
+IsNumberShown n old new (Err fault.Request) = Appends old new (number_line n)
+IsNumberShown n old new (Err f) = IsOfSurroundings f
+
 -- a text was played, and what it shows was added; or the surroundings are at fault
 abbrev pub IsPlayed : List ℕ → State → Usable → Option (List ℕ) → Option (List ℕ) → Result Ending Fault → Type 0
 IsPlayed text s u old new (Ok e) = (shown : List ℕ) × Plays 0 text s u shown (Ok e) × Appends old new shown

@@ -34,6 +34,10 @@ IsWhyPlanned o z found old new ending =
     ((named : List OpKey) × (s : State) × IsLoaded z found (accepted named) s × IsWhyShown o z true s.plan old new ending)
     ⊎ ((r : Refusal) × IsLoadRefusal z found r × IsShown (refused r) old new ending)
 
+-- a plan's text, whatever draft it gives, was loaded into a new desk at the minute, and it was shown there; or the refusal of the load was
+abbrev pub IsWhyOfText : OpKey → ℤ → Option (List ℕ) → Option (List ℕ) → Ending → Type 0
+IsWhyOfText o z old new ending = (found : Option Contents) × IsWhyPlanned o z found old new ending
+
 -- it was shown at some desk; or why that can't be opened
 abbrev pub IsWhyOfDesk : OpKey → Option ℤ → Option (List ℕ) → Option (List ℕ) → Ending → Type 0
 IsWhyOfDesk o z old new ending =

@@ -1,18 +1,7 @@
--- The words that the program is given, and those that it shows a fault by.
-use Rattle.std.specs.Prelude.{ℕ, List, [], Option, Some, None, codes}
-use Rattle.clap.specs.Matches.{first_value}
-use Rattle.clap.specs.declared.parser.matches.Found.{Found}
+-- The words by which the program shows a fault.
+use Rattle.std.specs.Prelude.{ℕ, List, codes}
 use Rattle.desk_commands.specs.declared.endings.Fault.{Fault}
 use Rattle.desk_commands.specs.declared.endings.Fault.TheVariants as fault
-
--- the text of an option's value; empty where it has none
-abbrev pub text_or_empty : Option (List ℕ) → List ℕ
-text_or_empty (Some text) = text
-text_or_empty None = []
-
--- the text that the words give an option
-abbrev pub text_given : Found → List ℕ → List ℕ
-text_given found name = text_or_empty (first_value found name)
 
 -- how a fault is shown
 abbrev pub fault_text : Fault → List ℕ

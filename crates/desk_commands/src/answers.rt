@@ -3,10 +3,11 @@ ghost use Rattle.std.specs.Prelude.{IfOk, IfErr, OnOk, flat_map};
 ghost use Rattle.std.specs.Io.KnownBytes.{Appends};
 ghost use Rattle.plan_basics.specs.Watched.{inner_of};
 ghost use Rattle.desk_commands.specs.Answers.{IsShown, refusal_line, start_line};
+ghost use Rattle.desk_commands.specs.Opened.{IsFaultOfNone, IsNoneShown};
 ghost use Rattle.desk_commands.specs.Statuses.{IsOfSurroundings};
 ghost use Rattle.plan_records.specs.Answer.{answer_of};
 
-use crate::endings::{Ending, Fault};
+use crate::endings::{Ending, Fault, NoDesk};
 use plan_basics::{OpKey, Refusal, Watched};
 use plan_records::Reply;
 use std::io::Write;
@@ -48,5 +49,16 @@ pub fn tell<W: Write>(out: &mut Watched<W>, reply: &Reply) -> Result<Ending, Fau
             tell_refusal(out, *refusal)?;
             Ok(Ending::Refused)
         }
+    }
+}
+
+/// Shows why there is no desk, where that is a refusal; hands on the fault otherwise.
+pub fn tell_no_desk<W: Write>(out: &mut Watched<W>, none: NoDesk) -> Result<Ending, Fault>
+    ensures shown { IfOk result (IsNoneShown none (W.contents (inner_of out.old)) (W.contents (inner_of out.new))) }
+    ensures fault { IfErr result (IsFaultOfNone none) }
+{
+    match none {
+        NoDesk::Refused(refusal) => tell(out, &Reply::Refused(refusal)),
+        NoDesk::Faulty(fault) => Err(fault),
     }
 }

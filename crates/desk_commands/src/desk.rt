@@ -11,10 +11,11 @@ use crate::reports::report;
 use crate::requests::make;
 use crate::serving::serve;
 use crate::validating::validate;
-use crate::words::desk_command;
 use clap::ArgMatches;
 use clap::error::{Error, ErrorKind};
+use command_words::desk_command;
 use plan_basics::Watched;
+use std::alloc::Global;
 use std::io::Write;
 use std::rt::HostRuntime;
 
@@ -60,6 +61,28 @@ fn do_command<W: Write>(
     }
 }
 
+/// Does what the words ask for, and has standard output take all of the answer.
+fn do_asked<W: Write>(
+    rt: &HostRuntime,
+    asked: &ArgMatches,
+    out: &mut Watched<W>,
+) -> Result<Ending, Fault> {
+    let Some((name, given)) = asked.subcommand() else {
+        return Err(Fault::Words);
+    };
+    let ending = do_command(rt, name, given, out)?;
+    out.flush()?;
+    Ok(ending)
+}
+
+/// What the words ask for, or what is to be said of them.
+fn understood<'a>(alloc: Global, words: &'a [String]) -> Result<ArgMatches<'a>, Error> {
+    match desk_command(alloc) {
+        Ok(command) => command.try_get_matches_from(words),
+        Err(error) => Err(Error::from(error)),
+    }
+}
+
 /// Understands the words and does what they ask for.
 fn obey<W: Write, E: Write>(
     rt: &HostRuntime,
@@ -67,16 +90,10 @@ fn obey<W: Write, E: Write>(
     out: &mut Watched<W>,
     err: &mut Watched<E>,
 ) -> Result<Ending, Fault> {
-    let matches = match desk_command(rt.alloc())?.try_get_matches_from(words) {
-        Ok(matches) => matches,
-        Err(error) => return explain(&error, out, err),
-    };
-    let Some((name, given)) = matches.subcommand() else {
-        return Err(Fault::Words);
-    };
-    let ending = do_command(rt, name, given, out)?;
-    out.flush()?;
-    Ok(ending)
+    match understood(rt.alloc(), words) {
+        Ok(matches) => do_asked(rt, &matches, out),
+        Err(error) => explain(&error, out, err),
+    }
 }
 
 /// Shows a fault on standard error, and gives the exit status: that of a stream's fault where standard error fails too.

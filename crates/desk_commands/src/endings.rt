@@ -1,6 +1,7 @@
 // How a run ends: with its answer shown, or by a fault; and with which exit status.
 ghost use Rattle.std.specs.Prelude.{◌≡◌};
 
+use plan_basics::Refusal;
 use plan_import::ImportFault;
 use sqlite::ErrorCode;
 use std::alloc::AllocError;
@@ -74,6 +75,15 @@ impl Fault {
             Fault::File | Fault::Network | Fault::Memory => 3,
         }
     }
+}
+
+/// Why there is no desk.
+#[derive(Drop)]
+pub enum NoDesk {
+    /// None could be made or opened, or the load at it was refused.
+    Refused(Refusal),
+    /// A fault came before.
+    Faulty(Fault),
 }
 
 impl fmt::Display for Fault {

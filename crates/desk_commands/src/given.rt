@@ -5,20 +5,20 @@ ghost use Rattle.plan_basics.specs.KeyTexts.{IsOperationText};
 ghost use Rattle.plan_basics.specs.Minutes.{IsMinuteText};
 ghost use Rattle.desk_commands.specs.Asked.{AsksNoReport, AsksReport, IsNoRequest};
 ghost use Rattle.desk_commands.specs.Whys.{IsMinuteGiven, IsNoMinute, IsNoMinuteGiven, IsNoOperationText};
-ghost use Rattle.desk_commands.specs.Words.{text_given};
+ghost use Rattle.command_words.specs.Words.{text_given};
 ghost use Rattle.desk_commands.specs.declared.endings.Fault.{Fault};
 ghost use Rattle.request_texts.specs.Requests.{ReadsAsRequest};
 
 use crate::endings::Fault;
-use crate::words::value_of;
 use clap::ArgMatches;
+use command_words::value_of;
 use plan_basics::{OpKey, WsName, minute_of_text};
 use plan_records::Request;
 use request_texts::read_operator;
 use std::alloc::Global;
 
 /// Which report is asked for.
-#[derive(Clone, Copy, Debug)]
+#[derive(Clone, Copy)]
 pub enum Kind {
     /// What is ready on this workstation.
     Ready(WsName),

@@ -13,7 +13,6 @@ mod reports;
 mod requests;
 mod serving;
 mod validating;
-mod words;
 
 pub use desk::{desk_run, tell_fault};
 pub use endings::{Ending, Fault};

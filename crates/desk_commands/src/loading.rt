@@ -1,24 +1,25 @@
 // `check` and `load`: what an empty plan answers to the load of a plan's text, and its load into the desk of a database's file.
-ghost use Rattle.std.specs.Prelude.{◌≡◌, ◌⊎◌, IfOk, IfErr, codes};
+ghost use Rattle.std.specs.Prelude.{◌≡◌, ◌⊎◌, false, IfOk, IfErr, codes};
 ghost use Rattle.clap.specs.Matches.{found_of};
 ghost use Rattle.plan_basics.specs.Watched.{inner_of};
-ghost use Rattle.desk_commands.specs.Loads.{IsCheckShown, IsLoadShown};
+ghost use Rattle.desk_commands.specs.Loads.{IsCheckShown, IsLoadOf, IsLoadShown};
 ghost use Rattle.desk_commands.specs.Statuses.{IsOfSurroundings};
 ghost use Rattle.desk_commands.specs.Whys.{IsNoMinute};
-ghost use Rattle.desk_commands.specs.Words.{text_given};
+ghost use Rattle.command_words.specs.Words.{text_given};
 ghost use Rattle.desk_commands.specs.declared.endings.Fault.{Fault};
 
 use crate::answers::tell;
 use crate::endings::{Ending, Fault};
-use crate::files::{close, plan_of};
+use crate::files::{plan_of_file, tell_and_close};
 use crate::given::moment_of;
-use crate::words::value_of;
 use clap::ArgMatches;
+use command_words::value_of;
 use plan_basics::Watched;
 use plan_loads::load_into;
+use plan_records::PlanDraft;
 use plan_trials::answer_alone;
-use sqlite::Connection;
-use std::fs;
+use sqlite::{Connection, File, FileStore};
+use std::alloc::Global;
 use std::io::Write;
 use std::rt::HostRuntime;
 
@@ -32,8 +33,44 @@ pub fn check<W: Write>(
     ensures fault { IfErr result (λ fault. ((fault ≡ Fault.Moment) × IsNoMinute (text_given (found_of given.now) (codes "at"))) ⊎ IsOfSurroundings fault) }
 {
     let at = moment_of(given)?;
-    let draft = plan_of(rt.alloc(), fs::open(rt, value_of(given, "plan"))?)?;
-    tell(out, &answer_alone(rt.alloc(), at, draft))
+    match plan_of_file(rt, value_of(given, "plan")) {
+        Ok(draft) => tell(out, &answer_alone(rt.alloc(), at, draft)),
+        Err(fault) => Err(fault),
+    }
+}
+
+// Loads a draft over a connection, shows the answer and closes the database.
+fn load_over<W: Write>(
+    alloc: Global,
+    conn: Connection<FileStore<File>>,
+    at: i64,
+    draft: Option<PlanDraft>,
+    out: &mut Watched<W>,
+) -> Result<Ending, Fault>
+    requires { conn.in_transaction ≡ false }
+    ensures shown { IfOk result (IsLoadOf at draft (W.contents (inner_of out.old)) (W.contents (inner_of out.new))) }
+    ensures fault { IfErr result IsOfSurroundings }
+{
+    let (reply, conn) = load_into(alloc, conn, at, draft);
+    tell_and_close(conn, &reply, out)
+}
+
+// Loads a draft into the desk of a database's file.
+#[tactic(auto, using(crate::proofs::Statuses::of_the_store))]
+fn load_draft<W: Write>(
+    rt: &HostRuntime,
+    path: &str,
+    at: i64,
+    draft: Option<PlanDraft>,
+    out: &mut Watched<W>,
+) -> Result<Ending, Fault>
+    ensures shown { IfOk result (IsLoadOf at draft (W.contents (inner_of out.old)) (W.contents (inner_of out.new))) }
+    ensures fault { IfErr result IsOfSurroundings }
+{
+    match Connection::open(rt, path) {
+        Ok(conn) => load_over(rt.alloc(), conn, at, draft, out),
+        Err(error) => Err(Fault::from(error)),
+    }
 }
 
 /// `load`: the plan of a file is loaded into the desk of a database's file. The moment is judged before the files, and
@@ -47,10 +84,8 @@ pub fn load<W: Write>(
     ensures fault { IfErr result (λ fault. ((fault ≡ Fault.Moment) × IsNoMinute (text_given (found_of given.now) (codes "at"))) ⊎ IsOfSurroundings fault) }
 {
     let at = moment_of(given)?;
-    let draft = plan_of(rt.alloc(), fs::open(rt, value_of(given, "plan"))?)?;
-    let conn = Connection::open(rt, value_of(given, "db"))?;
-    let (reply, conn) = load_into(rt.alloc(), conn, at, draft);
-    let told = tell(out, &reply);
-    close(conn, &reply)?;
-    told
+    match plan_of_file(rt, value_of(given, "plan")) {
+        Ok(draft) => load_draft(rt, value_of(given, "db"), at, draft, out),
+        Err(fault) => Err(fault),
+    }
 }

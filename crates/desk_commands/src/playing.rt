@@ -1,28 +1,32 @@
 // `play`: the requests of a text are made one after another at a desk in memory.
-ghost use Rattle.std.specs.Prelude.{◌≡◌, Ok, IfOk, IfErr, IfSome, IfNone, OnOk, [], true, List, ℕ};
+ghost use Rattle.std.specs.Prelude.{◌≡◌, Ok, IfOk, IfErr, IfSome, IfNone, OnOk, [], false, true, List, ℕ};
 ghost use Rattle.std.specs.List.{list_all};
 ghost use Rattle.std.specs.Io.KnownBytes.{Appends};
 ghost use Rattle.plan_basics.specs.Minutes.{IsShownAs};
 ghost use Rattle.plan_basics.specs.Watched.{inner_of};
+ghost use Rattle.desk_commands.specs.Opened.{IsWhyNoDesk};
 ghost use Rattle.desk_commands.specs.Statuses.{IsOfSurroundings};
-ghost use Rattle.desk_commands.specs.Turns.{is_blank_byte, is_refusal, IsFirstLine, IsLinePlayed, IsLoadRefusal, IsLoaded, IsPlanPlayed, IsPlayed, joined, number_line, turn_head};
+ghost use Rattle.desk_commands.specs.Turns.{is_blank_byte, is_refusal, IsFirstLine, IsLinePlayed, IsLoadRefusal, IsLoaded, IsNumberShown, IsPlanPlayed, IsPlayed, IsTurnShown, joined, number_line, turn_head};
 ghost use Rattle.desk_commands.specs.declared.endings.Ending.{Ending as Ended};
-ghost use Rattle.plan_records.specs.Answer.{accepted, answer_of};
+ghost use Rattle.plan_records.specs.Answer.{Answer, accepted, answer_of};
+ghost use Rattle.plan_records.specs.Run.{Answers, empty_state, plain};
+ghost use Rattle.plan_loads.specs.Databases.{load_request};
+ghost use Rattle.plan_loads.specs.plan_tables.specs.Faults.{IsOpeningRefusal};
+ghost use Rattle.request_texts.specs.Requests.{ReadsAsRequest};
 ghost use Rattle.plan_loads.specs.plan_tables.specs.Desk.{state_of, usability};
 ghost use Rattle.plan_basics.specs.declared.keys.OpKey.{OpKey};
 
-use crate::answers::tell;
-use crate::endings::{Ending, Fault};
-use crate::files::{plan_of, text_of};
+use crate::answers::{tell, tell_no_desk};
+use crate::endings::{Ending, Fault, NoDesk};
+use crate::files::{plan_of_file, text_of, text_of_file};
 use crate::given::{moment_of, request_of};
-use crate::words::value_of;
 use clap::ArgMatches;
-use plan_basics::{Refusal, Watched, minute_text};
+use command_words::value_of;
+use plan_basics::{Watched, minute_text};
 use plan_loads::Desk;
 use plan_records::{PlanDraft, Reply, Request, What};
 use sqlite::{Alter, Connection, MemStore};
 use std::alloc::Global;
-use std::fs;
 use std::io::Write;
 use std::rt::HostRuntime;
 
@@ -92,6 +96,49 @@ fn ending_of_lines(refused: bool) -> Ending
     }
 }
 
+// Shows an answer, and tells whether it refuses.
+fn tell_turn<W: Write>(out: &mut Watched<W>, reply: &Reply) -> Result<bool, Fault>
+    ensures shown { IfOk result (IsTurnShown (answer_of reply.now) (W.contents (inner_of out.old)) (W.contents (inner_of out.new))) }
+    ensures fault { IfErr result IsOfSurroundings }
+{
+    tell(out, reply)?;
+    Ok(is_refusal(reply))
+}
+
+// Has a desk answer a request, shows the answer, and tells whether it refuses.
+fn play_turn<S: Alter + Drop, W: Write>(
+    desk: &mut Desk<S>,
+    request: &Request,
+    out: &mut Watched<W>,
+) -> Result<bool, Fault>
+    ensures played { IfOk result (λ refuses. (a : Answer) × Answers (state_of desk.old) (usability desk.old.is_usable) (plain request.now) a (state_of desk.new) (usability desk.new.is_usable) × IsTurnShown a (W.contents (inner_of out.old)) (W.contents (inner_of out.new)) refuses) }
+    ensures fault { IfErr result IsOfSurroundings }
+{
+    let reply = desk.call(request);
+    tell_turn(out, &reply)
+}
+
+// Makes a request, and shows the number of its line, its moment and the answer.
+fn play_request<S: Alter + Drop, W: Write>(
+    desk: &mut Desk<S>,
+    number: usize,
+    request: &Request,
+    out: &mut Watched<W>,
+) -> Result<bool, Fault>
+    ensures { (line : List ℕ) → ReadsAsRequest line request.now → IsLinePlayed number line (state_of desk.old) (usability desk.old.is_usable) (W.contents (inner_of out.old)) (W.contents (inner_of out.new)) result (state_of desk.new) (usability desk.new.is_usable) }
+{
+    tell_head(out, number, request.at)?;
+    play_turn(desk, request, out)
+}
+
+// Shows the number of a line that is no request, which ends the run.
+fn tell_no_request<W: Write>(out: &mut Watched<W>, number: usize) -> Result<bool, Fault>
+    ensures { IsNumberShown number (W.contents (inner_of out.old)) (W.contents (inner_of out.new)) result }
+{
+    tell_number(out, number)?;
+    Err(Fault::Request)
+}
+
 // Makes the request of a line that isn't blank, shows number, moment and answer, and tells whether it is refused.
 fn play_line<S: Alter + Drop, W: Write>(
     alloc: Global,
@@ -105,18 +152,11 @@ fn play_line<S: Alter + Drop, W: Write>(
     if is_blank(line) {
         return Ok(false);
     }
-    let request = match request_of(alloc, line) {
-        Ok(request) => request,
-        Err(Fault::Request) => {
-            tell_number(out, number)?;
-            return Err(Fault::Request);
-        }
-        Err(fault) => return Err(fault),
-    };
-    tell_head(out, number, request.at)?;
-    let reply = desk.call(&request);
-    tell(out, &reply)?;
-    Ok(is_refusal(&reply))
+    match request_of(alloc, line) {
+        Ok(request) => play_request(desk, number, &request, out),
+        Err(Fault::Request) => tell_no_request(out, number),
+        Err(fault) => Err(fault),
+    }
 }
 
 // Makes the requests of a text, a line each, until one is none. Blank lines are passed over, and counted.
@@ -140,27 +180,74 @@ fn play_lines<S: Alter + Drop, W: Write>(
     Ok(ending_of_lines(refused))
 }
 
-/// A desk in memory at which a plan was loaded; or the refusal of the load.
+// The desk over a connection, at which nothing is loaded.
+fn desk_in(alloc: Global, conn: Connection<MemStore>) -> Result<Desk<MemStore>, NoDesk>
+    requires { conn.in_transaction ≡ false }
+    ensures empty { IfOk result (λ desk. state_of desk ≡ empty_state) }
+    ensures usable { IfOk result (λ desk. desk.is_usable ≡ true) }
+    ensures refused { IfErr result (IsWhyNoDesk IsOpeningRefusal) }
+{
+    match Desk::create(alloc, conn) {
+        Ok(desk) => Ok(desk),
+        Err((refusal, _)) => Err(NoDesk::Refused(refusal)),
+    }
+}
+
+// A desk in memory, at which nothing is loaded.
+fn new_desk(alloc: Global) -> Result<Desk<MemStore>, NoDesk>
+    ensures empty { IfOk result (λ desk. state_of desk ≡ empty_state) }
+    ensures usable { IfOk result (λ desk. desk.is_usable ≡ true) }
+    ensures refused { IfErr result (IsWhyNoDesk IsOpeningRefusal) }
+{
+    match Connection::open_in_memory(alloc) {
+        Ok(conn) => desk_in(alloc, conn),
+        Err(_) => Err(NoDesk::Faulty(Fault::Memory)),
+    }
+}
+
+// What a desk answers to the load of a draft at a minute.
+fn load_reply<S: Alter + Drop>(desk: &mut Desk<S>, at: i64, draft: Option<PlanDraft>) -> Reply
+    ensures { Answers (state_of desk.old) (usability desk.old.is_usable) (plain (load_request at draft)) (answer_of result) (state_of desk.new) (usability desk.new.is_usable) }
+{
+    let load = Request {
+        at,
+        what: What::Load(draft),
+    };
+    desk.call(&load)
+}
+
+// A desk at which nothing is loaded, once a draft is; or the refusal of the load.
+fn desk_with(
+    desk: Desk<MemStore>,
+    at: i64,
+    draft: Option<PlanDraft>,
+) -> Result<Desk<MemStore>, NoDesk>
+    requires empty { state_of desk ≡ empty_state }
+    requires usable { desk.is_usable ≡ true }
+    ensures loaded { IfOk result (λ made. (named : List OpKey) × IsLoaded at draft (accepted named) (state_of made)) }
+    ensures usable { IfOk result (λ made. made.is_usable ≡ true) }
+    ensures refused { IfErr result (IsWhyNoDesk (IsLoadRefusal at draft)) }
+{
+    let mut desk = desk;
+    match load_reply(&mut desk, at, draft) {
+        Reply::Accepted { .. } => Ok(desk),
+        Reply::Refused(refusal) => Err(NoDesk::Refused(refusal)),
+    }
+}
+
+/// A desk in memory at which a plan was loaded; or why there is none, as the refusal of the load.
 pub fn loaded_desk(
     alloc: Global,
     at: i64,
     draft: Option<PlanDraft>,
-) -> Result<Result<Desk<MemStore>, Refusal>, Fault>
-    ensures loaded { IfOk result (λ made. IfOk made (λ desk. (named : List OpKey) × IsLoaded at draft (accepted named) (state_of desk))) }
-    ensures usable { IfOk result (λ made. IfOk made (λ desk. desk.is_usable ≡ true)) }
-    ensures refused { IfOk result (λ made. IfErr made (IsLoadRefusal at draft)) }
-    ensures fault { IfErr result IsOfSurroundings }
+) -> Result<Desk<MemStore>, NoDesk>
+    ensures loaded { IfOk result (λ desk. (named : List OpKey) × IsLoaded at draft (accepted named) (state_of desk)) }
+    ensures usable { IfOk result (λ desk. desk.is_usable ≡ true) }
+    ensures refused { IfErr result (IsWhyNoDesk (IsLoadRefusal at draft)) }
 {
-    let mut desk = match Desk::create(alloc, Connection::open_in_memory(alloc)?) {
-        Ok(desk) => desk,
-        Err((refusal, _)) => return Ok(Err(refusal)),
-    };
-    match desk.call(&Request {
-        at,
-        what: What::Load(draft),
-    }) {
-        Reply::Accepted { .. } => Ok(Ok(desk)),
-        Reply::Refused(refusal) => Ok(Err(refusal)),
+    match new_desk(alloc) {
+        Ok(desk) => desk_with(desk, at, draft),
+        Err(none) => Err(none),
     }
 }
 
@@ -171,7 +258,7 @@ fn requests_of(rt: &HostRuntime, path: &str) -> Result<Vec<u8>, Fault>
     if path == "-" {
         text_of(rt.alloc(), rt.stdin())
     } else {
-        text_of(rt.alloc(), fs::open(rt, path)?)
+        text_of_file(rt, path)
     }
 }
 
@@ -185,9 +272,23 @@ fn play_plan<W: Write>(
 ) -> Result<Ending, Fault>
     ensures { IsPlanPlayed at draft requests.now (W.contents (inner_of out.old)) (W.contents (inner_of out.new)) result }
 {
-    match loaded_desk(alloc, at, draft)? {
+    match loaded_desk(alloc, at, draft) {
         Ok(mut desk) => play_lines(alloc, &mut desk, requests, out),
-        Err(refusal) => tell(out, &Reply::Refused(refusal)),
+        Err(none) => tell_no_desk(out, none),
+    }
+}
+
+// Makes the requests of a file, or of standard input.
+fn play_file<W: Write>(
+    rt: &HostRuntime,
+    path: &str,
+    at: i64,
+    draft: Option<PlanDraft>,
+    out: &mut Watched<W>,
+) -> Result<Ending, Fault> {
+    match requests_of(rt, path) {
+        Ok(requests) => play_plan(rt.alloc(), at, draft, requests.as_slice(), out),
+        Err(fault) => Err(fault),
     }
 }
 
@@ -199,7 +300,8 @@ pub fn play<W: Write>(
     out: &mut Watched<W>,
 ) -> Result<Ending, Fault> {
     let at = moment_of(given)?;
-    let draft = plan_of(rt.alloc(), fs::open(rt, value_of(given, "plan"))?)?;
-    let requests = requests_of(rt, value_of(given, "requests"))?;
-    play_plan(rt.alloc(), at, draft, requests.as_slice(), out)
+    match plan_of_file(rt, value_of(given, "plan")) {
+        Ok(draft) => play_file(rt, value_of(given, "requests"), at, draft, out),
+        Err(fault) => Err(fault),
+    }
 }

@@ -3,24 +3,23 @@ ghost use Rattle.std.specs.Prelude.{◌≡◌, ◌⊎◌, IfOk, IfErr, codes};
 ghost use Rattle.clap.specs.Matches.{first_value, found_of};
 ghost use Rattle.plan_basics.specs.Watched.{inner_of};
 ghost use Rattle.desk_commands.specs.Statuses.{IsOfSurroundings};
-ghost use Rattle.desk_commands.specs.Whys.{IsNoDeskGiven, IsNoMinuteGiven, IsNoOperationText, IsWhyAsked, IsWhyOfDesk, IsWhyPlanned, IsWhyShown, minute_asked};
-ghost use Rattle.desk_commands.specs.Words.{text_given};
+ghost use Rattle.desk_commands.specs.Whys.{IsNoDeskGiven, IsNoMinuteGiven, IsNoOperationText, IsWhyAsked, IsWhyOfDesk, IsWhyOfText, IsWhyPlanned, IsWhyShown, minute_asked};
+ghost use Rattle.command_words.specs.Words.{text_given};
 ghost use Rattle.desk_commands.specs.declared.endings.Fault.{Fault};
 
-use crate::answers::{tell, tell_refusal};
+use crate::answers::{tell_no_desk, tell_refusal};
 use crate::endings::{Ending, Fault};
-use crate::files::{plan_of, stored_desk};
+use crate::files::{close_desk, plan_of_file, stored_desk};
 use crate::given::{moment_if_given, operation_of};
 use crate::playing::loaded_desk;
 use crate::reports::end_of;
 use clap::ArgMatches;
 use plan_basics::{Moment, OpKey, Refusal, Watched};
 use plan_loads::Desk;
-use plan_records::{PlanDraft, Reply};
+use plan_records::PlanDraft;
 use plan_reports::why_report;
-use sqlite::Alter;
+use sqlite::{Alter, File, FileStore};
 use std::alloc::Global;
-use std::fs;
 use std::io::Write;
 use std::rt::HostRuntime;
 
@@ -54,9 +53,26 @@ fn why_planned<W: Write>(
     ensures shown { IfOk result (IsWhyPlanned key.now at draft (W.contents (inner_of out.old)) (W.contents (inner_of out.new))) }
     ensures fault { IfErr result IsOfSurroundings }
 {
-    match loaded_desk(alloc, at, draft)? {
+    match loaded_desk(alloc, at, draft) {
         Ok(desk) => tell_why(alloc, &desk, key, at, out),
-        Err(refusal) => tell(out, &Reply::Refused(refusal)),
+        Err(none) => tell_no_desk(out, none),
+    }
+}
+
+// The same at a desk in memory at which the plan of a file is loaded then.
+fn why_of_file<W: Write>(
+    rt: &HostRuntime,
+    path: &str,
+    at: i64,
+    key: &OpKey,
+    out: &mut Watched<W>,
+) -> Result<Ending, Fault>
+    ensures shown { IfOk result (IsWhyOfText key.now at (W.contents (inner_of out.old)) (W.contents (inner_of out.new))) }
+    ensures fault { IfErr result IsOfSurroundings }
+{
+    match plan_of_file(rt, path) {
+        Ok(draft) => why_planned(rt.alloc(), at, draft, key, out),
+        Err(fault) => Err(fault),
     }
 }
 
@@ -70,7 +86,24 @@ fn minute_of<S: Alter + Drop>(desk: &Desk<S>, minute: Option<i64>) -> i64
     }
 }
 
-// The same at the desk of a database's file, at its clock where no minute is given; or why it can't be opened.
+// Shows the same at the desk of a database, at its clock where no minute is given, and closes the database.
+fn why_and_close<W: Write>(
+    alloc: Global,
+    desk: Desk<FileStore<File>>,
+    key: &OpKey,
+    minute: Option<i64>,
+    out: &mut Watched<W>,
+) -> Result<Ending, Fault>
+    ensures shown { IfOk result (IsWhyShown key.now (minute_asked minute desk.plan) desk.is_usable desk.plan (W.contents (inner_of out.old)) (W.contents (inner_of out.new))) }
+    ensures fault { IfErr result IsOfSurroundings }
+{
+    let minute = minute_of(&desk, minute);
+    let shown = tell_why(alloc, &desk, key, minute, out);
+    close_desk(desk)?;
+    shown
+}
+
+// The same at the desk of a database's file; or why it can't be opened.
 fn why_stored<W: Write>(
     rt: &HostRuntime,
     path: &str,
@@ -81,14 +114,10 @@ fn why_stored<W: Write>(
     ensures shown { IfOk result (IsWhyOfDesk key.now minute (W.contents (inner_of out.old)) (W.contents (inner_of out.new))) }
     ensures fault { IfErr result IsOfSurroundings }
 {
-    let desk = match stored_desk(rt, path)? {
-        Ok(desk) => desk,
-        Err(refusal) => return tell(out, &Reply::Refused(refusal)),
-    };
-    let minute = minute_of(&desk, minute);
-    let shown = tell_why(rt.alloc(), &desk, key, minute, out);
-    desk.close().close()?;
-    shown
+    match stored_desk(rt, path) {
+        Ok(desk) => why_and_close(rt.alloc(), desk, key, minute, out),
+        Err(none) => tell_no_desk(out, none),
+    }
 }
 
 /// `why`: the words are judged before the files. A plan's text is loaded at the moment that is given; the database of a
@@ -105,10 +134,7 @@ pub fn why<W: Write>(
     let at = moment_if_given(given)?;
     match (given.get_str("db"), given.get_str("plan"), at) {
         (Some(path), _, at) => why_stored(rt, path, &key, at, out),
-        (None, Some(path), Some(at)) => {
-            let draft = plan_of(rt.alloc(), fs::open(rt, path)?)?;
-            why_planned(rt.alloc(), at, draft, &key, out)
-        }
+        (None, Some(path), Some(at)) => why_of_file(rt, path, at, &key, out),
         _ => Err(Fault::Words),
     }
 }

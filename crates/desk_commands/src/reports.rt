@@ -6,22 +6,21 @@ ghost use Rattle.plan_basics.specs.declared.Refusal.{Refusal};
 ghost use Rattle.desk_commands.specs.Asked.{AsksNoReport};
 ghost use Rattle.desk_commands.specs.Shown.{IsEndOf, IsReport, IsReportAsked, IsReportShown, report_refusal_of};
 ghost use Rattle.desk_commands.specs.Statuses.{IsOfSurroundings};
-ghost use Rattle.desk_commands.specs.Words.{text_given};
+ghost use Rattle.command_words.specs.Words.{text_given};
 ghost use Rattle.desk_commands.specs.declared.endings.Fault.{Fault};
 ghost use Rattle.plan_reports.specs.Reports.{IsOwed, IsWritten};
 ghost use Rattle.plan_reports.specs.declared.reports.ReportFault.{ReportFault};
 
-use crate::answers::{tell, tell_refusal};
+use crate::answers::{tell_no_desk, tell_refusal};
 use crate::endings::{Ending, Fault};
-use crate::files::stored_desk;
+use crate::files::{close_desk, stored_desk};
 use crate::given::{Kind, kind_of};
-use crate::words::value_of;
 use clap::ArgMatches;
+use command_words::value_of;
 use plan_basics::Watched;
 use plan_loads::Desk;
-use plan_records::Reply;
 use plan_reports::{ReportFault, error_report, late_report, occurrence_report, ready_report};
-use sqlite::Alter;
+use sqlite::{Alter, File, FileStore};
 use std::alloc::Global;
 use std::io::Write;
 use std::rt::HostRuntime;
@@ -76,6 +75,21 @@ pub fn show<S: Alter + Drop, W: Write>(
     end_of(written, out)
 }
 
+// Shows a report of the desk of a database, or why it is refused, and closes the database.
+fn show_and_close<W: Write>(
+    alloc: Global,
+    desk: Desk<FileStore<File>>,
+    kind: &Kind,
+    out: &mut Watched<W>,
+) -> Result<Ending, Fault>
+    ensures shown { IfOk result (IsReportShown kind.now desk.is_usable desk.plan (W.contents (inner_of out.old)) (W.contents (inner_of out.new))) }
+    ensures fault { IfErr result IsOfSurroundings }
+{
+    let shown = show(alloc, &desk, kind, out);
+    close_desk(desk)?;
+    shown
+}
+
 /// `report`: which report is asked for is judged before the file. At its end the database is closed. `Words` where the
 /// words ask for no report.
 pub fn report<W: Write>(
@@ -87,11 +101,8 @@ pub fn report<W: Write>(
     ensures fault { IfErr result (λ fault. ((fault ≡ Fault.Words) × AsksNoReport (text_given (found_of given.now) (codes "kind")) (first_value (found_of given.now) (codes "ws"))) ⊎ IsOfSurroundings fault) }
 {
     let kind = kind_of(given)?;
-    let desk = match stored_desk(rt, value_of(given, "db"))? {
-        Ok(desk) => desk,
-        Err(refusal) => return tell(out, &Reply::Refused(refusal)),
-    };
-    let shown = show(rt.alloc(), &desk, &kind, out);
-    desk.close().close()?;
-    shown
+    match stored_desk(rt, value_of(given, "db")) {
+        Ok(desk) => show_and_close(rt.alloc(), desk, &kind, out),
+        Err(none) => tell_no_desk(out, none),
+    }
 }

@@ -2,21 +2,53 @@
 ghost use Rattle.std.specs.Prelude.{◌≡◌, ◌⊎◌, IfOk, IfErr, codes};
 ghost use Rattle.clap.specs.Matches.{found_of};
 ghost use Rattle.plan_basics.specs.Watched.{inner_of};
-ghost use Rattle.desk_commands.specs.Asked.{IsNoRequest, IsRequestShown};
+ghost use Rattle.desk_commands.specs.Asked.{IsNoRequest, IsRequestAnswered, IsRequestShown};
 ghost use Rattle.desk_commands.specs.Statuses.{IsOfSurroundings};
-ghost use Rattle.desk_commands.specs.Words.{text_given};
+ghost use Rattle.command_words.specs.Words.{text_given};
 ghost use Rattle.desk_commands.specs.declared.endings.Fault.{Fault};
 
-use crate::answers::tell;
+use crate::answers::tell_no_desk;
 use crate::endings::{Ending, Fault};
-use crate::files::{close, stored_desk};
+use crate::files::{stored_desk, tell_and_close};
 use crate::given::request_of;
-use crate::words::value_of;
 use clap::ArgMatches;
+use command_words::value_of;
 use plan_basics::Watched;
-use plan_records::Reply;
+use plan_loads::Desk;
+use plan_records::Request;
+use sqlite::{File, FileStore};
 use std::io::Write;
 use std::rt::HostRuntime;
+
+// Has a desk answer a request, shows the answer and closes the database.
+fn answer<W: Write>(
+    desk: Desk<FileStore<File>>,
+    request: &Request,
+    out: &mut Watched<W>,
+) -> Result<Ending, Fault>
+    ensures shown { IfOk result (IsRequestAnswered request.now (W.contents (inner_of out.old)) (W.contents (inner_of out.new))) }
+    ensures fault { IfErr result IsOfSurroundings }
+{
+    let mut desk = desk;
+    let reply = desk.call(request);
+    tell_and_close(desk.close(), &reply, out)
+}
+
+// Makes a request at the desk of a database's file.
+fn make_stored<W: Write>(
+    rt: &HostRuntime,
+    path: &str,
+    request: &Request,
+    out: &mut Watched<W>,
+) -> Result<Ending, Fault>
+    ensures shown { IfOk result (IsRequestAnswered request.now (W.contents (inner_of out.old)) (W.contents (inner_of out.new))) }
+    ensures fault { IfErr result IsOfSurroundings }
+{
+    match stored_desk(rt, path) {
+        Ok(desk) => answer(desk, request, out),
+        Err(none) => tell_no_desk(out, none),
+    }
+}
 
 /// `do`: the request is judged before the file. At its end the database is closed, but where its store has failed: then
 /// the files are let go as they are.
@@ -28,13 +60,8 @@ pub fn make<W: Write>(
     ensures shown { IfOk result (IsRequestShown (text_given (found_of given.now) (codes "request")) (W.contents (inner_of out.old)) (W.contents (inner_of out.new))) }
     ensures fault { IfErr result (λ fault. IsOfSurroundings fault ⊎ ((fault ≡ Fault.Request) × IsNoRequest (text_given (found_of given.now) (codes "request")))) }
 {
-    let request = request_of(rt.alloc(), value_of(given, "request").as_bytes())?;
-    let mut desk = match stored_desk(rt, value_of(given, "db"))? {
-        Ok(desk) => desk,
-        Err(refusal) => return tell(out, &Reply::Refused(refusal)),
-    };
-    let reply = desk.call(&request);
-    let told = tell(out, &reply);
-    close(desk.close(), &reply)?;
-    told
+    match request_of(rt.alloc(), value_of(given, "request").as_bytes()) {
+        Ok(request) => make_stored(rt, value_of(given, "db"), &request, out),
+        Err(fault) => Err(fault),
+    }
 }

@@ -1,12 +1,11 @@
 // `serve`: the desk of a database's file over HTTP, so many connections, one after another.
-use crate::answers::tell;
+use crate::answers::tell_no_desk;
 use crate::endings::{Ending, Fault};
-use crate::files::stored_desk;
-use crate::words::value_of;
+use crate::files::{close_desk, stored_desk};
 use clap::ArgMatches;
+use command_words::value_of;
 use plan_basics::Watched;
 use plan_loads::Desk;
-use plan_records::Reply;
 use sqlite::{Alter, File, FileStore};
 use std::alloc::Global;
 use std::io;
@@ -60,6 +59,19 @@ fn taken_port(rt: &HostRuntime, given: &ArgMatches) -> Result<TcpListener, Fault
     TcpListener::bind(rt, (Ipv4Addr::LOCALHOST, port)).map_err(|_| Fault::Network)
 }
 
+/// Tells that the port is taken, and serves so many connections.
+fn serve_port<W: Write>(
+    alloc: Global,
+    listener: &TcpListener,
+    connections: u64,
+    desk: &mut Desk<FileStore<File>>,
+    out: &mut Watched<W>,
+) -> Result<(), Fault> {
+    writeln!(out, "listening")?;
+    out.flush()?;
+    serve_listener(alloc, listener, desk, connections).map_err(|_| Fault::Network)
+}
+
 /// Takes the port that the words give, tells so before the first connection, and serves so many connections.
 fn listen<W: Write>(
     rt: &HostRuntime,
@@ -68,10 +80,33 @@ fn listen<W: Write>(
     out: &mut Watched<W>,
 ) -> Result<(), Fault> {
     let connections = given.get_one::<u32>("requests").ok_or(Fault::Words)?;
-    let listener = taken_port(rt, given)?;
-    writeln!(out, "listening")?;
-    out.flush()?;
-    serve_listener(rt.alloc(), &listener, desk, u64::from(connections)).map_err(|_| Fault::Network)
+    match taken_port(rt, given) {
+        Ok(listener) => serve_port(rt.alloc(), &listener, u64::from(connections), desk, out),
+        Err(fault) => Err(fault),
+    }
+}
+
+/// Closes the database of a desk, but where its store has failed: then the files are let go as they are.
+fn close_usable(desk: Desk<FileStore<File>>) -> Result<(), Fault> {
+    if desk.is_usable() {
+        close_desk(desk)
+    } else {
+        Ok(())
+    }
+}
+
+/// Serves the connections that the words give at a desk, and closes its database.
+fn serve_and_close<W: Write>(
+    rt: &HostRuntime,
+    given: &ArgMatches,
+    desk: Desk<FileStore<File>>,
+    out: &mut Watched<W>,
+) -> Result<Ending, Fault> {
+    let mut desk = desk;
+    let served = listen(rt, given, &mut desk, out);
+    close_usable(desk)?;
+    served?;
+    Ok(Ending::Done)
 }
 
 /// `serve`: the database is opened before the port is taken. At its end it is closed, but where its store has failed:
@@ -81,14 +116,8 @@ pub fn serve<W: Write>(
     given: &ArgMatches,
     out: &mut Watched<W>,
 ) -> Result<Ending, Fault> {
-    let mut desk = match stored_desk(rt, value_of(given, "db"))? {
-        Ok(desk) => desk,
-        Err(refusal) => return tell(out, &Reply::Refused(refusal)),
-    };
-    let served = listen(rt, given, &mut desk, out);
-    if desk.is_usable() {
-        desk.close().close()?;
+    match stored_desk(rt, value_of(given, "db")) {
+        Ok(desk) => serve_and_close(rt, given, desk, out),
+        Err(none) => tell_no_desk(out, none),
     }
-    served?;
-    Ok(Ending::Done)
 }

@@ -1,11 +1,15 @@
 // Sessions, each in a folder of its own.
 use super::faults::{EMPTY_DESKS, FAULTS, LOADED_DESKS, NO_DESKS, OTHER_DATABASES};
 use super::runs::play;
-use super::scripts::{JUDGED, ORDER, PLAYS, SAMPLES, SESSION, WHYS};
+use super::scripts::{JUDGED, ORDER, PLAYS, SAMPLES, SESSION, VERSION, WHYS};
 
-/// A night, why its operations don't go on, what is tried out, and what is judged.
+/// A night, why its operations don't go on, what is tried out, what is judged, and the version.
 pub fn sessions(rt: &HostRuntime) -> Result<(), &'static str> {
-    play(rt, "sessions", &[SESSION, WHYS, PLAYS, JUDGED, ORDER])
+    play(
+        rt,
+        "sessions",
+        &[SESSION, WHYS, PLAYS, JUDGED, ORDER, VERSION],
+    )
 }
 
 /// What reports show.

@@ -162,3 +162,10 @@ $ play --plan @absent --at 22:00 --requests @absent
 !fault moment
 =2
 "#;
+
+/// The program's version, by either option.
+pub const VERSION: &str = r#"$ --version
+plandesk 0.12.0
+$ -V
+plandesk 0.12.0
+"#;

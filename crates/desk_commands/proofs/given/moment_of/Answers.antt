@@ -1,7 +1,7 @@
 use Rattle.std.proofs.Common.{◌≡◌, ◌↔◌, ◌∙◌, refl, subst, codes, ℤ, IsSome}
 use Rattle.clap.specs.Matches.{found_of}
 use Rattle.plan_basics.specs.Minutes.{IsMinuteText}
-use Rattle.desk_commands.specs.Words.{text_given}
+use Rattle.command_words.specs.Words.{text_given}
 use Rattle.desk_commands.proofs.Minutes.{no_minute}
 use Rattle.desk_commands.proofs.given.moment_of.Goals as goal
 

@@ -1,10 +1,12 @@
-use Rattle.std.proofs.Common.{◌≡◌, FitsSigned, IfOk, List, to_z-of_z, true, w64}
+use Rattle.std.proofs.Common.{FitsSigned, IfOk, List, to_z-of_z, w64}
 use Rattle.plan_basics.specs.Watched.{inner_of}
 use Rattle.plan_basics.specs.declared.keys.OpKey.{OpKey}
 use Rattle.plan_records.specs.Answer.{accepted}
 use Rattle.plan_loads.specs.plan_tables.specs.Desk.{state_of}
+use Rattle.desk_commands.specs.Opened.{IsWhyNoDesk}
 use Rattle.desk_commands.specs.Turns.{IsLoadRefusal, IsLoaded}
 use Rattle.desk_commands.specs.Whys.{IsWhyShown}
+use Rattle.desk_commands.proofs.Opened.{none_faults}
 use Rattle.desk_commands.proofs.Reasoned.{why_planned, why_unplanned}
 use Rattle.desk_commands.proofs.reasons.why_planned.Goals as goal
 
@@ -13,14 +15,19 @@ returns-in-Ok-clause-shown g c =
     let fits : FitsSigned w64 c.args.at = c.ranges.at in
     let old = g.W.Write.contents (inner_of c.args.out.now) in
     let new = g.W.Write.contents (inner_of c.tell_why.new.out) in
-    let loads : (named : List OpKey) × IsLoaded c.args.at c.args.draft (accepted named) (state_of c.in-Ok.desk) = simp (c.in-Ok.is, to_z-of_z) at c.in_ok-desk.ensures.loaded in
-    let usable : c.in-Ok.desk.is_usable ≡ true = rw c.in-Ok.is at c.in_ok-desk.ensures.usable in
+    let loads : (named : List OpKey) × IsLoaded c.args.at c.args.draft (accepted named) (state_of c.in-Ok.desk) = simp to_z-of_z at c.in-Ok.ensures.loaded in
     let shown : IfOk c.tell_why.result (IsWhyShown c.args.key.now c.args.at c.in-Ok.desk.is_usable c.in-Ok.desk.plan old new) = simp to_z-of_z at c.tell_why.ensures.shown in
-    why_planned c.args.key.now old new c.tell_why.result c.args.at c.args.draft loads.0 (state_of c.in-Ok.desk) loads.1 c.in-Ok.desk.is_usable usable shown
+    why_planned c.args.key.now old new c.tell_why.result c.args.at c.args.draft loads.0 (state_of c.in-Ok.desk) loads.1 c.in-Ok.desk.is_usable c.in-Ok.ensures.usable shown
 
 pub returns-in-Err-clause-shown : goal.returns-in-Err-clause-shown
 returns-in-Err-clause-shown g c =
     let fits : FitsSigned w64 c.args.at = c.ranges.at in
-    let why : IsLoadRefusal c.args.at c.args.draft c.in-Err.refusal = simp (c.in-Err.is, to_z-of_z) at c.in_ok-desk.ensures.refused in
-    why_unplanned c.args.key.now (g.W.Write.contents (inner_of c.args.out.now)) (g.W.Write.contents (inner_of c.tell.new.out)) c.tell.result
-    c.args.at c.args.draft c.in-Err.refusal why c.tell.ensures.shown
+    let why : IsWhyNoDesk (IsLoadRefusal c.args.at c.args.draft) c.in-Err.none = simp to_z-of_z at c.in-Err.ensures.refused in
+    why_unplanned c.args.key.now (g.W.Write.contents (inner_of c.args.out.now)) (g.W.Write.contents (inner_of c.tell_no_desk.new.out)) c.tell_no_desk.result
+    c.args.at c.args.draft c.in-Err.none why c.tell_no_desk.ensures.shown
+
+pub returns-in-Err-clause-fault : goal.returns-in-Err-clause-fault
+returns-in-Err-clause-fault g c =
+    let fits : FitsSigned w64 c.args.at = c.ranges.at in
+    let why : IsWhyNoDesk (IsLoadRefusal c.args.at c.args.draft) c.in-Err.none = simp to_z-of_z at c.in-Err.ensures.refused in
+    none_faults (IsLoadRefusal c.args.at c.args.draft) c.in-Err.none c.tell_no_desk.result why c.tell_no_desk.ensures.fault

@@ -1,14 +1,18 @@
-use Rattle.std.proofs.Common.{FitsSigned, IfOk, rules, to_z-of_z, w64}
 use Rattle.plan_basics.specs.Watched.{inner_of}
-use Rattle.desk_commands.specs.Whys.{IsWhyShown}
-use Rattle.desk_commands.proofs.Reasoned.{why_of_desk}
+use Rattle.plan_loads.specs.plan_tables.specs.Faults.{IsOpeningRefusal}
+use Rattle.desk_commands.proofs.Opened.{none_faults}
+use Rattle.desk_commands.proofs.Reasoned.{why_of_desk, why_unopened}
 use Rattle.desk_commands.proofs.reasons.why_stored.Goals as goal
 
-pub returns-clause-shown : goal.returns-clause-shown
-returns-clause-shown g c =
-    let minute = c.minute_of-minute.result in
-    let fits : FitsSigned w64 minute = search rules in
-    let old = g.W.Write.contents (inner_of c.args.out.now) in
-    let new = g.W.Write.contents (inner_of c.tell_why-shown.new.out) in
-    let shown : IfOk c.tell_why-shown.result (IsWhyShown c.args.key.now minute c.in-Ok.desk.is_usable c.in-Ok.desk.plan old new) = simp to_z-of_z at c.tell_why-shown.ensures.shown in
-    why_of_desk c.args.key.now old new c.tell_why-shown.result c.args.minute c.in-Ok.desk.is_usable c.in-Ok.desk.plan minute c.minute_of-minute.ensures shown
+pub returns-in-Ok-clause-shown : goal.returns-in-Ok-clause-shown
+returns-in-Ok-clause-shown g c =
+    why_of_desk c.args.key.now (g.W.Write.contents (inner_of c.args.out.now)) (g.W.Write.contents (inner_of c.why_and_close.new.out)) c.why_and_close.result
+    c.args.minute c.in-Ok.desk.is_usable c.in-Ok.desk.plan c.why_and_close.ensures.shown
+
+pub returns-in-Err-clause-shown : goal.returns-in-Err-clause-shown
+returns-in-Err-clause-shown g c =
+    why_unopened c.args.key.now (g.W.Write.contents (inner_of c.args.out.now)) (g.W.Write.contents (inner_of c.tell_no_desk.new.out)) c.tell_no_desk.result
+    c.args.minute c.in-Err.none c.in-Err.ensures c.tell_no_desk.ensures.shown
+
+pub returns-in-Err-clause-fault : goal.returns-in-Err-clause-fault
+returns-in-Err-clause-fault g c = none_faults IsOpeningRefusal c.in-Err.none c.tell_no_desk.result c.in-Err.ensures c.tell_no_desk.ensures.fault

@@ -5,8 +5,8 @@ use Rattle.desk_commands.specs.Judged.{IsJudged}
 use Rattle.desk_commands.specs.declared.endings.Ending.{Ending}
 use Rattle.desk_commands.proofs.validating.validate.Goals as goal
 
-pub returns-clause-shown : goal.returns-clause-shown
-returns-clause-shown g c =
+pub returns-in-Ok-clause-shown : goal.returns-in-Ok-clause-shown
+returns-in-Ok-clause-shown g c =
     let old = g.W.Write.contents (inner_of c.args.out.now) in
     let new = g.W.Write.contents (inner_of c.tell_faults.new.out) in
     let text = c.deref.result.now in

@@ -1,0 +1,197 @@
+// The commands and their options, as a table.
+
+/// What an option's value may be.
+#[derive(Clone, Copy)]
+pub enum ValueForm {
+    Text,
+    Kind,
+    Port,
+    Connections,
+}
+
+/// When an option has to be given.
+#[derive(Clone, Copy)]
+pub enum Need {
+    Always,
+    Never,
+    /// Just where this other one isn't given.
+    InPlaceOf(&'static str),
+    /// It may be given, and this other one then has to be.
+    Together(&'static str),
+}
+
+/// A long option with one value.
+#[derive(Clone, Copy)]
+pub struct OptionForm {
+    pub name: &'static str,
+    /// What its value is called in a help.
+    pub value_name: &'static str,
+    pub help: &'static str,
+    pub value: ValueForm,
+    pub need: Need,
+}
+
+/// A command: its name, what it does, an example of its words, and its options.
+#[derive(Clone, Copy)]
+pub struct CommandForm {
+    pub name: &'static str,
+    pub about: &'static str,
+    pub example: &'static str,
+    pub options: &'static [OptionForm],
+}
+
+const DATABASE: OptionForm = OptionForm {
+    name: "db",
+    value_name: "FILE",
+    help: "The database of the desk",
+    value: ValueForm::Text,
+    need: Need::Always,
+};
+
+const PLAN: OptionForm = OptionForm {
+    name: "plan",
+    value_name: "FILE",
+    help: "The plan, as records of ten fields",
+    value: ValueForm::Text,
+    need: Need::Always,
+};
+
+const MOMENT: OptionForm = OptionForm {
+    name: "at",
+    value_name: "MOMENT",
+    help: "The moment, as 2024-03-01T22:00",
+    value: ValueForm::Text,
+    need: Need::Always,
+};
+
+/// All commands.
+pub const COMMANDS: [CommandForm; 8] = [
+    CommandForm {
+        name: "validate",
+        about: "Tells what is wrong with a plan, record by record; nothing is stored",
+        example: "Example: plandesk validate --plan day.csv",
+        options: &[PLAN],
+    },
+    CommandForm {
+        name: "check",
+        about: "Reads a plan and tells what starts at a moment; nothing is stored",
+        example: "Example: plandesk check --plan day.csv --at 2024-03-01T22:00",
+        options: &[PLAN, MOMENT],
+    },
+    CommandForm {
+        name: "load",
+        about: "Loads a plan into a database, which is made where there is none",
+        example: "Example: plandesk load --db night.db --plan day.csv --at 2024-03-01T22:00",
+        options: &[DATABASE, PLAN, MOMENT],
+    },
+    CommandForm {
+        name: "do",
+        about: "Makes one request of an operator at the desk of a database",
+        example: "Example: plandesk do --db night.db --request '{\"at\":\"2024-03-01T22:05\",\"do\":\"tick\"}'",
+        options: &[
+            DATABASE,
+            OptionForm {
+                name: "request",
+                value_name: "TEXT",
+                help: "The request, as a JSON object with `at`, `do` and what that needs",
+                value: ValueForm::Text,
+                need: Need::Always,
+            },
+        ],
+    },
+    CommandForm {
+        name: "report",
+        about: "Prints a report of the desk of a database",
+        example: "Example: plandesk report --db night.db --kind ready --ws CPU1",
+        options: &[
+            DATABASE,
+            OptionForm {
+                name: "kind",
+                value_name: "KIND",
+                help: "Which report",
+                value: ValueForm::Kind,
+                need: Need::Always,
+            },
+            OptionForm {
+                name: "ws",
+                value_name: "NAME",
+                help: "The workstation whose ready list is shown: needed for `ready`, not looked at otherwise",
+                value: ValueForm::Text,
+                need: Need::Never,
+            },
+        ],
+    },
+    CommandForm {
+        name: "why",
+        about: "Tells why an operation doesn't go on at a moment, and what it waits for in the end",
+        example: "Example: plandesk why --db night.db --op PAYROLL/2024-03-01T22:00/010",
+        options: &[
+            OptionForm {
+                name: "db",
+                value_name: "FILE",
+                help: "The database of the desk",
+                value: ValueForm::Text,
+                need: Need::InPlaceOf("plan"),
+            },
+            OptionForm {
+                name: "plan",
+                value_name: "FILE",
+                help: "In place of --db: a plan, loaded into a desk in memory at the moment of --at",
+                value: ValueForm::Text,
+                need: Need::Together("at"),
+            },
+            OptionForm {
+                name: "op",
+                value_name: "KEY",
+                help: "The operation, as PAYROLL/2024-03-01T22:00/010",
+                value: ValueForm::Text,
+                need: Need::Always,
+            },
+            OptionForm {
+                name: "at",
+                value_name: "MOMENT",
+                help: "The moment, as 2024-03-01T22:00; the clock of the desk where it isn't given",
+                value: ValueForm::Text,
+                need: Need::Never,
+            },
+        ],
+    },
+    CommandForm {
+        name: "serve",
+        about: "Serves trackers and operators over HTTP, one connection after another",
+        example: "Example: plandesk serve --db night.db --port 8080 --requests 1000",
+        options: &[
+            DATABASE,
+            OptionForm {
+                name: "port",
+                value_name: "PORT",
+                help: "The port, on 127.0.0.1: 1 to 65535",
+                value: ValueForm::Port,
+                need: Need::Always,
+            },
+            OptionForm {
+                name: "requests",
+                value_name: "NUMBER",
+                help: "How many connections are served: 1 to 1000000",
+                value: ValueForm::Connections,
+                need: Need::Always,
+            },
+        ],
+    },
+    CommandForm {
+        name: "play",
+        about: "Loads a plan, makes requests one after another and prints each answer; nothing is stored",
+        example: "Example: plandesk play --plan day.csv --at 2024-03-01T21:00 --requests night.json",
+        options: &[
+            PLAN,
+            MOMENT,
+            OptionForm {
+                name: "requests",
+                value_name: "FILE",
+                help: "The requests, one to a line, as `do` takes them; - is standard input",
+                value: ValueForm::Text,
+                need: Need::Always,
+            },
+        ],
+    },
+];
