@@ -1,19 +1,22 @@
 #!/usr/bin/env python3
-"""Measures how many requests a second `Plan::run` accepts in memory: ends of operations, and additions of occurrences.
+"""Measures requests that `Plan::run` accepts in memory: ends of operations, additions of occurrences with one operation,
+new dependencies and deletions of occurrences, beside `check` of the same plan.
 
     runs.py [--runs N] [--requests N] [--sizes N,N..] [--program PATH] [--runner PATH]
 
 README.md says how the program `runs` is built. Exit status: 0 all was measured, 2 nothing could be measured.
 """
 import argparse
+import random
 import subprocess
 import sys
 import tempfile
+import time
+from graphlib import TopologicalSorter
 from pathlib import Path
 from statistics import median
 
 from measure import HERE, MOMENT, PROGRAM, Unmeasured, tell_surroundings
-from stored import FULL
 
 RUNNER = HERE.parent / "crates" / "bench_runs" / "out" / "bench_runs"
 
@@ -37,25 +40,69 @@ def made(folder, size):
     return plan
 
 
-def rates(given, folder, size):
-    """A second: ends of operations that the load names, and additions of occurrences with one operation, to a plan that
-    has room for them."""
+def new_dependencies(texts, started, count):
+    """Pairs of operations that stand in no pair yet, in an order of the operations that no pair goes against, so that they
+    close no path; no successor is started."""
+    keys = [f"{it[1]}/{it[2]}/{int(it[3]):03}" for it in texts if it[0] == "P"]
+    pairs = {(f"{it[1]}/{it[2]}/{int(it[3]):03}", f"{it[4]}/{it[5]}/{int(it[6]):03}") for it in texts if it[0] == "D"}
+    order = {key: place for place, key in enumerate(TopologicalSorter({key: [] for key in keys} | preds_of(pairs)).static_order())}
+    chance, found = random.Random(1), set()
+    while len(found) < count:
+        first, second = sorted(chance.sample(keys, 2), key=order.get)
+        if (first, second) not in pairs and second not in started:
+            found.add((first, second))
+    return [f"{first},{second}" for first, second in sorted(found)]
+
+
+def preds_of(pairs):
+    preds = {}
+    for first, second in pairs:
+        preds.setdefault(second, []).append(first)
+    return preds
+
+
+def deletions(texts, started, count):
+    """Occurrences of which no operation is started."""
+    busy = {key.rsplit("/", 1)[0] for key in started}
+    free = [key for key in (f"{it[1]}/{it[2]}" for it in texts if it[0] == "O") if key not in busy]
+    return random.Random(1).sample(free, count)
+
+
+def milliseconds(given, plan, words):
+    """Of one request, the median over the runs."""
+    return median(taken(given.runner, plan, words) for _ in range(given.runs)) / 1000 / (len(words) - 1)
+
+
+def checked(given, plan):
+    """Milliseconds of `check`, the median, and what it says is started."""
+    took, said = [], []
+    for _ in range(given.runs):
+        begun = time.monotonic()
+        said = told_by([given.program, "check", "--plan", plan, "--at", MOMENT])
+        took.append(1000 * (time.monotonic() - begun))
+    return median(took), [line.split()[1] for line in said if " " in line]
+
+
+def measured(given, folder, size):
+    """Milliseconds of each kind of request, of `check`, and how many ends there were."""
     plan = made(folder, size)
-    named = [line.split()[1] for line in told_by([given.program, "check", "--plan", plan, "--at", MOMENT]) if " " in line]
-    keys = named[:given.requests]
-    workstation = min(line.split(",")[1] for line in plan.read_text().splitlines() if line.startswith("W,"))
-    names = [f"ADDED{number}" for number in range(given.requests)]
-    ends = [taken(given.runner, plan, ["ends", *keys]) for _ in range(given.runs)]
-    roomy = made(folder, min(size, FULL - 1000))
-    additions = [taken(given.runner, roomy, ["additions", workstation, *names]) for _ in range(given.runs)]
-    return len(keys), len(keys) * 1e6 / median(ends), len(names) * 1e6 / median(additions)
+    check, started = checked(given, plan)
+    texts = [line.split(",") for line in plan.read_text().splitlines()]
+    workstation = min(it[1] for it in texts if it[0] == "W")
+    asked = {
+        "end": ["ends", *started[: given.requests]],
+        "addition": ["additions", *(f"{workstation},ADDED{number}" for number in range(given.requests))],
+        "dependency": ["dependencies", *new_dependencies(texts, set(started), given.requests)],
+        "deletion": ["deletions", *deletions(texts, started, given.requests)],
+    }
+    return {"check": check} | {kind: milliseconds(given, plan, words) for kind, words in asked.items()}
 
 
 def main():
     words = argparse.ArgumentParser(description=__doc__.splitlines()[0])
     words.add_argument("--runs", type=int, default=5, help="runs of each")
     words.add_argument("--requests", type=int, default=12, help="requests, one after the other")
-    words.add_argument("--sizes", default="1000,5000,20000", help="operations of each plan")
+    words.add_argument("--sizes", default="1000,5000,18000", help="operations of each plan, which has room for the additions")
     words.add_argument("--program", type=Path, default=PROGRAM)
     words.add_argument("--runner", type=Path, default=RUNNER)
     given = words.parse_args()
@@ -64,8 +111,8 @@ def main():
         tell_surroundings(given.program, f"{given.runs} of {given.requests} requests", f"of {', '.join(map(str, sizes))} operations", "")
         for size in sizes:
             with tempfile.TemporaryDirectory() as folder:
-                count, ends, additions = rates(given, Path(folder), size)
-                print(f"{size:>6} operations: {ends:9.1f} ends a second ({count} of them), {additions:9.1f} additions a second", flush=True)
+                took = measured(given, Path(folder), size)
+                print(f"{size:>6} operations, milliseconds: " + ", ".join(f"{kind} {each:.3f}" for kind, each in took.items()), flush=True)
     except (Unmeasured, OSError) as why:
         print(f"runs.py: {why}", file=sys.stderr)
         return 2

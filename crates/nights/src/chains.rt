@@ -6,21 +6,17 @@ use plan_records::{PlanRow, Request};
 use std::alloc::Global;
 
 /// Each line is a request, made after those above it, and how many records it may look at: four, and four for each entry of
-/// the ready lists before and after and for each operation whose row changes and each pair that it is in; a load, and a
-/// dependency by which latest starts change, four for each operation and each pair, and four.
-///
-/// A dependency by which none changes is tried in the plan: it is checked by a look, both of its ends are looked at, all that is
-/// ready, and the successor twice for its row. So is the deletion of a chain that nothing leads to: by a look to check it, all that
-/// is ready, and at each of its operations one to delete it, one for what leads to it, and two for its row.
+/// the ready lists before and after and for each operation whose row changes and each pair that it is in; a load, a dependency
+/// and a deletion, four for each operation and each pair of the plan that they leave, and four.
 const LOOKS: &str = "22:00 load-chains | 40724
 22:00 tick | 164
 22:00 started J01.1 | 168
 22:00 ended J01.1 | 180
 22:00 hold J20.255 | 172
 22:00 hold J20.255 | 164
-22:00 depend J02.4 on J01.3 | 25
+22:00 depend J02.4 on J01.3 | 40728
 22:00 depend J02.3 on J01.3 | 40732
-22:00 delete J20 | 1041";
+22:00 delete J20 | 40732";
 
 // How many operations of the plan have another row once the request is made.
 fn changed(plan: &Plan, prepared: &Prepared) -> u64 {

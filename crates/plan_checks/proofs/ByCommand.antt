@@ -17,12 +17,12 @@ use Rattle.status_rules.specs.declared.OccStatus.TheVariants as occurrence
 use Rattle.status_rules.specs.declared.Status.{Status}
 use Rattle.status_rules.specs.declared.Status.TheVariants as status
 use Rattle.status_rules.specs.Classes.{is_completable, is_rerunnable, is_waiting_or_ready}
-use Rattle.plan_state.specs.plan_laws.proofs.Classes.{passes, waits_by, waits_told}
+use Rattle.plan_figures.specs.plan_laws.proofs.Classes.{passes, waits_by, waits_told}
 use Rattle.plan_checks.specs.Commands.{IsItsUnderWay}
 use Rattle.plan_checks.specs.Bars.{FailsAt, MeetsAll}
-use Rattle.plan_state.specs.Reports.{IsReported}
-use Rattle.plan_state.specs.declared.frame.Reported.{Reported}
-use Rattle.plan_state.specs.workstations.specs.Timetables.{MayBeTaken}
+use Rattle.plan_figures.specs.Reports.{IsReported}
+use Rattle.plan_figures.specs.declared.frame.Reported.{Reported}
+use Rattle.plan_model.specs.workstations.specs.Timetables.{MayBeTaken}
 
 module _ (P : Contents) (o : OpKey) where
   -- an operation may be completed in these statuses

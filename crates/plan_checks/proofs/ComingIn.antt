@@ -16,17 +16,17 @@ use Rattle.plan_basics.specs.declared.keys.OpKey.{OpKey}
 use Rattle.plan_model.specs.Contents.{Contents, IsPairOf, Occurrences, Operation}
 use Rattle.plan_model.specs.declared.Occurrence.{Occurrence}
 use Rattle.plan_records.specs.Acceptance.{IsNew}
-use Rattle.plan_state.specs.plan_drafts.specs.Contents.{AreAdditionParts, added_of}
-use Rattle.plan_state.specs.plan_drafts.specs.Drafts.{IsOwn}
-use Rattle.plan_state.specs.plan_drafts.specs.declared.contents.AdditionParts.{AdditionParts}
-use Rattle.plan_state.specs.special_resources.specs.Holdings.{usage_of}
-use Rattle.plan_state.specs.special_resources.specs.Needs.{AreInNameOrder, usages_of}
-use Rattle.plan_state.specs.special_resources.specs.declared.Need.{Need}
-use Rattle.plan_state.specs.special_resources.proofs.MoreNeeds.{need_by_usage, usage_by_need}
-use Rattle.plan_state.specs.plan_laws.proofs.Pairs.{pair_cmp_total, pair_cmp-IsAntisymmetric}
-use Rattle.plan_state.specs.plan_drafts.proofs.Lists.{all_by_members, all_told}
-use Rattle.plan_state.specs.plan_drafts.proofs.MadeAdditions.{sole_got, sole_key}
-use Rattle.plan_state.specs.plan_drafts.proofs.Tables.{from_set, get_row, in_set, is_found, row_found, rows_apart, some_is}
+use Rattle.plan_records.specs.plan_drafts.specs.Contents.{AreAdditionParts, added_of}
+use Rattle.plan_records.specs.plan_drafts.specs.Drafts.{IsOwn}
+use Rattle.plan_records.specs.plan_drafts.specs.declared.contents.AdditionParts.{AdditionParts}
+use Rattle.plan_model.specs.special_resources.specs.Holdings.{usage_of}
+use Rattle.plan_model.specs.special_resources.specs.Needs.{AreInNameOrder, usages_of}
+use Rattle.plan_model.specs.special_resources.specs.declared.Need.{Need}
+use Rattle.plan_model.specs.special_resources.proofs.MoreNeeds.{need_by_usage, usage_by_need}
+use Rattle.plan_figures.specs.plan_laws.proofs.Pairs.{pair_cmp_total, pair_cmp-IsAntisymmetric}
+use Rattle.plan_records.specs.plan_drafts.proofs.Lists.{all_by_members, all_told}
+use Rattle.plan_records.specs.plan_drafts.proofs.MadeAdditions.{sole_got, sole_key}
+use Rattle.plan_records.specs.plan_drafts.proofs.Tables.{from_set, get_row, in_set, is_found, row_found, rows_apart, some_is}
 use Rattle.plan_checks.proofs.Searching.{row_known}
 use Rattle.plan_checks.specs.Additions.{HasResources, IsKnown}
 

@@ -13,7 +13,7 @@ use Rattle.plan_basics.specs.Keys.{occurrence_cmp, occurrence_cmp_total, occurre
 use Rattle.plan_basics.specs.declared.Refusal.TheVariants as refusal
 use Rattle.plan_basics.specs.declared.keys.OccKey.{OccKey}
 use Rattle.plan_basics.specs.declared.keys.OpKey.{OpKey}
-use Rattle.plan_state.specs.plan_changes.specs.Additions.{HasNothingOf, ShareNoMember}
+use Rattle.plan_figures.specs.plan_changes.specs.Additions.{HasNothingOf, ShareNoMember}
 use Rattle.plan_checks.proofs.Limits.{pairs_counted}
 use Rattle.plan_checks.specs.Additions.{HasRoomFor}
 use Rattle.plan_model.proofs.Entries.{entries_in_order}
@@ -23,14 +23,14 @@ use Rattle.plan_model.specs.Valid.{IsValid, IsWithinLimits}
 use Rattle.plan_model.specs.declared.Occurrence.{Occurrence}
 use Rattle.plan_records.specs.Acceptance.{MayBeAdded}
 use Rattle.plan_records.specs.Changes.{with_added}
-use Rattle.plan_state.specs.plan_drafts.proofs.Tables.{from_set, get_row, in_set, is_found, row_found as row_in, rows_apart, same_entries, some_is}
-use Rattle.plan_state.specs.plan_drafts.specs.Contents.{AreAdditionParts, added_of}
-use Rattle.plan_state.specs.plan_drafts.specs.PlanGraphs.{JoinOperations}
-use Rattle.plan_state.specs.plan_drafts.specs.declared.contents.AdditionParts.{AdditionParts}
-use Rattle.plan_state.specs.plan_laws.proofs.ComingIn.{an_end, from_first, pair_cases}
-use Rattle.plan_state.specs.plan_laws.proofs.Sorted.{sorted_unique}
-use Rattle.plan_state.specs.plan_status.proofs.LoadedRows.{known_among, row_found}
-use Rattle.plan_state.specs.plan_status.proofs.RowKeys.{row_of_key}
+use Rattle.plan_records.specs.plan_drafts.proofs.Tables.{from_set, get_row, in_set, is_found, row_found as row_in, rows_apart, same_entries, some_is}
+use Rattle.plan_records.specs.plan_drafts.specs.Contents.{AreAdditionParts, added_of}
+use Rattle.plan_records.specs.plan_drafts.specs.PlanGraphs.{JoinOperations}
+use Rattle.plan_records.specs.plan_drafts.specs.declared.contents.AdditionParts.{AdditionParts}
+use Rattle.plan_figures.specs.plan_laws.proofs.ComingIn.{an_end, from_first, pair_cases}
+use Rattle.plan_figures.specs.plan_laws.proofs.Sorted.{sorted_unique}
+use Rattle.plan_figures.specs.plan_status.proofs.LoadedRows.{known_among, row_found}
+use Rattle.plan_figures.specs.plan_status.proofs.RowKeys.{row_of_key}
 
 module _ (P : Contents) (valid : IsValid P) (s : AddedParts) (known : MayBeAdded P s refusal.UnknownOperation) where
   -- both ends of each pair are operations of the plan that is made so

@@ -5,6 +5,7 @@ pub mod ClosedPaths
 pub mod ComingIn
 pub mod Grown
 pub mod Limits
+pub mod NewEdges
 pub mod OpenEnds
 pub mod PairedPlaces
 pub mod Permitting

@@ -7,8 +7,8 @@ use Rattle.plan_basics.specs.declared.keys.OpKey.{OpKey}
 use Rattle.plan_model.specs.Contents.{Contents, Operation, AddedParts}
 use Rattle.plan_model.specs.Status.{HasStatus, IsWaitingOrReady}
 use Rattle.plan_records.specs.Acceptance.{IsNew, IsOld}
-use Rattle.plan_state.specs.Reports.{IsOfStatus}
-use Rattle.plan_state.specs.special_resources.specs.Holders.{Usage}
+use Rattle.plan_figures.specs.Reports.{IsOfStatus}
+use Rattle.plan_model.specs.special_resources.specs.Holders.{Usage}
 use Rattle.status_rules.specs.declared.Status.{Status}
 use Rattle.status_rules.specs.declared.Status.TheVariants as status
 

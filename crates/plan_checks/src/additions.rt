@@ -3,7 +3,7 @@ ghost use Rattle.std.specs.Prelude.{◌≡◌, ◌⊎◌, Decides, IfErr, MatchO
 ghost use Rattle.plan_basics.specs.Refusals.{from_on, IsLeastRefusal, NoneRefuses};
 ghost use Rattle.plan_basics.specs.declared.Refusal.{Refusal};
 ghost use Rattle.plan_records.specs.Acceptance.{IsOld, MayBeAdded};
-ghost use Rattle.plan_state.specs.plan_drafts.specs.Contents.{added_of, AreAdditionParts};
+ghost use Rattle.plan_records.specs.plan_drafts.specs.Contents.{added_of, AreAdditionParts};
 ghost use Rattle.plan_checks.specs.Additions.{IsOldWith, IsOpenPair, MayPrecede, MaySucceed};
 
 use super::growth::{grown_keys, grown_pairs, has_room};
@@ -11,8 +11,8 @@ use super::known::{
     are_ends_known, are_resources_known, are_workstations_known, is_new_occurrence,
 };
 use plan_basics::{OpKey, Refusal};
+use plan_figures::Outline;
 use plan_records::{Addition, AdditionParts, graph_of};
-use plan_state::Outline;
 use status_rules::Status;
 use std::alloc::Global;
 

@@ -5,8 +5,8 @@ ghost use Rattle.plan_basics.specs.declared.keys.OpKey.{OpKey as OpKeyValue};
 ghost use Rattle.plan_checks.specs.Commands.{operation_of};
 ghost use Rattle.plan_records.specs.Acceptance.{MayBeDone, MayBeEnded, MayBeInterrupted, MayBeUndecided, NeedsPlan};
 ghost use Rattle.plan_checks.specs.Bars.{FailsAt, MayBeStartedAt, MeetsAll};
-ghost use Rattle.plan_state.specs.Frames.{IsFrameOf};
-ghost use Rattle.plan_state.specs.Reports.{IsReported};
+ghost use Rattle.plan_figures.specs.Frames.{IsFrameOf};
+ghost use Rattle.plan_figures.specs.Reports.{IsReported};
 ghost use Rattle.plan_checks.specs.Loads.{MayBeLoadedWhere};
 ghost use Rattle.plan_model.specs.Holdings.{takes};
 ghost use Rattle.plan_records.specs.declared.What.{What};
@@ -17,8 +17,8 @@ use super::commands::{
 };
 use super::dependencies::check_paired;
 use plan_basics::{Attr, Moment, OpKey, Refusal};
+use plan_figures::{Frame, Outline, Reported, Shown, check_start};
 use plan_records::{PlanDraft, What};
-use plan_state::{Frame, Outline, Reported, Shown, check_start};
 use status_rules::{Mark, Status};
 use std::alloc::Global;
 

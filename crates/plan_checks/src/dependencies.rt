@@ -11,7 +11,7 @@ ghost use Rattle.plan_checks.specs.Dependencies.{IsFaultAs};
 use operation_graph::Graph;
 use plan_basics::limits::MOST_PAIRS;
 use plan_basics::{OpKey, Refusal};
-use plan_state::Outline;
+use plan_figures::Outline;
 use status_rules::Status;
 use std::alloc::Global;
 

@@ -3,13 +3,13 @@ ghost use Rattle.std.specs.Prelude.{◌≡◌, true, Decides};
 ghost use Rattle.std.specs.FinMap.{contains_key};
 ghost use Rattle.plan_basics.specs.declared.Refusal.{Refusal};
 ghost use Rattle.plan_records.specs.Acceptance.{MayBeAdded};
-ghost use Rattle.plan_state.specs.plan_drafts.specs.Contents.{added_of, AreAdditionParts};
+ghost use Rattle.plan_records.specs.plan_drafts.specs.Contents.{added_of, AreAdditionParts};
 ghost use Rattle.plan_checks.specs.Additions.{HasResources, HasWorkstation, IsKnown, IsKnownPair};
 
 use plan_basics::{OpKey, ResName};
+use plan_figures::Outline;
 use plan_model::OperationRecord;
 use plan_records::{AdditionParts, row_place};
-use plan_state::Outline;
 
 // Whether an operation is added, or is of another occurrence of the plan.
 fn is_known(outline: &Outline<'_>, parts: &AdditionParts, key: &OpKey) -> bool

@@ -11,7 +11,7 @@ mod reach;
 mod under_way;
 
 pub use checks::{check_load, check_request};
-pub use plan_state::{
+pub use plan_figures::{
     Beside, Choice, Figures, Frame, LoadedPlan, Outline, Parts, Reported, Seen, Shown,
     SoundContents, chosen, chosen_with, latest_of, ready_of, satisfy, unsatisfy,
 };

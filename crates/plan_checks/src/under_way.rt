@@ -6,7 +6,7 @@ ghost use Rattle.plan_model.specs.Contents.{IsInPlan, Operation};
 ghost use Rattle.plan_checks.specs.Commands.{IsItsUnderWay, IsOtherUnderWay};
 
 use plan_basics::{OccKey, OpKey};
-use plan_state::Outline;
+use plan_figures::Outline;
 
 // Whether this is another operation, and under way.
 fn is_other_under_way(outline: &Outline<'_>, key: &OpKey, other: &OpKey) -> bool

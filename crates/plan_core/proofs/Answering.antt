@@ -1,8 +1,8 @@
 -- Answers to requests, one after another.
 use Rattle.std.proofs.Common.{◌≡◌, refl, ap, subst, List, [], ◌∷◌, ◌++◌, map}
-use Rattle.deletion_steps.specs.plan_steps.specs.plan_laws.proofs.Running.{answered, plan_answers}
-use Rattle.deletion_steps.specs.plan_steps.specs.plan_laws.proofs.Runs.{accepted_alone}
-use Rattle.deletion_steps.specs.plan_steps.specs.plan_model.specs.Plan.{Plan}
+use Rattle.plan_status.specs.plan_laws.proofs.Running.{answered, plan_answers}
+use Rattle.plan_status.specs.plan_laws.proofs.Runs.{accepted_alone}
+use Rattle.plan_records.specs.plan_model.specs.Plan.{Plan}
 use Rattle.plan_records.specs.Answer.{Answer, accepted, refused}
 use Rattle.plan_records.specs.Run.{Answers, Call, Run, State, Usable, accepted_calls, accepted_replies, plain, usable}
 use Rattle.plan_records.specs.Step.{Step}

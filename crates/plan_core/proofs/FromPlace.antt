@@ -7,15 +7,15 @@ use Rattle.std.specs.Option.{is_some}
 use Rattle.plan_basics.specs.Keys.{occurrence_cmp, operation_cmp}
 use Rattle.plan_basics.specs.declared.keys.OccKey.{OccKey}
 use Rattle.plan_basics.specs.declared.keys.OpKey.{OpKey}
-use Rattle.deletion_steps.specs.plan_steps.specs.plan_model.specs.Contents.{Contents, nothing, IsInPlan}
+use Rattle.plan_records.specs.plan_model.specs.Contents.{Contents, nothing, IsInPlan}
 use Rattle.std.proofs.lemmas.Option.{none-some}
-use Rattle.deletion_steps.specs.plan_steps.specs.plan_drafts.proofs.Lists.{contains_none}
+use Rattle.plan_records.specs.plan_drafts.proofs.Lists.{contains_none}
 use Rattle.plan_records.specs.special_resources.proofs.Splits.{none_in_order}
 use Rattle.plan_core.proofs.OpViews.{size}
-use Rattle.deletion_steps.specs.plan_steps.specs.plan_rows.proofs.SideBySide.{left_from, length_viewed}
-use Rattle.deletion_steps.specs.plan_steps.specs.plan_rows.specs.Shown.{IsShown, IsShownIfAny, known_of}
+use Rattle.plan_steps.specs.plan_rows.proofs.SideBySide.{left_from, length_viewed}
+use Rattle.plan_steps.specs.plan_rows.specs.Shown.{IsShown, IsShownIfAny, known_of}
 use Rattle.plan_core.specs.Views.{AreOccViews, AreOpViews, occ_view_of, occ_views, op_view_of, op_views, views_from}
-use Rattle.deletion_steps.specs.plan_steps.specs.plan_rows.specs.declared.shown.Shown.{Shown}
+use Rattle.plan_steps.specs.plan_rows.specs.declared.shown.RowSource.{RowSource}
 
 -- ---- where nothing is loaded
 
@@ -48,7 +48,7 @@ pub none_known : {V : Type 0} (answer : Option V) → answer ≡ None → (IsKno
 none_known answer none IsKnown P is unknown = none_told answer none (λ known. unknown (subst IsKnown is known))
 
 -- as many views as rows
-module _ (s : Shown) (shown : IsShown s) where
+module _ (s : RowSource) (shown : IsShown s) where
   pub length_ops : length (op_views s) ≡ length (entries s.contents.now.operations)
   length_ops = length_viewed (op_view_of s.contents.now) (entries s.contents.now.operations) (known_of s) (size s shown)
 
@@ -65,23 +65,23 @@ fewer e = let n = ap length e in omega (arith, n)
 -- ---- views of any kind
 
 -- what is shown, if a plan is loaded, is of these contents
-pub record IsOf (P : Contents) (shown : Option Shown) : Type 0 where
+pub record IsOf (P : Contents) (shown : Option RowSource) : Type 0 where
   pub none : IsNone shown → P ≡ nothing
   pub contents : IfSome shown (λ s. s.contents.now ≡ P)
   pub is_shown : IfSome shown IsShown
 
-pub shown_if_any : (P : Contents) (shown : Option Shown) → IsOf P shown → IsShownIfAny shown
+pub shown_if_any : (P : Contents) (shown : Option RowSource) → IsOf P shown → IsShownIfAny shown
 shown_if_any P None of = tt
 shown_if_any P (Some s) of = of.is_shown
 
-module _ {V : Type 0} (views : Shown → List V) where
+module _ {V : Type 0} (views : RowSource → List V) where
   -- from the first index on: all of them
-  pub all_from : (Are : Contents → List V → Type 0) → Are nothing [] → ((s : Shown) → IsShown s → Are s.contents.now (views s))
-      → (P : Contents) (shown : Option Shown) → IsOf P shown → {listed : List V} → listed ≡ views_from views shown 0 → Are P listed
+  pub all_from : (Are : Contents → List V → Type 0) → Are nothing [] → ((s : RowSource) → IsShown s → Are s.contents.now (views s))
+      → (P : Contents) (shown : Option RowSource) → IsOf P shown → {listed : List V} → listed ≡ views_from views shown 0 → Are P listed
   all_from Are none some P None of all = subst (Are P) (sym all) (subst (λ Q. Are Q []) (sym (of.none refl)) none)
   all_from Are none some P (Some s) of all = subst (Are P) (sym all) (subst (λ Q. Are Q (views s)) of.contents (some s of.is_shown))
 
-  module _ {left : List V} {shown : Option Shown} (i : ℕ) {s : Shown} (is : views_from views shown i ≡ left) (was : shown ≡ Some s) where
+  module _ {left : List V} {shown : Option RowSource} (i : ℕ) {s : RowSource} (is : views_from views shown i ≡ left) (was : shown ≡ Some s) where
     here : drop i (views s) ≡ left
     here = sym (ap (λ l. views_from views l i) was) ∙ is
 

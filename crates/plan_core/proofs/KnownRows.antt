@@ -9,14 +9,14 @@ use Rattle.std.proofs.lemmas.Map.Keys.{IsDistinct-from_sorted}
 use Rattle.std.proofs.lemmas.Map.Made.{length-le_from_is_member}
 use Rattle.plan_basics.specs.declared.limits.TheConstants.{MOST_OPERATIONS}
 use Rattle.plan_basics.specs.Keys.{operation_cmp, operation_cmp-IsAntisymmetric}
-use Rattle.deletion_steps.specs.plan_steps.specs.plan_drafts.proofs.Lists.{in_map, length_map}
-use Rattle.deletion_steps.specs.plan_steps.specs.plan_drafts.specs.RowKeys.{row_cmp-IsAntisymmetric, row_cmp_total}
-use Rattle.deletion_steps.specs.plan_steps.specs.plan_drafts.specs.declared.RowKey.{RowKey}
-use Rattle.deletion_steps.specs.plan_steps.specs.plan_drafts.specs.declared.RowKey.TheVariants as key
-use Rattle.deletion_steps.specs.plan_steps.specs.plan_model.proofs.Entries.{keys_of-entries}
-use Rattle.deletion_steps.specs.plan_steps.specs.plan_model.proofs.Members.{if_member, member_if}
-use Rattle.deletion_steps.specs.plan_steps.specs.plan_model.specs.Contents.{Contents}
-use Rattle.deletion_steps.specs.plan_steps.specs.plan_model.specs.Valid.{IsSound}
+use Rattle.plan_records.specs.plan_drafts.proofs.Lists.{in_map, length_map}
+use Rattle.plan_records.specs.plan_drafts.specs.RowKeys.{row_cmp-IsAntisymmetric, row_cmp_total}
+use Rattle.plan_records.specs.plan_drafts.specs.declared.RowKey.{RowKey}
+use Rattle.plan_records.specs.plan_drafts.specs.declared.RowKey.TheVariants as key
+use Rattle.plan_records.specs.plan_model.proofs.Entries.{keys_of-entries}
+use Rattle.plan_records.specs.plan_model.proofs.Members.{if_member, member_if}
+use Rattle.plan_records.specs.plan_model.specs.Contents.{Contents}
+use Rattle.plan_records.specs.plan_model.specs.Valid.{IsSound}
 use Rattle.ready_list.proofs.Members.{contains_from_filter}
 use Rattle.plan_records.specs.Rows.{key_of, row_cmp}
 use Rattle.plan_records.specs.declared.PlanRow.{PlanRow}

@@ -6,18 +6,17 @@ use Rattle.plan_basics.specs.declared.Refusal.{Refusal}
 use Rattle.plan_basics.specs.declared.Refusal.TheVariants as refusal
 use Rattle.plan_core.proofs.WholeLooks.{none_allowed, none_covers, whole_allowed, whole_covers}
 use Rattle.plan_core.specs.Outcomes.{AreLooksTo, IsOutcomeOf, IsPreparedIn, contents_led, prepared_by}
-use Rattle.plan_core.specs.Tried.{GoesWhole}
 use Rattle.plan_core.specs.State.{PlanState, PreparedState}
 use Rattle.plan_core.specs.declared.prepared.Outcome.{Outcome}
-use Rattle.deletion_steps.specs.plan_steps.specs.plan_looks.specs.Laws.{WholePlansLookFew}
+use Rattle.plan_steps.specs.LooksLaws.{WholePlansLookFew}
 use Rattle.plan_records.specs.Acceptance.{IsLoad, MayBeAccepted, NeedsPlan}
 use Rattle.plan_records.specs.declared.Request.{Request}
 use Rattle.plan_records.specs.declared.What.{What}
 use Rattle.plan_records.specs.declared.What.TheVariants as what
-use Rattle.deletion_steps.specs.plan_steps.specs.plan_kept.specs.Edits.{IsSmall}
-use Rattle.deletion_steps.specs.plan_steps.specs.plan_model.specs.Contents.{Contents, nothing}
-use Rattle.deletion_steps.specs.plan_steps.specs.plan_model.specs.Plan.{Plan, plan_held}
-use Rattle.deletion_steps.specs.plan_steps.specs.plan_model.specs.Valid.{IsSound}
+use Rattle.plan_steps.specs.KeptEdits.{IsSmall}
+use Rattle.plan_records.specs.plan_model.specs.Contents.{Contents, nothing}
+use Rattle.plan_records.specs.plan_model.specs.Plan.{Plan, plan_held}
+use Rattle.plan_records.specs.plan_model.specs.Valid.{IsSound}
 
 -- ---- which requests they are
 
@@ -29,14 +28,6 @@ needs_by _ loaded = tt
 pub needs_plan : (P : Contents) (clock : ℕ) (q : Request) → NoneRefuses (MayBeAccepted (plan_held clock (Some P)) q) → NeedsPlan q.what
 needs_plan P clock q clear = needs_by q.what (clear refusal.Loaded)
 
--- what can't be tried isn't small
-pub whole_is_not_small : (P : Contents) (w : What) → GoesWhole P w → ¬ IsSmall w
-whole_is_not_small P (what.Load draft) whole small = small
-whole_is_not_small P (what.AddOccurrence a) whole small = small
-whole_is_not_small P (what.AddDependency p s) whole small = small
-whole_is_not_small P (what.DeleteOccurrence c) whole small = small
-whole_is_not_small P _ whole small = whole
-
 -- ---- what they lead to
 
 pub prepared_in : (P : Plan) (q : Request) (m : ℕ) (x : Outcome) (looks : ℕ) → IsOutcomeOf P q m x → AreLooksTo P.contents q.what x looks → IsPreparedIn P q (prepared_by m x looks)
@@ -46,7 +37,7 @@ prepared_in P q m x looks of are = record { by = record { step = of.step; change
 pub first_looks : (clock : ℕ) (q : Request) (m : ℕ) (x : Outcome) → IsOutcomeOf (plan_held clock None) q m x → AreLooksTo nothing q.what x 0
 first_looks clock q m x of = record { allowed = none_allowed nothing (contents_led nothing x) q.what; cover = none_covers x.changes.rows.items of.changes.rows_ascend }
 
--- each record was looked at once, and three times at most before
+-- each record was looked at once
 module _ (law : WholePlansLookFew) (P : Contents) (clock : ℕ) (q : Request) (m first looks : ℕ) (sound : IsSound P) (whole : ¬ IsSmall q.what) where
   pub whole_looks : (r : Result Outcome Refusal) → IfOk r (IsOutcomeOf (plan_held clock (Some P)) q m) → IfOk r (λ x. len P.operations ≤ len (contents_led P x).operations)
       → looks ≤ 4 + 4 * len P.operations → (18446744073709551615 ≤ looks) ⊎ (first + length (entries P.operations) ≤ looks) → IfOk r (λ x. AreLooksTo P q.what x looks)

@@ -1,7 +1,7 @@
 pub mod Answering
 pub mod FromPlace
+pub mod HandedGraphs
 pub mod KnownRows
-pub mod LatestKept
 pub mod Led
 pub mod Made
 pub mod OccViews
@@ -11,8 +11,6 @@ pub mod Provided
 pub mod ReadyViews
 pub mod Refusing
 pub mod Settling
-pub mod DeletionTried
-pub mod PairTried
 pub mod SmallTried
 pub mod TriedLooks
 pub mod Trying

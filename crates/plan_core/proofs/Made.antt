@@ -2,16 +2,16 @@
 use Rattle.std.proofs.Common.{◌≡◌, refl, sym, subst, ℕ, true, Option, Some, None, is_some, Result, IfOk}
 use Rattle.plan_basics.specs.Refusals.{NoneRefuses}
 use Rattle.plan_basics.specs.declared.Refusal.TheVariants as refusal
-use Rattle.deletion_steps.specs.plan_steps.specs.plan_model.specs.Contents.{AddedParts, Contents}
+use Rattle.plan_records.specs.plan_model.specs.Contents.{AddedParts, Contents}
 use Rattle.plan_records.specs.Acceptance.{MayBeDone}
 use Rattle.plan_records.specs.Changes.{Changes, IsRequest}
 use Rattle.plan_records.specs.declared.What.{What}
 use Rattle.plan_records.specs.declared.What.TheVariants as what
-use Rattle.deletion_steps.specs.plan_steps.specs.plan_drafts.specs.Contents.{AreAdditionParts, added_of}
-use Rattle.deletion_steps.specs.plan_steps.specs.plan_drafts.specs.Drafts.{IsAddition}
-use Rattle.deletion_steps.specs.plan_steps.specs.plan_drafts.specs.declared.contents.AdditionParts.{AdditionParts}
+use Rattle.plan_records.specs.plan_drafts.specs.Contents.{AreAdditionParts, added_of}
+use Rattle.plan_records.specs.plan_drafts.specs.Drafts.{IsAddition}
+use Rattle.plan_records.specs.plan_drafts.specs.declared.contents.AdditionParts.{AdditionParts}
 use Rattle.plan_core.specs.Requested.{AreMadeBy}
-use Rattle.deletion_steps.specs.plan_steps.specs.plan_changes.proofs.Answered.{if_ok}
+use Rattle.plan_steps.specs.plan_changes.proofs.Answered.{if_ok}
 
 module _ (P : Contents) (w : What) (legal : IsRequest w) where
   -- where it is what the request changes, of what is answered, r, to a request, v, that is this one

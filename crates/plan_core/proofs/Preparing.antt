@@ -4,20 +4,20 @@ use Rattle.plan_basics.specs.Minutes.{IsMoment}
 use Rattle.plan_basics.specs.Refusals.{NoneRefuses}
 use Rattle.plan_basics.specs.declared.Refusal.TheVariants as refusal
 use Rattle.plan_basics.specs.declared.keys.OpKey.{OpKey}
-use Rattle.deletion_steps.specs.plan_steps.specs.plan_laws.proofs.Every.{every_change_keeps_sound}
-use Rattle.deletion_steps.specs.plan_steps.specs.plan_laws.proofs.Running.{request_passes}
-use Rattle.deletion_steps.specs.plan_steps.specs.plan_model.specs.Contents.{Contents}
-use Rattle.deletion_steps.specs.plan_steps.specs.plan_model.specs.Plan.{Plan, IsSoundPlan}
-use Rattle.deletion_steps.specs.plan_steps.specs.plan_model.specs.Ready.{IsChosen, named}
-use Rattle.deletion_steps.specs.plan_steps.specs.plan_model.specs.Valid.{IsSound}
+use Rattle.plan_status.specs.plan_laws.proofs.Every.{every_change_keeps_sound}
+use Rattle.plan_status.specs.plan_laws.proofs.Running.{request_passes}
+use Rattle.plan_records.specs.plan_model.specs.Contents.{Contents}
+use Rattle.plan_records.specs.plan_model.specs.Plan.{Plan, IsSoundPlan}
+use Rattle.plan_records.specs.plan_model.specs.Ready.{IsChosen, named}
+use Rattle.plan_records.specs.plan_model.specs.Valid.{IsSound}
 use Rattle.plan_records.specs.Acceptance.{MayBeAccepted, MayBeDone, NeedsPlan, minute_of}
 use Rattle.plan_records.specs.Answer.{accepted}
 use Rattle.plan_records.specs.Step.{Step}
 use Rattle.plan_records.specs.declared.Request.{Request}
 use Rattle.plan_records.specs.declared.What.{What}
 use Rattle.plan_records.specs.declared.What.TheVariants as what
-use Rattle.deletion_steps.specs.plan_steps.specs.plan_kept.specs.Edits.{IsSmall}
-use Rattle.deletion_steps.specs.plan_steps.specs.plan_model.specs.Plan.{plan_held}
+use Rattle.plan_steps.specs.KeptEdits.{IsSmall}
+use Rattle.plan_records.specs.plan_model.specs.Plan.{plan_held}
 use Rattle.plan_core.specs.Requested.{AreMadeBy}
 use Rattle.plan_core.specs.State.{PlanState}
 

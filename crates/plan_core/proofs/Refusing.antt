@@ -5,17 +5,17 @@ use Rattle.plan_basics.proofs.LeastRefusals.{least_of_all, none_of_all}
 use Rattle.plan_basics.specs.Refusals.{number_of, IsLeastRefusal, NoneRefuses, from_on}
 use Rattle.plan_basics.specs.declared.Refusal.{Refusal}
 use Rattle.plan_basics.specs.declared.Refusal.TheVariants as refusal
-use Rattle.deletion_steps.specs.plan_steps.specs.plan_model.specs.Contents.{Contents}
-use Rattle.deletion_steps.specs.plan_steps.specs.plan_model.specs.Plan.{Plan}
+use Rattle.plan_records.specs.plan_model.specs.Contents.{Contents}
+use Rattle.plan_records.specs.plan_model.specs.Plan.{Plan}
 use Rattle.plan_records.specs.Acceptance.{IsLoad, MayBeAccepted, MayBeDone, NeedsPlan}
 use Rattle.plan_records.specs.Answer.{refused}
 use Rattle.plan_records.specs.Step.{Step}
 use Rattle.plan_records.specs.declared.Request.{Request}
 use Rattle.plan_records.specs.declared.What.{What}
 use Rattle.plan_records.specs.declared.What.TheVariants as what
-use Rattle.deletion_steps.specs.plan_steps.specs.plan_checks.specs.Loads.{MayBeLoadedWhere}
-use Rattle.deletion_steps.specs.plan_steps.specs.plan_laws.proofs.Running.{request_passes}
-use Rattle.deletion_steps.specs.plan_steps.specs.plan_model.specs.Plan.{plan_held}
+use Rattle.plan_steps.specs.plan_checks.specs.Loads.{MayBeLoadedWhere}
+use Rattle.plan_status.specs.plan_laws.proofs.Running.{request_passes}
+use Rattle.plan_records.specs.plan_model.specs.Plan.{plan_held}
 use Rattle.plan_core.specs.Requested.{MayBeMadeAt}
 
 -- ---- but for its moment

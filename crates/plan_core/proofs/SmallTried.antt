@@ -9,13 +9,13 @@ use Rattle.plan_core.specs.Tried.{IsTriedBy}
 use Rattle.plan_core.specs.declared.prepared.Next.TheVariants.{Small}
 use Rattle.plan_core.specs.declared.small.Trial.{Trial}
 use Rattle.plan_core.specs.declared.telling.Tried.{Tried}
-use Rattle.deletion_steps.specs.plan_steps.specs.plan_looks.specs.Laws.{SmallStepsLookFew}
+use Rattle.plan_steps.specs.LooksLaws.{SmallStepsLookFew}
 use Rattle.plan_records.specs.Acceptance.{MayBeDone}
 use Rattle.plan_records.specs.declared.What.{What}
-use Rattle.deletion_steps.specs.plan_steps.specs.Edits.{edited}
-use Rattle.deletion_steps.specs.plan_steps.specs.plan_kept.specs.Edits.{IsSmall}
-use Rattle.deletion_steps.specs.plan_steps.specs.plan_model.specs.Contents.{Contents}
-use Rattle.deletion_steps.specs.plan_steps.specs.plan_rows.specs.Notes.{operations_noted}
+use Rattle.plan_steps.specs.Edits.{edited}
+use Rattle.plan_steps.specs.KeptEdits.{IsSmall}
+use Rattle.plan_records.specs.plan_model.specs.Contents.{Contents}
+use Rattle.plan_steps.specs.plan_rows.specs.Notes.{operations_noted}
 
 -- what a trial leads to
 abbrev pub tried_of : Trial → Tried

@@ -7,9 +7,9 @@ use Rattle.plan_core.specs.Looked.{CoverRows, is_known_operation}
 use Rattle.plan_records.specs.Rows.{key_of, row_cmp}
 use Rattle.plan_records.specs.declared.PlanRow.{PlanRow}
 use Rattle.plan_records.specs.declared.PlanRow.TheVariants as row
-use Rattle.deletion_steps.specs.plan_steps.specs.plan_model.specs.Contents.{Contents}
-use Rattle.deletion_steps.specs.plan_steps.specs.plan_model.specs.Valid.{IsSound}
-use Rattle.deletion_steps.specs.plan_steps.specs.plan_rows.specs.Notes.{is_operation}
+use Rattle.plan_records.specs.plan_model.specs.Contents.{Contents}
+use Rattle.plan_records.specs.plan_model.specs.Valid.{IsSound}
+use Rattle.plan_steps.specs.plan_rows.specs.Notes.{is_operation}
 
 module _ (P : Contents) where
   at_most_one : (b : Bool) → cond b 1 0 ≤ 1

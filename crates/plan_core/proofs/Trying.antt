@@ -5,9 +5,9 @@ use Rattle.plan_core.specs.Next.{IsWritingFor, contents_next}
 use Rattle.plan_core.specs.State.{PlanState, PreparedState, plan_after}
 use Rattle.plan_core.specs.Trials.{IsStepBy}
 use Rattle.plan_core.specs.declared.small.Trial.{Trial}
-use Rattle.deletion_steps.specs.plan_steps.specs.Edits.{IsEditFor}
-use Rattle.deletion_steps.specs.plan_steps.specs.plan_model.specs.Contents.{Contents}
-use Rattle.deletion_steps.specs.plan_steps.specs.plan_model.specs.Plan.{plan_held}
+use Rattle.plan_steps.specs.Edits.{IsEditFor}
+use Rattle.plan_records.specs.plan_model.specs.Contents.{Contents}
+use Rattle.plan_records.specs.plan_model.specs.Plan.{plan_held}
 
 -- what an edit leads to may be written
 pub fits_tried : (P : Contents) (m : ℕ) (t : Trial) → IsEditFor P t.edit → IsStepBy P m t → IsWritingFor P (record { keys = t.edit.keys; revision = t.edit.revision; shift = t.step.shift }) t.step.named.items

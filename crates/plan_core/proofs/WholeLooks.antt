@@ -11,20 +11,20 @@ use Rattle.plan_basics.specs.Keys.{operation_cmp, operation_cmp_total}
 use Rattle.plan_basics.specs.declared.keys.OpKey.{OpKey}
 use Rattle.plan_core.proofs.KnownRows.{known_are_few, known_fit}
 use Rattle.plan_core.specs.Looked.{AreAllowed, CoverRows}
-use Rattle.deletion_steps.specs.plan_steps.specs.plan_looks.specs.Laws.{WholePlansLookFew}
+use Rattle.plan_steps.specs.LooksLaws.{WholePlansLookFew}
 use Rattle.plan_records.specs.Acceptance.{NeedsPlan}
 use Rattle.plan_records.specs.Changes.{Changes}
 use Rattle.plan_records.specs.Rows.{key_of, row_cmp}
 use Rattle.plan_records.specs.declared.PlanRow.{PlanRow}
 use Rattle.plan_records.specs.declared.What.{What}
 use Rattle.plan_records.specs.declared.What.TheVariants as what
-use Rattle.deletion_steps.specs.plan_steps.specs.plan_kept.specs.Edits.{IsSmall}
-use Rattle.deletion_steps.specs.plan_steps.specs.plan_model.specs.Contents.{Contents, Operation, nothing}
-use Rattle.deletion_steps.specs.plan_steps.specs.plan_model.specs.Ready.{named}
-use Rattle.deletion_steps.specs.plan_steps.specs.plan_model.specs.Valid.{IsSound}
-use Rattle.deletion_steps.specs.plan_steps.specs.plan_model.proofs.Entries.{entries_in_order, keys_of-entries}
-use Rattle.deletion_steps.specs.plan_steps.specs.plan_model.specs.Revise.{get-joined, joined, len-revise, or_else}
-use Rattle.deletion_steps.specs.plan_steps.specs.plan_drafts.proofs.Lists.{length_map}
+use Rattle.plan_steps.specs.KeptEdits.{IsSmall}
+use Rattle.plan_records.specs.plan_model.specs.Contents.{Contents, Operation, nothing}
+use Rattle.plan_records.specs.plan_model.specs.Ready.{named}
+use Rattle.plan_records.specs.plan_model.specs.Valid.{IsSound}
+use Rattle.plan_records.specs.plan_model.proofs.Entries.{entries_in_order, keys_of-entries}
+use Rattle.plan_records.specs.plan_model.specs.Revise.{get-joined, joined, len-revise, or_else}
+use Rattle.plan_records.specs.plan_drafts.proofs.Lists.{length_map}
 
 -- ---- no operation goes
 

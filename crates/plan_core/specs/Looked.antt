@@ -1,7 +1,7 @@
 -- How many operation records are looked at as a request is prepared.
 use Rattle.std.specs.Prelude.{ℕ, ◌≤◌, Bool, false, List, count_by}
 use Rattle.std.specs.FinMap.{contains_key}
-use Rattle.deletion_steps.specs.plan_steps.specs.plan_model.specs.Contents.{Contents}
+use Rattle.plan_records.specs.plan_model.specs.Contents.{Contents}
 use Rattle.plan_records.specs.Work.{IsAllowance}
 use Rattle.plan_records.specs.declared.PlanRow.{PlanRow}
 use Rattle.plan_records.specs.declared.PlanRow.TheVariants as row

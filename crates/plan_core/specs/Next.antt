@@ -2,17 +2,15 @@
 use Rattle.std.specs.Prelude.{◌≡◌, ℕ, true, List}
 use Rattle.plan_basics.specs.declared.keys.OpKey.{OpKey}
 use Rattle.plan_core.specs.declared.prepared.Next.{Next}
-use Rattle.plan_core.specs.declared.prepared.Next.TheVariants.{Whole, Small, Paired, Deleted}
+use Rattle.plan_core.specs.declared.prepared.Next.TheVariants.{Whole, Small}
 use Rattle.plan_core.specs.declared.prepared.Writing.{Writing}
-use Rattle.deletion_steps.specs.DeletionWritings.{IsDeletionWritingFor, deleted_by}
-use Rattle.deletion_steps.specs.pair_steps.specs.PairWritings.{IsPairWritingFor, paired}
-use Rattle.deletion_steps.specs.plan_steps.specs.Revisions.{HasPlaceFor, written}
-use Rattle.deletion_steps.specs.plan_steps.specs.Shifts.{IsShift}
-use Rattle.deletion_steps.specs.plan_steps.specs.plan_model.specs.Contents.{Contents}
-use Rattle.deletion_steps.specs.plan_steps.specs.plan_model.specs.Plan.{Plan}
-use Rattle.deletion_steps.specs.plan_steps.specs.plan_model.specs.Ready.{IsChosen, named}
-use Rattle.deletion_steps.specs.plan_steps.specs.plan_model.specs.Valid.{IsSound}
-use Rattle.deletion_steps.specs.plan_steps.specs.plan_state.specs.Figures.{KeepsFrame}
+use Rattle.plan_steps.specs.Revisions.{HasPlaceFor, written}
+use Rattle.plan_steps.specs.Shifts.{IsShift}
+use Rattle.plan_records.specs.plan_model.specs.Contents.{Contents}
+use Rattle.plan_records.specs.plan_model.specs.Plan.{Plan}
+use Rattle.plan_records.specs.plan_model.specs.Ready.{IsChosen, named}
+use Rattle.plan_records.specs.plan_model.specs.Valid.{IsSound}
+use Rattle.plan_steps.specs.plan_figures.specs.Figures.{KeepsFrame}
 
 -- what P becomes once this is written to it
 abbrev pub rewritten : Writing → Contents → Contents
@@ -30,12 +28,8 @@ pub record IsWritingFor (P : Contents) (w : Writing) (os : List OpKey) : Type 0 
 abbrev pub contents_next : Contents → Next → List OpKey → Contents
 contents_next P (Whole loaded) os = loaded
 contents_next P (Small w) os = named os (rewritten w P)
-contents_next P (Paired w) os = named os (paired w P)
-contents_next P (Deleted w) os = named os (deleted_by w P)
 
 -- this plan may be led there, where these are named
 abbrev pub IsNextFor : Plan → Next → List OpKey → Type 0
 IsNextFor P (Whole loaded) os = Unit {0}
 IsNextFor P (Small w) os = (P.loaded ≡ true) × IsWritingFor P.contents w os
-IsNextFor P (Paired w) os = (P.loaded ≡ true) × IsPairWritingFor P.contents w os
-IsNextFor P (Deleted w) os = (P.loaded ≡ true) × IsDeletionWritingFor P.contents w os

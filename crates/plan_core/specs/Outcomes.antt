@@ -4,8 +4,8 @@ use Rattle.plan_core.specs.Looked.{AreLooksFor}
 use Rattle.plan_core.specs.Next.{IsNextFor, contents_next}
 use Rattle.plan_core.specs.State.{IsPreparedBy, PreparedState, plan_after}
 use Rattle.plan_core.specs.declared.prepared.Outcome.{Outcome}
-use Rattle.deletion_steps.specs.plan_steps.specs.plan_model.specs.Contents.{Contents}
-use Rattle.deletion_steps.specs.plan_steps.specs.plan_model.specs.Plan.{Plan, plan_held}
+use Rattle.plan_records.specs.plan_model.specs.Contents.{Contents}
+use Rattle.plan_records.specs.plan_model.specs.Plan.{Plan, plan_held}
 use Rattle.plan_records.specs.Answer.{accepted}
 use Rattle.plan_records.specs.Rows.{AreChanges}
 use Rattle.plan_records.specs.Step.{Step}

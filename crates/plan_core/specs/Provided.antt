@@ -1,7 +1,7 @@
 -- What is promised of all that becomes started.
 use Rattle.std.specs.Prelude.{◌≡◌, List, [], ◌∷◌}
 use Rattle.plan_basics.specs.declared.keys.OpKey.{OpKey}
-use Rattle.deletion_steps.specs.plan_steps.specs.plan_model.specs.Plan.{Plan, IsSoundPlan}
+use Rattle.plan_records.specs.plan_model.specs.Plan.{Plan, IsSoundPlan}
 use Rattle.plan_records.specs.Answer.{Answer}
 use Rattle.plan_records.specs.Laws.{BecomesStarted, WasProvidedFor}
 use Rattle.plan_records.specs.declared.Request.{Request}

@@ -6,10 +6,10 @@ use Rattle.plan_basics.specs.declared.keys.OpKey.{OpKey}
 use Rattle.plan_core.specs.Next.{IsNextFor, contents_next}
 use Rattle.plan_core.specs.contracts.prepared.Next as next_row
 use Rattle.plan_core.specs.declared.prepared.Next.{Next}
-use Rattle.deletion_steps.specs.plan_steps.specs.plan_drafts.specs.contracts.RowKey as row_key
-use Rattle.deletion_steps.specs.plan_steps.specs.plan_drafts.specs.declared.RowKey.{RowKey}
-use Rattle.deletion_steps.specs.plan_steps.specs.plan_model.specs.Plan.{Plan, plan_held}
-use Rattle.deletion_steps.specs.plan_steps.specs.plan_model.specs.Code.{plan_code}
+use Rattle.plan_records.specs.plan_drafts.specs.contracts.RowKey as row_key
+use Rattle.plan_records.specs.plan_drafts.specs.declared.RowKey.{RowKey}
+use Rattle.plan_records.specs.plan_model.specs.Plan.{Plan, plan_held}
+use Rattle.plan_records.specs.plan_model.specs.Code.{plan_code}
 use Rattle.plan_records.specs.Answer.{Answer, accepted, refused}
 use Rattle.plan_records.specs.Rows.{AreChanges}
 use Rattle.plan_records.specs.Run.{Run, accepted_replies, plain, usable}

@@ -1,25 +1,19 @@
--- What was tried in the plan: a small request, a new pair or a deletion.
+-- What was tried in the plan.
 use Rattle.std.specs.Prelude.{◌≡◌, ℕ, ◌+◌, ◌≤◌, true, length}
 use Rattle.plan_core.specs.declared.small.Trial.{Trial}
-use Rattle.deletion_steps.specs.plan_steps.specs.plan_kept.specs.Edits.{IsRerun}
-use Rattle.deletion_steps.specs.plan_steps.specs.plan_looks.specs.StepLooks.{AreWorkedAt, IsStepLooked, one_at_least}
-use Rattle.deletion_steps.specs.DeletionShifts.{IsDeletionShift}
-use Rattle.deletion_steps.specs.Deletions.{with_deleted}
-use Rattle.deletion_steps.specs.declared.noting.Deletion.{Deletion}
-use Rattle.deletion_steps.specs.declared.steps.DeletedStep.{DeletedStep}
-use Rattle.deletion_steps.specs.plan_steps.specs.plan_looks.specs.DeletionLooks.{IsDeletionLooked}
-use Rattle.plan_basics.specs.declared.keys.OpKey.{OpKey}
-use Rattle.deletion_steps.specs.plan_steps.specs.plan_looks.specs.PairLooks.{IsPairLooked}
-use Rattle.deletion_steps.specs.plan_steps.specs.declared.following.SmallStep.{SmallStep}
-use Rattle.plan_records.specs.Changes.{Changes, IsRequest, with_pair}
+use Rattle.plan_steps.specs.KeptEdits.{IsRerun}
+use Rattle.plan_steps.specs.StepLooks.{AreWorkedAt, IsStepLooked, one_at_least}
+use Rattle.plan_records.specs.Changes.{Changes, IsRequest}
 use Rattle.plan_records.specs.declared.What.{What}
-use Rattle.deletion_steps.specs.plan_steps.specs.Edits.{IsEditFor, edited}
-use Rattle.deletion_steps.specs.plan_steps.specs.Naming.{AreStepNotes}
-use Rattle.deletion_steps.specs.plan_steps.specs.Shifts.{IsShift}
-use Rattle.deletion_steps.specs.plan_steps.specs.plan_model.specs.Contents.{Contents}
-use Rattle.deletion_steps.specs.plan_steps.specs.plan_model.specs.Ready.{IsChosen, named}
-use Rattle.deletion_steps.specs.plan_steps.specs.plan_rows.specs.Notes.{operations_noted}
-use Rattle.deletion_steps.specs.plan_steps.specs.plan_state.specs.Figures.{KeepsFrame}
+use Rattle.plan_steps.specs.Edits.{IsEditFor, edited}
+use Rattle.plan_steps.specs.Idle.{IsOfNothing}
+use Rattle.plan_steps.specs.Naming.{AreStepNotes}
+use Rattle.plan_steps.specs.Shifts.{IsShift}
+use Rattle.plan_records.specs.plan_model.specs.Contents.{Contents}
+use Rattle.plan_records.specs.plan_model.specs.Ready.{IsChosen, named}
+use Rattle.plan_records.specs.plan_model.specs.Valid.{IsSound}
+use Rattle.plan_steps.specs.plan_rows.specs.Notes.{operations_noted}
+use Rattle.plan_steps.specs.plan_figures.specs.Figures.{KeepsFrame}
 
 -- what a plan that holds P holds once the edit is written and what the step names is marked so
 abbrev pub contents_then : Contents → Trial → Contents
@@ -56,15 +50,8 @@ pub record IsTrialOf (P : Contents) (w : What) (m first after : ℕ) (t : Trial)
   pub step : IsStepBy P m t
   pub looked : IsTrialLooked P t first after
 
--- the step is what a pair from p to s leads to from P at minute m: what is named, and the notes of what the plan holds then; looks went from `before` to `after` as it was worked out
-pub record IsPairedStepBy (P : Contents) (p s : OpKey) (m before after : ℕ) (t : SmallStep) : Type 0 where
-  pub chosen : IsChosen (with_pair P p s) m t.named.items
-  pub notes : AreStepNotes P (named t.named.items (with_pair P p s)) t.notes
-  pub looked : IsPairLooked (with_pair P p s) s t.named.items (operations_noted t.notes) before after
-
--- the step is what the deletion leads to from P at minute m: what is named, what changes in the figures, and the notes of what the plan holds then; looks went from `before` to `after` as it was worked out
-pub record IsDeletedStepBy (P : Contents) (d : Deletion) (m before after : ℕ) (s : DeletedStep) : Type 0 where
-  pub chosen : IsChosen (with_deleted d.keys.items P) m s.named.items
-  pub shift : IsDeletionShift P (with_deleted d.keys.items P) (named s.named.items (with_deleted d.keys.items P)) d.places.items s.shift
-  pub notes : AreStepNotes P (named s.named.items (with_deleted d.keys.items P)) s.notes
-  pub looked : IsDeletionLooked P (with_deleted d.keys.items P) d.places.items s.named.items (operations_noted s.notes) before after
+-- an edit of nothing was tried at minute m in the sound plan that holds P
+pub record IsIdleTrial (P : Contents) (m : ℕ) (t : Trial) : Type 0 where
+  pub sound : IsSound P
+  pub nothing : IsOfNothing t.edit
+  pub step : IsStepBy P m t

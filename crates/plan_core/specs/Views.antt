@@ -10,17 +10,17 @@ use Rattle.plan_basics.specs.declared.keys.OpKey.{OpKey}
 use Rattle.ready_list.specs.Choice.{operations_of}
 use Rattle.ready_list.specs.declared.ReadyKey.{ReadyKey}
 use Rattle.ready_list.specs.declared.entry.ReadyEntry.{ReadyEntry}
-use Rattle.deletion_steps.specs.plan_steps.specs.plan_model.specs.Contents.{Contents, Operation, IsInPlan}
-use Rattle.deletion_steps.specs.plan_steps.specs.plan_model.specs.Ready.{IsReadyList}
-use Rattle.deletion_steps.specs.plan_steps.specs.plan_model.specs.Starts.{IsLatestStart}
-use Rattle.deletion_steps.specs.plan_steps.specs.plan_model.specs.Status.{HasStatus, HasOccurrenceStatus}
-use Rattle.deletion_steps.specs.plan_steps.specs.plan_model.specs.declared.Occurrence.{Occurrence}
+use Rattle.plan_records.specs.plan_model.specs.Contents.{Contents, Operation, IsInPlan}
+use Rattle.plan_records.specs.plan_model.specs.Ready.{IsReadyList}
+use Rattle.plan_records.specs.plan_model.specs.Starts.{IsLatestStart}
+use Rattle.plan_records.specs.plan_model.specs.Status.{HasStatus, HasOccurrenceStatus}
+use Rattle.plan_records.specs.plan_model.specs.declared.Occurrence.{Occurrence}
 use Rattle.plan_records.specs.Rows.{IsCount, IsWaitingFor}
 use Rattle.status_rules.specs.Table.{occurrence_by}
 use Rattle.status_rules.specs.declared.Counts.{Counts}
 use Rattle.status_rules.specs.declared.Status.TheVariants.{Complete}
-use Rattle.deletion_steps.specs.plan_steps.specs.plan_rows.specs.Shown.{IsShown, Known, known_of}
-use Rattle.deletion_steps.specs.plan_steps.specs.plan_rows.specs.declared.shown.Shown.{Shown}
+use Rattle.plan_steps.specs.plan_rows.specs.Shown.{IsShown, Known, known_of}
+use Rattle.plan_steps.specs.plan_rows.specs.declared.shown.RowSource.{RowSource}
 use Rattle.plan_core.specs.declared.views.OccView.{OccView}
 use Rattle.plan_core.specs.declared.views.OpView.{OpView}
 
@@ -107,26 +107,26 @@ occ_view_of x = record {
 }
 
 -- the views of all operations of the plan that is shown, in the order of their rows
-abbrev pub op_views : Shown → List OpView
+abbrev pub op_views : RowSource → List OpView
 op_views s = map (op_view_of s.contents.now) (zip (entries s.contents.now.operations) (known_of s))
 
 -- so of all occurrences
-abbrev pub occ_views : Shown → List OccView
+abbrev pub occ_views : RowSource → List OccView
 occ_views s = map occ_view_of (zip (entries s.contents.now.occurrences) s.tallies.now)
 
 -- the views of a plan, of operations or of occurrences, from an index on; none where none is shown
-abbrev pub views_from : {V : Type 0} → (Shown → List V) → Option Shown → ℕ → List V
+abbrev pub views_from : {V : Type 0} → (RowSource → List V) → Option RowSource → ℕ → List V
 views_from views None place = []
 views_from views (Some s) place = drop place (views s)
 
 -- the view of an operation, if the plan that is shown has it
-abbrev pub view_at : Shown → OpKey → Option OpView
+abbrev pub view_at : RowSource → OpKey → Option OpView
 view_at s o = get {R = operation_cmp} (from_entries (map (λ v. (v.key, v)) (op_views s))) o
 
 -- the views of these entries' operations, in their order
-abbrev pub ready_views : Shown → List ReadyEntry → List OpView
+abbrev pub ready_views : RowSource → List ReadyEntry → List OpView
 ready_views s es = filter_map (λ e. view_at s e.key.op) es
 
 -- a plan is shown, and has the operations of these entries
-abbrev pub AreEntriesOf : Shown → List ReadyEntry → Type 0
+abbrev pub AreEntriesOf : RowSource → List ReadyEntry → Type 0
 AreEntriesOf s es = IsShown s × All (λ e. IsInPlan s.contents.now e.key.op) es

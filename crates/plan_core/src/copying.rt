@@ -1,12 +1,12 @@
 // A copy of what a plan holds, whose records are looked at one after the other.
 ghost use Rattle.std.specs.Prelude.{◌≡◌, ◌⊎◌, ◌+◌, ◌<◌, ◌≤◌, Some, IfOk, OnOk, length, slice_get};
 ghost use Rattle.std.specs.FinMap.{entries};
-ghost use Rattle.deletion_steps.specs.plan_steps.specs.plan_model.specs.Valid.{IsSound};
+ghost use Rattle.plan_records.specs.plan_model.specs.Valid.{IsSound};
 
-use deletion_steps::CountedShown as Shown;
 use plan_basics::OpKey;
 use plan_records::{OperationRecord, PlanContents, copies_of};
 use plan_status::SoundContents;
+use plan_steps::Shown;
 use std::alloc::{AllocError, Global};
 
 // The row of the operation at a place: a look.

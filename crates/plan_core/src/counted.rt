@@ -4,15 +4,16 @@ ghost use Rattle.plan_basics.specs.declared.Refusal.{Refusal};
 ghost use Rattle.plan_core.specs.Outcomes.{IsPreparedIn};
 ghost use Rattle.plan_records.specs.Answer.{refused};
 ghost use Rattle.plan_records.specs.Step.{Step};
-ghost use Rattle.deletion_steps.specs.plan_steps.specs.plan_model.specs.Plan.{IsSoundPlan, plan_held};
+ghost use Rattle.plan_records.specs.plan_model.specs.Plan.{IsSoundPlan, plan_held};
 
+use super::asked::Asked;
 use super::first::first_outcome;
 use super::outcomes::outcome_of;
 use super::prepared::Prepared;
-use deletion_steps::{CountedShown as Shown, LoadedPlan, Parts};
 use plan_basics::{Moment, Refusal};
 use plan_records::{Request, What};
 use plan_status::SoundContents;
+use plan_steps::{LoadedPlan, Parts, Shown};
 use std::alloc::Global;
 
 // What a request leads to where no plan is loaded: there was no record to look at.
@@ -69,21 +70,13 @@ fn prepare_loaded(
 {
     let Parts {
         contents,
-        mut graph,
-        mut latest,
+        graph,
+        latest,
         figures,
     } = loaded.into_parts();
     let (shown, opener) = Shown::of(seeking(contents, &request.what));
-    let (shown, figures, outcome) = outcome_of(
-        alloc,
-        shown,
-        &mut graph,
-        &mut latest,
-        figures,
-        clock,
-        request,
-        at,
-    );
+    let asked = Asked { clock, request, at };
+    let (shown, figures, outcome) = outcome_of(alloc, shown, &graph, &latest, figures, &asked);
     let (contents, work) = shown.into_contents(opener);
     let plan = LoadedPlan::of(contents, graph, latest, figures);
     match outcome {

@@ -8,18 +8,18 @@ ghost use Rattle.plan_records.specs.Acceptance.{MayBeAccepted};
 ghost use Rattle.plan_records.specs.Answer.{refused};
 ghost use Rattle.plan_records.specs.Rows.{AreChanges};
 ghost use Rattle.plan_records.specs.Step.{Step};
-ghost use Rattle.deletion_steps.specs.plan_steps.specs.plan_drafts.specs.PlanGraphs.{IsGraphFor};
-ghost use Rattle.deletion_steps.specs.plan_steps.specs.plan_model.specs.Contents.{nothing};
-ghost use Rattle.deletion_steps.specs.plan_steps.specs.plan_model.specs.Plan.{IsSoundPlan, plan_held};
+ghost use Rattle.plan_records.specs.plan_drafts.specs.PlanGraphs.{IsGraphFor};
+ghost use Rattle.plan_records.specs.plan_model.specs.Contents.{nothing};
+ghost use Rattle.plan_records.specs.plan_model.specs.Plan.{IsSoundPlan, plan_held};
 
 use super::prepared::{Next, Outcome};
 use super::requests::drafted;
 use super::settle::settle;
-use deletion_steps::{LoadedPlan, PlanShown, Shown, changes_between, check_load};
 use operation_graph::Graph;
 use plan_basics::{Moment, Refusal};
 use plan_records::{Changes, PlanContents, Request, What};
 use plan_status::SoundContents;
+use plan_steps::{LoadedPlan, PlanShown, RowSource, changes_between, check_load};
 use std::alloc::Global;
 
 // What stands in the way of a request that is made at a moment where no plan is loaded, but for that moment.
@@ -64,7 +64,7 @@ fn first_changes(
     };
     let after = PlanShown {
         clock: at,
-        loaded: Some(Shown::of(loaded)),
+        loaded: Some(RowSource::of(loaded)),
     };
     Ok(changes_between(alloc, before, after)?)
 }

@@ -1,17 +1,17 @@
 // All operations or all occurrences of the plan, one after the other.
 ghost use Rattle.std.specs.Prelude.{◌≡◌};
 ghost use Rattle.std.specs.Iterator.{YieldsFirst, item_count};
-ghost use Rattle.deletion_steps.specs.plan_steps.specs.plan_rows.specs.Shown.{IsShownIfAny};
+ghost use Rattle.plan_steps.specs.plan_rows.specs.Shown.{IsShownIfAny};
 ghost use Rattle.plan_core.specs.Views.{op_views, occ_views, views_from};
 
 use super::views::{OccView, OpView, occ_view, op_view};
-use deletion_steps::Shown;
+use plan_steps::RowSource;
 use std::marker::Model;
 
 /// The operations of the plan from an index on, in key order. Contracts see the list of those that are left.
 #[derive(Drop)]
 pub struct Ops<'a> {
-    shown: Option<Shown<'a>>,
+    shown: Option<RowSource<'a>>,
     place: usize,
 }
 
@@ -19,7 +19,7 @@ impl<'a> Model for Ops<'a> {
     ghost use Rattle.std.specs.Prelude.{List};
     ghost use Rattle.plan_core.specs.declared.views.OpView.{OpView};
     ghost use Rattle.plan_core.specs.Views.{op_views, views_from};
-    ghost use Rattle.deletion_steps.specs.plan_steps.specs.plan_rows.specs.Shown.{IsShownIfAny};
+    ghost use Rattle.plan_steps.specs.plan_rows.specs.Shown.{IsShownIfAny};
 
     ghost Value = { List OpView };
 
@@ -30,7 +30,7 @@ impl<'a> Model for Ops<'a> {
 
 impl<'a> Ops<'a> {
     /// All operations of the plan that is shown; none where there is none.
-    pub(crate) fn new(shown: Option<Shown<'a>>) -> Ops<'a>
+    pub(crate) fn new(shown: Option<RowSource<'a>>) -> Ops<'a>
         requires { IsShownIfAny shown }
         ensures { result ≡ views_from op_views shown.entry 0 }
     {
@@ -59,7 +59,7 @@ impl<'a> Iterator for Ops<'a> {
 /// The occurrences of the plan from an index on, in key order. Contracts see the list of those that are left.
 #[derive(Drop)]
 pub struct Occs<'a> {
-    shown: Option<Shown<'a>>,
+    shown: Option<RowSource<'a>>,
     place: usize,
 }
 
@@ -67,7 +67,7 @@ impl<'a> Model for Occs<'a> {
     ghost use Rattle.std.specs.Prelude.{List};
     ghost use Rattle.plan_core.specs.declared.views.OccView.{OccView};
     ghost use Rattle.plan_core.specs.Views.{occ_views, views_from};
-    ghost use Rattle.deletion_steps.specs.plan_steps.specs.plan_rows.specs.Shown.{IsShownIfAny};
+    ghost use Rattle.plan_steps.specs.plan_rows.specs.Shown.{IsShownIfAny};
 
     ghost Value = { List OccView };
 
@@ -78,7 +78,7 @@ impl<'a> Model for Occs<'a> {
 
 impl<'a> Occs<'a> {
     /// All occurrences of the plan that is shown; none where there is none.
-    pub(crate) fn new(shown: Option<Shown<'a>>) -> Occs<'a>
+    pub(crate) fn new(shown: Option<RowSource<'a>>) -> Occs<'a>
         requires { IsShownIfAny shown }
         ensures { result ≡ views_from occ_views shown.entry 0 }
     {

@@ -1,7 +1,7 @@
 // The plan in memory, and the steps that requests take in it.
 ghost use Rattle.std.specs.Prelude.{◌≡◌, ◌⊎◌, ◌≤ℤ◌, pos, map, IfOk, IfErr, OnOk};
 ghost use Rattle.plan_basics.specs.declared.Refusal.{Refusal};
-ghost use Rattle.deletion_steps.specs.plan_steps.specs.plan_model.specs.Plan.{no_plan, IsSoundPlan};
+ghost use Rattle.plan_records.specs.plan_model.specs.Plan.{no_plan, IsSoundPlan};
 ghost use Rattle.plan_records.specs.declared.Request.{Request};
 ghost use Rattle.plan_records.specs.Answer.{accepted, refused, answer_of};
 ghost use Rattle.plan_records.specs.Rows.{AreChanges};
@@ -14,9 +14,9 @@ ghost use Rattle.plan_core.specs.State.{IsPreparedFor, plan_after, AcceptedAnswe
 use super::counted::prepare_in;
 use super::prepared::Prepared;
 use super::taking::put;
-use deletion_steps::LoadedPlan;
 use plan_basics::{Moment, OpKey, Refusal};
 use plan_records::{Reply, Request};
+use plan_steps::LoadedPlan;
 use std::alloc::Global;
 use std::marker::Model;
 
@@ -30,8 +30,8 @@ pub struct Plan {
 
 impl Model for Plan {
     ghost use Rattle.plan_core.specs.State.{PlanState, state_code};
-    ghost use Rattle.deletion_steps.specs.plan_steps.specs.plan_model.specs.Plan.{IsSoundPlan};
-    ghost use Rattle.deletion_steps.specs.plan_steps.specs.plan_model.specs.Plan.{plan_held};
+    ghost use Rattle.plan_records.specs.plan_model.specs.Plan.{IsSoundPlan};
+    ghost use Rattle.plan_records.specs.plan_model.specs.Plan.{plan_held};
 
     ghost Value = { PlanState };
 
@@ -83,8 +83,7 @@ impl Plan {
 
     /// What a request leads to, if it is accepted: it makes all checks and takes all memory, and the plan comes back as it
     /// was. A request by which only marks and flags change, which special resources are available, or when workstations are
-    /// open, is tried in the plan itself, and what is kept of it moves from what that touches; so is a new pair that leaves all
-    /// latest starts, and a deletion that leaves those of all other operations; any other works all out afresh.
+    /// open, is tried in the plan itself, and what is kept of it moves from what that touches; any other works all out afresh.
     /// It is refused for the least number that applies (this project's own), or for want of memory. What it leads to is
     /// sound, for whatever becomes started there was all that it needs, and the rows that change are told exactly. It looks at
     /// no more operation records of the plan than what changes allows, and at no fewer than are told of anew.

@@ -2,9 +2,9 @@
 ghost use Rattle.std.specs.Prelude.{◌≡◌};
 ghost use Rattle.plan_core.specs.Outcomes.{prepared_by};
 
-use deletion_steps::{DeletionWriting, LoadedPlan, PairWriting, Revision, Shift};
 use plan_basics::{Moment, OpKey};
 use plan_records::Changes;
+use plan_steps::{LoadedPlan, Revision, Shift};
 use std::marker::Model;
 
 /// What a small request writes into what a plan holds, and what changes in its figures. The graph and the latest starts
@@ -25,10 +25,6 @@ pub(crate) enum Next {
     Whole(LoadedPlan),
     /// The plan with this written into it.
     Small(Writing),
-    /// The plan with one more pair.
-    Paired(PairWriting),
-    /// The plan with the operations of an occurrence marked deleted.
-    Deleted(DeletionWriting),
 }
 
 /// What a request leads to that is accepted, before its moment and its looks are told.

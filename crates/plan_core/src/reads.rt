@@ -1,16 +1,16 @@
 // What is read off the plan.
 ghost use Rattle.std.specs.Prelude.{◌≡◌, ◌↔◌, true, IfSome, IsNone, IsSome};
 ghost use Rattle.std.specs.FinMap.{contains_key};
-ghost use Rattle.deletion_steps.specs.plan_steps.specs.plan_model.specs.Contents.{nothing, IsInPlan};
-ghost use Rattle.deletion_steps.specs.plan_steps.specs.plan_rows.specs.Shown.{plan_shown, IsShown};
+ghost use Rattle.plan_records.specs.plan_model.specs.Contents.{nothing, IsInPlan};
+ghost use Rattle.plan_steps.specs.plan_rows.specs.Shown.{plan_shown, IsShown};
 ghost use Rattle.plan_core.specs.Views.{AreReadyViews, IsOpView, IsOccView, AreOpViews, AreOccViews};
 
 use super::lists::{Occs, Ops};
 use super::plan::Plan;
 use super::ready_views::Ready;
 use super::views::{OccView, OpView, occ_view, op_view};
-use deletion_steps::{LoadedPlan, Shown};
 use plan_basics::{OccKey, OpKey, WsName};
+use plan_steps::{LoadedPlan, RowSource};
 
 impl Plan {
     /// Whether a plan is loaded.
@@ -29,14 +29,14 @@ impl Plan {
     }
 
     // What is shown of the plan, if one is loaded.
-    pub(crate) fn shown(&self) -> Option<Shown<'_>>
+    pub(crate) fn shown(&self) -> Option<RowSource<'_>>
         ensures none { IsNone result → self.now.plan.contents ≡ nothing }
         ensures contents { IfSome result (λ s. s.contents.now ≡ self.now.plan.contents) }
         ensures plan { plan_shown self.now.plan.clock result ≡ self.now.plan }
         ensures shown { IfSome result IsShown }
     {
         match &self.loaded {
-            Some(loaded) => Some(Shown::of(loaded)),
+            Some(loaded) => Some(RowSource::of(loaded)),
             None => None,
         }
     }
@@ -84,6 +84,6 @@ impl Plan {
         let loaded = self.loaded.as_ref()?;
         loaded.contents().workstation(workstation)?;
         let entries = loaded.ready().of_ws(workstation);
-        Some(Ready::new(Shown::of(loaded), entries))
+        Some(Ready::new(RowSource::of(loaded), entries))
     }
 }

@@ -4,7 +4,7 @@ ghost use Rattle.std.specs.Iterator.{YieldsFirst, item_count};
 ghost use Rattle.plan_core.specs.Views.{ready_views, AreEntriesOf};
 
 use super::views::{OpView, op_view};
-use deletion_steps::Shown;
+use plan_steps::RowSource;
 use ready_list::OnWorkstation;
 use std::marker::Model;
 
@@ -12,7 +12,7 @@ use std::marker::Model;
 /// are left.
 #[derive(Drop)]
 pub struct Ready<'a> {
-    shown: Shown<'a>,
+    shown: RowSource<'a>,
     entries: OnWorkstation<'a>,
 }
 
@@ -30,7 +30,7 @@ impl<'a> Model for Ready<'a> {
 
 impl<'a> Ready<'a> {
     /// The operations of these entries, which the plan that is shown has.
-    pub(crate) fn new(shown: Shown<'a>, entries: OnWorkstation<'a>) -> Ready<'a>
+    pub(crate) fn new(shown: RowSource<'a>, entries: OnWorkstation<'a>) -> Ready<'a>
         requires { AreEntriesOf shown entries }
         ensures { result ≡ ready_views shown.entry entries.entry }
     {

@@ -2,20 +2,20 @@
 ghost use Rattle.std.specs.Prelude.{◌≡◌, ℕ, Some, IfOk, IfErr};
 ghost use Rattle.plan_basics.specs.Refusals.{NoneRefuses};
 ghost use Rattle.plan_basics.specs.declared.Refusal.{Refusal};
-ghost use Rattle.deletion_steps.specs.plan_steps.specs.plan_drafts.specs.Drafts.{IsAddition};
-ghost use Rattle.deletion_steps.specs.plan_steps.specs.plan_drafts.specs.PlanGraphs.{IsGraphFor};
-ghost use Rattle.deletion_steps.specs.plan_steps.specs.plan_model.specs.Contents.{Contents};
+ghost use Rattle.plan_records.specs.plan_drafts.specs.Drafts.{IsAddition};
+ghost use Rattle.plan_records.specs.plan_drafts.specs.PlanGraphs.{IsGraphFor};
+ghost use Rattle.plan_records.specs.plan_model.specs.Contents.{Contents};
 ghost use Rattle.plan_records.specs.Acceptance.{MayBeAdded, MayBeDone, NeedsPlan};
 ghost use Rattle.plan_records.specs.Changes.{with_added};
 ghost use Rattle.plan_records.specs.declared.What.{What};
 ghost use Rattle.plan_core.specs.Requested.{AreMadeBy};
-ghost use Rattle.deletion_steps.specs.plan_steps.specs.plan_kept.specs.Edits.{IsSmall};
+ghost use Rattle.plan_steps.specs.KeptEdits.{IsSmall};
 
-use deletion_steps::{deleted, with_addition, with_pair};
 use operation_graph::Graph;
 use plan_basics::Refusal;
 use plan_records::{Addition, PlanContents, PlanDraft, What};
 use plan_status::SoundContents;
+use plan_steps::{deleted, with_addition, with_pair};
 use std::alloc::{AllocError, Global};
 
 // The contents with what is added, of whose occurrence there is nothing yet. Its parts are looked at for the proof

@@ -1,19 +1,18 @@
 // What is named once a request has changed what the plan holds.
 ghost use Rattle.std.specs.Prelude.{◌≡◌, ℕ, IfOk, IfErr};
 ghost use Rattle.plan_basics.specs.declared.Refusal.{Refusal};
-ghost use Rattle.deletion_steps.specs.plan_steps.specs.plan_choice.specs.Choices.{AreLatestStarts, AreReadyEntries};
-ghost use Rattle.deletion_steps.specs.plan_steps.specs.plan_drafts.specs.PlanGraphs.{IsGraphFor};
-ghost use Rattle.deletion_steps.specs.plan_steps.specs.plan_model.specs.Ready.{IsChosen, named};
-ghost use Rattle.plan_status.specs.Standings.{AreStandings};
+ghost use Rattle.plan_core.specs.Trials.{IsIdleTrial};
+ghost use Rattle.plan_records.specs.plan_drafts.specs.PlanGraphs.{IsGraphFor};
+ghost use Rattle.plan_records.specs.plan_model.specs.Ready.{IsChosen, named};
 
-use deletion_steps::{LoadedPlan, chosen, latest_of, mark_all, ready_of};
-use latest_start::Latest;
+use super::prepared::Writing;
+use super::small::{Trial, tried_edit};
+use super::taking::with_writing;
 use operation_graph::Graph;
 use plan_basics::{Moment, OpKey, Refusal};
 use plan_opening::loaded_with;
-use plan_status::{SoundContents, Standing, standings_of, statuses_of};
-use ready_list::ReadyList;
-use status_rules::Mark;
+use plan_status::{SoundContents, standings_of};
+use plan_steps::{LoadedPlan, Parts, Setting, Shown, SmallStep, latest_of, nothing_edited};
 use std::alloc::Global;
 
 /// A loaded plan in which what is named is marked so.
@@ -23,34 +22,53 @@ pub struct Settled {
     pub named: Vec<OpKey>,
 }
 
-// What is ready, by the standings and the latest starts of the operations. The error is always `Memory`.
-fn ready_by(
-    alloc: Global,
-    contents: &SoundContents,
-    standings: &[Standing],
-    latest: &Latest,
-) -> Result<ReadyList, Refusal>
-    requires standings { AreStandings contents.now standings.now }
-    requires latest { AreLatestStarts contents.now latest.now.starts }
-    ensures ready { IfOk result (λ r. AreReadyEntries contents.now r.entries) }
+// The plan by the trial of an edit of nothing: what that names is marked so, and all that is kept moves with it. It takes no memory.
+fn settled_by(loaded: LoadedPlan, trial: Trial) -> Settled
+    requires { (at : ℕ) × IsIdleTrial loaded at trial }
+    ensures named { result.named ≡ trial.step.named }
+    ensures loaded { result.loaded ≡ named trial.step.named.items loaded }
+{
+    let Trial { edit, step } = trial;
+    let SmallStep { named, shift, .. } = step;
+    let writing = Writing {
+        keys: edit.keys,
+        revision: edit.revision,
+        shift,
+    };
+    let loaded = with_writing(loaded, writing, &named);
+    Settled { loaded, named }
+}
+
+// What a loaded plan comes to at a moment by an edit of nothing. The error is always `Memory`.
+fn settled_at(alloc: Global, loaded: LoadedPlan, at: Moment) -> Result<Settled, Refusal>
+    ensures chosen { IfOk result (λ s. IsChosen loaded at s.named.items) }
+    ensures loaded { IfOk result (λ s. s.loaded ≡ named s.named.items loaded) }
     ensures refused { IfErr result (λ r. r ≡ Refusal.Memory) }
 {
-    let statuses = statuses_of(alloc, contents, standings)?;
-    Ok(ready_of(alloc, contents, &statuses, latest)?)
+    let Parts {
+        contents,
+        graph,
+        latest,
+        figures,
+    } = loaded.into_parts();
+    let edit = nothing_edited(alloc);
+    let (shown, opener) = Shown::of(contents);
+    shown.beside().are_sound();
+    let setting = Setting {
+        alloc,
+        graph: &graph,
+        latest: &latest,
+        at,
+    };
+    let (shown, figures, trial) = tried_edit(&setting, shown, figures, edit);
+    let (contents, _looks) = shown.into_contents(opener);
+    let trial = trial?;
+    let plan = LoadedPlan::of(contents, graph, latest, figures);
+    Ok(settled_by(plan, trial))
 }
 
-// The contents with these operations, which were chosen, marked named. It takes no memory.
-fn with_named(contents: SoundContents, names: &[OpKey]) -> SoundContents
-    requires { (m : ℕ) × IsChosen contents m names.now }
-    ensures { result ≡ named names.now contents }
-{
-    let mut rows = contents.into_rows();
-    mark_all(&mut rows, names, &Mark::Named);
-    SoundContents::of(rows)
-}
-
-/// What these contents, which were made anew and have this graph, come to at a moment: the operations that are named then are marked
-/// so. The error is always `Memory`.
+/// What these contents, which were made anew and have this graph, come to at a moment: all that is kept is worked out once, and the
+/// operations that are named then are marked so. The error is always `Memory`.
 pub fn settle(
     alloc: Global,
     contents: SoundContents,
@@ -64,10 +82,6 @@ pub fn settle(
 {
     let standings = standings_of(alloc, contents.valid(), &graph)?;
     let latest = latest_of(alloc, &contents, &graph)?;
-    let ready = ready_by(alloc, &contents, &standings, &latest)?;
-    let (same, found) = chosen(alloc, contents, &ready, at);
-    let named = found?;
-    let after = with_named(same, &named);
-    let loaded = loaded_with(alloc, after, graph, standings, latest)?;
-    Ok(Settled { loaded, named })
+    let loaded = loaded_with(alloc, contents, graph, standings, latest)?;
+    settled_at(alloc, loaded, at)
 }

@@ -3,58 +3,51 @@ ghost use Rattle.std.specs.Prelude.{◌≡◌, ◌≤◌, ℕ, IfErr, IfOk};
 ghost use Rattle.plan_basics.specs.Refusals.{NoneRefuses};
 ghost use Rattle.plan_basics.specs.declared.Refusal.{Refusal};
 ghost use Rattle.plan_core.specs.Trials.{IsStepBy, IsStepLookedBy, IsTrialOf};
-ghost use Rattle.plan_core.specs.Tried.{IsTrialFor, IsTriedBy};
-ghost use Rattle.deletion_steps.specs.plan_steps.specs.Edits.{IsEditFor};
+ghost use Rattle.plan_core.specs.Tried.{IsTriedBy};
+ghost use Rattle.plan_steps.specs.Edits.{IsEditFor};
 ghost use Rattle.plan_records.specs.Acceptance.{MayBeDone};
 ghost use Rattle.plan_records.specs.declared.What.{What};
 ghost use Rattle.plan_basics.specs.Minutes.{IsMoment};
-ghost use Rattle.deletion_steps.specs.plan_steps.specs.plan_choice.specs.Choices.{AreLatestStarts};
-ghost use Rattle.deletion_steps.specs.plan_steps.specs.plan_drafts.specs.PlanGraphs.{IsGraphFor};
-ghost use Rattle.deletion_steps.specs.plan_steps.specs.plan_kept.specs.Edits.{IsSmall};
-ghost use Rattle.deletion_steps.specs.plan_steps.specs.plan_model.specs.Contents.{Contents};
-ghost use Rattle.deletion_steps.specs.plan_steps.specs.plan_state.specs.Figures.{AreFigures};
+ghost use Rattle.plan_steps.specs.plan_choice.specs.Choices.{AreLatestStarts};
+ghost use Rattle.plan_records.specs.plan_drafts.specs.PlanGraphs.{IsGraphFor};
+ghost use Rattle.plan_steps.specs.KeptEdits.{IsSmall};
+ghost use Rattle.plan_records.specs.plan_model.specs.Contents.{Contents};
+ghost use Rattle.plan_steps.specs.plan_figures.specs.Figures.{AreFigures};
 
 use super::prepared::{Next, Writing};
 use super::telling::Tried;
-use deletion_steps::{
-    CountedShown as Shown, Edit, Figures, Frame, SmallStep, edit_of, small_step,
-    small_steps_look_few,
-};
-use latest_start::Latest;
-use operation_graph::Graph;
-use plan_basics::{Moment, Refusal};
+use plan_basics::Refusal;
 use plan_records::What;
-use std::alloc::Global;
+use plan_steps::{
+    Edit, Figures, Frame, Setting, Shown, SmallStep, edit_of, small_step, small_steps_look_few,
+};
 
-/// What a small request writes, and what it led to where it was tried.
+/// What is written, and what it led to where it was tried.
 #[derive(Drop)]
 pub struct Trial {
     pub edit: Edit,
     pub step: SmallStep,
 }
 
-// What an edit that was worked out leads to. All comes back as it was. The error is always `Memory`.
-fn tried_edit(
-    alloc: Global,
+/// What an edit that was worked out leads to. All comes back as it was. The error is always `Memory`.
+pub fn tried_edit(
+    setting: &Setting<'_>,
     shown: Shown,
-    graph: &Graph,
-    latest: &Latest,
     figures: Figures,
     edit: Edit,
-    at: Moment,
 ) -> (Shown, Figures, Result<Trial, Refusal>)
-    requires graph { IsGraphFor shown.contents graph.now }
-    requires latest { AreLatestStarts shown.contents latest.now.starts }
+    requires graph { IsGraphFor shown.contents setting.now.graph.now }
+    requires latest { AreLatestStarts shown.contents setting.now.latest.now.starts }
     requires figures { AreFigures shown.contents figures }
     requires edit { IsEditFor shown.contents edit }
     ensures contents { result.0.contents ≡ shown.contents }
     ensures figures { AreFigures shown.contents result.1 }
     ensures edit { IfOk result.2 (λ t. t.edit ≡ edit) }
-    ensures step { IfOk result.2 (IsStepBy shown.contents at) }
+    ensures step { IfOk result.2 (IsStepBy shown.contents setting.now.at) }
     ensures looked { IfOk result.2 (λ t. IsStepLookedBy shown.contents t shown.looks result.0.looks) }
     ensures refused { IfErr result.2 (λ r. r ≡ Refusal.Memory) }
 {
-    let (shown, figures, step) = small_step(alloc, shown, graph, latest, figures, &edit, at);
+    let (shown, figures, step) = small_step(setting, shown, figures, &edit);
     match step {
         Ok(step) => (shown, figures, Ok(Trial { edit, step })),
         Err(refusal) => (shown, figures, Err(refusal)),
@@ -64,32 +57,29 @@ fn tried_edit(
 // What a small request in whose way nothing stands leads to, tried in what is shown of a plan. All comes back as it was. The
 // error is always `Memory`.
 fn tried(
-    alloc: Global,
+    setting: &Setting<'_>,
     shown: Shown,
-    graph: &Graph,
-    latest: &Latest,
     figures: Figures,
     what: &What,
-    at: Moment,
 ) -> (Shown, Figures, Result<Trial, Refusal>)
-    requires graph { IsGraphFor shown.contents graph.now }
-    requires latest { AreLatestStarts shown.contents latest.now.starts }
+    requires graph { IsGraphFor shown.contents setting.now.graph.now }
+    requires latest { AreLatestStarts shown.contents setting.now.latest.now.starts }
     requires figures { AreFigures shown.contents figures }
     requires small { IsSmall what.now }
     requires clear { (m : ℕ) × IsMoment m × NoneRefuses (MayBeDone shown.contents m what.now) }
     ensures contents { result.0.contents ≡ shown.contents }
     ensures figures { AreFigures shown.contents result.1 }
-    ensures trial { IfOk result.2 (IsTrialOf shown.contents what.now at shown.looks result.0.looks) }
+    ensures trial { IfOk result.2 (IsTrialOf shown.contents what.now setting.now.at shown.looks result.0.looks) }
     ensures refused { IfErr result.2 (λ r. r ≡ Refusal.Memory) }
 {
     let mut shown = shown;
     let frame = Frame {
-        graph,
-        latest,
+        graph: setting.graph,
+        latest: setting.latest,
         figures: &figures,
     };
-    match edit_of(alloc, &mut shown, frame, what) {
-        Ok(edit) => tried_edit(alloc, shown, graph, latest, figures, edit, at),
+    match edit_of(setting.alloc, &mut shown, frame, what) {
+        Ok(edit) => tried_edit(setting, shown, figures, edit),
         Err(refusal) => (shown, figures, Err(refusal)),
     }
 }
@@ -114,29 +104,26 @@ fn by_trial(trial: Trial) -> Tried
 /// What a small request in whose way nothing stands leads to in a plan, of which this is shown and one record at most was looked at:
 /// it is tried there, and all comes back as it was. The error is always `Memory`.
 pub fn tried_small(
-    alloc: Global,
+    setting: &Setting<'_>,
     shown: Shown,
-    graph: &Graph,
-    latest: &Latest,
     figures: Figures,
     what: &What,
-    at: Moment,
-) -> (Shown, Figures, Result<Option<Tried>, Refusal>)
-    requires graph { IsGraphFor shown.contents graph.now }
-    requires latest { AreLatestStarts shown.contents latest.now.starts }
+) -> (Shown, Figures, Result<Tried, Refusal>)
+    requires graph { IsGraphFor shown.contents setting.now.graph.now }
+    requires latest { AreLatestStarts shown.contents setting.now.latest.now.starts }
     requires figures { AreFigures shown.contents figures }
     requires small { IsSmall what.now }
-    requires moment { IsMoment at }
-    requires clear { NoneRefuses (MayBeDone shown.contents at what.now) }
+    requires moment { IsMoment setting.now.at }
+    requires clear { NoneRefuses (MayBeDone shown.contents setting.now.at what.now) }
     requires few { shown.looks ≤ 1 }
     ensures contents { result.0.contents ≡ shown.contents }
     ensures figures { AreFigures shown.contents result.1 }
-    ensures tried { IfOk result.2 (IsTrialFor shown.contents what.now at result.0.looks) }
+    ensures tried { IfOk result.2 (IsTriedBy shown.contents what.now setting.now.at result.0.looks) }
     ensures refused { IfErr result.2 (λ r. r ≡ Refusal.Memory) }
 {
-    let (shown, figures, trial) = tried(alloc, shown, graph, latest, figures, what, at);
+    let (shown, figures, trial) = tried(setting, shown, figures, what);
     match trial {
-        Ok(trial) => (shown, figures, Ok(Some(by_trial(trial)))),
+        Ok(trial) => (shown, figures, Ok(by_trial(trial))),
         Err(refusal) => (shown, figures, Err(refusal)),
     }
 }

@@ -1,12 +1,12 @@
 // What is read off the plan for one operation or one occurrence.
 ghost use Rattle.std.specs.Prelude.{◌≡◌, ◌<◌, Some, length, slice_get};
 ghost use Rattle.std.specs.FinMap.{entries};
-ghost use Rattle.deletion_steps.specs.plan_steps.specs.plan_rows.specs.Shown.{IsShown};
+ghost use Rattle.plan_steps.specs.plan_rows.specs.Shown.{IsShown};
 ghost use Rattle.plan_core.specs.Views.{op_views, occ_views};
 
-use deletion_steps::Shown;
 use plan_basics::{Moment, OccKey, OpKey, WsName};
 use plan_status::occurrence_status_with;
+use plan_steps::RowSource;
 use status_rules::{Mark, OccStatus, Status};
 
 /// An operation of the plan, with what is read off the plan for it.
@@ -53,7 +53,7 @@ pub struct OccView {
 }
 
 /// The view of the operation at an index.
-pub(crate) fn op_view(shown: Shown<'_>, place: usize) -> OpView
+pub(crate) fn op_view(shown: RowSource<'_>, place: usize) -> OpView
     requires shown { IsShown shown }
     requires within { place < length (entries shown.contents.now.operations) }
     ensures { slice_get (op_views shown.entry) place ≡ Some result }
@@ -79,7 +79,7 @@ pub(crate) fn op_view(shown: Shown<'_>, place: usize) -> OpView
 }
 
 /// The view of the occurrence at an index.
-pub(crate) fn occ_view(shown: Shown<'_>, place: usize) -> OccView
+pub(crate) fn occ_view(shown: RowSource<'_>, place: usize) -> OccView
     requires shown { IsShown shown }
     requires within { place < length (entries shown.contents.now.occurrences) }
     ensures { slice_get (occ_views shown.entry) place ≡ Some result }

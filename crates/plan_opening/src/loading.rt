@@ -3,7 +3,7 @@ ghost use Rattle.std.specs.Prelude.{◌≡◌, IfOk, IfErr};
 ghost use Rattle.plan_basics.specs.declared.Refusal.{Refusal};
 ghost use Rattle.plan_rows.specs.plan_choice.specs.Choices.{AreLatestStarts};
 ghost use Rattle.plan_rows.specs.plan_drafts.specs.PlanGraphs.{IsGraphFor};
-ghost use Rattle.plan_rows.specs.plan_state.specs.Figures.{AreFigures};
+ghost use Rattle.plan_rows.specs.plan_figures.specs.Figures.{AreFigures};
 ghost use Rattle.plan_rows.specs.plan_status.specs.Standings.{AreStandings};
 
 use latest_start::Latest;

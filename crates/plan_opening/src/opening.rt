@@ -13,7 +13,7 @@ use super::loading::loaded_of;
 use plan_basics::{Moment, Refusal};
 use plan_records::PlanRow;
 use plan_restore::{contents_of_rows, meta_of_rows};
-use plan_rows::{LoadedPlan, Shown, SoundContents, ValidContents, rows_of};
+use plan_rows::{LoadedPlan, RowSource, SoundContents, ValidContents, rows_of};
 use plan_soundness::judged;
 use row_lists::are_these;
 use std::alloc::Global;
@@ -47,7 +47,7 @@ fn are_rows_of(
     ensures told { IfOk result (λ told. IsTrue told ↔ AreRows (plan_held clock (Some loaded.now)) rows.now) }
     ensures refused { IfErr result (λ r. r ≡ Refusal.Memory) }
 {
-    let all = rows_of(alloc, clock, Shown::of(loaded))?;
+    let all = rows_of(alloc, clock, RowSource::of(loaded))?;
     Ok(are_these(alloc, rows, &all)?)
 }
 

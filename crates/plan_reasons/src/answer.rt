@@ -8,7 +8,7 @@ ghost use Rattle.plan_model.specs.Holdings.{given_out};
 ghost use Rattle.plan_reasons.specs.Parts.{GoesOn};
 ghost use Rattle.plan_reasons.specs.Places.{IsAt};
 ghost use Rattle.plan_reasons.specs.Whys.{AreReasons, IsWhy};
-ghost use Rattle.plan_core.specs.plan_state.specs.Reports.{IsReported};
+ghost use Rattle.plan_core.specs.plan_figures.specs.Reports.{IsReported};
 
 use super::busy::{all_held, all_unavailable};
 use super::lacking::{closed, lacks};

@@ -16,5 +16,4 @@ mod TouchedTables
 mod TouchedRows
 mod PairedLists
 mod NotedTables
-mod NewPair
 pub mod Counted

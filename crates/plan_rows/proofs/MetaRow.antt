@@ -4,20 +4,20 @@ use Rattle.std.specs.List.Sorted.{IsStrictlySortedBy}
 use Rattle.std.specs.Option.{is_some}
 use Rattle.plan_basics.proofs.Members.{contains_cases, contains_head, contains_none}
 use Rattle.plan_model.specs.Plan.{Plan}
-use Rattle.plan_state.specs.plan_records.specs.Rows.{key_of, row_cmp}
-use Rattle.plan_state.specs.plan_records.specs.declared.PlanRow.{PlanRow}
-use Rattle.plan_state.specs.plan_records.specs.declared.PlanRow.TheVariants as row
+use Rattle.plan_figures.specs.plan_records.specs.Rows.{key_of, row_cmp}
+use Rattle.plan_figures.specs.plan_records.specs.declared.PlanRow.{PlanRow}
+use Rattle.plan_figures.specs.plan_records.specs.declared.PlanRow.TheVariants as row
 use Rattle.plan_rows.proofs.NoRows.{none_ascend}
 use Rattle.plan_rows.specs.Shown.{plan_shown}
 use Rattle.plan_rows.specs.Tables.{IsRowOf}
-use Rattle.plan_rows.specs.declared.shown.Shown.{Shown}
+use Rattle.plan_rows.specs.declared.shown.RowSource.{RowSource}
 use Rattle.row_differences.specs.Changes.{AreAt, AreRowChanges, HasRowOf}
 
-pub loaded_where_shown : (clock : ℕ) (shown : Option Shown) → (plan_shown clock shown).loaded ≡ is_some shown
+pub loaded_where_shown : (clock : ℕ) (shown : Option RowSource) → (plan_shown clock shown).loaded ≡ is_some shown
 loaded_where_shown clock None = refl
 loaded_where_shown clock (Some s) = refl
 
-pub clock_of_plan : (clock : ℕ) (shown : Option Shown) → (plan_shown clock shown).clock ≡ clock
+pub clock_of_plan : (clock : ℕ) (shown : Option RowSource) → (plan_shown clock shown).clock ≡ clock
 clock_of_plan clock None = refl
 clock_of_plan clock (Some s) = refl
 

@@ -5,7 +5,7 @@ use Rattle.std.specs.FinMap.{empty, entries}
 use Rattle.std.specs.List.Sorted.{IsStrictlySortedBy}
 use Rattle.plan_model.proofs.Entries.{rows_in_order}
 use Rattle.plan_rows.specs.Shown.{contents_shown, plan_shown}
-use Rattle.plan_rows.specs.declared.shown.Shown.{Shown}
+use Rattle.plan_rows.specs.declared.shown.RowSource.{RowSource}
 
 pub none_ascend : {K : Type 0} (R : K → K → Ordering) → IsStrictlySortedBy R []
 unfolding IsStrictlySortedBy
@@ -15,6 +15,6 @@ pub none_kept : {K X : Type 0} {R : K → K → Ordering} → IsTotalOrder R →
 none_kept {R = R} o = sym (rows_in_order o [] (none_ascend R))
 
 -- the plan that is shown has what is shown
-pub contents_of_plan : (clock : ℕ) (shown : Option Shown) → contents_shown shown ≡ (plan_shown clock shown).contents
+pub contents_of_plan : (clock : ℕ) (shown : Option RowSource) → contents_shown shown ≡ (plan_shown clock shown).contents
 contents_of_plan clock None = refl
 contents_of_plan clock (Some s) = refl

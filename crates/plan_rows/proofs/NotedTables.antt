@@ -9,11 +9,11 @@ use Rattle.std.proofs.lemmas.List.{append-nil}
 use Rattle.plan_basics.proofs.Members.{contains_cases, contains_head, contains_later, contains_none}
 use Rattle.plan_model.specs.Contents.{Contents}
 use Rattle.plan_model.specs.Plan.{Plan}
-use Rattle.plan_state.specs.plan_drafts.specs.declared.RowKey.{RowKey}
-use Rattle.plan_state.specs.plan_records.specs.Rows.{row_cmp}
-use Rattle.plan_state.specs.plan_records.specs.contracts.PlanRowPartialEq.TheImpl as equality
-use Rattle.plan_state.specs.plan_records.specs.declared.Changes.{Changes}
-use Rattle.plan_state.specs.plan_records.specs.declared.PlanRow.{PlanRow}
+use Rattle.plan_figures.specs.plan_drafts.specs.declared.RowKey.{RowKey}
+use Rattle.plan_figures.specs.plan_records.specs.Rows.{row_cmp}
+use Rattle.plan_figures.specs.plan_records.specs.contracts.PlanRowPartialEq.TheImpl as equality
+use Rattle.plan_figures.specs.plan_records.specs.declared.Changes.{Changes}
+use Rattle.plan_figures.specs.plan_records.specs.declared.PlanRow.{PlanRow}
 use Rattle.plan_rows.proofs.DifferentRows.{IsToldTo, all_differences, told_different, told_same}
 use Rattle.plan_rows.proofs.OneMore.{one_more_table, table_changes}
 use Rattle.plan_rows.proofs.PairedLists.{paired_at, paired_length}
@@ -24,8 +24,8 @@ use Rattle.plan_rows.specs.Touched.{AreDifferentAmong, StaysBeside}
 use Rattle.plan_rows.specs.declared.noted_rows.NotedRow.{NotedRow}
 use Rattle.plan_rows.specs.declared.notes.NotedBeside.{NotedBeside}
 use Rattle.plan_rows.specs.declared.notes.NotedBeside.TheVariants as noted
-use Rattle.plan_rows.specs.declared.notes.Beside.{Beside}
-use Rattle.plan_rows.specs.declared.notes.Beside.TheVariants as beside
+use Rattle.plan_rows.specs.declared.notes.ChangeBeside.{ChangeBeside}
+use Rattle.plan_rows.specs.declared.notes.ChangeBeside.TheVariants as beside
 use Rattle.row_differences.specs.Changes.{AreAt}
 
 -- each is noted at one of the places
@@ -68,29 +68,19 @@ module _ {K : Type 0} (S : K → K → Ordering) (name : K → RowKey) (in_order
       different [] more [] (all_differences total before after same up olds news (λ i j. slice_get olds i ≡ slice_get news j) (λ i j one. (λ h. h, λ h. h)) places different within elsewhere are) at refl)
 
 -- what is noted beside operations is all that may differ there
-pub all_beside : (P Q : Contents) (b : Beside) (n : NotedBeside) → StaysBeside b P Q → IsNotedBeside Q b n → NotesBeside P Q n
+pub all_beside : (P Q : Contents) (b : ChangeBeside) (n : NotedBeside) → StaysBeside b P Q → IsNotedBeside Q b n → NotesBeside P Q n
 all_beside P Q beside.Nothing noted.Nothing stays is = stays
 all_beside P Q beside.Nothing (noted.Resources rows) stays is = absurd is
 all_beside P Q beside.Nothing (noted.Intervals rows) stays is = absurd is
-all_beside P Q beside.Nothing (noted.Pair a b) stays is = absurd is
 all_beside P Q beside.Resources noted.Nothing stays is = absurd is
 all_beside P Q beside.Resources (noted.Resources rows) stays is = (stays.0, stays.1, is)
 all_beside P Q beside.Resources (noted.Intervals rows) stays is = absurd is
-all_beside P Q beside.Resources (noted.Pair a b) stays is = absurd is
 all_beside P Q beside.Workstations noted.Nothing stays is = absurd is
 all_beside P Q beside.Workstations (noted.Resources rows) stays is = absurd is
 all_beside P Q beside.Workstations (noted.Intervals rows) stays is = (stays.0, stays.1, is)
-all_beside P Q beside.Workstations (noted.Pair a b) stays is = absurd is
-all_beside P Q (beside.Pair p s) noted.Nothing stays is = absurd is
-all_beside P Q (beside.Pair p s) (noted.Resources rows) stays is = absurd is
-all_beside P Q (beside.Pair p s) (noted.Intervals rows) stays is = absurd is
-all_beside P Q (beside.Pair p s) (noted.Pair a b) stays is = subst (λ x. NotesBeside P Q (noted.Pair x b)) (sym is.0) (subst (λ y. NotesBeside P Q (noted.Pair p y)) (sym is.1) stays)
 
--- where no pair is noted none differs
-pub pairs_stay : (P Q : Contents) (n : NotedBeside) → (n ≡ noted.Nothing) ⊎ (((x : _) × (n ≡ noted.Resources x)) ⊎ ((x : _) × (n ≡ noted.Intervals x))) → NotesBeside P Q n → Q.pairs ≡ P.pairs
-pairs_stay P Q noted.Nothing is notes = notes.2
-pairs_stay P Q (noted.Resources rows) is notes = notes.1
-pairs_stay P Q (noted.Intervals rows) is notes = notes.1
-pairs_stay P Q (noted.Pair p s) (inl is) notes = absurd (cc)
-pairs_stay P Q (noted.Pair p s) (inr (inl is)) notes = let e = is.1 in absurd (cc)
-pairs_stay P Q (noted.Pair p s) (inr (inr is)) notes = let e = is.1 in absurd (cc)
+-- no pair differs
+pub pairs_stay : (P Q : Contents) (b : ChangeBeside) → StaysBeside b P Q → Q.pairs ≡ P.pairs
+pairs_stay P Q beside.Nothing stays = stays.2
+pairs_stay P Q beside.Resources stays = stays.1
+pairs_stay P Q beside.Workstations stays = stays.1

@@ -10,29 +10,29 @@ use Rattle.plan_basics.proofs.Members.{at_place, contains_mapped, contains_none,
 use Rattle.plan_basics.specs.Keys.{occurrence_cmp, occurrence_cmp-IsAntisymmetric, occurrence_cmp_total, operation_cmp, operation_cmp-IsAntisymmetric, operation_cmp_total}
 use Rattle.plan_basics.specs.declared.keys.OccKey.{OccKey}
 use Rattle.plan_basics.specs.declared.keys.OpKey.{OpKey}
-use Rattle.plan_state.specs.plan_drafts.proofs.EntryRows.{entry_of, row_in}
-use Rattle.plan_state.specs.plan_drafts.proofs.RowPlaces.{row_at}
-use Rattle.plan_state.specs.plan_drafts.specs.declared.RowKey.{RowKey}
-use Rattle.plan_state.specs.plan_drafts.specs.declared.RowKey.TheVariants as key
-use Rattle.plan_state.specs.plan_laws.proofs.Tabling.{one_row}
-use Rattle.plan_state.specs.plan_laws.proofs.Waiting.{one_occurrence_status}
+use Rattle.plan_figures.specs.plan_drafts.proofs.EntryRows.{entry_of, row_in}
+use Rattle.plan_figures.specs.plan_drafts.proofs.RowPlaces.{row_at}
+use Rattle.plan_figures.specs.plan_drafts.specs.declared.RowKey.{RowKey}
+use Rattle.plan_figures.specs.plan_drafts.specs.declared.RowKey.TheVariants as key
+use Rattle.plan_figures.specs.plan_laws.proofs.Tabling.{one_row}
+use Rattle.plan_figures.specs.plan_laws.proofs.Waiting.{one_occurrence_status}
 use Rattle.plan_model.proofs.Entries.{entries_in_order}
 use Rattle.plan_model.specs.Contents.{Contents, Operation}
 use Rattle.plan_model.specs.Plan.{Plan}
 use Rattle.plan_model.specs.Status.{HasOccurrenceStatus}
 use Rattle.plan_model.specs.declared.Occurrence.{Occurrence}
-use Rattle.plan_state.specs.plan_records.specs.Rows.{IsOperationRow, key_of}
-use Rattle.plan_state.specs.plan_records.specs.declared.PlanRow.{PlanRow}
-use Rattle.plan_state.specs.plan_records.specs.declared.PlanRow.TheVariants as row
+use Rattle.plan_figures.specs.plan_records.specs.Rows.{IsOperationRow, key_of}
+use Rattle.plan_figures.specs.plan_records.specs.declared.PlanRow.{PlanRow}
+use Rattle.plan_figures.specs.plan_records.specs.declared.PlanRow.TheVariants as row
 use Rattle.plan_rows.proofs.NoRows.{none_ascend, none_kept}
 use Rattle.plan_rows.proofs.SideBySide.{from_viewed, from_zipped, keys_viewed, length_zipped, viewed_at, zipped_at}
 use Rattle.plan_rows.specs.Rows.{if_shown, keyed_occurrence, keyed_occurrences, keyed_operation, keyed_operations, operation_row_of, rows_of}
 use Rattle.plan_rows.specs.Shown.{contents_shown, IsShown, IsShownIfAny, Known, known_of, plan_shown}
 use Rattle.plan_rows.specs.Tables.{AreRowsOf, IsRowOf}
-use Rattle.plan_rows.specs.declared.shown.Shown.{Shown}
-use Rattle.plan_state.specs.plan_status.proofs.OfOccurrences.{status_counted}
-use Rattle.plan_state.specs.plan_status.specs.Standings.{IsTally}
-use Rattle.plan_state.specs.plan_status.specs.declared.standings.Standing.{Standing}
+use Rattle.plan_rows.specs.declared.shown.RowSource.{RowSource}
+use Rattle.plan_figures.specs.plan_status.proofs.OfOccurrences.{status_counted}
+use Rattle.plan_figures.specs.plan_status.specs.Standings.{IsTally}
+use Rattle.plan_figures.specs.plan_status.specs.declared.standings.Standing.{Standing}
 use Rattle.status_rules.proofs.CountsTable.{first_by_table}
 use Rattle.status_rules.specs.Table.{occurrence_by}
 use Rattle.status_rules.specs.declared.Counts.{Counts}
@@ -44,7 +44,7 @@ keyed_made : {Z K : Type 0} (name : K → RowKey) (f : Z → K × PlanRow) → (
 keyed_made name f same [] = refl
 keyed_made name f same (z ∷ zs) = λ i. same z i ∷ keyed_made name f same zs i
 
-module _ (s : Shown) (shown : IsShown s) where
+module _ (s : RowSource) (shown : IsShown s) where
   abbrev P : Contents
   P = s.contents.now
 
@@ -157,27 +157,27 @@ no_occurrence_row : (clock : ℕ) (r : PlanRow) → IsRowOf 4 (plan_shown clock 
 no_occurrence_row clock (row.Occurrence c priority deadline t) (is, e) = absurd (none-some _ (sym (get-empty occurrence_cmp c) ∙ is.0))
 no_occurrence_row clock r (is, e) = absurd (cc)
 
-pub are_operations : (clock : ℕ) (shown : Option Shown) → IsShownIfAny shown → AreRowsOf key.Operation 5 (plan_shown clock shown) (keys_of (if_shown keyed_operations shown)) (rows_of (if_shown keyed_operations shown))
+pub are_operations : (clock : ℕ) (shown : Option RowSource) → IsShownIfAny shown → AreRowsOf key.Operation 5 (plan_shown clock shown) (keys_of (if_shown keyed_operations shown)) (rows_of (if_shown keyed_operations shown))
 are_operations clock None is = record { keyed = refl; all = λ r. (λ has. absurd (contains_none r has), no_operation_row clock r) }
 are_operations clock (Some s) is = operations_shown s is (plan_shown clock (Some s)) refl
 
-pub are_occurrences : (clock : ℕ) (shown : Option Shown) → IsShownIfAny shown → AreRowsOf key.Occurrence 4 (plan_shown clock shown) (keys_of (if_shown keyed_occurrences shown)) (rows_of (if_shown keyed_occurrences shown))
+pub are_occurrences : (clock : ℕ) (shown : Option RowSource) → IsShownIfAny shown → AreRowsOf key.Occurrence 4 (plan_shown clock shown) (keys_of (if_shown keyed_occurrences shown)) (rows_of (if_shown keyed_occurrences shown))
 are_occurrences clock None is = record { keyed = refl; all = λ r. (λ has. absurd (contains_none r has), no_occurrence_row clock r) }
 are_occurrences clock (Some s) is = occurrences_shown s is (plan_shown clock (Some s)) refl
 
-pub operations_ascend : (shown : Option Shown) → IsShownIfAny shown → IsStrictlySortedBy operation_cmp (keys_of (if_shown keyed_operations shown))
+pub operations_ascend : (shown : Option RowSource) → IsShownIfAny shown → IsStrictlySortedBy operation_cmp (keys_of (if_shown keyed_operations shown))
 operations_ascend None is = none_ascend operation_cmp
 operations_ascend (Some s) is = subst (IsStrictlySortedBy operation_cmp) (sym (operation_keys s is)) (entries_in_order operation_cmp s.contents.now.operations)
 
-pub occurrences_ascend : (shown : Option Shown) → IsShownIfAny shown → IsStrictlySortedBy occurrence_cmp (keys_of (if_shown keyed_occurrences shown))
+pub occurrences_ascend : (shown : Option RowSource) → IsShownIfAny shown → IsStrictlySortedBy occurrence_cmp (keys_of (if_shown keyed_occurrences shown))
 occurrences_ascend None is = none_ascend occurrence_cmp
 occurrences_ascend (Some s) is = subst (IsStrictlySortedBy occurrence_cmp) (sym (occurrence_keys s is)) (entries_in_order occurrence_cmp s.contents.now.occurrences)
 
 -- the keys of the rows that are shown are those of what is kept
-pub operation_keys_kept : (shown : Option Shown) → IsShownIfAny shown → keys_of (if_shown keyed_operations shown) ≡ keys_of (entries (contents_shown shown).operations)
+pub operation_keys_kept : (shown : Option RowSource) → IsShownIfAny shown → keys_of (if_shown keyed_operations shown) ≡ keys_of (entries (contents_shown shown).operations)
 operation_keys_kept None is = ap keys_of (none_kept operation_cmp_total)
 operation_keys_kept (Some s) is = operation_keys s is
 
-pub occurrence_keys_kept : (shown : Option Shown) → IsShownIfAny shown → keys_of (if_shown keyed_occurrences shown) ≡ keys_of (entries (contents_shown shown).occurrences)
+pub occurrence_keys_kept : (shown : Option RowSource) → IsShownIfAny shown → keys_of (if_shown keyed_occurrences shown) ≡ keys_of (entries (contents_shown shown).occurrences)
 occurrence_keys_kept None is = ap keys_of (none_kept occurrence_cmp_total)
 occurrence_keys_kept (Some s) is = occurrence_keys s is

@@ -8,25 +8,25 @@ use Rattle.std.proofs.lemmas.Option.{slice_get_within}
 use Rattle.plan_basics.specs.Keys.{occurrence_cmp, occurrence_cmp-IsAntisymmetric, occurrence_cmp_total, operation_cmp, operation_cmp_total}
 use Rattle.plan_basics.specs.declared.keys.OccKey.{OccKey}
 use Rattle.plan_basics.specs.declared.keys.OpKey.{OpKey}
-use Rattle.plan_state.specs.plan_laws.proofs.Every.{nothing_at}
+use Rattle.plan_figures.specs.plan_laws.proofs.Every.{nothing_at}
 use Rattle.plan_model.proofs.Entries.{entries_are}
 use Rattle.plan_model.specs.Contents.{Operation, nothing}
 use Rattle.plan_model.specs.declared.Occurrence.{Occurrence}
-use Rattle.plan_state.specs.plan_records.specs.declared.PlanRow.{PlanRow}
+use Rattle.plan_figures.specs.plan_records.specs.declared.PlanRow.{PlanRow}
 use Rattle.plan_rows.proofs.MovedRows.{mapped_alike, same_elsewhere, same_keys, zipped_alike}
 use Rattle.plan_rows.proofs.NoRows.{none_kept}
 use Rattle.plan_rows.proofs.ShownRows.{occurrence_keys_kept, operation_keys_kept}
 use Rattle.plan_rows.specs.Rows.{if_shown, keyed_occurrence, keyed_occurrences, keyed_operation, keyed_operations, rows_of}
 use Rattle.plan_rows.specs.Shown.{IsShownIfAny, contents_shown}
 use Rattle.plan_rows.specs.Touched.{AreOccurrencesOf, AreTouched, known_shown, tallies_shown}
-use Rattle.plan_rows.specs.declared.shown.Shown.{Shown}
+use Rattle.plan_rows.specs.declared.shown.RowSource.{RowSource}
 
 -- the rows that are shown are made of what is kept, side by side
-operations_beside : (shown : Option Shown) → if_shown keyed_operations shown ≡ map keyed_operation (zip (entries (contents_shown shown).operations) (known_shown shown))
+operations_beside : (shown : Option RowSource) → if_shown keyed_operations shown ≡ map keyed_operation (zip (entries (contents_shown shown).operations) (known_shown shown))
 operations_beside None = ap (λ xs. map keyed_operation (zip xs [])) (none_kept operation_cmp_total)
 operations_beside (Some s) = refl
 
-occurrences_beside : (shown : Option Shown) → if_shown keyed_occurrences shown ≡ map keyed_occurrence (zip (entries (contents_shown shown).occurrences) (tallies_shown shown))
+occurrences_beside : (shown : Option RowSource) → if_shown keyed_occurrences shown ≡ map keyed_occurrence (zip (entries (contents_shown shown).occurrences) (tallies_shown shown))
 occurrences_beside None = ap (λ xs. map keyed_occurrence (zip xs [])) (none_kept occurrence_cmp_total)
 occurrences_beside (Some s) = refl
 
@@ -34,7 +34,7 @@ pub within_keys : {K X : Type 0} (rows : List (K × X)) (keys : List K) → keys
 within_keys {K} {X} rows keys same i lt = let e = ap length same in let f = length-map rows (λ (z : K × X). z.0) in omega (arith, lt, e, f)
 
 -- the occurrence of an operation of what is shown is there
-pub occurrence_known : (shown : Option Shown) → IsShownIfAny shown → (o : OpKey) (op : Operation) → get (contents_shown shown).operations o ≡ Some op → contains_key (contents_shown shown).occurrences o.occurrence ≡ true
+pub occurrence_known : (shown : Option RowSource) → IsShownIfAny shown → (o : OpKey) (op : Operation) → get (contents_shown shown).operations o ≡ Some op → contains_key (contents_shown shown).occurrences o.occurrence ≡ true
 occurrence_known None is o op at = nothing_at (get nothing.operations o) op (get-empty operation_cmp o) at
 occurrence_known (Some s) is o op at = (is.sound.valid.occurrences.each_operation o op at).1
 
@@ -45,7 +45,7 @@ found_by_key m rows k same known None absent =
     let none : get m k ≡ None = ap (λ n. get n k) (sym (ap (from_entries {R = occurrence_cmp}) same ∙ entries_are occurrence_cmp occurrence_cmp_total occurrence_cmp-IsAntisymmetric m)) ∙ absent refl in
     absurd (true≢false (sym known ∙ ap is_some none))
 
-module _ (before after : Option Shown) (was : IsShownIfAny before) (is : IsShownIfAny after) (touched : List ℕ) (h : AreTouched before after touched) where
+module _ (before after : Option RowSource) (was : IsShownIfAny before) (is : IsShownIfAny after) (touched : List ℕ) (h : AreTouched before after touched) where
   -- ---- operations
   pub operation_keys_stay : keys_of (if_shown keyed_operations after) ≡ keys_of (if_shown keyed_operations before)
   operation_keys_stay = operation_keys_kept after is ∙ (same_keys (contents_shown before) (contents_shown after) touched h.moved ∙ sym (operation_keys_kept before was))

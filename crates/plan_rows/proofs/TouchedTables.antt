@@ -6,14 +6,14 @@ use Rattle.std.proofs.lemmas.List.{append-nil}
 use Rattle.plan_basics.proofs.Members.{contains_none}
 use Rattle.plan_basics.specs.Keys.{Name}
 use Rattle.plan_basics.specs.declared.Attr.{Attr}
-use Rattle.plan_state.specs.plan_drafts.specs.declared.RowKey.{RowKey}
+use Rattle.plan_figures.specs.plan_drafts.specs.declared.RowKey.{RowKey}
 use Rattle.plan_model.specs.Contents.{Pairs, Workstations}
 use Rattle.plan_model.specs.Plan.{Plan}
-use Rattle.plan_state.specs.plan_moves.specs.Moves.{reporting}
-use Rattle.plan_state.specs.plan_records.specs.Rows.{key_of, row_cmp}
-use Rattle.plan_state.specs.plan_records.specs.declared.Changes.{Changes}
-use Rattle.plan_state.specs.plan_records.specs.declared.PlanRow.{PlanRow}
-use Rattle.plan_state.specs.plan_records.specs.declared.PlanRow.TheVariants as row
+use Rattle.plan_figures.specs.plan_moves.specs.Moves.{reporting}
+use Rattle.plan_figures.specs.plan_records.specs.Rows.{key_of, row_cmp}
+use Rattle.plan_figures.specs.plan_records.specs.declared.Changes.{Changes}
+use Rattle.plan_figures.specs.plan_records.specs.declared.PlanRow.{PlanRow}
+use Rattle.plan_figures.specs.plan_records.specs.declared.PlanRow.TheVariants as row
 use Rattle.plan_rows.proofs.MovedRows.{needs_are, needs_were}
 use Rattle.plan_rows.proofs.NoRows.{contents_of_plan, none_ascend}
 use Rattle.plan_rows.proofs.OneMore.{one_more_table}
@@ -22,7 +22,7 @@ use Rattle.plan_rows.specs.Rows.{workstation_row, resource_row}
 use Rattle.plan_rows.specs.Shown.{contents_shown, plan_shown}
 use Rattle.plan_rows.specs.Tables.{AreChangesBelow, AreRowsOf, IsRowOf}
 use Rattle.plan_rows.specs.Touched.{AreMovedAmong}
-use Rattle.plan_rows.specs.declared.shown.Shown.{Shown}
+use Rattle.plan_rows.specs.declared.shown.RowSource.{RowSource}
 use Rattle.row_differences.specs.Changes.{AreRowChanges}
 use Rattle.workstations.specs.Timetables.{NamedWorkstation}
 use Rattle.workstations.specs.Workstations.{Workstation}
@@ -68,7 +68,7 @@ module _ (P Q : Plan) (touched : List ℕ) (h : AreMovedAmong P.contents Q.conte
   needs_stay_before (row.Need o n) ((op, at, has), e) = let (was, there, same) = needs_were P.contents Q.contents touched h o op at in ((was, there, ap (λ needs. get needs n.name) (sym same) ∙ has), e)
   needs_stay_before r (is, e) = absurd (cc)
 
-module _ (clock now : ℕ) (before after : Option Shown) (c : Changes) where
+module _ (clock now : ℕ) (before after : Option RowSource) (c : Changes) where
   abbrev P : Plan
   P = plan_shown clock before
 

@@ -1,9 +1,9 @@
-pub use Rattle.plan_state.specs.plan_choice
-pub use Rattle.plan_state.specs.plan_drafts
-pub use Rattle.plan_state.specs.plan_laws
+pub use Rattle.plan_figures.specs.plan_choice
+pub use Rattle.plan_figures.specs.plan_drafts
+pub use Rattle.plan_figures.specs.plan_laws
 pub use Rattle.plan_model
-pub use Rattle.plan_state
-pub use Rattle.plan_state.specs.plan_status
+pub use Rattle.plan_figures
+pub use Rattle.plan_figures.specs.plan_status
 pub mod Shown
 pub mod Rows
 pub mod Tables

@@ -1,11 +1,10 @@
 -- The rows that are noted of a plan as a step leaves it, and what they say of the plan before.
 use Rattle.std.specs.Prelude.{◌≡◌, ◌<◌, ℕ, Bool, true, false, List, length, slice_get, Contains, Option, Some}
 use Rattle.std.specs.FinMap.{entries}
-use Rattle.std.specs.FinSet as set
 use Rattle.std.specs.List.{AllZip}
-use Rattle.plan_model.specs.Contents.{Contents, Precedes}
-use Rattle.plan_state.specs.plan_records.specs.declared.PlanRow.{PlanRow}
-use Rattle.plan_state.specs.plan_records.specs.declared.PlanRow.TheVariants as row
+use Rattle.plan_model.specs.Contents.{Contents}
+use Rattle.plan_figures.specs.plan_records.specs.declared.PlanRow.{PlanRow}
+use Rattle.plan_figures.specs.plan_records.specs.declared.PlanRow.TheVariants as row
 use Rattle.plan_rows.specs.Rows.{all_intervals, keyed_occurrences, keyed_operations, rows_of}
 use Rattle.plan_rows.specs.Shown.{IsShown, contents_shown}
 use Rattle.plan_rows.specs.Touched.{AreOccurrencesOf, AreTouched, StaysBeside}
@@ -13,9 +12,9 @@ use Rattle.plan_rows.specs.declared.noted_rows.NotedRow.{NotedRow}
 use Rattle.plan_rows.specs.declared.notes.NotedBeside.{NotedBeside}
 use Rattle.plan_rows.specs.declared.notes.NotedBeside.TheVariants as noted
 use Rattle.plan_rows.specs.declared.notes.Notes.{Notes}
-use Rattle.plan_rows.specs.declared.shown.Shown.{Shown}
-use Rattle.plan_rows.specs.declared.notes.Beside.{Beside}
-use Rattle.plan_rows.specs.declared.notes.Beside.TheVariants as beside
+use Rattle.plan_rows.specs.declared.shown.RowSource.{RowSource}
+use Rattle.plan_rows.specs.declared.notes.ChangeBeside.{ChangeBeside}
+use Rattle.plan_rows.specs.declared.notes.ChangeBeside.TheVariants as beside
 
 -- it notes the row that stands at i among these
 abbrev pub IsNotedAt : List PlanRow → ℕ → NotedRow → Type 0
@@ -29,16 +28,15 @@ AreNotedAt rows places notes = AllZip (IsNotedAt rows) places notes
 abbrev pub AreWithin : ℕ → List NotedRow → Type 0
 AreWithin n notes = (note : NotedRow) → Contains notes note → note.place < n
 
--- it has what may differ beside operations, if anything may: a table, or the pair itself
-abbrev pub IsNotedBeside : Contents → Beside → NotedBeside → Type 0
+-- it has the table that may differ beside operations, if one may
+abbrev pub IsNotedBeside : Contents → ChangeBeside → NotedBeside → Type 0
 IsNotedBeside Q beside.Nothing noted.Nothing = Unit {0}
 IsNotedBeside Q beside.Resources (noted.Resources rows) = rows.items ≡ entries Q.resources
 IsNotedBeside Q beside.Workstations (noted.Intervals rows) = rows.items ≡ all_intervals (entries Q.workstations)
-IsNotedBeside Q (beside.Pair p s) (noted.Pair a b) = (a ≡ p) × (b ≡ s)
 IsNotedBeside Q b n = ⊥
 
 -- they note the rows of these operations, of their occurrences, and what is beside
-pub record AreNotes (s : Shown) (b : Beside) (touched : List ℕ) (notes : Notes) : Type 0 where
+pub record AreNotes (s : RowSource) (b : ChangeBeside) (touched : List ℕ) (notes : Notes) : Type 0 where
   pub operations : AreNotedAt (rows_of (keyed_operations s)) touched notes.operations.items
   pub places : List ℕ
   pub of_operations : AreOccurrencesOf s.contents.now touched places
@@ -55,19 +53,18 @@ is_operation (row.Operation r) = true
 is_operation _ = false
 
 -- they were noted of a plan that holds Q, and no more differs between the plan before and that one than what they note
-pub record IsNotedStep (before : Option Shown) (Q : Contents) (notes : Notes) : Type 0 where
-  pub after : Shown
+pub record IsNotedStep (before : Option RowSource) (Q : Contents) (notes : Notes) : Type 0 where
+  pub after : RowSource
   pub shown : IsShown after
   pub holds : after.contents.now ≡ Q
-  pub beside : Beside
+  pub beside : ChangeBeside
   pub touched : List ℕ
   pub stays : StaysBeside beside (contents_shown before) after.contents.now
   pub among : AreTouched before (Some after) touched
   pub noted : AreNotes after beside touched notes
 
--- beside operations no more differs from P to Q than the table that it has, whose rows are those of Q, or the pair that it has, which is new
+-- beside operations no more differs from P to Q than the table that it has, whose rows are those of Q
 abbrev pub NotesBeside : Contents → Contents → NotedBeside → Type 0
 NotesBeside P Q noted.Nothing = (Q.workstations ≡ P.workstations) × (Q.resources ≡ P.resources) × (Q.pairs ≡ P.pairs)
 NotesBeside P Q (noted.Resources rows) = (Q.workstations ≡ P.workstations) × (Q.pairs ≡ P.pairs) × (rows.items ≡ entries Q.resources)
 NotesBeside P Q (noted.Intervals rows) = (Q.resources ≡ P.resources) × (Q.pairs ≡ P.pairs) × (rows.items ≡ all_intervals (entries Q.workstations))
-NotesBeside P Q (noted.Pair p s) = (Q.workstations ≡ P.workstations) × (Q.resources ≡ P.resources) × (Q.pairs ≡ set.insert P.pairs (p, s)) × ¬ Precedes P p s

@@ -8,11 +8,11 @@ use Rattle.plan_basics.specs.declared.keys.OccKey.{OccKey}
 use Rattle.plan_basics.specs.declared.keys.OpKey.{OpKey}
 use Rattle.plan_model.specs.Contents.{Operation}
 use Rattle.plan_model.specs.declared.Occurrence.{Occurrence}
-use Rattle.plan_state.specs.plan_records.specs.declared.OperationRow.{OperationRow}
-use Rattle.plan_state.specs.plan_records.specs.declared.PlanRow.{PlanRow}
-use Rattle.plan_state.specs.plan_records.specs.declared.PlanRow.TheVariants as row
+use Rattle.plan_figures.specs.plan_records.specs.declared.OperationRow.{OperationRow}
+use Rattle.plan_figures.specs.plan_records.specs.declared.PlanRow.{PlanRow}
+use Rattle.plan_figures.specs.plan_records.specs.declared.PlanRow.TheVariants as row
 use Rattle.plan_rows.specs.Shown.{Known, known_of}
-use Rattle.plan_rows.specs.declared.shown.Shown.{Shown}
+use Rattle.plan_rows.specs.declared.shown.RowSource.{RowSource}
 use Rattle.special_resources.specs.Needs.{need_of}
 use Rattle.special_resources.specs.declared.Need.{Need}
 use Rattle.status_rules.specs.Table.{occurrence_by}
@@ -67,15 +67,15 @@ abbrev pub need_row : (OpKey × Name) × Need → PlanRow
 need_row x = row.Need x.0.0 x.1
 
 -- all occurrences of the plan that is shown, each under its key
-abbrev pub keyed_occurrences : Shown → List (OccKey × PlanRow)
+abbrev pub keyed_occurrences : RowSource → List (OccKey × PlanRow)
 keyed_occurrences s = map keyed_occurrence (zip (entries s.contents.now.occurrences) s.tallies.now)
 
 -- all operations, each under its key
-abbrev pub keyed_operations : Shown → List (OpKey × PlanRow)
+abbrev pub keyed_operations : RowSource → List (OpKey × PlanRow)
 keyed_operations s = map keyed_operation (zip (entries s.contents.now.operations) (known_of s))
 
 -- those of the plan that is shown, if one is
-abbrev pub if_shown : {K : Type 0} → (Shown → List (K × PlanRow)) → Option Shown → List (K × PlanRow)
+abbrev pub if_shown : {K : Type 0} → (RowSource → List (K × PlanRow)) → Option RowSource → List (K × PlanRow)
 if_shown rows None = []
 if_shown rows (Some s) = rows s
 

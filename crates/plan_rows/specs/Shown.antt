@@ -1,19 +1,19 @@
 -- What is kept of a loaded plan, for its views.
 use Rattle.std.specs.Prelude.{ℕ, ℤ, List, Option, Some, None, option_map}
 use Rattle.std.specs.List.{zip}
-use Rattle.plan_state.specs.plan_choice.specs.Choices.{AreLatestStarts}
-use Rattle.plan_state.specs.plan_drafts.specs.Places.{AreStatuses}
+use Rattle.plan_figures.specs.plan_choice.specs.Choices.{AreLatestStarts}
+use Rattle.plan_figures.specs.plan_drafts.specs.Places.{AreStatuses}
 use Rattle.plan_model.specs.Contents.{Contents, nothing}
 use Rattle.plan_model.specs.Plan.{Plan, plan_held}
 use Rattle.plan_model.specs.Valid.{IsSound}
-use Rattle.plan_state.specs.plan_status.specs.Standings.{AreStandings, AreTallies}
-use Rattle.plan_state.specs.plan_status.specs.declared.standings.Standing.{Standing}
+use Rattle.plan_figures.specs.plan_status.specs.Standings.{AreStandings, AreTallies}
+use Rattle.plan_figures.specs.plan_status.specs.declared.standings.Standing.{Standing}
 use Rattle.status_rules.specs.declared.Status.{Status}
-use Rattle.plan_rows.specs.declared.columns.Columns.{Columns}
-use Rattle.plan_rows.specs.declared.shown.Shown.{Shown}
+use Rattle.plan_rows.specs.declared.columns.SourceColumns.{SourceColumns}
+use Rattle.plan_rows.specs.declared.shown.RowSource.{RowSource}
 
 -- its contents are sound, and beside them is what is read off them
-pub record IsShown (s : Shown) : Type 0 where
+pub record IsShown (s : RowSource) : Type 0 where
   pub sound : IsSound s.contents.now
   pub standings : AreStandings s.contents.now s.standings.now
   pub statuses : AreStatuses s.contents.now s.statuses.now
@@ -21,21 +21,21 @@ pub record IsShown (s : Shown) : Type 0 where
   pub latest : AreLatestStarts s.contents.now s.latest.now.starts
 
 -- what these columns show of these contents, wherever those lie
-abbrev pub shown_with : Contents → Columns → Shown
+abbrev pub shown_with : Contents → SourceColumns → RowSource
 shown_with P c = record { contents = record { ref_ptr = (0, 0); now = P }; standings = c.standings; statuses = c.statuses; tallies = c.tallies; latest = c.latest }
 
 -- so where there is one
-abbrev pub IsShownIfAny : Option Shown → Type 0
+abbrev pub IsShownIfAny : Option RowSource → Type 0
 IsShownIfAny None = Unit {0}
 IsShownIfAny (Some s) = IsShown s
 
 -- what is shown; nothing where there is none
-abbrev pub contents_shown : Option Shown → Contents
+abbrev pub contents_shown : Option RowSource → Contents
 contents_shown None = nothing
 contents_shown (Some s) = s.contents.now
 
 -- the plan at this clock of which this is shown
-abbrev pub plan_shown : ℕ → Option Shown → Plan
+abbrev pub plan_shown : ℕ → Option RowSource → Plan
 plan_shown clock shown = plan_held clock (option_map (λ s. s.contents.now) shown)
 
 -- what is known of an operation: its standing, its status, its latest start
@@ -43,5 +43,5 @@ abbrev pub Known : Type 0
 Known = Standing × (Status × ℤ)
 
 -- what is known of each operation
-abbrev pub known_of : Shown → List Known
+abbrev pub known_of : RowSource → List Known
 known_of s = zip s.standings.now (zip s.statuses.now s.latest.now.starts)

@@ -1,26 +1,25 @@
 -- What may differ from one plan that is shown to the next where some of its operations were touched, and no others.
 use Rattle.std.specs.Prelude.{◌≡◌, ◌≢◌, ◌↔◌, ◌<◌, ℕ, List, [], length, slice_get, Contains, Option, Some, None}
 use Rattle.std.specs.FinMap.{entries}
-use Rattle.std.specs.FinSet as set
 use Rattle.std.specs.List.Sorted.{IsStrictlySortedBy}
 use Rattle.std.specs.Ordering.{nat_cmp}
 use Rattle.plan_basics.specs.declared.keys.OpKey.{OpKey}
-use Rattle.plan_model.specs.Contents.{Contents, Operation, Precedes}
+use Rattle.plan_model.specs.Contents.{Contents, Operation}
 use Rattle.plan_model.specs.declared.Occurrence.{Occurrence}
-use Rattle.plan_state.specs.plan_moves.specs.Moves.{IsRemarkedAt}
+use Rattle.plan_figures.specs.plan_moves.specs.Moves.{IsRemarkedAt}
 use Rattle.plan_rows.specs.Shown.{contents_shown, Known, known_of}
-use Rattle.plan_rows.specs.declared.shown.Shown.{Shown}
-use Rattle.plan_rows.specs.declared.notes.Beside.{Beside}
-use Rattle.plan_rows.specs.declared.notes.Beside.TheVariants as beside
+use Rattle.plan_rows.specs.declared.shown.RowSource.{RowSource}
+use Rattle.plan_rows.specs.declared.notes.ChangeBeside.{ChangeBeside}
+use Rattle.plan_rows.specs.declared.notes.ChangeBeside.TheVariants as beside
 use Rattle.status_rules.specs.declared.Counts.{Counts}
 
 -- what is known of each operation that is shown
-abbrev pub known_shown : Option Shown → List Known
+abbrev pub known_shown : Option RowSource → List Known
 known_shown None = []
 known_shown (Some s) = known_of s
 
 -- the numbers of each occurrence that is shown
-abbrev pub tallies_shown : Option Shown → List Counts
+abbrev pub tallies_shown : Option RowSource → List Counts
 tallies_shown None = []
 tallies_shown (Some s) = s.tallies.now
 
@@ -41,26 +40,25 @@ pub record AreOccurrencesOf (P : Contents) (touched occurrences : List ℕ) : Ty
   pub ascend : IsStrictlySortedBy nat_cmp occurrences
   pub all : (p : ℕ) → Contains occurrences p ↔ HasOneOf P touched p
 
--- of operations no more differs than marks and flags of those at these places; which pairs there are is said beside
+-- of operations no more differs than marks and flags of those at these places
 pub record AreMovedAmong (P Q : Contents) (touched : List ℕ) : Type 0 where
   pub places : List ℕ
   pub moved : IsRemarkedAt P Q places
   pub among : (i : ℕ) → Contains places i → Contains touched i
 
 -- no more was touched than the operations at these places, and what follows from them for their occurrences
-pub record AreTouched (before after : Option Shown) (touched : List ℕ) : Type 0 where
+pub record AreTouched (before after : Option RowSource) (touched : List ℕ) : Type 0 where
   pub moved : AreMovedAmong (contents_shown before) (contents_shown after) touched
   pub ascend : IsStrictlySortedBy nat_cmp touched
   pub within : (i : ℕ) → Contains touched i → i < length (entries (contents_shown before).operations)
   pub known : (i : ℕ) → ¬ Contains touched i → slice_get (known_shown after) i ≡ slice_get (known_shown before) i
   pub tallies : (i : ℕ) → ¬ HasOneOf (contents_shown before) touched i → slice_get (tallies_shown after) i ≡ slice_get (tallies_shown before) i
 
--- what else of the contents stays; of a pair, that it is new and no other differs
-abbrev pub StaysBeside : Beside → Contents → Contents → Type 0
+-- what else of the contents stays
+abbrev pub StaysBeside : ChangeBeside → Contents → Contents → Type 0
 StaysBeside beside.Nothing P Q = (Q.workstations ≡ P.workstations) × (Q.resources ≡ P.resources) × (Q.pairs ≡ P.pairs)
 StaysBeside beside.Resources P Q = (Q.workstations ≡ P.workstations) × (Q.pairs ≡ P.pairs)
 StaysBeside beside.Workstations P Q = (Q.resources ≡ P.resources) × (Q.pairs ≡ P.pairs)
-StaysBeside (beside.Pair p s) P Q = (Q.workstations ≡ P.workstations) × (Q.resources ≡ P.resources) × (Q.pairs ≡ set.insert P.pairs (p, s)) × ¬ Precedes P p s
 
 -- of these places those at which the rows before and after differ, in order
 pub record AreDifferentAmong {X : Type 0} (olds news : List X) (places different : List ℕ) : Type 0 where

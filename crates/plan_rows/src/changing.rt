@@ -1,7 +1,7 @@
 // All tables together: what changes from one plan to another, and all rows of a plan.
 ghost use Rattle.std.specs.Prelude.{Some, IfOk, map};
 ghost use Rattle.std.specs.List.Sorted.{IsStrictlySortedBy};
-ghost use Rattle.plan_state.specs.plan_records.specs.Rows.{AreChanges, AreRows, key_of, row_cmp};
+ghost use Rattle.plan_figures.specs.plan_records.specs.Rows.{AreChanges, AreRows, key_of, row_cmp};
 ghost use Rattle.plan_rows.specs.Shown.{IsShown, IsShownIfAny, plan_shown};
 
 use super::dependencies::push_dependencies;
@@ -11,10 +11,10 @@ use super::meta::meta_changes;
 use super::needs::push_needs;
 use super::occurrences::push_occurrences;
 use super::operations::push_operations;
-use super::shown::{PlanShown, Shown};
+use super::shown::{PlanShown, RowSource};
 use super::workplaces::push_workstations;
 use plan_basics::Moment;
-use plan_state::{Changes, PlanRow};
+use plan_figures::{Changes, PlanRow};
 use std::alloc::{AllocError, Global};
 
 /// Which rows of the tables change from one plan to another.
@@ -40,7 +40,11 @@ pub fn changes_between(
 }
 
 /// All rows of a loaded plan at this clock, in key order.
-pub fn rows_of(alloc: Global, clock: Moment, shown: Shown<'_>) -> Result<Vec<PlanRow>, AllocError>
+pub fn rows_of(
+    alloc: Global,
+    clock: Moment,
+    shown: RowSource<'_>,
+) -> Result<Vec<PlanRow>, AllocError>
     requires { IsShown shown }
     ensures rows { IfOk result (λ v. AreRows (plan_shown clock (Some shown.entry)) v.items) }
     ensures in_order { IfOk result (λ v. IsStrictlySortedBy row_cmp (map key_of v.items)) }

@@ -1,22 +1,17 @@
 // The table of dependencies.
-ghost use Rattle.std.specs.Prelude.{◌≡◌, ◌↔◌, ◌<◌, ℕ, List, Some, OnOk, count_by, length, map, refl, slice_get};
-ghost use Rattle.std.specs.FinSet as set;
-ghost use Rattle.plan_model.specs.Contents.{Precedes};
-ghost use Rattle.plan_model.specs.Plan.{Plan};
-ghost use Rattle.plan_state.specs.plan_drafts.specs.declared.RowKey.TheVariants as key;
-ghost use Rattle.plan_state.specs.plan_records.specs.declared.PlanRow.TheVariants as row;
+ghost use Rattle.std.specs.Prelude.{◌≡◌, ◌↔◌, ◌<◌, ℕ, List, Some, OnOk, length, map, refl, slice_get};
+ghost use Rattle.plan_figures.specs.plan_drafts.specs.declared.RowKey.TheVariants as key;
 ghost use Rattle.plan_rows.specs.Alike.{pair_exact};
-ghost use Rattle.plan_rows.specs.Notes.{is_operation};
 ghost use Rattle.plan_rows.specs.Rows.{dependency_row};
 ghost use Rattle.plan_rows.specs.Shown.{plan_shown};
 ghost use Rattle.plan_rows.specs.Tables.{AreChangesBelow};
 
 use super::kept::pairs_of;
-use super::shown::Shown;
+use super::shown::RowSource;
 use super::tables::{PlanTable, push_changes};
 use plan_basics::OpKey;
-use plan_state::{Changes, PlanRow, RowKey};
-use row_differences::{TwoTables, push_made};
+use plan_figures::{Changes, PlanRow, RowKey};
+use row_differences::TwoTables;
 use std::alloc::{AllocError, Global};
 use std::cmp::Ordering;
 
@@ -83,8 +78,8 @@ impl<'a, 'b> PlanTable for Dependencies<'a, 'b> {
 /// Adds what changes in the table of dependencies.
 pub fn push_dependencies(
     alloc: Global,
-    before: Option<Shown<'_>>,
-    after: Option<Shown<'_>>,
+    before: Option<RowSource<'_>>,
+    after: Option<RowSource<'_>>,
     changes: &mut Changes,
 ) -> Result<(), AllocError>
     ensures { (clock now : ℕ) → AreChangesBelow 6 (plan_shown clock before.entry) (plan_shown now after.entry) changes.old → OnOk result (AreChangesBelow 7 (plan_shown clock before.entry) (plan_shown now after.entry) changes.new) }
@@ -96,29 +91,5 @@ pub fn push_dependencies(
             after: pairs_of(after),
         },
         changes,
-    )
-}
-
-/// Adds the row of a pair that is new.
-pub fn push_new_pair(
-    predecessor: OpKey,
-    successor: OpKey,
-    changes: &mut Changes,
-) -> Result<(), AllocError>
-    ensures told { (P Q : Plan) → Q.contents.pairs ≡ set.insert P.contents.pairs (predecessor, successor) → ¬ Precedes P.contents predecessor successor → AreChangesBelow 6 P Q changes.old → OnOk result (AreChangesBelow 7 P Q changes.new) }
-    ensures operations { OnOk result (count_by is_operation changes.new.rows.items ≡ count_by is_operation changes.old.rows.items) }
-{
-    let only = [0];
-    push_made(
-        &mut changes.rows,
-        &only,
-        |_place|
-            ensures { result ≡ row.Dependency predecessor successor }
-        {
-            PlanRow::Dependency {
-                predecessor,
-                successor,
-            }
-        },
     )
 }

@@ -4,18 +4,18 @@ ghost use Rattle.std.specs.FinMap.{entries};
 ghost use Rattle.std.specs.List.Sorted.{IsStrictlySortedBy};
 ghost use Rattle.std.specs.Map.{keys_of};
 ghost use Rattle.plan_basics.specs.Keys.{name_cmp};
-ghost use Rattle.plan_state.specs.plan_drafts.specs.declared.RowKey.TheVariants as key;
+ghost use Rattle.plan_figures.specs.plan_drafts.specs.declared.RowKey.TheVariants as key;
 ghost use Rattle.plan_rows.specs.Alike.{interval_alike, interval_key_cmp, interval_key_exact};
 ghost use Rattle.plan_rows.specs.Rows.{all_intervals, interval_row, intervals_within, under_both};
 ghost use Rattle.plan_rows.specs.Shown.{IsShownIfAny, contents_shown, plan_shown};
 ghost use Rattle.plan_rows.specs.Tables.{AreChangesBelow};
-ghost use Rattle.plan_rows.specs.declared.shown.Shown.{Shown as ShownValue};
+ghost use Rattle.plan_rows.specs.declared.shown.RowSource.{RowSource as RowSourceValue};
 
 use super::kept::workstations_of;
-use super::shown::Shown;
+use super::shown::RowSource;
 use super::tables::{PlanTable, push_changes};
 use plan_basics::{Interval, Moment, WsName};
-use plan_state::{Changes, PlanRow, RowKey};
+use plan_figures::{Changes, PlanRow, RowKey};
 use row_differences::KeyedRows;
 use std::alloc::{AllocError, Global};
 use workstations::Workstation;
@@ -82,7 +82,7 @@ pub fn push_noted_intervals(
 ) -> Result<(), AllocError>
     requires before { IsStrictlySortedBy name_cmp (keys_of before.now) }
     requires in_order { IsStrictlySortedBy interval_key_cmp (keys_of after.now) }
-    ensures { (clock now : ℕ) (was shown : Option ShownValue) → IsShownIfAny was → IsShownIfAny shown → before.now ≡ entries (contents_shown was).workstations → after.now ≡ all_intervals (entries (contents_shown shown).workstations) → AreChangesBelow 2 (plan_shown clock was) (plan_shown now shown) changes.old → OnOk result (AreChangesBelow 3 (plan_shown clock was) (plan_shown now shown) changes.new) }
+    ensures { (clock now : ℕ) (was shown : Option RowSourceValue) → IsShownIfAny was → IsShownIfAny shown → before.now ≡ entries (contents_shown was).workstations → after.now ≡ all_intervals (entries (contents_shown shown).workstations) → AreChangesBelow 2 (plan_shown clock was) (plan_shown now shown) changes.old → OnOk result (AreChangesBelow 3 (plan_shown clock was) (plan_shown now shown) changes.new) }
 {
     let old = intervals_of(alloc, before)?;
     push_changes(
@@ -98,8 +98,8 @@ pub fn push_noted_intervals(
 /// Adds what changes in the table of intervals.
 pub fn push_intervals(
     alloc: Global,
-    before: Option<Shown<'_>>,
-    after: Option<Shown<'_>>,
+    before: Option<RowSource<'_>>,
+    after: Option<RowSource<'_>>,
     changes: &mut Changes,
 ) -> Result<(), AllocError>
     requires before { IsShownIfAny before }

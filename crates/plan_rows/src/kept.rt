@@ -8,13 +8,13 @@ ghost use Rattle.plan_basics.specs.Keys.{name_cmp, occurrence_cmp, operation_cmp
 ghost use Rattle.plan_model.specs.Contents.{pair_cmp};
 ghost use Rattle.plan_rows.specs.Shown.{contents_shown};
 
-use super::shown::Shown;
+use super::shown::RowSource;
 use plan_basics::{OccKey, OpKey, ResName};
 use plan_model::{Occurrence, OperationRecord};
 use workstations::Workstation;
 
 /// The workstations by name.
-pub fn workstations_of<'a>(shown: Option<Shown<'a>>) -> &'a [Workstation]
+pub fn workstations_of<'a>(shown: Option<RowSource<'a>>) -> &'a [Workstation]
     ensures rows { result.now ≡ entries (contents_shown shown.entry).workstations }
     ensures in_order { IsStrictlySortedBy name_cmp (keys_of result.now) }
 {
@@ -25,7 +25,7 @@ pub fn workstations_of<'a>(shown: Option<Shown<'a>>) -> &'a [Workstation]
 }
 
 /// The special resources by name, each with whether it is available.
-pub fn resources_of<'a>(shown: Option<Shown<'a>>) -> &'a [(ResName, bool)]
+pub fn resources_of<'a>(shown: Option<RowSource<'a>>) -> &'a [(ResName, bool)]
     ensures rows { result.now ≡ entries (contents_shown shown.entry).resources }
     ensures in_order { IsStrictlySortedBy name_cmp (keys_of result.now) }
 {
@@ -36,7 +36,7 @@ pub fn resources_of<'a>(shown: Option<Shown<'a>>) -> &'a [(ResName, bool)]
 }
 
 /// The occurrences by key.
-pub fn occurrences_of<'a>(shown: Option<Shown<'a>>) -> &'a [(OccKey, Occurrence)]
+pub fn occurrences_of<'a>(shown: Option<RowSource<'a>>) -> &'a [(OccKey, Occurrence)]
     ensures rows { result.now ≡ entries (contents_shown shown.entry).occurrences }
     ensures in_order { IsStrictlySortedBy occurrence_cmp (keys_of result.now) }
 {
@@ -47,7 +47,7 @@ pub fn occurrences_of<'a>(shown: Option<Shown<'a>>) -> &'a [(OccKey, Occurrence)
 }
 
 /// The operations by key.
-pub fn operations_of<'a>(shown: Option<Shown<'a>>) -> &'a [(OpKey, OperationRecord)]
+pub fn operations_of<'a>(shown: Option<RowSource<'a>>) -> &'a [(OpKey, OperationRecord)]
     ensures rows { result.now ≡ entries (contents_shown shown.entry).operations }
     ensures in_order { IsStrictlySortedBy operation_cmp (keys_of result.now) }
 {
@@ -58,7 +58,7 @@ pub fn operations_of<'a>(shown: Option<Shown<'a>>) -> &'a [(OpKey, OperationReco
 }
 
 /// The pairs, by predecessor and then successor.
-pub fn pairs_of<'a>(shown: Option<Shown<'a>>) -> &'a [(OpKey, OpKey)]
+pub fn pairs_of<'a>(shown: Option<RowSource<'a>>) -> &'a [(OpKey, OpKey)]
     ensures pairs { set.from_list result.now ≡ (contents_shown shown.entry).pairs }
     ensures in_order { IsStrictlySortedBy pair_cmp result.now }
 {

@@ -5,17 +5,17 @@ ghost use Rattle.std.specs.List.Sorted.{IsStrictlySortedBy};
 ghost use Rattle.std.specs.Map.{keys_of};
 ghost use Rattle.plan_basics.specs.Keys.{name_cmp, name_cmp-IsAntisymmetric};
 ghost use Rattle.plan_model.specs.Plan.{Plan};
-ghost use Rattle.plan_state.specs.plan_drafts.specs.declared.RowKey.TheVariants as key;
+ghost use Rattle.plan_figures.specs.plan_drafts.specs.declared.RowKey.TheVariants as key;
 ghost use Rattle.plan_rows.specs.Alike.{resource_alike};
 ghost use Rattle.plan_rows.specs.Rows.{resource_row};
 ghost use Rattle.plan_rows.specs.Shown.{plan_shown};
 ghost use Rattle.plan_rows.specs.Tables.{AreChangesBelow};
 
 use super::kept::resources_of;
-use super::shown::Shown;
+use super::shown::RowSource;
 use super::tables::{PlanTable, push_changes};
 use plan_basics::ResName;
-use plan_state::{Changes, PlanRow, RowKey};
+use plan_figures::{Changes, PlanRow, RowKey};
 use row_differences::KeyedRows;
 use std::alloc::{AllocError, Global};
 
@@ -59,8 +59,8 @@ pub fn push_noted_resources(
 /// Adds what changes in the table of special resources.
 pub fn push_resources(
     alloc: Global,
-    before: Option<Shown<'_>>,
-    after: Option<Shown<'_>>,
+    before: Option<RowSource<'_>>,
+    after: Option<RowSource<'_>>,
     changes: &mut Changes,
 ) -> Result<(), AllocError>
     ensures { (clock now : ℕ) → AreChangesBelow 3 (plan_shown clock before.entry) (plan_shown now after.entry) changes.old → OnOk result (AreChangesBelow 4 (plan_shown clock before.entry) (plan_shown now after.entry) changes.new) }

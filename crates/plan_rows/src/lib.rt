@@ -20,17 +20,17 @@ mod tables;
 mod workplaces;
 
 pub use changing::{changes_between, rows_of};
-pub use columns::Columns;
+pub use columns::SourceColumns;
 pub use dependencies::push_dependencies;
 pub use intervals::push_intervals;
 pub use keyed::push_resources;
 pub use needs::push_needs;
-pub use notes::{Beside, Notes, noted_changes, notes_of};
+pub use notes::{ChangeBeside, Notes, noted_changes, notes_of};
 pub use occurrences::push_occurrences;
 pub use operations::push_operations;
-pub use plan_state::{
+pub use plan_figures::{
     Figures, LoadedPlan, SoundContents, Standing, ValidContents, given_out_of, graph_for,
     holdings_of, kept_of, latest_of, ready_of, standings_of, statuses_of, tallies_of,
 };
-pub use shown::{PlanShown, Shown};
+pub use shown::{PlanShown, RowSource};
 pub use workplaces::push_workstations;

@@ -1,13 +1,13 @@
 // The table that tells whether a plan is loaded, and its clock: one row.
 ghost use Rattle.std.specs.Prelude.{◌≡◌, ◌↔◌, ◌++◌, ◌∷◌, [], IsTrue, IfOk, OnOk, is_some};
 ghost use Rattle.plan_model.specs.Plan.{Plan};
-ghost use Rattle.plan_state.specs.plan_records.specs.declared.PlanRow.TheVariants as row;
+ghost use Rattle.plan_figures.specs.plan_records.specs.declared.PlanRow.TheVariants as row;
 ghost use Rattle.plan_rows.specs.Shown.{plan_shown};
 ghost use Rattle.plan_rows.specs.Tables.{AreChangesBelow};
 
-use super::shown::Shown;
+use super::shown::RowSource;
 use plan_basics::Moment;
-use plan_state::{Changes, PlanRow};
+use plan_figures::{Changes, PlanRow};
 use row_differences::push_made;
 use std::alloc::{AllocError, Global};
 
@@ -60,7 +60,7 @@ pub fn push_meta(
 }
 
 /// Whether a plan is loaded.
-pub fn is_loaded(shown: Option<Shown<'_>>) -> bool
+pub fn is_loaded(shown: Option<RowSource<'_>>) -> bool
     ensures { result ≡ is_some shown.entry }
 {
     match shown {
@@ -72,9 +72,9 @@ pub fn is_loaded(shown: Option<Shown<'_>>) -> bool
 /// What changes in the table of one row, from what was shown at its clock to what is shown at this one.
 pub fn meta_changes(
     alloc: Global,
-    before: Option<Shown<'_>>,
+    before: Option<RowSource<'_>>,
     was: Moment,
-    after: Option<Shown<'_>>,
+    after: Option<RowSource<'_>>,
     clock: Moment,
 ) -> Result<Changes, AllocError>
     ensures { IfOk result (AreChangesBelow 1 (plan_shown was before.entry) (plan_shown clock after.entry)) }

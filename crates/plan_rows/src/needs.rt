@@ -1,17 +1,17 @@
 // The table of the needs of operations.
 ghost use Rattle.std.specs.Prelude.{◌≡◌, ◌↔◌, ◌<◌, ◌++◌, ℕ, List, Some, IfOk, OnOk, length, map, refl, slice_get};
-ghost use Rattle.plan_state.specs.plan_drafts.specs.declared.RowKey.TheVariants as key;
+ghost use Rattle.plan_figures.specs.plan_drafts.specs.declared.RowKey.TheVariants as key;
 ghost use Rattle.plan_rows.specs.Alike.{need_alike, need_key_exact};
 ghost use Rattle.plan_rows.specs.Rows.{all_needs, need_row, needs_within, under_both};
 ghost use Rattle.plan_rows.specs.Shown.{plan_shown};
 ghost use Rattle.plan_rows.specs.Tables.{AreChangesBelow};
 
 use super::kept::operations_of;
-use super::shown::Shown;
+use super::shown::RowSource;
 use super::tables::{PlanTable, push_changes};
 use plan_basics::{OpKey, ResName};
+use plan_figures::{Changes, PlanRow, RowKey};
 use plan_model::OperationRecord;
-use plan_state::{Changes, PlanRow, RowKey};
 use row_differences::KeyedRows;
 use special_resources::Need;
 use std::alloc::{AllocError, Global};
@@ -71,8 +71,8 @@ fn needs_of(
 /// Adds what changes in the table of needs.
 pub fn push_needs(
     alloc: Global,
-    before: Option<Shown<'_>>,
-    after: Option<Shown<'_>>,
+    before: Option<RowSource<'_>>,
+    after: Option<RowSource<'_>>,
     changes: &mut Changes,
 ) -> Result<(), AllocError>
     ensures { (clock now : ℕ) → AreChangesBelow 7 (plan_shown clock before.entry) (plan_shown now after.entry) changes.old → OnOk result (AreChangesBelow 8 (plan_shown clock before.entry) (plan_shown now after.entry) changes.new) }

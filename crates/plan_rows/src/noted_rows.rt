@@ -3,16 +3,16 @@ ghost use Rattle.std.specs.Prelude.{◌≡◌, ◌⊎◌, ◌+◌, ◌*◌, ◌<
 ghost use Rattle.std.specs.List.Sorted.{IsStrictlySortedBy};
 ghost use Rattle.std.specs.Map.{keys_of};
 ghost use Rattle.std.specs.Ordering.{nat_cmp};
-ghost use Rattle.plan_state.specs.plan_records.specs.declared.PlanRow.{PlanRow as PlanRowValue};
+ghost use Rattle.plan_figures.specs.plan_records.specs.declared.PlanRow.{PlanRow as PlanRowValue};
 ghost use Rattle.plan_rows.specs.Notes.{AreNotedAt, AreWithin};
 ghost use Rattle.plan_rows.specs.Rows.{rows_of};
 ghost use Rattle.plan_rows.specs.Shown.{IsShown, shown_with};
 ghost use Rattle.plan_rows.specs.Touched.{AreDifferentAmong};
 ghost use Rattle.row_differences.specs.Changes.{AreAt};
 
-use super::columns::Columns;
+use super::columns::SourceColumns;
 use super::shown_tables::Tabled;
-use plan_state::{PlanRow, Shown as Counted};
+use plan_figures::{PlanRow, Shown};
 use std::alloc::{AllocError, Global};
 
 /// A row of a table, and its place there.
@@ -28,7 +28,7 @@ pub trait Noted: Tabled {
     ghost looks: { ℕ };
 
     /// The row at an index.
-    fn seen(shown: &mut Counted, columns: Columns<'_>, place: usize) -> PlanRow
+    fn seen(shown: &mut Shown, columns: SourceColumns<'_>, place: usize) -> PlanRow
         requires shown { IsShown (shown_with shown.old.contents columns) }
         requires within { place < length (keys_of (Self.keyed (shown_with shown.old.contents columns))) }
         ensures row { slice_get (rows_of (Self.keyed (shown_with shown.old.contents columns.entry))) place ≡ Some result }
@@ -41,8 +41,8 @@ pub trait Noted: Tabled {
 /// Notes the rows at these places.
 pub fn note_rows<T: Noted>(
     alloc: Global,
-    shown: &mut Counted,
-    columns: Columns<'_>,
+    shown: &mut Shown,
+    columns: SourceColumns<'_>,
     places: &[usize],
 ) -> Result<Vec<NotedRow>, AllocError>
     requires shown { IsShown (shown_with shown.old.contents columns) }
@@ -63,8 +63,8 @@ pub fn note_rows<T: Noted>(
 
 /// Adds the rows that are noted and aren't as they are in a table.
 pub fn push_noted<T: Noted>(
-    shown: &mut Counted,
-    columns: Columns<'_>,
+    shown: &mut Shown,
+    columns: SourceColumns<'_>,
     notes: &[NotedRow],
     rows: &mut Vec<PlanRow>,
 ) -> Result<(), AllocError>

@@ -5,34 +5,31 @@ ghost use Rattle.std.specs.List.Sorted.{IsStrictlySortedBy};
 ghost use Rattle.std.specs.Ordering.{nat_cmp};
 ghost use Rattle.plan_model.specs.Contents.{Contents};
 ghost use Rattle.plan_model.specs.Plan.{plan_held};
-ghost use Rattle.plan_state.specs.plan_records.specs.Rows.{AreChanges};
+ghost use Rattle.plan_figures.specs.plan_records.specs.Rows.{AreChanges};
 ghost use Rattle.plan_rows.specs.Notes.{AreNotes, IsNotedBeside, IsNotedStep, NotesBeside, is_operation, operations_noted};
 ghost use Rattle.plan_rows.specs.Shown.{IsShown, plan_shown, shown_with};
 ghost use Rattle.plan_rows.specs.Tables.{AreChangesBelow};
-ghost use Rattle.plan_rows.specs.declared.shown.Shown.{Shown as ShownValue};
+ghost use Rattle.plan_rows.specs.declared.shown.RowSource.{RowSource as RowSourceValue};
 
-use super::columns::Columns;
-use super::dependencies::push_new_pair;
+use super::columns::SourceColumns;
 use super::intervals::{intervals_of, push_noted_intervals};
 use super::keyed::push_noted_resources;
 use super::meta::push_meta;
 use super::noted_rows::NotedRow;
 use super::occurrences::{note_occurrences, push_noted_occurrences};
 use super::operations::{note_operations, push_noted_operations};
-use plan_basics::{Interval, Moment, OpKey, ResName, WsName};
-use plan_state::{Changes, Shown as Counted};
+use plan_basics::{Interval, Moment, ResName, WsName};
+use plan_figures::{Changes, Shown};
 use std::alloc::{AllocError, Global};
 
 /// What may differ beside operations.
 #[derive(Clone, Copy, Debug)]
-pub enum Beside {
+pub enum ChangeBeside {
     Nothing,
     /// Which special resources are available.
     Resources,
     /// When workstations are open.
     Workstations,
-    /// One pair more, of a predecessor and a successor.
-    Pair(OpKey, OpKey),
 }
 
 /// What is noted beside operations and occurrences.
@@ -43,8 +40,6 @@ pub enum NotedBeside {
     Resources(Vec<(ResName, bool)>),
     /// The intervals of all workstations, each under its workstation's name and its first minute.
     Intervals(Vec<((WsName, Moment), Interval)>),
-    /// The pair that is new.
-    Pair(OpKey, OpKey),
 }
 
 /// The rows of the operations and occurrences that a step touched, as they are after it, and what changed beside them.
@@ -56,18 +51,24 @@ pub struct Notes {
 }
 
 // Notes what may differ beside operations.
-fn note_beside(alloc: Global, shown: &Counted, beside: Beside) -> Result<NotedBeside, AllocError>
+fn note_beside(
+    alloc: Global,
+    shown: &Shown,
+    beside: ChangeBeside,
+) -> Result<NotedBeside, AllocError>
     ensures { IfOk result (IsNotedBeside shown.now.contents beside) }
 {
     let kept = shown.beside();
     match beside {
-        Beside::Nothing => Ok(NotedBeside::Nothing),
-        Beside::Resources => Ok(NotedBeside::Resources(Vec::from_slice(alloc, kept.resources())?)),
-        Beside::Workstations => Ok(NotedBeside::Intervals(intervals_of(
+        ChangeBeside::Nothing => Ok(NotedBeside::Nothing),
+        ChangeBeside::Resources => Ok(NotedBeside::Resources(Vec::from_slice(
+            alloc,
+            kept.resources(),
+        )?)),
+        ChangeBeside::Workstations => Ok(NotedBeside::Intervals(intervals_of(
             alloc,
             kept.workstations(),
         )?)),
-        Beside::Pair(predecessor, successor) => Ok(NotedBeside::Pair(predecessor, successor)),
     }
 }
 
@@ -75,9 +76,9 @@ fn note_beside(alloc: Global, shown: &Counted, beside: Beside) -> Result<NotedBe
 /// what may differ beside them. It takes a look at each of these operations.
 pub fn notes_of(
     alloc: Global,
-    shown: &mut Counted,
-    columns: Columns<'_>,
-    beside: Beside,
+    shown: &mut Shown,
+    columns: SourceColumns<'_>,
+    beside: ChangeBeside,
     touched: &[usize],
 ) -> Result<Notes, AllocError>
     requires shown { IsShown (shown_with shown.old.contents columns) }
@@ -103,12 +104,12 @@ pub fn notes_of(
 // Adds what changes in the tables of intervals and of special resources.
 fn push_noted_beside(
     alloc: Global,
-    shown: &Counted,
+    shown: &Shown,
     noted: &NotedBeside,
     changes: &mut Changes,
 ) -> Result<(), AllocError>
-    requires noted { (after : ShownValue) × IsShown after × NotesBeside shown.now.contents after.contents.now noted.now }
-    ensures { (clock now : ℕ) (before after : ShownValue) → before.contents.now ≡ shown.now.contents → IsShown before → IsShown after → NotesBeside shown.now.contents after.contents.now noted.now → AreChangesBelow 2 (plan_shown clock (Some before)) (plan_shown now (Some after)) changes.old → OnOk result (AreChangesBelow 4 (plan_shown clock (Some before)) (plan_shown now (Some after)) changes.new) }
+    requires noted { (after : RowSourceValue) × IsShown after × NotesBeside shown.now.contents after.contents.now noted.now }
+    ensures { (clock now : ℕ) (before after : RowSourceValue) → before.contents.now ≡ shown.now.contents → IsShown before → IsShown after → NotesBeside shown.now.contents after.contents.now noted.now → AreChangesBelow 2 (plan_shown clock (Some before)) (plan_shown now (Some after)) changes.old → OnOk result (AreChangesBelow 4 (plan_shown clock (Some before)) (plan_shown now (Some after)) changes.new) }
 {
     let kept = shown.beside();
     match noted {
@@ -125,22 +126,6 @@ fn push_noted_beside(
             rows,
             changes,
         ),
-        NotedBeside::Pair(_, _) => Ok(()),
-    }
-}
-
-// Adds what changes in the table of dependencies: the row of the pair that is noted, if one is.
-fn push_noted_pair(beside: &NotedBeside, changes: &mut Changes) -> Result<(), AllocError>
-    ensures told { (clock now : ℕ) (before after : ShownValue) → NotesBeside before.contents.now after.contents.now beside.now → AreChangesBelow 6 (plan_shown clock (Some before)) (plan_shown now (Some after)) changes.old → OnOk result (AreChangesBelow 7 (plan_shown clock (Some before)) (plan_shown now (Some after)) changes.new) }
-    ensures operations { OnOk result (count_by is_operation changes.new.rows.items ≡ count_by is_operation changes.old.rows.items) }
-{
-    match beside {
-        NotedBeside::Pair(predecessor, successor) => push_new_pair(
-            *predecessor,
-            *successor,
-            changes,
-        ),
-        NotedBeside::Nothing | NotedBeside::Resources(_) | NotedBeside::Intervals(_) => Ok(()),
     }
 }
 
@@ -148,8 +133,8 @@ fn push_noted_pair(beside: &NotedBeside, changes: &mut Changes) -> Result<(), Al
 /// clock. It takes a look for each operation that is noted.
 pub fn noted_changes(
     alloc: Global,
-    shown: &mut Counted,
-    columns: Columns<'_>,
+    shown: &mut Shown,
+    columns: SourceColumns<'_>,
     was: Moment,
     clock: Moment,
     notes: &Notes,
@@ -170,6 +155,5 @@ pub fn noted_changes(
     push_noted_beside(alloc, shown, &notes.beside, &mut changes)?;
     push_noted_occurrences(shown, columns, &notes.occurrences, &mut changes)?;
     push_noted_operations(shown, columns, &notes.operations, &mut changes)?;
-    push_noted_pair(&notes.beside, &mut changes)?;
     Ok(changes)
 }

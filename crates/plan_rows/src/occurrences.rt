@@ -4,24 +4,24 @@ ghost use Rattle.std.specs.FinMap.{entries};
 ghost use Rattle.std.specs.List.Sorted.{IsStrictlySortedBy};
 ghost use Rattle.std.specs.Ordering.{nat_cmp};
 ghost use Rattle.plan_basics.specs.Keys.{occurrence_cmp-IsAntisymmetric};
-ghost use Rattle.plan_state.specs.plan_drafts.specs.declared.RowKey.TheVariants as key;
+ghost use Rattle.plan_figures.specs.plan_drafts.specs.declared.RowKey.TheVariants as key;
 ghost use Rattle.plan_rows.specs.Notes.{AreNotedAt, AreWithin};
 ghost use Rattle.plan_rows.specs.Rows.{keyed_occurrences, rows_of};
 ghost use Rattle.plan_rows.specs.Shown.{IsShown, IsShownIfAny, plan_shown, shown_with};
 ghost use Rattle.plan_rows.specs.Tables.{AreChangesBelow};
 ghost use Rattle.plan_rows.specs.Touched.{AreOccurrencesOf, AreTouched};
-ghost use Rattle.plan_rows.specs.declared.shown.Shown.{Shown as ShownValue};
+ghost use Rattle.plan_rows.specs.declared.shown.RowSource.{RowSource as RowSourceValue};
 
-use super::columns::Columns;
+use super::columns::SourceColumns;
 use super::kept::occurrences_of;
 use super::noted_rows::{Noted, NotedRow, note_rows, push_noted};
 use super::occurrence_places::occurrence_places;
-use super::shown::Shown;
+use super::shown::RowSource;
 use super::shown_tables::{ShownTables, Tabled};
 use super::tables::push_changes;
 use plan_basics::OccKey;
+use plan_figures::{Changes, PlanRow, RowKey, Shown, occurrence_status_with};
 use plan_model::Occurrence;
-use plan_state::{Changes, PlanRow, RowKey, Shown as Counted, occurrence_status_with};
 use status_rules::Counts;
 use std::alloc::{AllocError, Global};
 use std::marker::PhantomData;
@@ -30,7 +30,7 @@ use std::marker::PhantomData;
 fn row_of(occurrences: &[(OccKey, Occurrence)], tallies: &[Counts], place: usize) -> PlanRow
     requires terms { place < length occurrences.now }
     requires numbers { place < length tallies.now }
-    ensures { (s : ShownValue) → IsShown s → occurrences.now ≡ entries s.contents.now.occurrences → tallies.now ≡ s.tallies.now → slice_get (rows_of (keyed_occurrences s)) place ≡ Some result }
+    ensures { (s : RowSourceValue) → IsShown s → occurrences.now ≡ entries s.contents.now.occurrences → tallies.now ≡ s.tallies.now → slice_get (rows_of (keyed_occurrences s)) place ≡ Some result }
 {
     let (occurrence, terms) = occurrences[place];
     PlanRow::Occurrence {
@@ -52,11 +52,11 @@ impl Tabled for Occurrence {
         RowKey::Occurrence(key)
     }
 
-    fn kept<'a>(shown: Option<Shown<'a>>) -> &'a [(OccKey, Occurrence)] {
+    fn kept<'a>(shown: Option<RowSource<'a>>) -> &'a [(OccKey, Occurrence)] {
         occurrences_of(shown)
     }
 
-    fn row(shown: Shown<'_>, place: usize) -> PlanRow {
+    fn row(shown: RowSource<'_>, place: usize) -> PlanRow {
         row_of(shown.contents.occurrences(), shown.tallies, place)
     }
 
@@ -68,8 +68,8 @@ impl Tabled for Occurrence {
 /// Adds what changes in the table of occurrences.
 pub fn push_occurrences(
     alloc: Global,
-    before: Option<Shown<'_>>,
-    after: Option<Shown<'_>>,
+    before: Option<RowSource<'_>>,
+    after: Option<RowSource<'_>>,
     changes: &mut Changes,
 ) -> Result<(), AllocError>
     requires before { IsShownIfAny before }
@@ -90,7 +90,7 @@ pub fn push_occurrences(
 impl Noted for Occurrence {
     ghost looks = { 0 };
 
-    fn seen(shown: &mut Counted, columns: Columns<'_>, place: usize) -> PlanRow {
+    fn seen(shown: &mut Shown, columns: SourceColumns<'_>, place: usize) -> PlanRow {
         row_of(shown.beside().occurrences(), columns.tallies, place)
     }
 }
@@ -98,8 +98,8 @@ impl Noted for Occurrence {
 /// Notes the rows of the occurrences to which the operations at these places belong.
 pub fn note_occurrences(
     alloc: Global,
-    shown: &mut Counted,
-    columns: Columns<'_>,
+    shown: &mut Shown,
+    columns: SourceColumns<'_>,
     touched: &[usize],
 ) -> Result<Vec<NotedRow>, AllocError>
     requires shown { IsShown (shown_with shown.old.contents columns) }
@@ -114,14 +114,14 @@ pub fn note_occurrences(
 
 /// Adds what changes in the table of occurrences, from the rows of those that are noted.
 pub fn push_noted_occurrences(
-    shown: &mut Counted,
-    columns: Columns<'_>,
+    shown: &mut Shown,
+    columns: SourceColumns<'_>,
     notes: &[NotedRow],
     changes: &mut Changes,
 ) -> Result<(), AllocError>
     requires shown { IsShown (shown_with shown.old.contents columns) }
     requires within { AreWithin (length (entries shown.old.contents.occurrences)) notes.now }
-    ensures told { (clock now : ℕ) (after : ShownValue) (touched places : List ℕ) → IsShown after → AreTouched (Some (shown_with shown.old.contents columns.entry)) (Some after) touched → AreOccurrencesOf after.contents.now touched places → AreNotedAt (rows_of (keyed_occurrences after)) places notes.now → AreChangesBelow 4 (plan_shown clock (Some (shown_with shown.old.contents columns.entry))) (plan_shown now (Some after)) changes.old → OnOk result (AreChangesBelow 5 (plan_shown clock (Some (shown_with shown.old.contents columns.entry))) (plan_shown now (Some after)) changes.new) }
+    ensures told { (clock now : ℕ) (after : RowSourceValue) (touched places : List ℕ) → IsShown after → AreTouched (Some (shown_with shown.old.contents columns.entry)) (Some after) touched → AreOccurrencesOf after.contents.now touched places → AreNotedAt (rows_of (keyed_occurrences after)) places notes.now → AreChangesBelow 4 (plan_shown clock (Some (shown_with shown.old.contents columns.entry))) (plan_shown now (Some after)) changes.old → OnOk result (AreChangesBelow 5 (plan_shown clock (Some (shown_with shown.old.contents columns.entry))) (plan_shown now (Some after)) changes.new) }
     ensures unchanged { shown.new ≡ shown.old }
 {
     push_noted::<Occurrence>(shown, columns, notes, &mut changes.rows)

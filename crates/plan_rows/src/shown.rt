@@ -4,12 +4,12 @@ ghost use Rattle.plan_rows.specs.Shown.{IsShown};
 
 use latest_start::Latest;
 use plan_basics::Moment;
-use plan_state::{LoadedPlan, PlanContents, Standing};
+use plan_figures::{LoadedPlan, PlanContents, Standing};
 use status_rules::{Counts, Status};
 
 /// The rows of a loaded plan, with what is known of each of them.
 #[derive(Clone, Copy)]
-pub struct Shown<'a> {
+pub struct RowSource<'a> {
     pub contents: &'a PlanContents,
     pub standings: &'a [Standing],
     pub statuses: &'a [Status],
@@ -17,13 +17,13 @@ pub struct Shown<'a> {
     pub latest: &'a Latest,
 }
 
-impl<'a> Shown<'a> {
+impl<'a> RowSource<'a> {
     /// What is kept of this plan.
-    pub fn of(loaded: &'a LoadedPlan) -> Shown<'a>
+    pub fn of(loaded: &'a LoadedPlan) -> RowSource<'a>
         ensures contents { result.contents.now ≡ loaded.now }
         ensures shown { IsShown result }
     {
-        Shown {
+        RowSource {
             contents: loaded.contents().rows(),
             standings: loaded.standings(),
             statuses: loaded.statuses(),
@@ -37,5 +37,5 @@ impl<'a> Shown<'a> {
 #[derive(Clone, Copy)]
 pub struct PlanShown<'a> {
     pub clock: Moment,
-    pub loaded: Option<Shown<'a>>,
+    pub loaded: Option<RowSource<'a>>,
 }

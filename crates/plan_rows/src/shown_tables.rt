@@ -2,16 +2,16 @@
 ghost use Rattle.std.specs.Prelude.{◌≡◌, ◌<◌, List, Some, length, slice_get};
 ghost use Rattle.std.specs.FinMap.{IsAntisymmetric};
 ghost use Rattle.std.specs.Map.{keys_of};
-ghost use Rattle.plan_state.specs.plan_drafts.specs.declared.RowKey.{RowKey as RowKeyValue};
-ghost use Rattle.plan_state.specs.plan_records.specs.Rows.{row_cmp};
-ghost use Rattle.plan_state.specs.plan_records.specs.declared.PlanRow.{PlanRow as PlanRowValue};
+ghost use Rattle.plan_figures.specs.plan_drafts.specs.declared.RowKey.{RowKey as RowKeyValue};
+ghost use Rattle.plan_figures.specs.plan_records.specs.Rows.{row_cmp};
+ghost use Rattle.plan_figures.specs.plan_records.specs.declared.PlanRow.{PlanRow as PlanRowValue};
 ghost use Rattle.plan_rows.specs.Rows.{if_shown, rows_of};
 ghost use Rattle.plan_rows.specs.Shown.{IsShown, IsShownIfAny};
-ghost use Rattle.plan_rows.specs.declared.shown.Shown.{Shown as ShownValue};
+ghost use Rattle.plan_rows.specs.declared.shown.RowSource.{RowSource as RowSourceValue};
 
-use super::shown::Shown;
+use super::shown::RowSource;
 use super::tables::PlanTable;
-use plan_state::{PlanRow, RowKey};
+use plan_figures::{PlanRow, RowKey};
 use row_differences::TwoTables;
 use std::cmp::Ordering;
 use std::marker::{Model, PhantomData};
@@ -24,19 +24,19 @@ pub trait Tabled: Sized {
     ghost name: { Self.Key → RowKeyValue };
 
     /// The rows for a plan that is shown, under their keys.
-    ghost keyed: { ShownValue → List (Self.Key × PlanRowValue) };
+    ghost keyed: { RowSourceValue → List (Self.Key × PlanRowValue) };
 
     /// The key of a row, by the table's key columns.
     fn named(key: Self::Key) -> RowKey
         ensures { result ≡ name key };
 
     /// All that is kept of the plan that is shown, by key; nothing where no plan is.
-    fn kept<'a>(shown: Option<Shown<'a>>) -> &'a [(Self::Key, Self)]
+    fn kept<'a>(shown: Option<RowSource<'a>>) -> &'a [(Self::Key, Self)]
         requires { IsShownIfAny shown }
         ensures { keys_of result.now ≡ keys_of (if_shown keyed shown.entry) };
 
     /// The row at an index.
-    fn row(shown: Shown<'_>, place: usize) -> PlanRow
+    fn row(shown: RowSource<'_>, place: usize) -> PlanRow
         requires shown { IsShown shown }
         requires within { place < length (keys_of (keyed shown)) }
         ensures { slice_get (rows_of (keyed shown.entry)) place ≡ Some result };
@@ -49,7 +49,7 @@ pub trait Tabled: Sized {
 }
 
 // The key at an index.
-fn key<T: Tabled>(shown: Option<Shown<'_>>, place: usize) -> T::Key
+fn key<T: Tabled>(shown: Option<RowSource<'_>>, place: usize) -> T::Key
     requires shown { IsShownIfAny shown }
     requires within { place < length (keys_of (if_shown T.keyed shown)) }
     ensures { (k : T.Key) → slice_get (keys_of (if_shown T.keyed shown.entry)) place ≡ Some k → result ≡ k }
@@ -58,7 +58,7 @@ fn key<T: Tabled>(shown: Option<Shown<'_>>, place: usize) -> T::Key
 }
 
 /// The row at an index.
-pub fn row<T: Tabled>(shown: Option<Shown<'_>>, place: usize) -> PlanRow
+pub fn row<T: Tabled>(shown: Option<RowSource<'_>>, place: usize) -> PlanRow
     requires shown { IsShownIfAny shown }
     requires within { place < length (keys_of (if_shown T.keyed shown)) }
     ensures { slice_get (rows_of (if_shown T.keyed shown.entry)) place ≡ Some result }
@@ -70,13 +70,13 @@ pub fn row<T: Tabled>(shown: Option<Shown<'_>>, place: usize) -> PlanRow
 #[derive(Drop)]
 pub struct ShownTables<'a, 'b, T: Tabled> {
     pub table: PhantomData<T>,
-    pub before: Option<Shown<'a>>,
-    pub after: Option<Shown<'b>>,
+    pub before: Option<RowSource<'a>>,
+    pub after: Option<RowSource<'b>>,
 }
 
 impl<'a, 'b, T: Tabled> Model for ShownTables<'a, 'b, T> {
     ghost use Rattle.std.specs.Prelude.{List};
-    ghost use Rattle.plan_state.specs.plan_records.specs.declared.PlanRow.{PlanRow};
+    ghost use Rattle.plan_figures.specs.plan_records.specs.declared.PlanRow.{PlanRow};
     ghost use Rattle.plan_rows.specs.Rows.{if_shown};
     ghost use Rattle.plan_rows.specs.Shown.{IsShownIfAny};
 

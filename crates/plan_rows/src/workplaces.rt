@@ -2,16 +2,16 @@
 ghost use Rattle.std.specs.Prelude.{◌≡◌, ◌↔◌, ◌<◌, ℕ, List, Some, OnOk, length, map, refl, slice_get};
 ghost use Rattle.std.specs.Map.{keys_of};
 ghost use Rattle.plan_basics.specs.Keys.{Name, name_cmp-IsAntisymmetric};
-ghost use Rattle.plan_state.specs.plan_drafts.specs.declared.RowKey.TheVariants as key;
+ghost use Rattle.plan_figures.specs.plan_drafts.specs.declared.RowKey.TheVariants as key;
 ghost use Rattle.plan_rows.specs.Rows.{workstation_row};
 ghost use Rattle.plan_rows.specs.Shown.{plan_shown};
 ghost use Rattle.plan_rows.specs.Tables.{AreChangesBelow};
 
 use super::kept::workstations_of;
-use super::shown::Shown;
+use super::shown::RowSource;
 use super::tables::{PlanTable, push_changes};
 use plan_basics::WsName;
-use plan_state::{Changes, PlanRow, RowKey};
+use plan_figures::{Changes, PlanRow, RowKey};
 use row_differences::TwoTables;
 use std::alloc::{AllocError, Global};
 use std::cmp::Ordering;
@@ -87,8 +87,8 @@ impl<'a, 'b> PlanTable for Workplaces<'a, 'b> {
 /// Adds what changes in the table of workstations.
 pub fn push_workstations(
     alloc: Global,
-    before: Option<Shown<'_>>,
-    after: Option<Shown<'_>>,
+    before: Option<RowSource<'_>>,
+    after: Option<RowSource<'_>>,
     changes: &mut Changes,
 ) -> Result<(), AllocError>
     ensures { (clock now : ℕ) → AreChangesBelow 1 (plan_shown clock before.entry) (plan_shown now after.entry) changes.old → OnOk result (AreChangesBelow 2 (plan_shown clock before.entry) (plan_shown now after.entry) changes.new) }

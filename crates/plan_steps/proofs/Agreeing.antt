@@ -4,26 +4,26 @@ use Rattle.std.proofs.lemmas.Option.{slice_get_within, some_pair_parts}
 use Rattle.std.specs.FinMap.{entries}
 use Rattle.plan_basics.specs.declared.keys.OpKey.{OpKey}
 use Rattle.plan_cascade.specs.declared.kept.Kept.{Kept}
-use Rattle.plan_looks.specs.plan_kept.specs.plan_drafts.proofs.RowPlaces.{row_at}
-use Rattle.plan_looks.specs.plan_kept.specs.plan_laws.proofs.Classes.{satisfied_decides}
-use Rattle.plan_looks.specs.plan_kept.specs.plan_laws.proofs.Standing.{one_status}
-use Rattle.plan_looks.specs.plan_kept.specs.plan_laws.proofs.Waiting.{one_count}
-use Rattle.plan_looks.specs.plan_kept.specs.plan_model.specs.Contents.{Contents, Operation}
-use Rattle.plan_looks.specs.plan_kept.specs.plan_model.specs.Status.{HasStatus, IsSatisfied}
-use Rattle.plan_looks.specs.plan_kept.specs.plan_model.specs.Valid.{IsValid}
-use Rattle.plan_looks.specs.plan_kept.specs.plan_moves.specs.Moves.{IsRemarkedAt}
-use Rattle.plan_looks.specs.plan_kept.specs.plan_waiting.specs.Kept.{IsKept}
+use Rattle.plan_records.specs.plan_drafts.proofs.RowPlaces.{row_at}
+use Rattle.plan_figures.specs.plan_laws.proofs.Classes.{satisfied_decides}
+use Rattle.plan_figures.specs.plan_laws.proofs.Standing.{one_status}
+use Rattle.plan_figures.specs.plan_laws.proofs.Waiting.{one_count}
+use Rattle.plan_records.specs.plan_model.specs.Contents.{Contents, Operation}
+use Rattle.plan_records.specs.plan_model.specs.Status.{HasStatus, IsSatisfied}
+use Rattle.plan_records.specs.plan_model.specs.Valid.{IsValid}
+use Rattle.plan_changes.specs.plan_moves.specs.Moves.{IsRemarkedAt}
+use Rattle.plan_figures.specs.Kept.{IsKept}
 use Rattle.plan_rows.specs.Touched.{HasOneOf}
 use Rattle.plan_rows.specs.plan_status.specs.Standings.{IsStanding, IsTally}
 use Rattle.plan_steps.proofs.Alike.{alike_at, one_standing, one_tally, one_truth, tally_after}
 use Rattle.plan_steps.proofs.Overwritten.{values_lead}
 use Rattle.plan_steps.specs.Columns.{AreColumnsOf, IsExcerptOf, MakesOf}
 use Rattle.plan_steps.specs.Touched.{IsTouchedAt}
-use Rattle.plan_steps.specs.declared.columns.Columns.{Columns}
+use Rattle.plan_steps.specs.declared.columns.FigureColumns.{FigureColumns}
 use Rattle.plan_steps.specs.declared.excerpts.Excerpt.{Excerpt}
 use Rattle.status_rules.specs.Classes.{is_satisfied}
 
-module _ (P Q : Contents) (valid : IsValid P) (valid_after : IsValid Q) (touched : List ℕ) (at_touched : IsTouchedAt P Q touched) (l m : Columns) (are : AreColumnsOf P l) (then : AreColumnsOf Q m) where
+module _ (P Q : Contents) (valid : IsValid P) (valid_after : IsValid Q) (touched : List ℕ) (at_touched : IsTouchedAt P Q touched) (l m : FigureColumns) (are : AreColumnsOf P l) (then : AreColumnsOf Q m) where
   abbrev moved : IsRemarkedAt P Q at_touched.moved.places
   moved = at_touched.moved.moved
 

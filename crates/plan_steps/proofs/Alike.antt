@@ -6,21 +6,21 @@ use Rattle.std.specs.FinMap.{entries}
 use Rattle.std.specs.List.{zip}
 use Rattle.plan_basics.specs.declared.keys.OccKey.{OccKey}
 use Rattle.plan_basics.specs.declared.keys.OpKey.{OpKey}
-use Rattle.plan_looks.specs.plan_kept.specs.plan_model.specs.Contents.{Contents, IsInPlan, LivePredecessor, Operation}
-use Rattle.plan_looks.specs.plan_kept.specs.plan_model.specs.declared.Occurrence.{Occurrence}
-use Rattle.plan_looks.specs.plan_kept.specs.plan_model.specs.Starts.{IsLatestStart}
-use Rattle.plan_looks.specs.plan_kept.specs.plan_model.specs.Status.{AllPredecessorsSatisfied, FollowsNonreporting, HasStatus, IsSatisfied}
-use Rattle.plan_looks.specs.plan_kept.specs.plan_model.specs.Valid.{IsValid}
-use Rattle.plan_looks.specs.plan_kept.specs.plan_drafts.proofs.RowPlaces.{row_at}
-use Rattle.plan_looks.specs.plan_kept.specs.plan_drafts.specs.Places.{AreByPlace}
-use Rattle.plan_looks.specs.plan_kept.specs.plan_laws.proofs.Latest.{one_latest_start}
-use Rattle.plan_looks.specs.plan_kept.specs.plan_laws.proofs.Standing.{one_status, some_status}
-use Rattle.plan_looks.specs.plan_kept.specs.plan_laws.proofs.Waiting.{one_count}
-use Rattle.plan_looks.specs.plan_kept.specs.plan_moves.specs.Moves.{IsRemarkedAt}
-use Rattle.plan_looks.specs.plan_records.specs.Rows.{IsCount}
-use Rattle.plan_looks.specs.plan_kept.specs.plan_choice.specs.Choices.{AreLatestStarts}
+use Rattle.plan_records.specs.plan_model.specs.Contents.{Contents, IsInPlan, LivePredecessor, Operation}
+use Rattle.plan_records.specs.plan_model.specs.declared.Occurrence.{Occurrence}
+use Rattle.plan_records.specs.plan_model.specs.Starts.{IsLatestStart}
+use Rattle.plan_records.specs.plan_model.specs.Status.{AllPredecessorsSatisfied, FollowsNonreporting, HasStatus, IsSatisfied}
+use Rattle.plan_records.specs.plan_model.specs.Valid.{IsValid}
+use Rattle.plan_records.specs.plan_drafts.proofs.RowPlaces.{row_at}
+use Rattle.plan_records.specs.plan_drafts.specs.Places.{AreByPlace}
+use Rattle.plan_figures.specs.plan_laws.proofs.Latest.{one_latest_start}
+use Rattle.plan_figures.specs.plan_laws.proofs.Standing.{one_status, some_status}
+use Rattle.plan_figures.specs.plan_laws.proofs.Waiting.{one_count}
+use Rattle.plan_changes.specs.plan_moves.specs.Moves.{IsRemarkedAt}
+use Rattle.plan_records.specs.Rows.{IsCount}
+use Rattle.plan_figures.specs.plan_choice.specs.Choices.{AreLatestStarts}
 use Rattle.plan_rows.specs.Shown.{IsShown, known_of}
-use Rattle.plan_rows.specs.declared.shown.Shown.{Shown}
+use Rattle.plan_rows.specs.declared.shown.RowSource.{RowSource}
 use Rattle.plan_rows.specs.plan_status.proofs.Alike.{count_alike}
 use Rattle.plan_rows.specs.plan_status.proofs.LoadedRows.{row_found, row_of}
 use Rattle.plan_rows.specs.plan_status.proofs.OfOccurrences.{IsOfIts, IsStarted}
@@ -153,7 +153,7 @@ module _ (P Q : Contents) (valid : IsValid P) (valid_after : IsValid Q) (touched
 
 -- ---- what is shown
 
-module _ (s t : Shown) (shown : IsShown s) (shown_after : IsShown t) (touched : List ℕ) (at_touched : IsTouchedAt s.contents.now t.contents.now touched)
+module _ (s t : RowSource) (shown : IsShown s) (shown_after : IsShown t) (touched : List ℕ) (at_touched : IsTouchedAt s.contents.now t.contents.now touched)
     (start_alike : (i : ℕ) → ¬ Contains touched i → slice_get t.latest.now.starts i ≡ slice_get s.latest.now.starts i) where
   abbrev P : Contents
   P = s.contents.now
@@ -200,7 +200,7 @@ module _ (s t : Shown) (shown : IsShown s) (shown_after : IsShown t) (touched : 
   }
 
 -- where latest starts stay, each is shown alike
-starts_shown : (s t : Shown) → IsShown s → IsShown t → ((starts : List ℤ) → AreLatestStarts s.contents.now starts → AreLatestStarts t.contents.now starts) → (i : ℕ) → slice_get t.latest.now.starts i ≡ slice_get s.latest.now.starts i
+starts_shown : (s t : RowSource) → IsShown s → IsShown t → ((starts : List ℤ) → AreLatestStarts s.contents.now starts → AreLatestStarts t.contents.now starts) → (i : ℕ) → slice_get t.latest.now.starts i ≡ slice_get s.latest.now.starts i
 starts_shown s t shown shown_after latest i =
     let Q = t.contents.now in
     alike_at (entries Q.operations) (entries Q.operations) (IsLatestStart Q) (IsLatestStart Q) s.latest.now.starts t.latest.now.starts refl (latest s.latest.now.starts shown.latest) shown_after.latest i
@@ -208,7 +208,7 @@ starts_shown s t shown shown_after latest i =
 
 -- where a step touches these places, what is shown after it differs at these alone
 pub touched_shown : (P Q : Contents) (touched : List ℕ) → IsTouchedAt P Q touched → ((starts : List ℤ) → AreLatestStarts P starts → AreLatestStarts Q starts)
-    → (s t : Shown) → s.contents.now ≡ P → t.contents.now ≡ Q → IsShown s → IsShown t → AreTouched (Some s) (Some t) touched
+    → (s t : RowSource) → s.contents.now ≡ P → t.contents.now ≡ Q → IsShown s → IsShown t → AreTouched (Some s) (Some t) touched
 touched_shown P Q touched at_touched latest s t before after shown shown_after =
     let there : IsTouchedAt s.contents.now t.contents.now touched = subst (λ R. IsTouchedAt R t.contents.now touched) (sym before) (subst (λ R. IsTouchedAt P R touched) (sym after) at_touched) in
     let stay : (starts : List ℤ) → AreLatestStarts s.contents.now starts → AreLatestStarts t.contents.now starts =

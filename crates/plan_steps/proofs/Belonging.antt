@@ -6,8 +6,8 @@ use Rattle.std.specs.FinMap.{entries}
 use Rattle.plan_basics.proofs.Members.{contains_none}
 use Rattle.plan_basics.specs.Keys.{occurrence_cmp, occurrence_cmp_total}
 use Rattle.plan_basics.specs.declared.keys.OpKey.{OpKey}
-use Rattle.plan_looks.specs.plan_kept.specs.plan_model.proofs.Entries.{entries_in_order}
-use Rattle.plan_looks.specs.plan_kept.specs.plan_model.specs.Contents.{Contents}
+use Rattle.plan_records.specs.plan_model.proofs.Entries.{entries_in_order}
+use Rattle.plan_records.specs.plan_model.specs.Contents.{Contents}
 use Rattle.plan_rows.specs.Touched.{BelongsAt, HasOneOf}
 use Rattle.plan_rows.specs.plan_status.proofs.Ascending.{one_place}
 

@@ -1,23 +1,23 @@
 -- Figures in parts, and columns that are alike.
 use Rattle.std.proofs.Common.{◌≡◌, refl, sym, subst, Vec, Global}
 use Rattle.plan_cascade.specs.declared.kept.Kept.{Kept}
-use Rattle.plan_looks.specs.plan_kept.specs.plan_drafts.specs.Places.{AreStatuses}
-use Rattle.plan_looks.specs.plan_kept.specs.plan_model.specs.Contents.{Contents}
-use Rattle.plan_looks.specs.plan_kept.specs.plan_state.specs.Figures.{AreFigures}
-use Rattle.plan_looks.specs.plan_kept.specs.plan_waiting.specs.Kept.{AreKept}
+use Rattle.plan_records.specs.plan_drafts.specs.Places.{AreStatuses}
+use Rattle.plan_records.specs.plan_model.specs.Contents.{Contents}
+use Rattle.plan_figures.specs.Figures.{AreFigures}
+use Rattle.plan_figures.specs.Kept.{AreKept}
 use Rattle.plan_rows.specs.plan_status.specs.Standings.{AreStandings, AreTallies}
 use Rattle.plan_steps.specs.Columns.{AreAlike, AreColumnsOf, AreSharesOf, IsReadyListOf, MakesOf, figures_of}
 use Rattle.plan_steps.specs.Values.{LeadsTo}
-use Rattle.plan_steps.specs.declared.columns.Columns.{Columns}
+use Rattle.plan_steps.specs.declared.columns.FigureColumns.{FigureColumns}
 use Rattle.plan_steps.specs.declared.columns.Shares.{Shares}
 use Rattle.plan_steps.specs.declared.excerpts.Excerpt.{Excerpt}
 use Rattle.ready_list.specs.Entries.{ReadyEntries}
 
 -- columns are alike where what is kept has the same
-pub kept_alike : (l : Columns) (kept : Vec Kept Global) → kept.items ≡ l.kept.items → AreAlike (record l { kept = kept }) l
+pub kept_alike : (l : FigureColumns) (kept : Vec Kept Global) → kept.items ≡ l.kept.items → AreAlike (record l { kept = kept }) l
 kept_alike l kept same = record { kept = same; standings = refl; statuses = refl; tallies = refl }
 
-pub columns_alike : (P : Contents) (l m : Columns) → AreAlike l m → AreColumnsOf P m → AreColumnsOf P l
+pub columns_alike : (P : Contents) (l m : FigureColumns) → AreAlike l m → AreColumnsOf P m → AreColumnsOf P l
 columns_alike P l m same are = record {
   kept = subst (AreKept P) (sym same.kept) are.kept;
   standings = subst (AreStandings P) (sym same.standings) are.standings;
@@ -25,7 +25,7 @@ columns_alike P l m same are = record {
   tallies = subst (AreTallies P) (sym same.tallies) are.tallies;
 }
 
-module _ (P : Contents) (l : Columns) (r : ReadyEntries) (s : Shares) where
+module _ (P : Contents) (l : FigureColumns) (r : ReadyEntries) (s : Shares) where
   pub are_columns : AreFigures P (figures_of l r s) → AreColumnsOf P l
   are_columns are = record { kept = are.kept; standings = are.standings; statuses = are.statuses; tallies = are.tallies }
 
@@ -48,7 +48,7 @@ module _ (P : Contents) (l : Columns) (r : ReadyEntries) (s : Shares) where
   }
 
 -- what makes columns of some makes them of others that are alike
-pub makes_alike : (x : Excerpt) (l m to : Columns) → AreAlike l m → MakesOf x m to → MakesOf x l to
+pub makes_alike : (x : Excerpt) (l m to : FigureColumns) → AreAlike l m → MakesOf x m to → MakesOf x l to
 makes_alike x l m to same makes = record {
   kept = subst (λ ks. LeadsTo x.kept.items ks to.kept.items) (sym same.kept) makes.kept;
   standings = subst (λ ss. LeadsTo x.standings.items ss to.standings.items) (sym same.standings) makes.standings;

@@ -3,10 +3,10 @@ use Rattle.std.proofs.Common.{◌≡◌, ◌⊎◌, inl, inr, subst, arith, ℕ,
 use Rattle.plan_cascade.specs.Changes.{AreAround, HoldFollowers, IsAfterOne, IsLowering}
 use Rattle.plan_cascade.specs.Counters.{waiting_at, waiting_count}
 use Rattle.plan_cascade.specs.declared.kept.Kept.{Kept}
-use Rattle.plan_looks.specs.plan_kept.specs.operation_graph.specs.Graphs.{Digraph, HasEdge}
-use Rattle.plan_looks.specs.plan_kept.specs.plan_drafts.proofs.Lists.{contains_none, from_map}
-use Rattle.plan_looks.specs.plan_kept.specs.plan_drafts.specs.PlanGraphs.{IsGraphFor}
-use Rattle.plan_looks.specs.plan_kept.specs.plan_model.specs.Contents.{Contents}
+use Rattle.operation_graph.specs.Graphs.{Digraph, HasEdge}
+use Rattle.plan_records.specs.plan_drafts.proofs.Lists.{contains_none, from_map}
+use Rattle.plan_records.specs.plan_drafts.specs.PlanGraphs.{IsGraphFor}
+use Rattle.plan_records.specs.plan_model.specs.Contents.{Contents}
 use Rattle.plan_steps.specs.Groundworks.{IsCounted}
 use Rattle.plan_steps.specs.declared.edits.Edit.{Edit}
 

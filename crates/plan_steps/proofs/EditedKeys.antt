@@ -9,19 +9,19 @@ use Rattle.plan_basics.specs.Minutes.{IsMoment}
 use Rattle.plan_basics.specs.Refusals.{NoneRefuses}
 use Rattle.plan_basics.specs.declared.Refusal.TheVariants as refusal
 use Rattle.plan_basics.specs.declared.keys.OpKey.{OpKey}
-use Rattle.plan_looks.specs.plan_kept.proofs.Targets.{target_in_plan}
-use Rattle.plan_looks.specs.plan_kept.specs.Edits.{Edits, IsEditedAt, IsSmall}
-use Rattle.plan_looks.specs.plan_kept.specs.operation_graph.specs.Paths.{IsPathBy, end_of}
-use Rattle.plan_looks.specs.plan_kept.specs.plan_drafts.specs.PlanGraphs.{StandAt}
-use Rattle.plan_looks.specs.plan_kept.specs.plan_laws.proofs.Every.{every_change_keeps_sound}
-use Rattle.plan_looks.specs.plan_kept.specs.plan_model.proofs.Members.{if_member, member_if}
-use Rattle.plan_looks.specs.plan_kept.specs.plan_model.specs.Contents.{Contents, IsInPlan, IsLive, Precedes}
-use Rattle.plan_looks.specs.plan_kept.specs.plan_model.specs.Plan.{plan_held}
-use Rattle.plan_looks.specs.plan_kept.specs.plan_model.specs.Valid.{IsSound}
-use Rattle.plan_looks.specs.plan_records.specs.Acceptance.{IsLoad, MayBeAccepted, MayBeDone}
-use Rattle.plan_looks.specs.plan_records.specs.Changes.{Changes, IsRequest}
-use Rattle.plan_looks.specs.plan_records.specs.declared.What.{What}
-use Rattle.plan_looks.specs.plan_records.specs.declared.What.TheVariants as what
+use Rattle.plan_steps.proofs.Targets.{target_in_plan}
+use Rattle.plan_steps.specs.KeptEdits.{Edits, IsEditedAt, IsSmall}
+use Rattle.operation_graph.specs.Paths.{IsPathBy, end_of}
+use Rattle.plan_records.specs.plan_drafts.specs.PlanGraphs.{StandAt}
+use Rattle.plan_figures.specs.plan_laws.proofs.Every.{every_change_keeps_sound}
+use Rattle.plan_records.specs.plan_model.proofs.Members.{if_member, member_if}
+use Rattle.plan_records.specs.plan_model.specs.Contents.{Contents, IsInPlan, IsLive, Precedes}
+use Rattle.plan_records.specs.plan_model.specs.Plan.{plan_held}
+use Rattle.plan_records.specs.plan_model.specs.Valid.{IsSound}
+use Rattle.plan_records.specs.Acceptance.{IsLoad, MayBeAccepted, MayBeDone}
+use Rattle.plan_records.specs.Changes.{Changes, IsRequest}
+use Rattle.plan_records.specs.declared.What.{What}
+use Rattle.plan_records.specs.declared.What.TheVariants as what
 use Rattle.plan_rows.specs.plan_status.proofs.LoadedRows.{row_found, row_of}
 use Rattle.plan_rows.specs.plan_status.proofs.RowKeys.{key_of_row, row_of_key}
 use Rattle.plan_steps.specs.EditedKeys.{AreEditedKeys}

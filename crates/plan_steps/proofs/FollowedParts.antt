@@ -1,14 +1,14 @@
 -- What follows from a naming, once it is named.
 use Rattle.std.proofs.Common.{inl, inr, sym, subst, ℕ, ℤ, ◌<◌, List, map}
 use Rattle.plan_basics.specs.declared.keys.OpKey.{OpKey}
-use Rattle.plan_looks.specs.plan_kept.specs.Edits.{ArePlacesOf}
-use Rattle.plan_looks.specs.plan_kept.specs.plan_model.specs.Contents.{Contents}
-use Rattle.plan_looks.specs.plan_kept.specs.plan_moves.specs.Moves.{IsMovedAt}
-use Rattle.plan_looks.specs.plan_restating.proofs.Moved.{remarked_by}
-use Rattle.plan_looks.specs.plan_restating.proofs.Read.{noted_after}
-use Rattle.plan_looks.specs.plan_restating.specs.Before.{KeepStatus}
-use Rattle.plan_looks.specs.StepLooks.{AreBoth}
-use Rattle.plan_looks.specs.plan_restating.specs.Entries.{AreEntriesAt, CanBeRelisted}
+use Rattle.plan_steps.specs.KeptEdits.{ArePlacesOf}
+use Rattle.plan_records.specs.plan_model.specs.Contents.{Contents}
+use Rattle.plan_changes.specs.plan_moves.specs.Moves.{IsMovedAt}
+use Rattle.plan_figures.proofs.RestatingMoved.{remarked_by}
+use Rattle.plan_figures.proofs.Read.{noted_after}
+use Rattle.plan_figures.specs.RestatingBefore.{KeepStatus}
+use Rattle.plan_steps.specs.StepLooks.{AreBoth}
+use Rattle.plan_figures.specs.Entries.{AreEntriesAt, CanBeRelisted}
 use Rattle.plan_steps.proofs.Agreeing.{leads_home}
 use Rattle.plan_steps.proofs.ColumnParts.{columns_alike}
 use Rattle.plan_steps.proofs.Listing.{goes_before, goes_by, list_is, relistable}
@@ -18,7 +18,7 @@ use Rattle.plan_steps.specs.Columns.{AreAlike, AreColumnsOf, GoesByStatuses, IsR
 use Rattle.plan_steps.specs.Edits.{ArePlacesIn}
 use Rattle.plan_steps.specs.Following.{WasFollowed}
 use Rattle.plan_steps.specs.Touched.{AreKnownAlike, IsTouchedAt}
-use Rattle.plan_steps.specs.declared.columns.Columns.{Columns}
+use Rattle.plan_steps.specs.declared.columns.FigureColumns.{FigureColumns}
 use Rattle.plan_steps.specs.declared.followed.Followed.{Followed}
 use Rattle.ready_list.specs.Entries.{ReadyEntries}
 use Rattle.status_rules.specs.declared.Status.{Status}
@@ -30,7 +30,7 @@ joined_within P edited first os places second touched both = record {
   within = λ i has. elim ((both.both i).0 has) [ inl one ↦ first.within i one | inr other ↦ second.within i other ];
 }
 
-module _ (P R : Contents) (m : ℕ) (edited : List ℕ) (starts : List ℤ) (l : Columns) (r : ReadyEntries) (f : Followed) (was : WasFollowed P R m edited starts l r f) where
+module _ (P R : Contents) (m : ℕ) (edited : List ℕ) (starts : List ℤ) (l : FigureColumns) (r : ReadyEntries) (f : Followed) (was : WasFollowed P R m edited starts l r f) where
   abbrev os : List OpKey
   os = f.naming.named.items
 
@@ -85,10 +85,10 @@ module _ (P R : Contents) (m : ℕ) (edited : List ℕ) (starts : List ℤ) (l :
   keeps_status = subst (KeepStatus P R) (sym was.followed.statuses.in_order) (keep_status P R places moved_then touched same_beside)
 
   -- what the columns had leads back
-  pub followed_home : (n : Columns) → AreColumnsOf R n → MakesOf f.old n l
+  pub followed_home : (n : FigureColumns) → AreColumnsOf R n → MakesOf f.old n l
   followed_home n are = leads_home P R was.followed.naming.sound.valid (sound_after P R os places starts l r was_named).valid touched touched_at l n was.columns are f.old was.followed.old
 
-  module _ (n : Columns) (are : AreColumnsOf R n) (q : ReadyEntries) (list : IsReadyListOf R q) where
+  module _ (n : FigureColumns) (are : AreColumnsOf R n) (q : ReadyEntries) (list : IsReadyListOf R q) where
     -- the ready list can be led back by the entries
     pub relistable_home : CanBeRelisted R n.statuses.items q f.old.statuses.items f.entries.items
     relistable_home =
@@ -96,7 +96,7 @@ module _ (P R : Contents) (m : ℕ) (edited : List ℕ) (starts : List ℤ) (l :
         relistable R n.statuses.items q goes f.old.statuses.items l.statuses.items (followed_home n are).statuses touched was.followed.old.in_order f.entries.items entries_then
 
   -- and then it is that of the plan before
-  pub list_home : (k : Columns) → AreAlike k l → (q : ReadyEntries) → GoesByStatuses R k.statuses.items q → IsReadyListOf P q
+  pub list_home : (k : FigureColumns) → AreAlike k l → (q : ReadyEntries) → GoesByStatuses R k.statuses.items q → IsReadyListOf P q
   list_home k alike q goes =
       list_is P was.followed.naming.sound k.statuses.items (columns_alike P k l alike was.columns).statuses q
       (goes_before P R places moved_then starts was.latest (latest_after P R os places starts l r was_named) k.statuses.items q goes)

@@ -4,16 +4,16 @@ use Rattle.std.proofs.lemmas.Option.{same_Some}
 use Rattle.std.specs.FinMap.{get, same_map}
 use Rattle.plan_basics.specs.Keys.{operation_cmp_total, operation_cmp-IsAntisymmetric}
 use Rattle.plan_basics.specs.declared.keys.OpKey.{OpKey}
-use Rattle.plan_looks.specs.plan_kept.specs.Edits.{Edits}
-use Rattle.plan_looks.specs.plan_kept.specs.plan_laws.proofs.Revised.{get-revised}
-use Rattle.plan_looks.specs.plan_kept.specs.plan_model.proofs.Looks.{same_key}
-use Rattle.plan_looks.specs.plan_kept.specs.plan_model.specs.Contents.{Contents, Operation}
-use Rattle.plan_looks.specs.Anew.{IsFlaggedSo}
+use Rattle.plan_steps.specs.KeptEdits.{Edits}
+use Rattle.plan_figures.specs.plan_laws.proofs.Revised.{get-revised}
+use Rattle.plan_records.specs.plan_model.proofs.Looks.{same_key}
+use Rattle.plan_records.specs.plan_model.specs.Contents.{Contents, Operation}
+use Rattle.plan_steps.specs.Anew.{IsFlaggedSo}
 use Rattle.plan_changes.specs.plan_moves.specs.Markings.{marking_of}
 use Rattle.plan_changes.specs.plan_moves.specs.declared.Marking.{Marking}
-use Rattle.plan_looks.specs.plan_records.specs.Changes.{Changes, is_at, revised}
-use Rattle.plan_looks.specs.plan_records.specs.declared.What.{What}
-use Rattle.plan_looks.specs.plan_records.specs.declared.What.TheVariants as what
+use Rattle.plan_records.specs.Changes.{Changes, is_at, revised}
+use Rattle.plan_records.specs.declared.What.{What}
+use Rattle.plan_records.specs.declared.What.TheVariants as what
 use Rattle.plan_steps.specs.Idle.{IsIdle}
 
 -- ---- operations made anew

@@ -5,10 +5,10 @@ use Rattle.std.specs.List.Sorted.{IsStrictlySortedBy}
 use Rattle.std.specs.Ordering.{nat_cmp}
 use Rattle.plan_cascade.specs.Counters.{kept_at, nothing_kept}
 use Rattle.plan_cascade.specs.declared.kept.Kept.{Kept}
-use Rattle.plan_looks.specs.plan_kept.specs.operation_graph.specs.Graphs.{Digraph}
-use Rattle.plan_looks.specs.plan_kept.specs.plan_model.specs.Contents.{Contents}
-use Rattle.plan_looks.specs.plan_kept.specs.plan_waiting.specs.Kept.{AreKept}
-use Rattle.plan_looks.specs.StepLooks.{IsKeptBeside}
+use Rattle.operation_graph.specs.Graphs.{Digraph}
+use Rattle.plan_records.specs.plan_model.specs.Contents.{Contents}
+use Rattle.plan_figures.specs.Kept.{AreKept}
+use Rattle.plan_steps.specs.StepLooks.{IsKeptBeside}
 use Rattle.plan_steps.proofs.Overwritten.{leads_there, leads_within, values_lead}
 use Rattle.plan_steps.specs.Edits.{AreBelow, ArePlacesWith, IsKeptBefore}
 use Rattle.plan_steps.specs.Groundworks.{IsMovedOn}

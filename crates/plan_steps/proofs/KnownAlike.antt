@@ -5,27 +5,27 @@ use Rattle.std.specs.FinMap.{entries, get}
 use Rattle.plan_basics.specs.declared.keys.OpKey.{OpKey}
 use Rattle.plan_cascade.specs.Counters.{kept_at}
 use Rattle.plan_cascade.specs.declared.kept.Kept.{Kept}
-use Rattle.plan_looks.specs.plan_kept.specs.plan_drafts.proofs.RowPlaces.{row_at}
-use Rattle.plan_looks.specs.plan_kept.specs.plan_drafts.proofs.Tables.{is_found}
-use Rattle.plan_looks.specs.plan_kept.specs.plan_laws.proofs.Standing.{one_status}
-use Rattle.plan_looks.specs.plan_kept.specs.plan_laws.proofs.Waiting.{one_count}
-use Rattle.plan_looks.specs.plan_kept.specs.plan_model.specs.Contents.{Contents, HasAttribute, Operation}
-use Rattle.plan_looks.specs.plan_kept.specs.plan_model.specs.Status.{HasStatus}
-use Rattle.plan_looks.specs.plan_kept.specs.plan_model.specs.Valid.{IsValid}
-use Rattle.plan_looks.specs.plan_kept.specs.plan_moves.specs.Moves.{AreLiveAlike, IsMovedAt}
-use Rattle.plan_looks.specs.plan_restating.proofs.Moved.{attribute_after}
-use Rattle.plan_looks.specs.plan_restating.proofs.Restood.{stands_anew, stands_still}
+use Rattle.plan_records.specs.plan_drafts.proofs.RowPlaces.{row_at}
+use Rattle.plan_records.specs.plan_drafts.proofs.Tables.{is_found}
+use Rattle.plan_figures.specs.plan_laws.proofs.Standing.{one_status}
+use Rattle.plan_figures.specs.plan_laws.proofs.Waiting.{one_count}
+use Rattle.plan_records.specs.plan_model.specs.Contents.{Contents, HasAttribute, Operation}
+use Rattle.plan_records.specs.plan_model.specs.Status.{HasStatus}
+use Rattle.plan_records.specs.plan_model.specs.Valid.{IsValid}
+use Rattle.plan_changes.specs.plan_moves.specs.Moves.{AreLiveAlike, IsMovedAt}
+use Rattle.plan_figures.proofs.RestatingMoved.{attribute_after}
+use Rattle.plan_figures.proofs.Restood.{stands_anew, stands_still}
 use Rattle.plan_rows.specs.plan_status.proofs.ByStanding.{status_on}
 use Rattle.plan_rows.specs.plan_status.proofs.LoadedRows.{row_found}
 use Rattle.plan_rows.specs.plan_status.specs.Standings.{AreStandings, IsStanding}
 use Rattle.plan_rows.specs.plan_status.specs.declared.standings.Standing.{Standing}
-use Rattle.plan_looks.specs.StepLooks.{IsKeptBeside}
+use Rattle.plan_steps.specs.StepLooks.{IsKeptBeside}
 use Rattle.plan_steps.specs.Touched.{AreKnownAlike, IsKnownAlike}
-use Rattle.plan_looks.specs.plan_kept.specs.plan_waiting.proofs.Right.{kept_there}
-use Rattle.plan_looks.specs.plan_kept.specs.plan_waiting.specs.Kept.{AreKept, IsKept}
+use Rattle.plan_figures.proofs.Right.{kept_there}
+use Rattle.plan_figures.specs.Kept.{AreKept, IsKept}
 use Rattle.status_rules.specs.Table.{status_by}
 use Rattle.status_rules.specs.declared.Status.{Status}
-use Rattle.plan_looks.specs.plan_kept.specs.workstations.specs.Workstations.{Workstation}
+use Rattle.workstations.specs.Workstations.{Workstation}
 
 module _ (P Q : Contents) (moved_at : List ℕ) (moved : IsMovedAt P Q moved_at) where
   -- the row of an operation that isn't moved stays

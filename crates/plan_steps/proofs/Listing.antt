@@ -1,14 +1,14 @@
 -- A ready list that goes by statuses, and that of a plan.
 use Rattle.std.proofs.Common.{◌≡◌, sym, subst, ◌∙◌, ℕ, ℤ, ◌+◌, ◌≤◌, List, length, map}
-use Rattle.plan_looks.specs.plan_kept.specs.plan_choice.specs.Choices.{AreLatestStarts}
-use Rattle.plan_looks.specs.plan_kept.specs.plan_drafts.specs.Places.{AreStatuses}
-use Rattle.plan_looks.specs.plan_kept.specs.plan_model.specs.Contents.{Contents}
-use Rattle.plan_looks.specs.plan_kept.specs.plan_model.specs.Valid.{IsSound}
-use Rattle.plan_looks.specs.plan_kept.specs.plan_moves.specs.Moves.{IsMovedAt, IsRemarkedAt}
-use Rattle.plan_looks.specs.plan_restating.proofs.Moved.{moved_back, remarked_by}
-use Rattle.plan_looks.specs.plan_restating.proofs.Read.{entries_are, entries_by, entries_remarked}
-use Rattle.plan_looks.specs.plan_restating.specs.ByStatuses.{HasRoomForAll}
-use Rattle.plan_looks.specs.plan_restating.specs.Entries.{AreEntriesAt, CanBeRelisted}
+use Rattle.plan_figures.specs.plan_choice.specs.Choices.{AreLatestStarts}
+use Rattle.plan_records.specs.plan_drafts.specs.Places.{AreStatuses}
+use Rattle.plan_records.specs.plan_model.specs.Contents.{Contents}
+use Rattle.plan_records.specs.plan_model.specs.Valid.{IsSound}
+use Rattle.plan_changes.specs.plan_moves.specs.Moves.{IsMovedAt, IsRemarkedAt}
+use Rattle.plan_figures.proofs.RestatingMoved.{moved_back, remarked_by}
+use Rattle.plan_figures.proofs.Read.{entries_are, entries_by, entries_remarked}
+use Rattle.plan_figures.specs.ByStatuses.{HasRoomForAll}
+use Rattle.plan_figures.specs.Entries.{AreEntriesAt, CanBeRelisted}
 use Rattle.plan_rows.specs.plan_status.proofs.LoadedRows.{its_occurrence}
 use Rattle.plan_steps.proofs.Overwritten.{leads_within}
 use Rattle.plan_steps.specs.Columns.{GoesByStatuses, IsReadyListOf}

@@ -7,17 +7,17 @@ use Rattle.std.specs.List.Sorted.{IsStrictlySortedBy}
 use Rattle.std.specs.Cmp.{nat_cmp_total}
 use Rattle.std.specs.Ordering.{nat_cmp}
 use Rattle.plan_basics.proofs.Members.{contains_cases, contains_none}
-use Rattle.plan_looks.specs.plan_kept.proofs.OneFrame.{graph_stays}
-use Rattle.plan_looks.specs.plan_kept.specs.plan_laws.proofs.Sorted.{sorted_unique}
-use Rattle.plan_looks.specs.plan_kept.specs.plan_model.specs.Contents.{Contents}
-use Rattle.plan_looks.specs.StepLooks.{AreBoth, IsStepLooked}
-use Rattle.plan_looks.specs.plan_restating.specs.Beside.{is_place_among, places_beside}
+use Rattle.plan_steps.proofs.OneFrame.{graph_stays}
+use Rattle.plan_figures.specs.plan_laws.proofs.Sorted.{sorted_unique}
+use Rattle.plan_records.specs.plan_model.specs.Contents.{Contents}
+use Rattle.plan_steps.specs.StepLooks.{AreBoth, IsStepLooked}
+use Rattle.plan_figures.specs.Beside.{is_place_among, places_beside}
 use Rattle.plan_rows.specs.Notes.{operations_noted}
-use Rattle.plan_rows.specs.declared.notes.Beside.{Beside}
+use Rattle.plan_rows.specs.declared.notes.ChangeBeside.{ChangeBeside}
 use Rattle.plan_steps.proofs.MovedColumns.{then}
 use Rattle.plan_steps.specs.Following.{IsMovedStepOf}
 use Rattle.plan_steps.specs.Groundworks.{HasGroundwork, IsCounted}
-use Rattle.plan_steps.specs.declared.columns.Columns.{Columns}
+use Rattle.plan_steps.specs.declared.columns.FigureColumns.{FigureColumns}
 use Rattle.plan_steps.specs.declared.edits.Edit.{Edit}
 use Rattle.plan_steps.specs.declared.following.SmallStep.{SmallStep}
 use Rattle.plan_steps.specs.declared.groundwork.Groundwork.{Groundwork}
@@ -55,7 +55,7 @@ from_before before between n m after le same (inl most) = inl most
 from_before before between n m after le same (inr more) = inr (omega (arith, le, same, more))
 
 -- the looks of a step are those of what is counted anew and taken anew, of what is moved, and of what is named and noted
-pub step_looked : (P Q : Contents) (e : Edit) (starts : List ℤ) (l : Columns) (r : ReadyEntries) (g : Groundwork) (has : HasGroundwork P Q e.places.items starts l r g) (m : ℕ) (b : Beside) (before between after : ℕ) (s : SmallStep)
+pub step_looked : (P Q : Contents) (e : Edit) (starts : List ℤ) (l : FigureColumns) (r : ReadyEntries) (g : Groundwork) (has : HasGroundwork P Q e.places.items starts l r g) (m : ℕ) (b : ChangeBeside) (before between after : ℕ) (s : SmallStep)
     → before ≤ between → IsCounted Q e 2 l.kept.items (then P Q e.places.items starts l r g has) g.touched.items before between → IsMovedStepOf Q m g.touched.items b between after s
     → IsStepLooked P Q e.is_rerun e.places.items s.named.items (operations_noted s.notes) before after
 step_looked P Q e starts l r g has m b before between after s fewest counted (moved, from, to, is) =

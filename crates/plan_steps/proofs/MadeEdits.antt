@@ -11,25 +11,25 @@ use Rattle.plan_basics.specs.Minutes.{IsMoment}
 use Rattle.plan_basics.specs.Refusals.{NoneRefuses}
 use Rattle.plan_basics.specs.declared.keys.OpKey.{OpKey}
 use Rattle.plan_changes.specs.Markings.{DifferInMarks, marking_at}
-use Rattle.plan_looks.specs.plan_kept.proofs.NewMarks.{still_live, unmoved}
-use Rattle.plan_looks.specs.plan_kept.proofs.Rerunning.{reruns_go_on}
-use Rattle.plan_looks.specs.plan_kept.proofs.SmallMoves.{small_requests_move}
-use Rattle.plan_looks.specs.plan_kept.proofs.Targets.{edited_are_unsatisfied}
-use Rattle.plan_looks.specs.plan_kept.specs.Edits.{ArePlacesWhere, Edits, IsEditedAt, IsRerun, IsSmall}
-use Rattle.plan_looks.specs.plan_kept.specs.plan_drafts.proofs.KeyPlaces.{one_place}
-use Rattle.plan_looks.specs.plan_kept.specs.plan_drafts.proofs.RowPlaces.{row_at}
-use Rattle.plan_looks.specs.plan_kept.specs.plan_model.proofs.Entries.{entries_in_order}
-use Rattle.plan_looks.specs.plan_kept.specs.plan_model.proofs.Members.{if_member, member_if}
-use Rattle.plan_looks.specs.plan_kept.specs.plan_model.specs.Contents.{Contents, Operation}
-use Rattle.plan_looks.specs.plan_kept.specs.plan_model.specs.Valid.{IsSound}
-use Rattle.plan_looks.proofs.MarksAnew.{worked_at, worked_nowhere}
-use Rattle.plan_looks.specs.StepLooks.{AreWorkedAt, one_at_least}
+use Rattle.plan_steps.proofs.NewMarks.{still_live, unmoved}
+use Rattle.plan_steps.proofs.Rerunning.{reruns_go_on}
+use Rattle.plan_steps.proofs.SmallMoves.{small_requests_move}
+use Rattle.plan_steps.proofs.Targets.{edited_are_unsatisfied}
+use Rattle.plan_steps.specs.KeptEdits.{ArePlacesWhere, Edits, IsEditedAt, IsRerun, IsSmall}
+use Rattle.plan_records.specs.plan_drafts.proofs.KeyPlaces.{one_place}
+use Rattle.plan_records.specs.plan_drafts.proofs.RowPlaces.{row_at}
+use Rattle.plan_records.specs.plan_model.proofs.Entries.{entries_in_order}
+use Rattle.plan_records.specs.plan_model.proofs.Members.{if_member, member_if}
+use Rattle.plan_records.specs.plan_model.specs.Contents.{Contents, Operation}
+use Rattle.plan_records.specs.plan_model.specs.Valid.{IsSound}
+use Rattle.plan_steps.proofs.MarksAnew.{worked_at, worked_nowhere}
+use Rattle.plan_steps.specs.StepLooks.{AreWorkedAt, one_at_least}
 use Rattle.plan_changes.specs.plan_moves.specs.Markings.{marking_of}
 use Rattle.plan_changes.specs.plan_moves.specs.declared.Marking.{Marking}
-use Rattle.plan_looks.specs.plan_records.specs.Acceptance.{MayBeDone}
-use Rattle.plan_looks.specs.plan_records.specs.Changes.{Changes}
-use Rattle.plan_looks.specs.plan_records.specs.declared.What.{What}
-use Rattle.plan_looks.specs.plan_records.specs.declared.What.TheVariants as what
+use Rattle.plan_records.specs.Acceptance.{MayBeDone}
+use Rattle.plan_records.specs.Changes.{Changes}
+use Rattle.plan_records.specs.declared.What.{What}
+use Rattle.plan_records.specs.declared.What.TheVariants as what
 use Rattle.plan_rows.specs.plan_status.proofs.LoadedRows.{row_found}
 use Rattle.plan_rows.specs.plan_status.proofs.RowKeys.{key_of_row}
 use Rattle.plan_steps.proofs.Idle.{idle_by_flag, idle_changes, idle_target}
@@ -97,6 +97,35 @@ module _ (P : Contents) (m : ℕ) (w : What) (e : Edit) (small : IsSmall w) (cle
   worked_so sound busy = worked_at P sound m w (edited e P) e.places.items clear changes_so noted.at (λ i o op has stands so.
       busy (marking_of op) (noted_marking o op ((noted.at.each i o op stands).0 has) (row_found P i o op stands)) (idle_by_flag w op so))
 
+-- ---- the edit of nothing
+
+module _ (P : Contents) (n : Edit) (nothing : IsOfNothing n) where
+  -- it leaves the plan as it is
+  pub edited_same : edited n P ≡ P
+  edited_same = ap (λ x. written n.keys.items x P) nothing.revision
+
+  no_place : (i : ℕ) → Contains n.places.items i → ⊥
+  no_place i has = contains_none i (subst (λ ps. Contains ps i) nothing.places has)
+
+  -- it may be written
+  pub nothing_edits : IsSound P → IsEditFor P n
+  nothing_edits sound = record {
+    sound = sound;
+    sound_after = subst IsSound (sym edited_same) sound;
+    edit = subst (λ Q. IsEditOf P Q n) (sym edited_same) (record {
+      moved = unmoved P P.workstations P.resources n.places.items refl;
+      alike = still_live P P refl;
+      marked = record { size = ap length nothing.marks ∙ sym (ap length nothing.places); each = λ k i mk at_k its. absurd (none-some i (sym (ap (λ ps. slice_get ps k) nothing.places) ∙ at_k)) };
+      ascend = subst (IsStrictlySortedBy nat_cmp) (sym nothing.places) none_ascend;
+      within = λ i has. absurd (no_place i has);
+      unsatisfied = λ none i has. absurd (no_place i has);
+      follow = λ yes g graph i j has edge. absurd (no_place i has);
+    });
+    has_place = subst (HasPlaceFor P) (sym nothing.revision) tt;
+    remarks = subst (λ x. DifferInMarks (beside x P) (written n.keys.items x P) n.keys.items) (sym nothing.revision) (same_everywhere P n.keys.items);
+    marked = ap (map (marking_at P)) nothing.keys ∙ sym (ap (map Some) nothing.marks);
+  }
+
 -- ---- a flag that stands so already
 
 module _ (P : Contents) (m : ℕ) (w : What) (e n : Edit) (clear : NoneRefuses (MayBeDone P m w)) (noted : IsNotedEdit P w e) (marking : Marking) (has : Contains e.marks.items marking) (idle : IsIdle w marking) where
@@ -131,35 +160,11 @@ module _ (P : Contents) (m : ℕ) (w : What) (e n : Edit) (clear : NoneRefuses (
           (key_of_row (entries P.operations) i first.0.0 first.0.1 first.1) (key_of_row (entries P.operations) j second.0.0 second.0.1 second.1 ∙ ap Some (sym same))))
 
   module _ (nothing : IsOfNothing n) where
-    pub edited_same : edited n P ≡ P
-    edited_same = ap (λ x. written n.keys.items x P) nothing.revision
-
-    no_place : (i : ℕ) → Contains n.places.items i → ⊥
-    no_place i has = contains_none i (subst (λ ps. Contains ps i) nothing.places has)
-
     pub nothing_changes : Changes P w (edited n P)
-    nothing_changes = subst (Changes P w) (sym edited_same) same_changes
+    nothing_changes = subst (Changes P w) (sym (edited_same P n nothing)) same_changes
 
     pub nothing_worked : AreWorkedAt P (edited n P) w n.places.items
     nothing_worked = subst (AreWorkedAt P (edited n P) w) (sym nothing.places) (worked_nowhere P (edited n P) w)
-
-    pub nothing_edits : IsSound P → IsEditFor P n
-    nothing_edits sound = record {
-      sound = sound;
-      sound_after = subst IsSound (sym edited_same) sound;
-      edit = subst (λ Q. IsEditOf P Q n) (sym edited_same) (record {
-        moved = unmoved P P.workstations P.resources n.places.items refl;
-        alike = still_live P P refl;
-        marked = record { size = ap length nothing.marks ∙ sym (ap length nothing.places); each = λ k i mk at_k its. absurd (none-some i (sym (ap (λ ps. slice_get ps k) nothing.places) ∙ at_k)) };
-        ascend = subst (IsStrictlySortedBy nat_cmp) (sym nothing.places) none_ascend;
-        within = λ i has. absurd (no_place i has);
-        unsatisfied = λ none i has. absurd (no_place i has);
-        follow = λ yes g graph i j has edge. absurd (no_place i has);
-      });
-      has_place = subst (HasPlaceFor P) (sym nothing.revision) tt;
-      remarks = subst (λ x. DifferInMarks (beside x P) (written n.keys.items x P) n.keys.items) (sym nothing.revision) (same_everywhere P n.keys.items);
-      marked = ap (map (marking_at P)) nothing.keys ∙ sym (ap (map Some) nothing.marks);
-    }
 
     -- a look is taken
     pub idle_few : (old new : ℕ) → new ≤ old + length e.places.items → new ≤ old + one_at_least (length n.places.items)

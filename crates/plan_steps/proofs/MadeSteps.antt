@@ -2,21 +2,21 @@
 use Rattle.std.proofs.Common.{◌≡◌, ◌⊎◌, refl, sym, ap, subst, arith, ℕ, ℤ, ◌+◌, ◌≤◌, List, length, Vec, Global, Result, Ok, Err, IfOk}
 use Rattle.plan_basics.specs.declared.Refusal.{Refusal}
 use Rattle.plan_basics.specs.declared.keys.OpKey.{OpKey}
-use Rattle.plan_looks.specs.plan_kept.proofs.OneFrame.{frame_stays}
-use Rattle.plan_looks.specs.plan_kept.specs.Edits.{ArePlacesOf}
-use Rattle.plan_looks.specs.plan_kept.specs.operation_graph.specs.Graphs.{Digraph}
-use Rattle.plan_looks.specs.plan_kept.specs.plan_choice.specs.Choices.{AreLatestStarts}
-use Rattle.plan_looks.specs.plan_kept.specs.plan_laws.proofs.Kept.{choice_keeps_sound}
-use Rattle.plan_looks.specs.plan_kept.specs.plan_model.specs.Contents.{Contents}
-use Rattle.plan_looks.specs.plan_kept.specs.plan_model.specs.Ready.{IsChosen, named}
-use Rattle.plan_looks.specs.plan_kept.specs.plan_state.specs.Figures.{KeepsFrame}
-use Rattle.plan_looks.specs.plan_restating.proofs.Moved.{remarked_by}
-use Rattle.plan_looks.specs.plan_restating.proofs.Read.{noted_after}
-use Rattle.plan_looks.specs.plan_restating.specs.Beside.{places_beside}
-use Rattle.plan_looks.specs.plan_restating.specs.Entries.{AreEntriesAt}
+use Rattle.plan_steps.proofs.OneFrame.{frame_stays}
+use Rattle.plan_steps.specs.KeptEdits.{ArePlacesOf}
+use Rattle.operation_graph.specs.Graphs.{Digraph}
+use Rattle.plan_figures.specs.plan_choice.specs.Choices.{AreLatestStarts}
+use Rattle.plan_figures.specs.plan_laws.proofs.Kept.{choice_keeps_sound}
+use Rattle.plan_records.specs.plan_model.specs.Contents.{Contents}
+use Rattle.plan_records.specs.plan_model.specs.Ready.{IsChosen, named}
+use Rattle.plan_figures.specs.Figures.{KeepsFrame}
+use Rattle.plan_figures.proofs.RestatingMoved.{remarked_by}
+use Rattle.plan_figures.proofs.Read.{noted_after}
+use Rattle.plan_figures.specs.Beside.{places_beside}
+use Rattle.plan_figures.specs.Entries.{AreEntriesAt}
 use Rattle.plan_rows.specs.Notes.{operations_noted}
 use Rattle.plan_rows.specs.Touched.{StaysBeside}
-use Rattle.plan_rows.specs.declared.notes.Beside.{Beside}
+use Rattle.plan_rows.specs.declared.notes.ChangeBeside.{ChangeBeside}
 use Rattle.plan_steps.proofs.ColumnParts.{are_columns, columns_alike, is_list}
 use Rattle.plan_steps.proofs.Looked.{from_before, touched_beside}
 use Rattle.plan_steps.proofs.MovedColumns.{then_known}
@@ -29,7 +29,7 @@ use Rattle.plan_steps.specs.Groundworks.{HasGroundwork, IsGroundwork}
 use Rattle.plan_steps.specs.Naming.{AreNotesOf, AreStepNotes, IsStepOf}
 use Rattle.plan_steps.specs.Shifts.{HasColumnsAt, IsShift}
 use Rattle.plan_steps.specs.Touched.{IsTouchedAt}
-use Rattle.plan_steps.specs.declared.columns.Columns.{Columns}
+use Rattle.plan_steps.specs.declared.columns.FigureColumns.{FigureColumns}
 use Rattle.plan_steps.specs.declared.columns.Shares.{Shares}
 use Rattle.plan_steps.specs.declared.edits.Edit.{Edit}
 use Rattle.plan_steps.specs.declared.followed.Followed.{Followed}
@@ -38,7 +38,7 @@ use Rattle.plan_steps.specs.declared.groundwork.Groundwork.{Groundwork}
 use Rattle.ready_list.specs.Entries.{ReadyEntries}
 use Rattle.ready_list.specs.declared.entry.ReadyEntry.{ReadyEntry}
 
-module _ (Q : Contents) (m : ℕ) (edited : List ℕ) (l : Columns) (f : Followed) (is : IsFollowed Q m edited l f) (are : AreColumnsOf Q l) (starts : List ℤ) (latest : AreLatestStarts Q starts) where
+module _ (Q : Contents) (m : ℕ) (edited : List ℕ) (l : FigureColumns) (f : Followed) (is : IsFollowed Q m edited l f) (are : AreColumnsOf Q l) (starts : List ℤ) (latest : AreLatestStarts Q starts) where
   abbrev os : List OpKey
   os = f.naming.named.items
 
@@ -52,7 +52,7 @@ module _ (Q : Contents) (m : ℕ) (edited : List ℕ) (l : Columns) (f : Followe
       noted_after Q (named os Q) places moved starts latest ((frame_stays Q (named os Q) places moved (naming_alike Q m os is.naming.chosen places is.naming.places)).latest starts latest) f.touched.items f.entries.items is.entries
 
   -- what follows, with what was noted then, is a step
-  pub step_of : (ready : ReadyEntries) → IsReadyListOf Q ready → (b : Beside) (before between after : ℕ) → before ≤ between → between ≤ before + length ready.entries + length (places_beside edited f.touched.items)
+  pub step_of : (ready : ReadyEntries) → IsReadyListOf Q ready → (b : ChangeBeside) (before between after : ℕ) → before ≤ between → between ≤ before + length ready.entries + length (places_beside edited f.touched.items)
       → after ≤ between + length f.touched.items → (r : Result SmallStep Refusal)
       → IfOk r (λ s. s.named ≡ f.naming.named) → IfOk r (λ s. s.shift.shares ≡ f.naming.shares) → IfOk r (λ s. s.shift.entries ≡ f.entries) → IfOk r (λ s. HasColumnsAt (named os Q) f.touched.items s.shift.columns)
       → IfOk r (λ s. AreNotesOf (named os Q) b f.touched.items s.notes) → IfOk r (λ s. operations_noted s.notes ≡ length f.touched.items)
@@ -80,7 +80,7 @@ module _ (Q : Contents) (m : ℕ) (edited : List ℕ) (l : Columns) (f : Followe
       }
 
 -- what was worked out of an edit of P
-pub worked_out : (P Q : Contents) (e : Edit) (d : Digraph) (starts : List ℤ) (l : Columns) (r : ReadyEntries) (s : Shares) → WasEdited P Q e d starts (figures_of l r s) → (m : Columns) → AreAlike m l
+pub worked_out : (P Q : Contents) (e : Edit) (d : Digraph) (starts : List ℤ) (l : FigureColumns) (r : ReadyEntries) (s : Shares) → WasEdited P Q e d starts (figures_of l r s) → (m : FigureColumns) → AreAlike m l
     → (g : Groundwork) → IsGroundwork Q e.places.items m g → HasGroundwork P Q e.places.items starts m r g
 worked_out P Q e d starts l r s was m alike g is = record {
   sound = was.sound;
@@ -93,7 +93,7 @@ worked_out P Q e d starts l r s was m alike g is = record {
   worked_out = is;
 }
 
-module _ (P Q : Contents) (edits : List ℕ) (starts : List ℤ) (l : Columns) (r : ReadyEntries) (g : Groundwork) (has : HasGroundwork P Q edits starts l r g) (m : ℕ) (b : Beside) (before after : ℕ) (s : SmallStep) (is : IsStepOf Q m g.touched.items b before after s) where
+module _ (P Q : Contents) (edits : List ℕ) (starts : List ℤ) (l : FigureColumns) (r : ReadyEntries) (g : Groundwork) (has : HasGroundwork P Q edits starts l r g) (m : ℕ) (b : ChangeBeside) (before after : ℕ) (s : SmallStep) (is : IsStepOf Q m g.touched.items b before after s) where
   -- no more is touched by it than its places
   pub step_touched : IsTouchedAt P (named s.named.items Q) is.touched
   step_touched =

@@ -7,13 +7,13 @@ use Rattle.plan_basics.proofs.Members.{all_by_members, contains_mapped, mapped_c
 use Rattle.plan_basics.specs.declared.keys.OpKey.{OpKey}
 use Rattle.plan_changes.proofs.Remarks.{marked_at, stay_in_plan}
 use Rattle.plan_changes.specs.Markings.{DifferInMarks, WereMarked as WereMarkedBy, marking_at}
-use Rattle.plan_looks.specs.plan_kept.specs.plan_drafts.specs.PlanGraphs.{StandAt}
-use Rattle.plan_looks.specs.plan_kept.specs.plan_model.specs.Contents.{Contents, IsInPlan, Operation}
+use Rattle.plan_records.specs.plan_drafts.specs.PlanGraphs.{StandAt}
+use Rattle.plan_records.specs.plan_model.specs.Contents.{Contents, IsInPlan, Operation}
 use Rattle.plan_changes.specs.plan_moves.specs.Markings.{marking_of}
 use Rattle.plan_changes.specs.plan_moves.specs.declared.Marking.{Marking}
 use Rattle.plan_rows.specs.plan_status.proofs.LoadedRows.{row_found}
 use Rattle.plan_rows.specs.plan_status.proofs.RowKeys.{row_of_key}
-use Rattle.plan_takings.specs.Before.{WereMarked}
+use Rattle.plan_figures.specs.TakingsBefore.{WereMarked}
 
 -- an operation that has a marking
 pub its_operation : (x : Option Operation) (m : Marking) → option_map marking_of x ≡ Some m → (op : Operation) × (x ≡ Some op) × (marking_of op ≡ m)

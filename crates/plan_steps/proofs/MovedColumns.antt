@@ -1,20 +1,20 @@
--- Columns moved on by what was worked out of an edit.
+-- FigureColumns moved on by what was worked out of an edit.
 use Rattle.std.proofs.Common.{subst, ℕ, ℤ, ◌<◌, List}
 use Rattle.plan_cascade.specs.declared.kept.Kept.{Kept}
-use Rattle.plan_looks.specs.plan_kept.specs.plan_model.specs.Contents.{Contents}
-use Rattle.plan_looks.specs.plan_restating.proofs.Moved.{remarked_by}
+use Rattle.plan_records.specs.plan_model.specs.Contents.{Contents}
+use Rattle.plan_figures.proofs.RestatingMoved.{remarked_by}
 use Rattle.plan_steps.proofs.Agreeing.{leads_back}
 use Rattle.plan_steps.proofs.KnownAlike.{known_alike}
 use Rattle.plan_steps.specs.Columns.{AreColumnsOf, MakesOf}
 use Rattle.plan_steps.specs.Edits.{ArePlacesIn}
 use Rattle.plan_steps.specs.Groundworks.{HasGroundwork}
 use Rattle.plan_steps.specs.Touched.{AreKnownAlike, IsTouchedAt}
-use Rattle.plan_looks.specs.plan_restating.specs.Overwritten.{overwritten}
-use Rattle.plan_steps.specs.declared.columns.Columns.{Columns}
+use Rattle.plan_figures.specs.Overwritten.{overwritten}
+use Rattle.plan_steps.specs.declared.columns.FigureColumns.{FigureColumns}
 use Rattle.plan_steps.specs.declared.groundwork.Groundwork.{Groundwork}
 use Rattle.ready_list.specs.Entries.{ReadyEntries}
 
-module _ (P Q : Contents) (edits : List ℕ) (starts : List ℤ) (l : Columns) (r : ReadyEntries) (g : Groundwork) (has : HasGroundwork P Q edits starts l r g) where
+module _ (P Q : Contents) (edits : List ℕ) (starts : List ℤ) (l : FigureColumns) (r : ReadyEntries) (g : Groundwork) (has : HasGroundwork P Q edits starts l r g) where
   abbrev touched : List ℕ
   touched = g.touched.items
 
@@ -42,5 +42,5 @@ module _ (P Q : Contents) (edits : List ℕ) (starts : List ℤ) (l : Columns) (
   places_then = record { ascend = has.worked_out.moved_on.touched.ascend; within = has.worked_out.moved_on.touched.within }
 
   -- what stood in the columns leads back
-  pub makes_back : (m : Columns) → AreColumnsOf Q m → MakesOf g.old m l
+  pub makes_back : (m : FigureColumns) → AreColumnsOf Q m → MakesOf g.old m l
   makes_back m are = leads_back P Q has.sound.valid has.sound_after.valid touched then_touched l m has.columns are g.old has.worked_out.old

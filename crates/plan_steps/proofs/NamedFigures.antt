@@ -3,23 +3,23 @@ use Rattle.std.proofs.Common.{◌≡◌, refl, sym, subst, ℕ, ℤ, List}
 use Rattle.std.specs.FinMap.{entries}
 use Rattle.plan_basics.specs.Keys.{operation_cmp, operation_cmp_total, operation_cmp-IsAntisymmetric}
 use Rattle.plan_basics.specs.declared.keys.OpKey.{OpKey}
-use Rattle.plan_looks.specs.plan_kept.specs.plan_model.proofs.Looks.{as_named}
-use Rattle.plan_looks.specs.plan_kept.specs.plan_model.specs.Contents.{Contents}
-use Rattle.plan_looks.specs.plan_kept.specs.plan_model.specs.Ready.{IsChosen, named}
-use Rattle.plan_looks.specs.plan_kept.specs.plan_model.specs.Valid.{IsSound}
-use Rattle.plan_looks.specs.plan_kept.specs.plan_moves.specs.Moves.{AreLiveAlike, IsMovedAt}
-use Rattle.plan_looks.specs.plan_kept.specs.plan_drafts.proofs.MadeEntries.{entries-revise}
-use Rattle.plan_looks.specs.plan_kept.specs.plan_drafts.specs.Places.{AreByPlace}
-use Rattle.plan_looks.specs.plan_kept.proofs.ChosenEntries.{chosen_are_ready}
-use Rattle.plan_looks.specs.plan_kept.proofs.SmallMoves.{naming_moves}
-use Rattle.plan_looks.specs.plan_kept.specs.Edits.{ArePlacesOf}
-use Rattle.plan_looks.specs.plan_kept.specs.plan_laws.proofs.Kept.{choice_keeps_sound}
-use Rattle.plan_looks.specs.plan_kept.proofs.OneFrame.{frame_stays}
-use Rattle.plan_looks.specs.plan_kept.specs.plan_choice.specs.Choices.{AreLatestStarts}
-use Rattle.plan_looks.specs.plan_kept.specs.plan_waiting.specs.Kept.{AreKept}
+use Rattle.plan_records.specs.plan_model.proofs.Looks.{as_named}
+use Rattle.plan_records.specs.plan_model.specs.Contents.{Contents}
+use Rattle.plan_records.specs.plan_model.specs.Ready.{IsChosen, named}
+use Rattle.plan_records.specs.plan_model.specs.Valid.{IsSound}
+use Rattle.plan_changes.specs.plan_moves.specs.Moves.{AreLiveAlike, IsMovedAt}
+use Rattle.plan_records.specs.plan_drafts.proofs.MadeEntries.{entries-revise}
+use Rattle.plan_records.specs.plan_drafts.specs.Places.{AreByPlace}
+use Rattle.plan_steps.proofs.ChosenEntries.{chosen_are_ready}
+use Rattle.plan_steps.proofs.SmallMoves.{naming_moves}
+use Rattle.plan_steps.specs.KeptEdits.{ArePlacesOf}
+use Rattle.plan_figures.specs.plan_laws.proofs.Kept.{choice_keeps_sound}
+use Rattle.plan_steps.proofs.OneFrame.{frame_stays}
+use Rattle.plan_figures.specs.plan_choice.specs.Choices.{AreLatestStarts}
+use Rattle.plan_figures.specs.Kept.{AreKept}
 use Rattle.plan_cascade.specs.declared.kept.Kept.{Kept}
-use Rattle.plan_looks.specs.plan_restating.proofs.Moved.{remarked_by}
-use Rattle.plan_steps.specs.declared.columns.Columns.{Columns}
+use Rattle.plan_figures.proofs.RestatingMoved.{remarked_by}
+use Rattle.plan_steps.specs.declared.columns.FigureColumns.{FigureColumns}
 use Rattle.ready_list.specs.Entries.{ReadyEntries}
 use Rattle.plan_rows.specs.plan_status.proofs.Naming.{naming_keeps_standings}
 use Rattle.plan_rows.specs.plan_status.specs.Standings.{AreStandings, IsStanding}
@@ -27,7 +27,7 @@ use Rattle.plan_rows.specs.plan_status.specs.declared.standings.Standing.{Standi
 use Rattle.plan_steps.proofs.KnownAlike.{known_alike}
 use Rattle.plan_steps.specs.Columns.{AreColumnsOf, IsReadyListOf}
 use Rattle.plan_steps.specs.Touched.{AreKnownAlike, IsTouchedAt}
-use Rattle.plan_looks.specs.plan_kept.specs.plan_waiting.proofs.Naming.{known_stays, naming_keeps_kept}
+use Rattle.plan_figures.proofs.Naming.{known_stays, naming_keeps_kept}
 
 module _ (P : Contents) (m : ℕ) (os : List OpKey) (chosen : IsChosen P m os) where
   -- the standings stay
@@ -53,7 +53,7 @@ module _ (P : Contents) (m : ℕ) (os : List OpKey) (chosen : IsChosen P m os) w
         places (λ i has. has) (λ i out. refl)
 
     -- so that no more is touched
-    pub named_touched : IsSound P → (l : Columns) → AreColumnsOf P l → IsTouchedAt P (named os P) places
+    pub named_touched : IsSound P → (l : FigureColumns) → AreColumnsOf P l → IsTouchedAt P (named os P) places
     named_touched sound l columns = record {
       moved = record { places = places; moved = remarked_by P (named os P) places naming_moved; among = λ i has. has };
       ascend = are.ascend;
@@ -64,7 +64,7 @@ module _ (P : Contents) (m : ℕ) (os : List OpKey) (chosen : IsChosen P m os) w
 -- ---- what is chosen was named
 
 -- what is chosen at these places of the sound plan P was named, which made R of it; these are its latest starts, its columns and its ready list
-pub record WasNamed (P R : Contents) (os : List OpKey) (indices : List ℕ) (starts : List ℤ) (l : Columns) (r : ReadyEntries) : Type 0 where
+pub record WasNamed (P R : Contents) (os : List OpKey) (indices : List ℕ) (starts : List ℤ) (l : FigureColumns) (r : ReadyEntries) : Type 0 where
   pub sound : IsSound P
   pub chosen : (m : ℕ) × IsChosen P m os
   pub places : ArePlacesOf P os indices
@@ -73,7 +73,7 @@ pub record WasNamed (P R : Contents) (os : List OpKey) (indices : List ℕ) (sta
   pub ready : IsReadyListOf P r
   pub after : R ≡ named os P
 
-module _ (P R : Contents) (os : List OpKey) (places : List ℕ) (starts : List ℤ) (l : Columns) (r : ReadyEntries) (was : WasNamed P R os places starts l r) where
+module _ (P R : Contents) (os : List OpKey) (places : List ℕ) (starts : List ℤ) (l : FigureColumns) (r : ReadyEntries) (was : WasNamed P R os places starts l r) where
   abbrev m : ℕ
   m = was.chosen.0
 

@@ -5,16 +5,16 @@ use Rattle.std.specs.FinMap.{entries, get}
 use Rattle.std.specs.Option.{MatchOption}
 use Rattle.plan_basics.proofs.Members.{all_by_members}
 use Rattle.plan_basics.specs.declared.keys.OpKey.{OpKey}
-use Rattle.plan_looks.specs.plan_kept.specs.plan_model.proofs.Looks.{as_named, get-named}
-use Rattle.plan_looks.specs.plan_kept.specs.plan_model.specs.Contents.{Contents, Operation}
-use Rattle.plan_looks.specs.plan_kept.specs.plan_model.specs.Ready.{with_mark}
-use Rattle.plan_looks.specs.plan_kept.specs.plan_model.specs.Status.{HasStatus, UnmarkedStatus}
-use Rattle.plan_looks.specs.plan_records.specs.ready_list.specs.Choice.{is_among}
-use Rattle.plan_looks.specs.plan_restating.specs.Before.{HasStatusAt}
+use Rattle.plan_records.specs.plan_model.proofs.Looks.{as_named, get-named}
+use Rattle.plan_records.specs.plan_model.specs.Contents.{Contents, Operation}
+use Rattle.plan_records.specs.plan_model.specs.Ready.{with_mark}
+use Rattle.plan_records.specs.plan_model.specs.Status.{HasStatus, UnmarkedStatus}
+use Rattle.ready_list.specs.Choice.{is_among}
+use Rattle.plan_figures.specs.RestatingBefore.{HasStatusAt}
 use Rattle.plan_rows.specs.plan_status.proofs.LoadedRows.{row_found}
 use Rattle.plan_steps.proofs.NamedFigures.{WasNamed, known_after, moved_on}
 use Rattle.plan_steps.specs.Following.{AreStatusesOnceNamed}
-use Rattle.plan_steps.specs.declared.columns.Columns.{Columns}
+use Rattle.plan_steps.specs.declared.columns.FigureColumns.{FigureColumns}
 use Rattle.ready_list.specs.Entries.{ReadyEntries}
 use Rattle.status_rules.specs.Table.{marked_status}
 use Rattle.status_rules.specs.declared.Mark.TheVariants as mark
@@ -28,7 +28,7 @@ marked_named os o among (Some x) op is =
     let made : as_named os o x ≡ op = same_Some (as_named os o x) op is in
     ap (λ (z : Operation). z.mark) (sym made) ∙ ap (λ b. (cond b (with_mark mark.Named x) x).mark) among
 
-module _ (P R : Contents) (os : List OpKey) (places : List ℕ) (starts : List ℤ) (l : Columns) (r : ReadyEntries) (was : WasNamed P R os places starts l r) where
+module _ (P R : Contents) (os : List OpKey) (places : List ℕ) (starts : List ℤ) (l : FigureColumns) (r : ReadyEntries) (was : WasNamed P R os places starts l r) where
   -- what was named has started
   started : (i : ℕ) (o : OpKey) (op : Operation) → Contains places i → slice_get (entries R.operations) i ≡ Some (o, op) → HasStatus R o status.Started
   started i o op has at =

@@ -6,7 +6,7 @@ use Rattle.std.proofs.lemmas.Option.{slice_get_within, same_Some}
 use Rattle.std.proofs.lemmas.List.Elements.{Contains-append_left, Contains-push, Contains-push_cases}
 use Rattle.std.specs.Vec.{with_items}
 use Rattle.plan_basics.proofs.Members.{all_by_members, contains_cases, contains_head, contains_later, contains_none}
-use Rattle.plan_looks.specs.plan_restating.specs.Overwritten.{overwritten}
+use Rattle.plan_figures.specs.Overwritten.{overwritten}
 use Rattle.plan_steps.specs.Values.{AreValuesAt, LeadsTo}
 
 -- two lists with the same at each index are one

@@ -8,14 +8,14 @@ use Rattle.plan_basics.specs.Keys.{Name, operation_cmp, operation_cmp_total, ope
 use Rattle.plan_basics.specs.declared.keys.OpKey.{OpKey}
 use Rattle.plan_changes.proofs.Remarks.{marking, remaking}
 use Rattle.plan_changes.specs.Markings.{DifferInMarks}
-use Rattle.plan_looks.specs.plan_kept.specs.plan_drafts.proofs.MadeEntries.{key_of}
-use Rattle.plan_looks.specs.plan_kept.specs.plan_model.specs.Contents.{Contents}
-use Rattle.plan_looks.specs.plan_kept.specs.plan_model.specs.Ready.{with_mark}
-use Rattle.plan_looks.specs.plan_kept.specs.workstations.specs.Timetables.{NamedWorkstation}
+use Rattle.plan_records.specs.plan_drafts.proofs.MadeEntries.{key_of}
+use Rattle.plan_records.specs.plan_model.specs.Contents.{Contents}
+use Rattle.plan_records.specs.plan_model.specs.Ready.{with_mark}
+use Rattle.workstations.specs.Timetables.{NamedWorkstation}
 use Rattle.plan_changes.specs.plan_moves.specs.Markings.{marking_of, with_marking}
-use Rattle.plan_looks.specs.plan_records.specs.Changes.{Changes, IsRequest, is_at, marked, revised}
-use Rattle.plan_looks.specs.plan_records.specs.declared.What.{What}
-use Rattle.plan_looks.specs.plan_records.specs.ready_list.specs.Choice.{is_among}
+use Rattle.plan_records.specs.Changes.{Changes, IsRequest, is_at, marked, revised}
+use Rattle.plan_records.specs.declared.What.{What}
+use Rattle.ready_list.specs.Choice.{is_among}
 use Rattle.plan_steps.specs.EditedKeys.{AreEditedKeys}
 use Rattle.plan_steps.specs.Revisions.{IsRevisionFor}
 use Rattle.plan_steps.specs.declared.revisions.Revision.TheVariants as revision

@@ -1,20 +1,20 @@
 -- Figures moved on by a shift.
 use Rattle.std.proofs.Common.{◌≡◌, sym, subst}
-use Rattle.plan_looks.specs.plan_kept.specs.plan_model.specs.Contents.{Contents}
-use Rattle.plan_looks.specs.plan_kept.specs.plan_state.specs.Figures.{AreFigures}
-use Rattle.plan_looks.specs.plan_kept.specs.plan_state.specs.declared.figures.Figures.{Figures}
-use Rattle.plan_looks.specs.plan_restating.specs.Entries.{CanBeRelisted}
+use Rattle.plan_records.specs.plan_model.specs.Contents.{Contents}
+use Rattle.plan_figures.specs.Figures.{AreFigures}
+use Rattle.plan_figures.specs.declared.figures.Figures.{Figures}
+use Rattle.plan_figures.specs.Entries.{CanBeRelisted}
 use Rattle.plan_steps.proofs.Agreeing.{leads_on}
 use Rattle.plan_steps.proofs.ColumnParts.{are_columns, are_figures, columns_alike, is_list}
 use Rattle.plan_steps.proofs.Listing.{goes_after, goes_by, list_is, relistable}
 use Rattle.plan_steps.specs.Columns.{AreAlike, GoesByStatuses, MakesOf, figures_of}
 use Rattle.plan_steps.specs.Shifts.{IsShift}
-use Rattle.plan_steps.specs.declared.columns.Columns.{Columns}
+use Rattle.plan_steps.specs.declared.columns.FigureColumns.{FigureColumns}
 use Rattle.plan_steps.specs.declared.columns.Shares.{Shares}
 use Rattle.plan_steps.specs.declared.shifting.Shift.{Shift}
 use Rattle.ready_list.specs.Entries.{ReadyEntries}
 
-module _ (P R : Contents) (f : Figures) (are : AreFigures P f) (x : Shift) (is : IsShift P R x) (l : Columns) (r : ReadyEntries) (s : Shares) (parts : figures_of l r s ≡ f) where
+module _ (P R : Contents) (f : Figures) (are : AreFigures P f) (x : Shift) (is : IsShift P R x) (l : FigureColumns) (r : ReadyEntries) (s : Shares) (parts : figures_of l r s ≡ f) where
   -- the parts are those of the plan before
   were : AreFigures P (figures_of l r s)
   were = subst (AreFigures P) (sym parts) are
@@ -33,7 +33,7 @@ module _ (P R : Contents) (f : Figures) (are : AreFigures P f) (x : Shift) (is :
   relistable_then = relistable R l.statuses.items r goes_then x.columns.statuses.items is.columns.columns.statuses.items leads_then.statuses is.touched is.columns.excerpt.in_order x.entries.items is.entries
 
   -- what is made so is of the plan then
-  pub figures_then : (m : Columns) → AreAlike m is.columns.columns → (q : ReadyEntries) → GoesByStatuses R m.statuses.items q → AreFigures R (figures_of m q x.shares)
+  pub figures_then : (m : FigureColumns) → AreAlike m is.columns.columns → (q : ReadyEntries) → GoesByStatuses R m.statuses.items q → AreFigures R (figures_of m q x.shares)
   figures_then m alike q goes =
       let now = columns_alike R m is.columns.columns alike is.columns.are in
       are_figures R m q x.shares now (list_is R is.sound_after m.statuses.items now.statuses q goes) is.shares

@@ -4,16 +4,16 @@ use Rattle.std.specs.FinMap.{entries}
 use Rattle.std.specs.List.Sorted.{IsStrictlySortedBy}
 use Rattle.std.specs.Ordering.{nat_cmp}
 use Rattle.plan_basics.specs.declared.keys.OpKey.{OpKey}
-use Rattle.plan_looks.specs.plan_kept.proofs.OneFrame.{frame_stays, moves_follow}
-use Rattle.plan_looks.specs.plan_kept.specs.Edits.{ArePlacesOf}
-use Rattle.plan_looks.specs.plan_kept.specs.plan_choice.specs.Choices.{AreLatestStarts}
-use Rattle.plan_looks.specs.plan_kept.specs.plan_model.specs.Contents.{Contents, Operation}
-use Rattle.plan_looks.specs.plan_kept.specs.plan_model.specs.Ready.{IsChosen, named}
-use Rattle.plan_looks.specs.plan_kept.specs.plan_moves.specs.Moves.{AreLiveAlike, IsMovedAt, IsMovedRow, IsRemarkedAt}
-use Rattle.plan_looks.specs.plan_kept.specs.plan_state.specs.Figures.{KeepsFrame}
+use Rattle.plan_steps.proofs.OneFrame.{frame_stays, moves_follow}
+use Rattle.plan_steps.specs.KeptEdits.{ArePlacesOf}
+use Rattle.plan_figures.specs.plan_choice.specs.Choices.{AreLatestStarts}
+use Rattle.plan_records.specs.plan_model.specs.Contents.{Contents, Operation}
+use Rattle.plan_records.specs.plan_model.specs.Ready.{IsChosen, named}
+use Rattle.plan_changes.specs.plan_moves.specs.Moves.{AreLiveAlike, IsMovedAt, IsMovedRow, IsRemarkedAt}
+use Rattle.plan_figures.specs.Figures.{KeepsFrame}
 use Rattle.plan_rows.specs.Touched.{StaysBeside}
-use Rattle.plan_rows.specs.declared.notes.Beside.{Beside}
-use Rattle.plan_rows.specs.declared.notes.Beside.TheVariants as kind
+use Rattle.plan_rows.specs.declared.notes.ChangeBeside.{ChangeBeside}
+use Rattle.plan_rows.specs.declared.notes.ChangeBeside.TheVariants as kind
 use Rattle.plan_rows.specs.declared.notes.Notes.{Notes}
 use Rattle.plan_steps.proofs.Alike.{touched_shown}
 use Rattle.plan_steps.proofs.KnownAlike.{row_stays}
@@ -23,11 +23,10 @@ use Rattle.plan_steps.specs.Naming.{AreNotesOf, AreStepNotes}
 use Rattle.plan_steps.specs.Touched.{AreKnownAlike, IsTouchedAt}
 
 -- what is named leaves workstations, special resources and pairs
-stays_named : (b : Beside) (P Q : Contents) (os : List OpKey) → StaysBeside b P Q → StaysBeside b P (named os Q)
+stays_named : (b : ChangeBeside) (P Q : Contents) (os : List OpKey) → StaysBeside b P Q → StaysBeside b P (named os Q)
 stays_named kind.Nothing P Q os stays = stays
 stays_named kind.Resources P Q os stays = stays
 stays_named kind.Workstations P Q os stays = stays
-stays_named (kind.Pair p s) P Q os stays = stays
 
 module _ (P Q : Contents) (m : ℕ) (os : List OpKey) (chosen : IsChosen Q m os) (places : List ℕ) (are : ArePlacesOf Q os places) where
   abbrev later : IsMovedAt Q (named os Q) places
@@ -80,7 +79,7 @@ module _ (P Q : Contents) (m : ℕ) (os : List OpKey) (chosen : IsChosen Q m os)
     }
 
 -- what is noted of the plan after notes the step, where its latest starts stay
-pub step_notes : (P Q : Contents) (os : List OpKey) (b : Beside) → StaysBeside b P Q → ((starts : List ℤ) → AreLatestStarts P starts → AreLatestStarts (named os Q) starts) → (touched : List ℕ) → IsTouchedAt P (named os Q) touched
+pub step_notes : (P Q : Contents) (os : List OpKey) (b : ChangeBeside) → StaysBeside b P Q → ((starts : List ℤ) → AreLatestStarts P starts → AreLatestStarts (named os Q) starts) → (touched : List ℕ) → IsTouchedAt P (named os Q) touched
     → (notes : Notes) → AreNotesOf (named os Q) b touched notes → AreStepNotes P (named os Q) notes
 step_notes P Q os b stays latest touched at_touched notes noted before shown holds = record {
   after = noted.shown;

@@ -3,25 +3,25 @@ use Rattle.std.proofs.Common.{◌≡◌, sym, ap, subst, ◌∙◌, arith, ℕ, 
 use Rattle.std.proofs.lemmas.List.Elements.{All-contains_itself}
 use Rattle.std.proofs.lemmas.Option.{get_or_from_slice_get, slice_get_within}
 use Rattle.std.specs.FinMap.{entries}
-use Rattle.plan_looks.specs.plan_kept.specs.operation_graph.specs.Graphs.{Digraph}
+use Rattle.operation_graph.specs.Graphs.{Digraph}
 use Rattle.plan_cascade.specs.Counters.{kept_at, nothing_kept}
 use Rattle.plan_cascade.specs.declared.kept.Kept.{Kept}
-use Rattle.plan_looks.specs.plan_kept.specs.plan_drafts.proofs.RowPlaces.{row_at}
-use Rattle.plan_looks.specs.plan_kept.specs.plan_drafts.specs.PlanGraphs.{IsGraphFor}
-use Rattle.plan_looks.specs.plan_kept.proofs.OneFrame.{graph_stays}
-use Rattle.plan_looks.specs.plan_kept.specs.plan_laws.proofs.Waiting.{one_count}
-use Rattle.plan_looks.specs.plan_kept.specs.plan_model.specs.Contents.{Contents}
-use Rattle.plan_looks.specs.plan_kept.specs.plan_model.specs.Valid.{IsValid}
-use Rattle.plan_looks.specs.plan_kept.specs.plan_moves.specs.Moves.{AreLiveAlike, IsMovedAt}
-use Rattle.plan_looks.specs.plan_restating.specs.Before.{KeepStatus}
-use Rattle.plan_looks.specs.plan_restating.specs.Restanding.{AgreeElsewhere, AreCounters}
+use Rattle.plan_records.specs.plan_drafts.proofs.RowPlaces.{row_at}
+use Rattle.plan_records.specs.plan_drafts.specs.PlanGraphs.{IsGraphFor}
+use Rattle.plan_steps.proofs.OneFrame.{graph_stays}
+use Rattle.plan_figures.specs.plan_laws.proofs.Waiting.{one_count}
+use Rattle.plan_records.specs.plan_model.specs.Contents.{Contents}
+use Rattle.plan_records.specs.plan_model.specs.Valid.{IsValid}
+use Rattle.plan_changes.specs.plan_moves.specs.Moves.{AreLiveAlike, IsMovedAt}
+use Rattle.plan_figures.specs.RestatingBefore.{KeepStatus}
+use Rattle.plan_figures.specs.Restanding.{AgreeElsewhere, AreCounters}
 use Rattle.plan_rows.specs.plan_status.specs.Standings.{AreStandings}
 use Rattle.plan_rows.specs.plan_status.specs.declared.standings.Standing.{Standing}
-use Rattle.plan_looks.specs.StepLooks.{IsKeptBeside}
+use Rattle.plan_steps.specs.StepLooks.{IsKeptBeside}
 use Rattle.plan_steps.specs.Edits.{AreBelow}
 use Rattle.plan_steps.specs.Touched.{AreKnownAlike}
-use Rattle.plan_looks.specs.plan_kept.specs.plan_waiting.proofs.Right.{kept_there}
-use Rattle.plan_looks.specs.plan_kept.specs.plan_waiting.specs.Kept.{AreKept}
+use Rattle.plan_figures.proofs.Right.{kept_there}
+use Rattle.plan_figures.specs.Kept.{AreKept}
 
 -- what holds anyway holds where it is ok
 pub on_ok : {T E : Type 0} {A : Type 0} (r : Result T E) → A → OnOk r A

@@ -3,13 +3,13 @@ use Rattle.std.proofs.Common.{◌≡◌, refl, sym, ap, ◌∙◌, ℕ, Bool, tr
 use Rattle.std.specs.FinMap.{get, same_map}
 use Rattle.plan_basics.specs.Keys.{operation_cmp_total, operation_cmp-IsAntisymmetric}
 use Rattle.plan_basics.specs.declared.keys.OpKey.{OpKey}
-use Rattle.plan_looks.specs.plan_kept.proofs.ChosenEntries.{chosen_are_ready}
-use Rattle.plan_looks.specs.plan_kept.specs.plan_laws.proofs.Kept.{ready_unmarked}
-use Rattle.plan_looks.specs.plan_kept.specs.plan_laws.proofs.Revised.{get-revised}
-use Rattle.plan_looks.specs.plan_kept.specs.plan_model.specs.Contents.{Contents, Operation}
-use Rattle.plan_looks.specs.plan_kept.specs.plan_model.specs.Ready.{IsChosen, named, with_mark}
-use Rattle.plan_looks.specs.plan_records.specs.Changes.{revised}
-use Rattle.plan_looks.specs.plan_records.specs.ready_list.specs.Choice.{is_among}
+use Rattle.plan_steps.proofs.ChosenEntries.{chosen_are_ready}
+use Rattle.plan_figures.specs.plan_laws.proofs.Kept.{ready_unmarked}
+use Rattle.plan_figures.specs.plan_laws.proofs.Revised.{get-revised}
+use Rattle.plan_records.specs.plan_model.specs.Contents.{Contents, Operation}
+use Rattle.plan_records.specs.plan_model.specs.Ready.{IsChosen, named, with_mark}
+use Rattle.plan_records.specs.Changes.{revised}
+use Rattle.ready_list.specs.Choice.{is_among}
 use Rattle.status_rules.specs.declared.Mark.TheVariants as mark
 
 -- an operation that was unmarked, named and unmarked again

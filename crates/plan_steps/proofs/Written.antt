@@ -5,12 +5,12 @@ use Rattle.std.specs.FinMap.{FinMap, IsAntisymmetric, contains_key, get, get-ins
 use Rattle.std.specs.Ordering.{eq_by_cmp}
 use Rattle.plan_basics.specs.Keys.{Name, name_cmp_total, name_cmp-IsAntisymmetric}
 use Rattle.plan_basics.specs.declared.keys.OpKey.{OpKey}
-use Rattle.plan_looks.specs.plan_kept.specs.plan_drafts.proofs.MadeEntries.{key_of}
-use Rattle.plan_looks.specs.plan_kept.specs.plan_model.specs.Contents.{Contents}
-use Rattle.plan_looks.specs.plan_kept.specs.plan_model.specs.Valid.{IsSound}
-use Rattle.plan_looks.specs.plan_kept.specs.workstations.specs.Timetables.{NamedWorkstation}
+use Rattle.plan_records.specs.plan_drafts.proofs.MadeEntries.{key_of}
+use Rattle.plan_records.specs.plan_model.specs.Contents.{Contents}
+use Rattle.plan_records.specs.plan_model.specs.Valid.{IsSound}
+use Rattle.workstations.specs.Timetables.{NamedWorkstation}
 use Rattle.plan_rows.specs.Touched.{StaysBeside}
-use Rattle.plan_rows.specs.declared.notes.Beside.TheVariants as kind
+use Rattle.plan_rows.specs.declared.notes.ChangeBeside.TheVariants as kind
 use Rattle.plan_steps.specs.Revisions.{PutsBack, beside, written}
 use Rattle.plan_steps.specs.declared.revisions.Revision.{Revision}
 use Rattle.plan_steps.specs.declared.revisions.Revision.TheVariants as revision

@@ -1,27 +1,27 @@
 -- The figures of a plan in parts, and excerpts of what is kept by place.
 use Rattle.std.specs.Prelude.{◌≡◌, ℕ, ◌+◌, ◌≤◌, List, length, map, Contains}
 use Rattle.std.specs.FinMap.{entries}
-use Rattle.plan_looks.specs.plan_kept.specs.plan_choice.specs.Choices.{AreGivenOut, AreHeldIn, AreReadyEntries}
-use Rattle.plan_looks.specs.plan_kept.specs.plan_drafts.specs.Places.{AreStatuses}
-use Rattle.plan_looks.specs.plan_kept.specs.plan_model.specs.Contents.{Contents}
-use Rattle.plan_looks.specs.plan_kept.specs.plan_state.specs.declared.figures.Figures.{Figures}
-use Rattle.plan_looks.specs.plan_kept.specs.plan_waiting.specs.Kept.{AreKept}
-use Rattle.plan_looks.specs.plan_restating.specs.ByStatuses.{AreEntriesBy, HasRoomForAll}
+use Rattle.plan_figures.specs.plan_choice.specs.Choices.{AreGivenOut, AreHeldIn, AreReadyEntries}
+use Rattle.plan_records.specs.plan_drafts.specs.Places.{AreStatuses}
+use Rattle.plan_records.specs.plan_model.specs.Contents.{Contents}
+use Rattle.plan_figures.specs.declared.figures.Figures.{Figures}
+use Rattle.plan_figures.specs.Kept.{AreKept}
+use Rattle.plan_figures.specs.ByStatuses.{AreEntriesBy, HasRoomForAll}
 use Rattle.plan_rows.specs.Touched.{HasOneOf}
 use Rattle.plan_rows.specs.plan_status.specs.Standings.{AreStandings, AreTallies}
 use Rattle.plan_steps.specs.Values.{AreValuesAt, LeadsTo}
-use Rattle.plan_steps.specs.declared.columns.Columns.{Columns}
+use Rattle.plan_steps.specs.declared.columns.FigureColumns.{FigureColumns}
 use Rattle.plan_steps.specs.declared.columns.Shares.{Shares}
 use Rattle.plan_steps.specs.declared.excerpts.Excerpt.{Excerpt}
 use Rattle.ready_list.specs.Entries.{ReadyEntries}
 use Rattle.status_rules.specs.declared.Status.{Status}
 
 -- the figures of which these are the parts
-abbrev pub figures_of : Columns → ReadyEntries → Shares → Figures
+abbrev pub figures_of : FigureColumns → ReadyEntries → Shares → Figures
 figures_of l r s = record { kept = l.kept; standings = l.standings; statuses = l.statuses; tallies = l.tallies; given = s.given; holdings = s.holdings; ready = r }
 
 -- the columns are this plan's
-pub record AreColumnsOf (P : Contents) (l : Columns) : Type 0 where
+pub record AreColumnsOf (P : Contents) (l : FigureColumns) : Type 0 where
   pub kept : AreKept P l.kept.items
   pub standings : AreStandings P l.standings.items
   pub statuses : AreStatuses P l.statuses.items
@@ -44,14 +44,14 @@ pub record GoesByStatuses (P : Contents) (statuses : List Status) (r : ReadyEntr
   pub room : HasRoomForAll P r
 
 -- both columns have the same at each place
-pub record AreAlike (l m : Columns) : Type 0 where
+pub record AreAlike (l m : FigureColumns) : Type 0 where
   pub kept : l.kept.items ≡ m.kept.items
   pub standings : l.standings.items ≡ m.standings.items
   pub statuses : l.statuses.items ≡ m.statuses.items
   pub tallies : l.tallies.items ≡ m.tallies.items
 
 -- it has what the columns have at these places of operations of the plan, the statuses in their order, and at those of their occurrences
-pub record IsExcerptOf (P : Contents) (places : List ℕ) (l : Columns) (x : Excerpt) : Type 0 where
+pub record IsExcerptOf (P : Contents) (places : List ℕ) (l : FigureColumns) (x : Excerpt) : Type 0 where
   pub kept : AreValuesAt l.kept.items (Contains places) x.kept.items
   pub standings : AreValuesAt l.standings.items (Contains places) x.standings.items
   pub statuses : AreValuesAt l.statuses.items (Contains places) x.statuses.items
@@ -59,14 +59,14 @@ pub record IsExcerptOf (P : Contents) (places : List ℕ) (l : Columns) (x : Exc
   pub tallies : AreValuesAt l.tallies.items (HasOneOf P places) x.tallies.items
 
 -- to write it into the one columns makes the others of them
-pub record MakesOf (x : Excerpt) (from to : Columns) : Type 0 where
+pub record MakesOf (x : Excerpt) (from to : FigureColumns) : Type 0 where
   pub kept : LeadsTo x.kept.items from.kept.items to.kept.items
   pub standings : LeadsTo x.standings.items from.standings.items to.standings.items
   pub statuses : LeadsTo x.statuses.items from.statuses.items to.statuses.items
   pub tallies : LeadsTo x.tallies.items from.tallies.items to.tallies.items
 
 -- they have a row for each operation and each occurrence of the plan
-pub record AreSizedBy (P : Contents) (l : Columns) : Type 0 where
+pub record AreSizedBy (P : Contents) (l : FigureColumns) : Type 0 where
   pub kept : length l.kept.items ≡ length (entries P.operations)
   pub standings : length l.standings.items ≡ length (entries P.operations)
   pub statuses : length l.statuses.items ≡ length (entries P.operations)

@@ -1,10 +1,10 @@
 -- The keys of what a request edits.
 use Rattle.std.specs.Prelude.{◌≡◌, ◌↔◌, true, List}
 use Rattle.plan_basics.specs.declared.keys.OpKey.{OpKey}
-use Rattle.plan_looks.specs.plan_kept.specs.Edits.{Edits}
-use Rattle.plan_looks.specs.plan_kept.specs.plan_model.specs.Contents.{Contents}
-use Rattle.plan_looks.specs.plan_records.specs.declared.What.{What}
-use Rattle.plan_looks.specs.plan_records.specs.ready_list.specs.Choice.{is_among}
+use Rattle.plan_steps.specs.KeptEdits.{Edits}
+use Rattle.plan_records.specs.plan_model.specs.Contents.{Contents}
+use Rattle.plan_records.specs.declared.What.{What}
+use Rattle.ready_list.specs.Choice.{is_among}
 
 -- these are the keys of the operations that the small request edits
 abbrev pub AreEditedKeys : Contents → What → List OpKey → Type 0

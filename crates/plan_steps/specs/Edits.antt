@@ -3,24 +3,24 @@ use Rattle.std.specs.Prelude.{◌≡◌, ◌⊎◌, ℕ, ℤ, ◌<◌, true, fal
 use Rattle.std.specs.FinMap.{entries, keys}
 use Rattle.std.specs.List.Sorted.{IsStrictlySortedBy}
 use Rattle.std.specs.Ordering.{nat_cmp}
-use Rattle.plan_looks.specs.plan_kept.specs.operation_graph.specs.Graphs.{Digraph, HasEdge}
+use Rattle.operation_graph.specs.Graphs.{Digraph, HasEdge}
 use Rattle.plan_cascade.specs.declared.kept.Kept.{Kept}
 use Rattle.plan_changes.specs.Markings.{DifferInMarks, WereMarked as WereMarkedBy}
-use Rattle.plan_looks.specs.plan_kept.specs.Edits.{IsEditedAt, IsRerun}
-use Rattle.plan_looks.specs.plan_kept.specs.plan_choice.specs.Choices.{AreLatestStarts}
-use Rattle.plan_looks.specs.plan_kept.specs.plan_drafts.specs.PlanGraphs.{IsGraphFor, StandAt}
-use Rattle.plan_looks.specs.plan_kept.specs.plan_model.specs.Contents.{Contents}
-use Rattle.plan_looks.specs.plan_kept.specs.plan_model.specs.Valid.{IsSound}
-use Rattle.plan_looks.specs.plan_kept.specs.plan_moves.specs.Moves.{AreLiveAlike, IsMovedAt}
-use Rattle.plan_looks.specs.plan_kept.specs.plan_state.specs.Figures.{AreFigures}
-use Rattle.plan_looks.specs.plan_kept.specs.plan_state.specs.declared.figures.Figures.{Figures}
-use Rattle.plan_looks.specs.plan_kept.specs.plan_waiting.specs.Changes.{IsDeletedAt, IsSatisfiedAt}
-use Rattle.plan_looks.specs.plan_kept.specs.plan_waiting.specs.Kept.{AreKept}
-use Rattle.plan_looks.specs.plan_records.specs.declared.What.{What}
+use Rattle.plan_steps.specs.KeptEdits.{IsEditedAt, IsRerun}
+use Rattle.plan_figures.specs.plan_choice.specs.Choices.{AreLatestStarts}
+use Rattle.plan_records.specs.plan_drafts.specs.PlanGraphs.{IsGraphFor, StandAt}
+use Rattle.plan_records.specs.plan_model.specs.Contents.{Contents}
+use Rattle.plan_records.specs.plan_model.specs.Valid.{IsSound}
+use Rattle.plan_changes.specs.plan_moves.specs.Moves.{AreLiveAlike, IsMovedAt}
+use Rattle.plan_figures.specs.Figures.{AreFigures}
+use Rattle.plan_figures.specs.declared.figures.Figures.{Figures}
+use Rattle.plan_figures.specs.WaitingChanges.{IsDeletedAt, IsSatisfiedAt}
+use Rattle.plan_figures.specs.Kept.{AreKept}
+use Rattle.plan_records.specs.declared.What.{What}
 use Rattle.plan_steps.specs.Revisions.{HasPlaceFor, IsRevisionFor, PutsBack, beside, written}
 use Rattle.plan_steps.specs.declared.edits.Edit.{Edit}
 use Rattle.plan_steps.specs.declared.revisions.Revision.{Revision}
-use Rattle.plan_takings.specs.Before.{WereMarked}
+use Rattle.plan_figures.specs.TakingsBefore.{WereMarked}
 
 -- marks and flags change at these places, ascending, where these markings stood, and nowhere else, and the same operations are deleted; none of them was satisfied, or what follows one of them is one of them or deleted
 pub record IsEditOf (P Q : Contents) (e : Edit) : Type 0 where

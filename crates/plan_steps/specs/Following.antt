@@ -1,17 +1,17 @@
 -- What is prepared for what is named, so that it can be noted.
 use Rattle.std.specs.Prelude.{◌≡◌, ◌⊎◌, ◌≤◌, ◌+◌, ℕ, ℤ, List, Some, length, map, slice_get, Contains}
 use Rattle.std.specs.FinMap.{entries}
-use Rattle.plan_looks.specs.plan_kept.specs.plan_choice.specs.Choices.{AreGivenOut, AreHeldIn, AreLatestStarts}
-use Rattle.plan_looks.specs.plan_kept.specs.plan_choice.specs.declared.choice.Choice.{Choice}
-use Rattle.plan_looks.specs.plan_kept.specs.plan_model.specs.Contents.{Contents}
-use Rattle.plan_looks.specs.plan_kept.specs.plan_model.specs.Ready.{IsChosen, named as named_in}
-use Rattle.plan_looks.specs.StepLooks.{AreBoth}
-use Rattle.plan_looks.specs.plan_restating.specs.Entries.{AreEntriesAt}
-use Rattle.plan_rows.specs.declared.notes.Beside.{Beside}
+use Rattle.plan_figures.specs.plan_choice.specs.Choices.{AreGivenOut, AreHeldIn, AreLatestStarts}
+use Rattle.plan_figures.specs.plan_choice.specs.declared.choice.Choice.{Choice}
+use Rattle.plan_records.specs.plan_model.specs.Contents.{Contents}
+use Rattle.plan_records.specs.plan_model.specs.Ready.{IsChosen, named as named_in}
+use Rattle.plan_steps.specs.StepLooks.{AreBoth}
+use Rattle.plan_figures.specs.Entries.{AreEntriesAt}
+use Rattle.plan_rows.specs.declared.notes.ChangeBeside.{ChangeBeside}
 use Rattle.plan_steps.specs.Columns.{AreColumnsOf, IsExcerptOf, IsReadyListOf}
 use Rattle.plan_steps.specs.Edits.{ArePlacesIn}
 use Rattle.plan_steps.specs.Naming.{IsNaming, IsStepOf}
-use Rattle.plan_steps.specs.declared.columns.Columns.{Columns}
+use Rattle.plan_steps.specs.declared.columns.FigureColumns.{FigureColumns}
 use Rattle.plan_steps.specs.declared.followed.Followed.{Followed}
 use Rattle.plan_steps.specs.declared.following.SmallStep.{SmallStep}
 use Rattle.ready_list.specs.Entries.{ReadyEntries}
@@ -34,7 +34,7 @@ pub record AreStatusesOnceNamed (statuses : List Status) (places named : List �
   pub each : (value : ℕ × Status) → Contains values value → IsStatusOnceNamed statuses named value
 
 -- this is named at m of the plan that holds P after an edit touched some places, and these are the places of both, what the plan's columns have there, the statuses there once it is named, and the entries there
-pub record IsFollowed (P : Contents) (m : ℕ) (edited : List ℕ) (l : Columns) (f : Followed) : Type 0 where
+pub record IsFollowed (P : Contents) (m : ℕ) (edited : List ℕ) (l : FigureColumns) (f : Followed) : Type 0 where
   pub naming : IsNaming P m f.naming
   pub joined : AreBoth edited f.naming.places.items f.touched.items
   pub old : IsExcerptOf P f.touched.items l f.old
@@ -42,7 +42,7 @@ pub record IsFollowed (P : Contents) (m : ℕ) (edited : List ℕ) (l : Columns)
   pub entries : AreEntriesAt P f.touched.items f.entries.items
 
 -- of the plan that holds P, with these latest starts, columns and ready list, this follows after an edit touched some places; and then what follows was named, which made R of it
-pub record WasFollowed (P R : Contents) (m : ℕ) (edited : List ℕ) (starts : List ℤ) (l : Columns) (r : ReadyEntries) (f : Followed) : Type 0 where
+pub record WasFollowed (P R : Contents) (m : ℕ) (edited : List ℕ) (starts : List ℤ) (l : FigureColumns) (r : ReadyEntries) (f : Followed) : Type 0 where
   pub followed : IsFollowed P m edited l f
   pub places : ArePlacesIn P edited
   pub latest : AreLatestStarts P starts
@@ -51,5 +51,5 @@ pub record WasFollowed (P R : Contents) (m : ℕ) (edited : List ℕ) (starts : 
   pub after : R ≡ named_in f.naming.named.items P
 
 -- it is such a step once columns were moved on by a look at each of these places
-abbrev pub IsMovedStepOf : Contents → ℕ → List ℕ → Beside → ℕ → ℕ → SmallStep → Type 0
+abbrev pub IsMovedStepOf : Contents → ℕ → List ℕ → ChangeBeside → ℕ → ℕ → SmallStep → Type 0
 IsMovedStepOf Q m moved b before after s = (between : ℕ) × (before ≤ between) × (between ≤ before + length moved) × IsStepOf Q m moved b between after s

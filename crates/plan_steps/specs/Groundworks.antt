@@ -3,18 +3,18 @@ use Rattle.std.specs.Prelude.{◌≡◌, ◌⊎◌, ◌<◌, ◌≤◌, ◌+◌,
 use Rattle.plan_cascade.specs.Changes.{HoldFollowers, IsAfterOne}
 use Rattle.plan_cascade.specs.Counters.{waiting_at, waiting_count}
 use Rattle.plan_cascade.specs.declared.kept.Kept.{Kept}
-use Rattle.plan_looks.specs.plan_kept.specs.operation_graph.specs.Graphs.{Digraph}
-use Rattle.plan_looks.specs.plan_kept.specs.plan_choice.specs.Choices.{AreLatestStarts}
-use Rattle.plan_looks.specs.plan_kept.specs.plan_drafts.specs.PlanGraphs.{IsGraphFor}
-use Rattle.plan_looks.specs.plan_kept.specs.plan_model.specs.Contents.{Contents}
-use Rattle.plan_looks.specs.plan_kept.specs.plan_model.specs.Valid.{IsSound}
-use Rattle.plan_looks.specs.plan_kept.specs.plan_moves.specs.Moves.{AreLiveAlike, IsMovedAt}
-use Rattle.plan_looks.specs.plan_kept.specs.plan_waiting.specs.Kept.{AreKept}
-use Rattle.plan_looks.specs.StepLooks.{IsKeptBeside}
-use Rattle.plan_looks.specs.plan_restating.specs.Overwritten.{overwritten}
+use Rattle.operation_graph.specs.Graphs.{Digraph}
+use Rattle.plan_figures.specs.plan_choice.specs.Choices.{AreLatestStarts}
+use Rattle.plan_records.specs.plan_drafts.specs.PlanGraphs.{IsGraphFor}
+use Rattle.plan_records.specs.plan_model.specs.Contents.{Contents}
+use Rattle.plan_records.specs.plan_model.specs.Valid.{IsSound}
+use Rattle.plan_changes.specs.plan_moves.specs.Moves.{AreLiveAlike, IsMovedAt}
+use Rattle.plan_figures.specs.Kept.{AreKept}
+use Rattle.plan_steps.specs.StepLooks.{IsKeptBeside}
+use Rattle.plan_figures.specs.Overwritten.{overwritten}
 use Rattle.plan_steps.specs.Columns.{AreColumnsOf, IsExcerptOf, IsReadyListOf}
 use Rattle.plan_steps.specs.Edits.{ArePlacesWith}
-use Rattle.plan_steps.specs.declared.columns.Columns.{Columns}
+use Rattle.plan_steps.specs.declared.columns.FigureColumns.{FigureColumns}
 use Rattle.plan_steps.specs.declared.counting.KeptThen.{KeptThen}
 use Rattle.plan_steps.specs.declared.edits.Edit.{Edit}
 use Rattle.plan_steps.specs.declared.groundwork.Groundwork.{Groundwork}
@@ -32,12 +32,12 @@ abbrev pub IsKeptThen : Contents → List ℕ → List Kept → KeptThen → Typ
 IsKeptThen Q edits kept r = IsMovedOn Q edits r.touched.items r.kept.items kept
 
 -- of these columns, once the edits made Q of the plan: what is kept then where something is touched, and what stands there
-pub record IsGroundwork (Q : Contents) (edits : List ℕ) (l : Columns) (g : Groundwork) : Type 0 where
+pub record IsGroundwork (Q : Contents) (edits : List ℕ) (l : FigureColumns) (g : Groundwork) : Type 0 where
   pub moved_on : IsMovedOn Q edits g.touched.items g.kept.items l.kept.items
   pub old : IsExcerptOf Q g.touched.items l g.old
 
 -- the edits made Q of P, both sound, and deleted none; P has these latest starts, columns and ready list, of which this was worked out
-pub record HasGroundwork (P Q : Contents) (edits : List ℕ) (starts : List ℤ) (l : Columns) (r : ReadyEntries) (g : Groundwork) : Type 0 where
+pub record HasGroundwork (P Q : Contents) (edits : List ℕ) (starts : List ℤ) (l : FigureColumns) (r : ReadyEntries) (g : Groundwork) : Type 0 where
   pub sound : IsSound P
   pub sound_after : IsSound Q
   pub moved : IsMovedAt P Q edits

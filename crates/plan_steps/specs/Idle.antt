@@ -1,8 +1,8 @@
 -- Requests that write a flag which stands so already.
 use Rattle.std.specs.Prelude.{◌≡◌, true, false, []}
 use Rattle.plan_changes.specs.plan_moves.specs.declared.Marking.{Marking}
-use Rattle.plan_looks.specs.plan_records.specs.declared.What.{What}
-use Rattle.plan_looks.specs.plan_records.specs.declared.What.TheVariants as what
+use Rattle.plan_records.specs.declared.What.{What}
+use Rattle.plan_records.specs.declared.What.TheVariants as what
 use Rattle.plan_steps.specs.declared.edits.Edit.{Edit}
 use Rattle.plan_steps.specs.declared.revisions.Revision.TheVariants as revision
 

@@ -2,11 +2,11 @@
 use Rattle.std.specs.Prelude.{◌≡◌, true, List, []}
 use Rattle.std.specs.FinMap.{contains_key, insert}
 use Rattle.plan_basics.specs.declared.keys.OpKey.{OpKey}
-use Rattle.plan_looks.specs.plan_kept.specs.plan_model.specs.Contents.{Contents}
-use Rattle.plan_looks.specs.plan_kept.specs.plan_model.specs.Ready.{with_mark}
-use Rattle.plan_looks.specs.plan_records.specs.Changes.{Changes, IsRequest, is_at, revised}
-use Rattle.plan_looks.specs.plan_records.specs.declared.What.{What}
-use Rattle.plan_looks.specs.plan_records.specs.ready_list.specs.Choice.{is_among}
+use Rattle.plan_records.specs.plan_model.specs.Contents.{Contents}
+use Rattle.plan_records.specs.plan_model.specs.Ready.{with_mark}
+use Rattle.plan_records.specs.Changes.{Changes, IsRequest, is_at, revised}
+use Rattle.plan_records.specs.declared.What.{What}
+use Rattle.ready_list.specs.Choice.{is_among}
 use Rattle.plan_changes.specs.Markings.{DifferInMarks}
 use Rattle.plan_steps.specs.EditedKeys.{AreEditedKeys}
 use Rattle.plan_steps.specs.declared.revisions.Revision.{Revision}

@@ -1,18 +1,18 @@
 -- What a step changes in the figures of a plan.
 use Rattle.std.specs.Prelude.{ℕ, ℤ, List}
-use Rattle.plan_looks.specs.plan_kept.specs.plan_choice.specs.Choices.{AreLatestStarts}
-use Rattle.plan_looks.specs.plan_kept.specs.plan_model.specs.Contents.{Contents}
-use Rattle.plan_looks.specs.plan_kept.specs.plan_model.specs.Valid.{IsSound}
-use Rattle.plan_looks.specs.plan_restating.specs.Entries.{AreEntriesAt}
+use Rattle.plan_figures.specs.plan_choice.specs.Choices.{AreLatestStarts}
+use Rattle.plan_records.specs.plan_model.specs.Contents.{Contents}
+use Rattle.plan_records.specs.plan_model.specs.Valid.{IsSound}
+use Rattle.plan_figures.specs.Entries.{AreEntriesAt}
 use Rattle.plan_steps.specs.Columns.{AreColumnsOf, IsExcerptOf, AreSharesOf}
 use Rattle.plan_steps.specs.Touched.{IsTouchedAt}
-use Rattle.plan_steps.specs.declared.columns.Columns.{Columns}
+use Rattle.plan_steps.specs.declared.columns.FigureColumns.{FigureColumns}
 use Rattle.plan_steps.specs.declared.excerpts.Excerpt.{Excerpt}
 use Rattle.plan_steps.specs.declared.shifting.Shift.{Shift}
 
 -- it has what columns of the plan that holds R have at these places
 pub record HasColumnsAt (R : Contents) (places : List ℕ) (x : Excerpt) : Type 0 where
-  pub columns : Columns
+  pub columns : FigureColumns
   pub are : AreColumnsOf R columns
   pub excerpt : IsExcerptOf R places columns x
 

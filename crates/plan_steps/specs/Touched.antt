@@ -4,8 +4,8 @@ use Rattle.std.specs.FinMap.{entries}
 use Rattle.std.specs.List.Sorted.{IsStrictlySortedBy}
 use Rattle.std.specs.Ordering.{nat_cmp}
 use Rattle.plan_basics.specs.declared.keys.OpKey.{OpKey}
-use Rattle.plan_looks.specs.plan_kept.specs.plan_model.specs.Contents.{Contents, Operation}
-use Rattle.plan_looks.specs.plan_kept.specs.plan_model.specs.Status.{HasStatus}
+use Rattle.plan_records.specs.plan_model.specs.Contents.{Contents, Operation}
+use Rattle.plan_records.specs.plan_model.specs.Status.{HasStatus}
 use Rattle.plan_rows.specs.Touched.{AreMovedAmong}
 use Rattle.plan_rows.specs.plan_status.specs.Standings.{IsStanding}
 use Rattle.plan_rows.specs.plan_status.specs.declared.standings.Standing.{Standing}

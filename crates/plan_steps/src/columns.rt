@@ -1,12 +1,12 @@
 // The figures of a plan in three parts: what is kept by place, what is ready, and what is short.
 ghost use Rattle.std.specs.Prelude.{◌≡◌, IfErr, IfOk};
 ghost use Rattle.plan_basics.specs.declared.Refusal.{Refusal};
-ghost use Rattle.plan_looks.specs.plan_kept.specs.plan_model.specs.Contents.{Contents};
+ghost use Rattle.plan_records.specs.plan_model.specs.Contents.{Contents};
 ghost use Rattle.plan_steps.specs.Columns.{AreSharesOf, figures_of};
 
 use plan_basics::Refusal;
 use plan_cascade::Kept;
-use plan_looks::Figures;
+use plan_checks::Figures;
 use plan_rows::Standing;
 use ready_list::ReadyList;
 use special_resources::Holdings;
@@ -16,7 +16,7 @@ use workstations::Capacity;
 
 /// What is kept of each operation and each occurrence, in the order of their keys.
 #[derive(Drop)]
-pub struct Columns {
+pub struct FigureColumns {
     /// Of each operation, whether it is satisfied, and how many predecessors it waits for.
     pub kept: Vec<Kept>,
     /// Of each operation, what is known of its predecessors.
@@ -50,7 +50,7 @@ impl Shares {
 }
 
 /// The parts of these figures.
-pub fn parts_of(figures: Figures) -> (Columns, ReadyList, Shares)
+pub fn parts_of(figures: Figures) -> (FigureColumns, ReadyList, Shares)
     ensures { figures_of result.0 result.1 result.2 ≡ figures }
 {
     let Figures {
@@ -62,7 +62,7 @@ pub fn parts_of(figures: Figures) -> (Columns, ReadyList, Shares)
         holdings,
         ready,
     } = figures;
-    let columns = Columns {
+    let columns = FigureColumns {
         kept,
         standings,
         statuses,
@@ -73,7 +73,7 @@ pub fn parts_of(figures: Figures) -> (Columns, ReadyList, Shares)
 }
 
 /// The figures of which these are the parts.
-pub fn figures_with(columns: Columns, ready: ReadyList, shares: Shares) -> Figures
+pub fn figures_with(columns: FigureColumns, ready: ReadyList, shares: Shares) -> Figures
     ensures { result ≡ figures_of columns ready shares }
 {
     Figures {

@@ -1,10 +1,10 @@
 // Which operations are satisfied and how many predecessors each waits for, once some are edited.
 ghost use Rattle.std.specs.Prelude.{◌≡◌, ◌≤◌, [], length, map, IfOk, OnOk};
 ghost use Rattle.plan_cascade.specs.Journal.{IsJournaled};
-ghost use Rattle.plan_looks.specs.plan_kept.specs.plan_model.specs.Contents.{Contents};
-ghost use Rattle.plan_looks.specs.plan_kept.specs.plan_waiting.specs.Kept.{AreKept};
-ghost use Rattle.plan_looks.specs.StepLooks.{IsKeptBeside};
-ghost use Rattle.plan_looks.specs.plan_restating.specs.Overwritten.{overwritten};
+ghost use Rattle.plan_records.specs.plan_model.specs.Contents.{Contents};
+ghost use Rattle.plan_figures.specs.Kept.{AreKept};
+ghost use Rattle.plan_steps.specs.StepLooks.{IsKeptBeside};
+ghost use Rattle.plan_figures.specs.Overwritten.{overwritten};
 ghost use Rattle.plan_steps.specs.Edits.{AreBelow, IsKeptBefore};
 ghost use Rattle.plan_steps.specs.Groundworks.{IsCounted, IsKeptThen};
 
@@ -13,7 +13,7 @@ use super::places::{joined, noted};
 use super::values::values_at;
 use operation_graph::Graph;
 use plan_cascade::{Kept, take_back};
-use plan_looks::{Shown, satisfy, unsatisfy};
+use plan_checks::{Shown, satisfy, unsatisfy};
 use std::alloc::{AllocError, Global};
 
 /// What follows from an edit for what is kept of operations.

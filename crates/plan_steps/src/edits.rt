@@ -4,21 +4,23 @@ ghost use Rattle.std.specs.FinMap.{entries, keys as keys_in};
 ghost use Rattle.plan_basics.specs.Minutes.{IsMoment};
 ghost use Rattle.plan_basics.specs.Refusals.{NoneRefuses};
 ghost use Rattle.plan_basics.specs.declared.Refusal.{Refusal};
-ghost use Rattle.plan_looks.specs.plan_kept.specs.Edits.{IsRerun, IsSmall};
-ghost use Rattle.plan_looks.specs.plan_kept.specs.plan_drafts.specs.PlanGraphs.{StandAt};
-ghost use Rattle.plan_looks.specs.plan_kept.specs.plan_state.specs.Frames.{IsFrameOf};
-ghost use Rattle.plan_looks.specs.StepLooks.{AreWorkedAt, one_at_least};
+ghost use Rattle.plan_steps.specs.KeptEdits.{IsRerun, IsSmall};
+ghost use Rattle.plan_records.specs.plan_drafts.specs.PlanGraphs.{StandAt};
+ghost use Rattle.plan_figures.specs.Frames.{IsFrameOf};
+ghost use Rattle.plan_steps.specs.StepLooks.{AreWorkedAt, one_at_least};
 ghost use Rattle.plan_changes.specs.plan_moves.specs.declared.Marking.{Marking as MarkingValue};
-ghost use Rattle.plan_looks.specs.plan_records.specs.Acceptance.{MayBeDone};
-ghost use Rattle.plan_looks.specs.plan_records.specs.Changes.{Changes, IsRequest};
+ghost use Rattle.plan_records.specs.Acceptance.{MayBeDone};
+ghost use Rattle.plan_records.specs.Changes.{Changes, IsRequest};
 ghost use Rattle.plan_steps.specs.Edits.{IsEditFor, IsNotedEdit, edited};
 ghost use Rattle.plan_steps.specs.Idle.{IsIdle, IsOfNothing};
 
+use super::kept_edits::edited_places;
 use super::requests::revision_of;
 use super::revisions::Revision;
 use plan_basics::{OpKey, Refusal};
 use plan_changes::Marking;
-use plan_looks::{Beside, Frame, Outline, Shown, What, edited_places};
+use plan_checks::{Beside, Frame, Outline, Shown};
+use plan_records::What;
 use std::alloc::{AllocError, Global};
 
 /// What a request edits.
@@ -89,8 +91,8 @@ fn is_idle_at_one(what: &What, marks: &[Marking]) -> bool
     false
 }
 
-// The edit of nothing.
-fn nothing_edited(alloc: Global) -> Edit
+/// The edit of nothing.
+pub fn nothing_edited(alloc: Global) -> Edit
     ensures { IsOfNothing result }
 {
     Edit {

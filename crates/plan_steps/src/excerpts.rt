@@ -1,15 +1,16 @@
 // Excerpts of what is kept by place.
 ghost use Rattle.std.specs.Prelude.{◌≡◌, ◌<◌, All, IfOk, length};
 ghost use Rattle.std.specs.FinMap.{entries};
-ghost use Rattle.plan_looks.specs.plan_kept.specs.plan_model.specs.Contents.{Contents};
-ghost use Rattle.plan_looks.specs.plan_restating.specs.Entries.{CanBeRelisted};
+ghost use Rattle.plan_records.specs.plan_model.specs.Contents.{Contents};
+ghost use Rattle.plan_figures.specs.Entries.{CanBeRelisted};
 ghost use Rattle.plan_steps.specs.Columns.{AreAlike, AreSizedBy, GoesByStatuses, IsExcerptOf, MakesOf};
-ghost use Rattle.plan_steps.specs.declared.columns.Columns.{Columns as ColumnsValue};
+ghost use Rattle.plan_steps.specs.declared.columns.FigureColumns.{FigureColumns as FigureColumnsValue};
 
-use super::columns::Columns;
+use super::columns::FigureColumns;
 use super::values::{occurrences_at, put_at, values_at};
 use plan_cascade::Kept;
-use plan_looks::{Beside, relist_all};
+use plan_checks::Beside;
+use plan_figures::relist_all;
 use plan_rows::Standing;
 use ready_list::{ReadyEntry, ReadyList};
 use status_rules::{Counts, Status};
@@ -28,7 +29,7 @@ pub struct Excerpt {
 pub fn excerpt_of(
     alloc: Global,
     beside: &Beside<'_>,
-    columns: &Columns,
+    columns: &FigureColumns,
     places: &[usize],
 ) -> Result<Excerpt, AllocError>
     requires sized { AreSizedBy beside.now.contents.now columns.now }
@@ -47,14 +48,14 @@ pub fn excerpt_of(
 /// Writes an excerpt into columns; the ready list, which goes by the statuses, follows by the entries of the operations whose
 /// statuses these are. Nothing of the plan is looked at, and it takes no memory.
 pub fn put_excerpt(
-    columns: &mut Columns,
+    columns: &mut FigureColumns,
     ready: &mut ReadyList,
     excerpt: &Excerpt,
     entries: &[ReadyEntry],
 )
-    requires makes { (to : ColumnsValue) × MakesOf excerpt.now columns.old to }
+    requires makes { (to : FigureColumnsValue) × MakesOf excerpt.now columns.old to }
     requires listed { (P : Contents) × CanBeRelisted P columns.old.statuses.items ready.old excerpt.now.statuses.items entries.now }
-    ensures alike { (to : ColumnsValue) → MakesOf excerpt.now columns.old to → AreAlike columns.new to }
+    ensures alike { (to : FigureColumnsValue) → MakesOf excerpt.now columns.old to → AreAlike columns.new to }
     ensures ready { (P : Contents) → CanBeRelisted P columns.old.statuses.items ready.old excerpt.now.statuses.items entries.now → GoesByStatuses P columns.new.statuses.items ready.new }
 {
     put_at(&mut columns.kept, &excerpt.kept);

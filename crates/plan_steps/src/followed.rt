@@ -1,22 +1,24 @@
 // What is named at a moment, and all that is needed to note it.
 ghost use Rattle.std.specs.Prelude.{◌≡◌, ◌+◌, ◌≤◌, ℕ, IfErr, IfOk, length};
 ghost use Rattle.plan_basics.specs.declared.Refusal.{Refusal};
-ghost use Rattle.plan_looks.specs.plan_kept.specs.plan_choice.specs.Choices.{AreLatestStarts};
-ghost use Rattle.plan_looks.specs.plan_restating.specs.Beside.{places_beside};
-ghost use Rattle.plan_looks.specs.plan_restating.specs.Entries.{AreEntriesAt};
+ghost use Rattle.plan_figures.specs.plan_choice.specs.Choices.{AreLatestStarts};
+ghost use Rattle.plan_figures.specs.Beside.{places_beside};
+ghost use Rattle.plan_figures.specs.Entries.{AreEntriesAt};
 ghost use Rattle.plan_steps.specs.Columns.{AreColumnsOf, AreSharesOf, IsReadyListOf};
 ghost use Rattle.plan_steps.specs.Edits.{ArePlacesIn};
 ghost use Rattle.plan_steps.specs.Following.{IsFollowed};
 ghost use Rattle.plan_steps.specs.Naming.{IsNaming};
 
-use super::columns::{Columns, Shares};
+use super::columns::{FigureColumns, Shares};
 use super::excerpts::{Excerpt, excerpt_of};
 use super::naming::{Naming, name};
 use super::places::joined;
+use super::setting::{Edited, Setting};
 use super::statuses::statuses_once_named;
 use latest_start::Latest;
-use plan_basics::{Moment, Refusal};
-use plan_looks::{Shown, entries_at};
+use plan_basics::Refusal;
+use plan_checks::Shown;
+use plan_figures::entries_at;
 use ready_list::{ReadyEntry, ReadyList};
 use status_rules::Status;
 use std::alloc::Global;
@@ -35,33 +37,36 @@ pub struct Followed {
     pub entries: Vec<ReadyEntry>,
 }
 
-// What follows from a naming, and from an edit that touched these places, of which these are the entries. It takes a look at each
-// place that the edit didn't touch. The error is always `Memory`.
+// What follows from a naming, and from an edit. It takes a look at each place that the edit didn't touch. The error is always `Memory`.
 fn followed_by(
     alloc: Global,
     shown: &mut Shown,
     latest: &Latest,
-    columns: &Columns,
+    columns: &FigureColumns,
     naming: Naming,
-    edited: &[usize],
-    known: &[ReadyEntry],
+    edited: Edited<'_>,
 ) -> Result<Followed, Refusal>
     requires latest { AreLatestStarts shown.old.contents latest.now.starts }
     requires columns { AreColumnsOf shown.old.contents columns.now }
     requires naming { (at : ℕ) × IsNaming shown.old.contents at naming }
-    requires edited { ArePlacesIn shown.old.contents edited.now }
-    requires known { AreEntriesAt shown.old.contents edited.now known.now }
-    ensures followed { IfOk result (λ f. (at : ℕ) → IsNaming shown.old.contents at naming → IsFollowed shown.old.contents at edited.now columns.now f) }
+    requires edited { ArePlacesIn shown.old.contents edited.places.now }
+    requires known { AreEntriesAt shown.old.contents edited.places.now edited.entries.now }
+    ensures followed { IfOk result (λ f. (at : ℕ) → IsNaming shown.old.contents at naming → IsFollowed shown.old.contents at edited.entry.places.now columns.now f) }
     ensures contents { shown.new.contents ≡ shown.old.contents }
     ensures fewest { shown.old.looks ≤ shown.new.looks }
-    ensures most { IfOk result (λ f. shown.new.looks ≤ shown.old.looks + length (places_beside edited.now f.touched.items)) }
+    ensures most { IfOk result (λ f. shown.new.looks ≤ shown.old.looks + length (places_beside edited.entry.places.now f.touched.items)) }
     ensures refused { IfErr result (λ r. r ≡ Refusal.Memory) }
 {
-    let touched = joined(alloc, edited, &naming.places)?;
+    let Edited {
+        places,
+        entries: known,
+        ..
+    } = edited;
+    let touched = joined(alloc, places, &naming.places)?;
     let old = excerpt_of(alloc, &shown.beside(), columns, &touched)?;
     let statuses = statuses_once_named(alloc, &columns.statuses, &touched, &naming.places)?;
     let mut entries = Vec::with_capacity(alloc, touched.len())?;
-    entries_at(shown, latest, &touched, edited, known, &mut entries);
+    entries_at(shown, latest, &touched, places, known, &mut entries);
     Ok(Followed {
         naming,
         touched,
@@ -71,37 +76,39 @@ fn followed_by(
     })
 }
 
-/// What is named at a moment, and what is touched by that and by an edit that touched these places, of which these are the entries.
-/// It takes a look at each entry of the ready list, and at each place that is named and wasn't touched. It gives back what is shown.
-/// The error is always `Memory`.
+/// What is named at the moment, and what is touched by that and by an edit. It takes a look at each entry of the ready list, and at each
+/// place that is named and wasn't touched by the edit. It gives back what is shown. The error is always `Memory`.
 pub fn follow(
-    alloc: Global,
+    setting: &Setting<'_>,
     shown: Shown,
-    latest: &Latest,
-    columns: &Columns,
+    columns: &FigureColumns,
     ready: &ReadyList,
     shares: Shares,
-    edited: &[usize],
-    known: &[ReadyEntry],
-    at: Moment,
+    edited: Edited<'_>,
 ) -> (Shown, Result<Followed, Refusal>)
-    requires latest { AreLatestStarts shown.contents latest.now.starts }
+    requires latest { AreLatestStarts shown.contents setting.now.latest.now.starts }
     requires columns { AreColumnsOf shown.contents columns.now }
     requires ready { IsReadyListOf shown.contents ready.now }
     requires shares { AreSharesOf shown.contents shares }
-    requires edited { ArePlacesIn shown.contents edited.now }
-    requires known { AreEntriesAt shown.contents edited.now known.now }
+    requires edited { ArePlacesIn shown.contents edited.places.now }
+    requires known { AreEntriesAt shown.contents edited.places.now edited.entries.now }
     ensures contents { result.0.contents ≡ shown.contents }
-    ensures followed { IfOk result.1 (IsFollowed shown.contents at edited.now columns.now) }
+    ensures followed { IfOk result.1 (IsFollowed shown.contents setting.now.at edited.entry.places.now columns.now) }
     ensures fewest { IfOk result.1 (λ f. shown.looks ≤ result.0.looks) }
-    ensures most { IfOk result.1 (λ f. result.0.looks ≤ shown.looks + length ready.now.entries + length (places_beside edited.now f.touched.items)) }
+    ensures most { IfOk result.1 (λ f. result.0.looks ≤ shown.looks + length ready.now.entries + length (places_beside edited.entry.places.now f.touched.items)) }
     ensures refused { IfErr result.1 (λ r. r ≡ Refusal.Memory) }
 {
+    let Setting {
+        alloc,
+        latest,
+        at,
+        ..
+    } = *setting;
     let (same, naming) = name(alloc, shown, ready, shares, at);
     match naming {
         Ok(naming) => {
             let mut same = same;
-            let followed = followed_by(alloc, &mut same, latest, columns, naming, edited, known);
+            let followed = followed_by(alloc, &mut same, latest, columns, naming, edited);
             (same, followed)
         }
         Err(refusal) => (same, Err(refusal)),

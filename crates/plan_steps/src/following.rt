@@ -1,9 +1,9 @@
 // What is named once an edit is written and the figures have moved on, and what is noted then.
 ghost use Rattle.std.specs.Prelude.{◌≡◌, ◌+◌, ◌≤◌, ◌⊎◌, ℕ, List, IfErr, IfOk, length};
 ghost use Rattle.plan_basics.specs.declared.Refusal.{Refusal};
-ghost use Rattle.plan_looks.specs.plan_kept.specs.plan_choice.specs.Choices.{AreLatestStarts};
-ghost use Rattle.plan_looks.specs.plan_kept.specs.plan_model.specs.Ready.{named as named_in};
-ghost use Rattle.plan_looks.specs.plan_restating.specs.Entries.{AreEntriesAt};
+ghost use Rattle.plan_figures.specs.plan_choice.specs.Choices.{AreLatestStarts};
+ghost use Rattle.plan_records.specs.plan_model.specs.Ready.{named as named_in};
+ghost use Rattle.plan_figures.specs.Entries.{AreEntriesAt};
 ghost use Rattle.plan_rows.specs.Notes.{operations_noted};
 ghost use Rattle.plan_steps.specs.Columns.{AreAlike, AreColumnsOf, AreSharesOf, IsReadyListOf};
 ghost use Rattle.plan_steps.specs.Edits.{ArePlacesIn};
@@ -11,18 +11,17 @@ ghost use Rattle.plan_steps.specs.Following.{IsFollowed};
 ghost use Rattle.plan_steps.specs.Naming.{AreNotesOf, IsStepOf};
 ghost use Rattle.plan_steps.specs.Shifts.{HasColumnsAt};
 
-use super::columns::{Columns, Shares};
+use super::columns::{FigureColumns, Shares};
 use super::followed::{Followed, follow};
 use super::naming::Naming;
-use super::noting::{Noted, note};
+use super::noting::{StepNotes, note};
+use super::setting::{Edited, Setting};
 use super::shifting::Shift;
 use super::writing::{with_named, without_named};
-use latest_start::Latest;
-use plan_basics::{Moment, OpKey, Refusal};
-use plan_looks::Shown;
-use plan_rows::{Beside, Notes};
-use ready_list::{ReadyEntry, ReadyList};
-use std::alloc::Global;
+use plan_basics::{OpKey, Refusal};
+use plan_checks::Shown;
+use plan_rows::{ChangeBeside, Notes};
+use ready_list::ReadyList;
 
 /// What a small request leads to.
 #[derive(Drop)]
@@ -36,7 +35,7 @@ pub struct SmallStep {
 }
 
 // What is named, with what was noted then, is a step.
-fn step_of(followed: Followed, noted: Noted) -> SmallStep
+fn step_of(followed: Followed, noted: StepNotes) -> SmallStep
     ensures named { result.named ≡ followed.naming.named }
     ensures shares { result.shift.shares ≡ followed.naming.shares }
     ensures entries { result.shift.entries ≡ followed.entries }
@@ -49,7 +48,7 @@ fn step_of(followed: Followed, noted: Noted) -> SmallStep
         ..
     } = followed;
     let Naming { named, shares, .. } = naming;
-    let Noted { notes, columns } = noted;
+    let StepNotes { notes, columns } = noted;
     let shift = Shift {
         columns,
         entries,
@@ -65,15 +64,14 @@ fn step_of(followed: Followed, noted: Noted) -> SmallStep
 // What is noted once what follows is named, by a look at each place that is touched. It gives the same back, and leaves the columns;
 // the ready list is that of the plan still. The error is always `Memory`.
 fn note_step(
-    alloc: Global,
+    setting: &Setting<'_>,
     shown: Shown,
-    latest: &Latest,
-    columns: &mut Columns,
+    columns: &mut FigureColumns,
     ready: &mut ReadyList,
     followed: Followed,
-    beside: Beside,
+    beside: ChangeBeside,
 ) -> (Shown, Result<SmallStep, Refusal>)
-    requires latest { AreLatestStarts shown.contents latest.now.starts }
+    requires latest { AreLatestStarts shown.contents setting.now.latest.now.starts }
     requires columns { AreColumnsOf shown.contents columns.old }
     requires ready { IsReadyListOf shown.contents ready.old }
     requires followed { (at : ℕ) × (edited : List ℕ) × ArePlacesIn shown.contents edited × IsFollowed shown.contents at edited columns.old followed }
@@ -91,7 +89,7 @@ fn note_step(
     ensures refused { IfErr result.1 (λ r. r ≡ Refusal.Memory) }
 {
     let mut after = with_named(shown, &followed.naming.named);
-    let noted = note(alloc, &mut after, latest, columns, ready, &followed, beside);
+    let noted = note(setting, &mut after, columns, ready, &followed, beside);
     let same = without_named(after, &followed.naming.named);
     match noted {
         Ok(noted) => (same, Ok(step_of(followed, noted))),
@@ -99,37 +97,31 @@ fn note_step(
     }
 }
 
-/// What follows in a plan that an edit made, which touched these places, where these are the entries, with these figures. It gives the
-/// same back, and leaves the columns; the ready list is that of the plan still. The error is always `Memory`.
+/// What follows in a plan that an edit made, with these figures. It gives the same back, and leaves the columns; the ready list is that
+/// of the plan still. The error is always `Memory`.
 pub fn named_step(
-    alloc: Global,
+    setting: &Setting<'_>,
     shown: Shown,
-    latest: &Latest,
-    columns: &mut Columns,
+    columns: &mut FigureColumns,
     ready: &mut ReadyList,
     shares: Shares,
-    edited: &[usize],
-    known: &[ReadyEntry],
-    beside: Beside,
-    at: Moment,
+    edited: Edited<'_>,
 ) -> (Shown, Result<SmallStep, Refusal>)
-    requires latest { AreLatestStarts shown.contents latest.now.starts }
+    requires latest { AreLatestStarts shown.contents setting.now.latest.now.starts }
     requires columns { AreColumnsOf shown.contents columns.old }
     requires ready { IsReadyListOf shown.contents ready.old }
     requires shares { AreSharesOf shown.contents shares }
-    requires edited { ArePlacesIn shown.contents edited.now }
-    requires known { AreEntriesAt shown.contents edited.now known.now }
+    requires edited { ArePlacesIn shown.contents edited.places.now }
+    requires known { AreEntriesAt shown.contents edited.places.now edited.entries.now }
     ensures contents { result.0.contents ≡ shown.contents }
     ensures unchanged { AreAlike columns.new columns.old }
     ensures ready { IsReadyListOf shown.contents ready.new }
-    ensures step { IfOk result.1 (IsStepOf shown.contents at edited.now beside shown.looks result.0.looks) }
+    ensures step { IfOk result.1 (IsStepOf shown.contents setting.now.at edited.entry.places.now edited.entry.beside shown.looks result.0.looks) }
     ensures refused { IfErr result.1 (λ r. r ≡ Refusal.Memory) }
 {
-    let (same, followed) = follow(
-        alloc, shown, latest, columns, ready, shares, edited, known, at,
-    );
+    let (same, followed) = follow(setting, shown, columns, ready, shares, edited);
     match followed {
-        Ok(followed) => note_step(alloc, same, latest, columns, ready, followed, beside),
+        Ok(followed) => note_step(setting, same, columns, ready, followed, edited.beside),
         Err(refusal) => (same, Err(refusal)),
     }
 }

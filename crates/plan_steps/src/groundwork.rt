@@ -1,22 +1,26 @@
 // What is worked out of an edit before the figures are written.
 ghost use Rattle.std.specs.Prelude.{◌≡◌, ◌≤◌, ℤ, List, [], IfErr, IfOk, OnOk, length, vec_capacity};
 ghost use Rattle.plan_basics.specs.declared.Refusal.{Refusal};
-ghost use Rattle.plan_looks.specs.plan_kept.specs.plan_model.specs.Contents.{Contents};
-ghost use Rattle.plan_looks.specs.plan_restating.specs.Overwritten.{overwritten};
+ghost use Rattle.plan_basics.specs.declared.keys.OpKey.{OpKey as OpKeyValue};
+ghost use Rattle.plan_rows.specs.Touched.{StaysBeside};
+ghost use Rattle.plan_steps.specs.Revisions.{written};
+ghost use Rattle.plan_records.specs.plan_model.specs.Contents.{Contents};
+ghost use Rattle.plan_figures.specs.Overwritten.{overwritten};
 ghost use Rattle.plan_steps.specs.Columns.{AreAlike, AreSharesOf, figures_of};
 ghost use Rattle.plan_steps.specs.Edits.{WasEdited};
 ghost use Rattle.plan_steps.specs.Groundworks.{IsCounted, IsGroundwork};
 ghost use Rattle.ready_list.specs.Entries.{ReadyEntries};
 
-use super::columns::{Columns, Shares};
+use super::columns::{FigureColumns, Shares};
 use super::counting::{KeptThen, recount};
 use super::edits::Edit;
 use super::excerpts::{Excerpt, excerpt_of};
 use operation_graph::Graph;
 use plan_basics::Refusal;
 use plan_cascade::Kept;
-use plan_looks::Shown;
-use plan_takings::retake;
+use plan_checks::Shown;
+use plan_figures::retake;
+use plan_rows::ChangeBeside;
 use ready_list::ReadyEntry;
 use std::alloc::Global;
 
@@ -29,6 +33,8 @@ pub struct Groundwork {
     pub kept: Vec<(usize, Kept)>,
     /// What the columns have there before.
     pub old: Excerpt,
+    /// What it may change beside operations.
+    pub beside: ChangeBeside,
 }
 
 /// What is worked out of an edit before columns are written, with room for an entry of each operation that it touches: the columns
@@ -39,12 +45,13 @@ pub fn groundwork_of(
     graph: &Graph,
     shown: &mut Shown,
     edit: &Edit,
-    columns: &mut Columns,
+    columns: &mut FigureColumns,
     shares: &mut Shares,
 ) -> Result<(Groundwork, Vec<ReadyEntry>), Refusal>
     requires { (P : Contents) × (starts : List ℤ) × (ready : ReadyEntries) × WasEdited P shown.old.contents edit.now graph.now starts (figures_of columns.old ready shares.old) }
     ensures unchanged { AreAlike columns.new columns.old }
     ensures groundwork { IfOk result (λ g. IsGroundwork shown.old.contents edit.now.places.items columns.new g.0) }
+    ensures beside { IfOk result (λ g. (keys : List OpKeyValue) (P : Contents) → StaysBeside g.0.beside P (written keys edit.now.revision P)) }
     ensures none_noted { IfOk result (λ g. g.1.items ≡ []) }
     ensures space { IfOk result (λ g. length g.0.touched.items ≤ vec_capacity g.1) }
     ensures shares { OnOk result (AreSharesOf shown.old.contents shares.new) }
@@ -63,5 +70,11 @@ pub fn groundwork_of(
     )?;
     let old = excerpt_of(alloc, &shown.beside(), columns, &touched)?;
     let entries = Vec::with_capacity(alloc, touched.len())?;
-    Ok((Groundwork { touched, kept, old }, entries))
+    let groundwork = Groundwork {
+        touched,
+        kept,
+        old,
+        beside: edit.revision.beside(),
+    };
+    Ok((groundwork, entries))
 }

@@ -1,7 +1,7 @@
 //! What a small request leads to: one by which only marks and flags change, which special resources are available, or when
 //! workstations are open. It is written into what is shown of the plan, what follows is worked out and noted there, and then all is
 //! put back. What is kept of the plan moves with it, from the operations that the request edits and those that are named, and is
-//! put back too.
+//! put back too. And laws: what stays where no more than that changes, and that what is looked at is within what is allowed.
 #![tactic(auto)]
 
 mod columns;
@@ -11,12 +11,16 @@ mod excerpts;
 mod followed;
 mod following;
 mod groundwork;
+mod kept_edits;
+mod kept_places;
+mod laws;
 mod moving;
 mod naming;
 mod noting;
 mod places;
 mod requests;
 mod revisions;
+mod setting;
 mod shifting;
 mod statuses;
 mod steps;
@@ -24,24 +28,21 @@ mod trying;
 mod values;
 mod writing;
 
-pub use columns::{Columns as FigureColumns, Shares, figures_with, parts_of};
-pub use edits::{Edit, edit_of};
-pub use excerpts::{Excerpt, excerpt_of, put_excerpt};
-pub use following::{SmallStep, named_step};
-pub use places::{joined, noted};
-pub use plan_changes::{Marking, deleted, mark_all, with_addition, with_pair};
-pub use plan_looks::{
-    Figures, Frame, LoadedPlan, OperationRecord, Outline, Parts, PlanContents, Reported,
-    Shown as CountedShown, Standing, check_load, check_request, chosen, deletions_look_few,
-    entry_seen, is_small, latest_of, leaves_time, move_statuses, operations_of, pair_places,
-    pairs_look_few, predecessors_outside, reached_keys, ready_of, relist_all, restate_by,
-    small_steps_look_few, standing_at, whole_plans_look_few,
+pub use edits::{Edit, edit_of, nothing_edited};
+pub use following::SmallStep;
+pub use kept_edits::is_small;
+pub use laws::{
+    edits_lead_on, frame_stays, naming_moves, small_requests_move, small_steps_look_few,
+    whole_plans_look_few,
 };
-pub use plan_rows::{
-    Beside, Columns, Notes, PlanShown, Shown, SoundContents, changes_between, noted_changes,
+pub use plan_changes::{deleted, with_addition, with_pair};
+pub use plan_checks::{check_load, check_request};
+pub use plan_figures::{
+    Figures, Frame, LoadedPlan, Parts, Reported, Shown, chosen, latest_of, ready_of,
 };
+pub use plan_rows::{Notes, PlanShown, RowSource, SourceColumns, changes_between, noted_changes};
 pub use revisions::Revision;
+pub use setting::Setting;
 pub use shifting::{Shift, shifted};
 pub use steps::small_step;
-pub use values::{put_at, values_at};
-pub use writing::{stepped, with_named, with_revision, without_named};
+pub use writing::stepped;

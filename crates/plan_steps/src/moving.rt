@@ -1,15 +1,16 @@
 // What is kept by place, moved on to that of the plan after an edit.
 ghost use Rattle.std.specs.Prelude.{◌≡◌, ◌+◌, ◌≤◌, ℕ, List, [], length, vec_capacity};
-ghost use Rattle.plan_looks.specs.plan_kept.specs.plan_model.specs.Contents.{Contents};
-ghost use Rattle.plan_looks.specs.plan_restating.specs.Entries.{AreEntriesAt};
+ghost use Rattle.plan_records.specs.plan_model.specs.Contents.{Contents};
+ghost use Rattle.plan_figures.specs.Entries.{AreEntriesAt};
 ghost use Rattle.plan_steps.specs.Columns.{AreColumnsOf, IsReadyListOf, MakesOf};
 ghost use Rattle.plan_steps.specs.Groundworks.{HasGroundwork};
 
-use super::columns::Columns;
+use super::columns::FigureColumns;
 use super::groundwork::Groundwork;
 use super::values::put_at;
 use latest_start::Latest;
-use plan_looks::{Shown, restand, restate};
+use plan_checks::Shown;
+use plan_figures::{Restating, restand, restate};
 use ready_list::{ReadyEntry, ReadyList};
 
 /// Moves columns and the ready list on to those of the plan after an edit of which this was worked out, by a look at each operation
@@ -17,7 +18,7 @@ use ready_list::{ReadyEntry, ReadyList};
 pub fn move_columns(
     shown: &mut Shown,
     latest: &Latest,
-    columns: &mut Columns,
+    columns: &mut FigureColumns,
     ready: &mut ReadyList,
     groundwork: &Groundwork,
     noted: &mut Vec<ReadyEntry>,
@@ -35,14 +36,17 @@ pub fn move_columns(
 {
     put_at(&mut columns.kept, &groundwork.kept);
     restand(&mut columns.standings, &columns.kept, &groundwork.touched);
+    let by = Restating {
+        latest,
+        standings: &columns.standings,
+        places: &groundwork.touched,
+    };
     restate(
         shown,
-        latest,
-        &columns.standings,
+        by,
         &mut columns.statuses,
         &mut columns.tallies,
         ready,
-        &groundwork.touched,
         noted,
     );
 }

@@ -6,8 +6,9 @@ ghost use Rattle.plan_steps.specs.Following.{IsChoiceOf};
 ghost use Rattle.plan_steps.specs.Naming.{IsNaming};
 
 use super::columns::Shares;
+use super::kept_places::places_of;
 use plan_basics::{Moment, OpKey, Refusal};
-use plan_looks::{Beside, Choice, Shown, chosen_with, places_of};
+use plan_checks::{Beside, Choice, Shown, chosen_with};
 use ready_list::ReadyList;
 use std::alloc::Global;
 

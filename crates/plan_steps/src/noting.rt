@@ -1,26 +1,28 @@
 // What a plan in which what is chosen is named has at the places that were touched.
 ghost use Rattle.std.specs.Prelude.{◌≡◌, ◌+◌, ◌≤◌, ◌⊎◌, ℕ, ℤ, List, IfErr, IfOk, OnOk, length};
 ghost use Rattle.plan_basics.specs.declared.Refusal.{Refusal};
-ghost use Rattle.plan_looks.specs.plan_kept.specs.plan_choice.specs.Choices.{AreLatestStarts};
-ghost use Rattle.plan_looks.specs.plan_kept.specs.plan_model.specs.Contents.{Contents};
+ghost use Rattle.plan_figures.specs.plan_choice.specs.Choices.{AreLatestStarts};
+ghost use Rattle.plan_records.specs.plan_model.specs.Contents.{Contents};
 ghost use Rattle.plan_steps.specs.Columns.{AreAlike, AreColumnsOf, IsReadyListOf};
 ghost use Rattle.plan_steps.specs.Edits.{ArePlacesIn};
 ghost use Rattle.plan_steps.specs.Following.{WasFollowed};
 ghost use Rattle.plan_steps.specs.Naming.{IsNotedOf};
 
-use super::columns::Columns;
+use super::columns::FigureColumns;
 use super::excerpts::{Excerpt, excerpt_of, put_excerpt};
 use super::followed::Followed;
+use super::setting::Setting;
 use latest_start::Latest;
 use plan_basics::Refusal;
-use plan_looks::{Beside as Rest, Shown, restate_all};
-use plan_rows::{Beside, Columns as ColumnsLent, Notes, notes_of};
+use plan_checks::{Beside, Shown};
+use plan_figures::restate_all;
+use plan_rows::{ChangeBeside, Notes, SourceColumns, notes_of};
 use ready_list::ReadyList;
 use std::alloc::Global;
 
 /// What is noted of a plan at the places that were touched.
 #[derive(Drop)]
-pub struct Noted {
+pub struct StepNotes {
     /// The rows.
     pub notes: Notes,
     /// What the columns have there.
@@ -28,7 +30,12 @@ pub struct Noted {
 }
 
 // Moves columns and the ready list on to those of the plan in which what follows is named. It takes no memory, and looks at nothing.
-fn settle(rest: &Rest<'_>, columns: &mut Columns, ready: &mut ReadyList, followed: &Followed)
+fn settle(
+    rest: &Beside<'_>,
+    columns: &mut FigureColumns,
+    ready: &mut ReadyList,
+    followed: &Followed,
+)
     requires { (P : Contents) × (at : ℕ) × (edited : List ℕ) × (starts : List ℤ) × WasFollowed P rest.now.contents.now at edited starts columns.old ready.old followed.now }
     ensures columns { AreColumnsOf rest.now.contents.now columns.new }
     ensures ready { IsReadyListOf rest.now.contents.now ready.new }
@@ -48,10 +55,10 @@ fn noted_of(
     alloc: Global,
     shown: &mut Shown,
     latest: &Latest,
-    columns: &Columns,
-    beside: Beside,
+    columns: &FigureColumns,
+    beside: ChangeBeside,
     touched: &[usize],
-) -> Result<Noted, Refusal>
+) -> Result<StepNotes, Refusal>
     requires columns { AreColumnsOf shown.old.contents columns.now }
     requires latest { AreLatestStarts shown.old.contents latest.now.starts }
     requires touched { ArePlacesIn shown.old.contents touched.now }
@@ -63,7 +70,7 @@ fn noted_of(
     ensures refused { IfErr result (λ r. r ≡ Refusal.Memory) }
 {
     shown.beside().are_sound();
-    let lent = ColumnsLent {
+    let lent = SourceColumns {
         standings: &columns.standings,
         statuses: &columns.statuses,
         tallies: &columns.tallies,
@@ -71,23 +78,22 @@ fn noted_of(
     };
     let notes = notes_of(alloc, shown, lent, beside, touched)?;
     let columns = excerpt_of(alloc, &shown.beside(), columns, touched)?;
-    Ok(Noted { notes, columns })
+    Ok(StepNotes { notes, columns })
 }
 
 /// What is noted at the places that were touched, once columns and the ready list are moved on to those of the plan in which what
 /// follows is named. The columns are then as they were, and the ready list is that of the plan before. The error is always `Memory`.
 pub fn note(
-    alloc: Global,
+    setting: &Setting<'_>,
     shown: &mut Shown,
-    latest: &Latest,
-    columns: &mut Columns,
+    columns: &mut FigureColumns,
     ready: &mut ReadyList,
     followed: &Followed,
-    beside: Beside,
-) -> Result<Noted, Refusal>
-    requires { (P : Contents) × (at : ℕ) × (edited : List ℕ) × WasFollowed P shown.old.contents at edited latest.now.starts columns.old ready.old followed.now }
+    beside: ChangeBeside,
+) -> Result<StepNotes, Refusal>
+    requires { (P : Contents) × (at : ℕ) × (edited : List ℕ) × WasFollowed P shown.old.contents at edited setting.now.latest.now.starts columns.old ready.old followed.now }
     ensures unchanged { AreAlike columns.new columns.old }
-    ensures ready { (P : Contents) (at : ℕ) (edited : List ℕ) → WasFollowed P shown.old.contents at edited latest.now.starts columns.old ready.old followed.now → IsReadyListOf P ready.new }
+    ensures ready { (P : Contents) (at : ℕ) (edited : List ℕ) → WasFollowed P shown.old.contents at edited setting.now.latest.now.starts columns.old ready.old followed.now → IsReadyListOf P ready.new }
     ensures noted { IfOk result (IsNotedOf shown.old.contents beside followed.now.touched.items) }
     ensures contents { shown.new.contents ≡ shown.old.contents }
     ensures fewest { shown.old.looks ≤ shown.new.looks }
@@ -96,6 +102,7 @@ pub fn note(
     ensures refused { IfErr result (λ r. r ≡ Refusal.Memory) }
 {
     settle(&shown.beside(), columns, ready, followed);
+    let Setting { alloc, latest, .. } = *setting;
     let noted = noted_of(alloc, shown, latest, columns, beside, &followed.touched);
     put_excerpt(columns, ready, &followed.old, &followed.entries);
     noted

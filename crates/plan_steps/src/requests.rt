@@ -5,13 +5,14 @@ ghost use Rattle.plan_basics.specs.Intervals.{IsInterval};
 ghost use Rattle.plan_basics.specs.Names.{IsName};
 ghost use Rattle.plan_basics.specs.Refusals.{NoneRefuses};
 ghost use Rattle.plan_changes.specs.Intervals.{opened};
-ghost use Rattle.plan_looks.specs.plan_kept.specs.Edits.{IsSmall};
-ghost use Rattle.plan_looks.specs.plan_records.specs.Acceptance.{MayBeDone, MayBeOpenBy};
+ghost use Rattle.plan_steps.specs.KeptEdits.{IsSmall};
+ghost use Rattle.plan_records.specs.Acceptance.{MayBeDone, MayBeOpenBy};
 ghost use Rattle.plan_steps.specs.Revisions.{IsRevisionFor};
 
 use super::revisions::Revision;
 use plan_basics::{ErrCode, Interval, WsName};
-use plan_looks::{Beside, What};
+use plan_checks::Beside;
+use plan_records::What;
 use status_rules::Mark;
 use std::alloc::{AllocError, Global};
 use workstations::Workstation;

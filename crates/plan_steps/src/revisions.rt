@@ -2,13 +2,13 @@
 ghost use Rattle.std.specs.Prelude.{◌≡◌, true, IfOk, List, Some};
 ghost use Rattle.std.specs.FinMap.{contains_key, get};
 ghost use Rattle.plan_rows.specs.Touched.{StaysBeside};
-ghost use Rattle.plan_looks.specs.plan_kept.specs.plan_model.specs.Contents.{Contents};
+ghost use Rattle.plan_records.specs.plan_model.specs.Contents.{Contents};
 ghost use Rattle.plan_basics.specs.declared.keys.OpKey.{OpKey as OpKeyValue};
 ghost use Rattle.plan_steps.specs.Revisions.{HasPlaceFor, PutsBack, written};
 
 use plan_basics::{OpKey, ResName, WsName};
-use plan_looks::Shown;
-use plan_rows::Beside;
+use plan_checks::Shown;
+use plan_rows::ChangeBeside;
 use status_rules::Mark;
 use std::alloc::AllocError;
 use workstations::Workstation;
@@ -46,13 +46,13 @@ impl Revision {
     }
 
     /// What it may change beside operations.
-    pub fn beside(&self) -> Beside
+    pub fn beside(&self) -> ChangeBeside
         ensures { (keys : List OpKeyValue) (P : Contents) → StaysBeside result P (written keys self.now P) }
     {
         match self {
-            Revision::Available(_, _) => Beside::Resources,
-            Revision::Opened(_) => Beside::Workstations,
-            _ => Beside::Nothing,
+            Revision::Available(_, _) => ChangeBeside::Resources,
+            Revision::Opened(_) => ChangeBeside::Workstations,
+            _ => ChangeBeside::Nothing,
         }
     }
 }

@@ -1,11 +1,11 @@
 // What a step changes in the figures of a plan.
-ghost use Rattle.plan_looks.specs.plan_kept.specs.plan_model.specs.Contents.{Contents};
-ghost use Rattle.plan_looks.specs.plan_kept.specs.plan_state.specs.Figures.{AreFigures};
+ghost use Rattle.plan_records.specs.plan_model.specs.Contents.{Contents};
+ghost use Rattle.plan_figures.specs.Figures.{AreFigures};
 ghost use Rattle.plan_steps.specs.Shifts.{IsShift};
 
 use super::columns::{Shares, figures_with, parts_of};
 use super::excerpts::{Excerpt, put_excerpt};
-use plan_looks::Figures;
+use plan_checks::Figures;
 use ready_list::ReadyEntry;
 
 /// What a step changes in the figures of a plan.

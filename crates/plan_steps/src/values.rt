@@ -2,10 +2,10 @@
 ghost use Rattle.std.specs.Prelude.{◌≡◌, ◌<◌, ℕ, All, Contains, IfOk, length, map};
 ghost use Rattle.std.specs.FinMap.{entries};
 ghost use Rattle.plan_rows.specs.Touched.{BelongsAt, HasOneOf};
-ghost use Rattle.plan_looks.specs.plan_restating.specs.Overwritten.{overwritten};
+ghost use Rattle.plan_figures.specs.Overwritten.{overwritten};
 ghost use Rattle.plan_steps.specs.Values.{AreValuesAt};
 
-use plan_looks::Beside;
+use plan_checks::Beside;
 use std::alloc::{AllocError, Global};
 
 /// What stands at these places, in their order.

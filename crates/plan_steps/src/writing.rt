@@ -1,8 +1,8 @@
 // Edits written into what a plan holds, and taken back.
 ghost use Rattle.std.specs.Prelude.{◌≡◌, ℕ};
-ghost use Rattle.plan_looks.specs.plan_kept.specs.plan_model.specs.Contents.{Contents};
-ghost use Rattle.plan_looks.specs.plan_kept.specs.plan_model.specs.Ready.{IsChosen, named as named_in};
-ghost use Rattle.plan_looks.specs.plan_kept.specs.plan_model.specs.Valid.{IsSound};
+ghost use Rattle.plan_records.specs.plan_model.specs.Contents.{Contents};
+ghost use Rattle.plan_records.specs.plan_model.specs.Ready.{IsChosen, named as named_in};
+ghost use Rattle.plan_records.specs.plan_model.specs.Valid.{IsSound};
 ghost use Rattle.plan_steps.specs.Edits.{WasWritten};
 ghost use Rattle.plan_steps.specs.Revisions.{HasPlaceFor, written};
 
@@ -10,7 +10,8 @@ use super::edits::Edit;
 use super::revisions::Revision;
 use plan_basics::OpKey;
 use plan_changes::{mark_all, set_held, set_nop};
-use plan_looks::{PlanContents, Shown};
+use plan_checks::Shown;
+use plan_records::PlanContents;
 use plan_rows::SoundContents;
 use status_rules::Mark;
 

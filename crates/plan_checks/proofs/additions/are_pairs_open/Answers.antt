@@ -1,6 +1,6 @@
 use Rattle.std.proofs.Common.{refl, sym, true≢false, arith}
 use Rattle.std.proofs.lemmas.List.Elements.{AllWithin-more, at_read}
-use Rattle.plan_state.specs.plan_drafts.specs.Contents.{added_of}
+use Rattle.plan_records.specs.plan_drafts.specs.Contents.{added_of}
 use Rattle.plan_checks.specs.Additions.{IsOpenPair}
 use Rattle.plan_checks.proofs.ComingIn.{pair_read, each_pair}
 use Rattle.plan_checks.proofs.additions.are_pairs_open.Goals as goal

@@ -1,5 +1,5 @@
 use Rattle.std.specs.List.{AllWithin}
-use Rattle.plan_state.specs.plan_drafts.specs.Contents.{added_of}
+use Rattle.plan_records.specs.plan_drafts.specs.Contents.{added_of}
 use Rattle.plan_checks.specs.Additions.{IsOpenPair}
 use Rattle.plan_checks.proofs.additions.are_pairs_open.Given as goal
 

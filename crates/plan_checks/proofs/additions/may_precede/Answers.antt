@@ -1,6 +1,6 @@
 use Rattle.std.proofs.Common.{◌≡◌, ◌≢◌, rules}
 use Rattle.std.proofs.lemmas.Bool.{true_from_ne_false}
-use Rattle.plan_state.specs.plan_drafts.specs.Contents.{added_of}
+use Rattle.plan_records.specs.plan_drafts.specs.Contents.{added_of}
 use Rattle.status_rules.specs.declared.Status.TheVariants as status
 use Rattle.plan_checks.proofs.OpenEnds.{deleted_bars, live_precedes}
 use Rattle.plan_checks.proofs.additions.may_precede.Goals as goal

@@ -1,5 +1,5 @@
 use Rattle.std.proofs.Common.{sym, subst, Decides}
-use Rattle.plan_state.specs.plan_drafts.specs.Contents.{added_of}
+use Rattle.plan_records.specs.plan_drafts.specs.Contents.{added_of}
 use Rattle.plan_checks.proofs.OpenEnds.{succeeds_told}
 use Rattle.plan_checks.specs.Additions.{MaySucceed}
 use Rattle.plan_checks.proofs.additions.may_succeed.Goals as goal

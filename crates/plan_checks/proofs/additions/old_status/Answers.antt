@@ -1,5 +1,5 @@
 use Rattle.std.proofs.Common.{◌≡◌, rules}
-use Rattle.plan_state.specs.plan_drafts.specs.Contents.{added_of}
+use Rattle.plan_records.specs.plan_drafts.specs.Contents.{added_of}
 use Rattle.plan_checks.proofs.ComingIn.{only_key, own_key}
 use Rattle.plan_checks.proofs.OpenEnds.{old_told}
 use Rattle.plan_checks.proofs.additions.old_status.Goals as goal

@@ -2,9 +2,9 @@ use Rattle.std.proofs.Common.{◌≡◌, inr, subst, true, List}
 use Rattle.std.specs.FinMap.{contains_key, get}
 use Rattle.plan_basics.specs.Intervals.{OpenInterval}
 use Rattle.plan_basics.specs.Refusals.{IsLeastRefusal, NoneRefuses}
-use Rattle.plan_state.specs.plan_drafts.proofs.Tables.{some_is}
+use Rattle.plan_records.specs.plan_drafts.proofs.Tables.{some_is}
 use Rattle.plan_model.specs.Contents.{Contents}
-use Rattle.plan_state.specs.workstations.specs.Timetables.{MayBeTaken}
+use Rattle.plan_model.specs.workstations.specs.Timetables.{MayBeTaken}
 use Rattle.plan_checks.proofs.ByCommand.{not_open_by, open_by}
 use Rattle.plan_checks.proofs.Searching.{found_in, if_err, if_ok}
 use Rattle.plan_checks.proofs.commands.check_open_by.Goals as goal

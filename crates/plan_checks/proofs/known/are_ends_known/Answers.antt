@@ -1,6 +1,6 @@
 use Rattle.std.proofs.Common.{rules, tests}
 use Rattle.std.proofs.lemmas.Iterator.{YieldsList-from_slice, cases_from_all}
-use Rattle.plan_state.specs.plan_drafts.specs.Contents.{added_of}
+use Rattle.plan_records.specs.plan_drafts.specs.Contents.{added_of}
 use Rattle.plan_checks.specs.Additions.{IsKnownPair}
 use Rattle.plan_checks.proofs.ComingIn.{pairs_told}
 use Rattle.plan_checks.proofs.known.are_ends_known.Goals as goal

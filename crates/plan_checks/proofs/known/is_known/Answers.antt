@@ -1,8 +1,8 @@
 use Rattle.std.proofs.Common.{◌≡◌, rules}
 use Rattle.std.specs.FinMap.{get}
 use Rattle.plan_basics.specs.Keys.{operation_cmp_total, operation_cmp-IsAntisymmetric}
-use Rattle.plan_state.specs.plan_drafts.proofs.Tables.{some_is}
-use Rattle.plan_state.specs.plan_status.proofs.LoadedRows.{row_found}
+use Rattle.plan_records.specs.plan_drafts.proofs.Tables.{some_is}
+use Rattle.plan_figures.specs.plan_status.proofs.LoadedRows.{row_found}
 use Rattle.plan_checks.proofs.ComingIn.{found_told, known_other, known_own, place_told}
 use Rattle.plan_checks.proofs.known.is_known.Goals as goal
 

@@ -3,7 +3,7 @@ use Rattle.std.proofs.lemmas.List.{take_more}
 use Rattle.std.proofs.lemmas.Option.{get_or_from_slice_get, slice_get_within}
 use Rattle.std.specs.FinMap.{entries}
 use Rattle.plan_basics.specs.declared.keys.OpKey.{OpKey}
-use Rattle.deletion_steps.specs.plan_steps.specs.plan_model.specs.Contents.{Contents, Operation}
+use Rattle.plan_records.specs.plan_model.specs.Contents.{Contents, Operation}
 use Rattle.plan_core.proofs.copying.rows_of.Goals as goal
 
 -- a count that is full stays so, and another goes on by the look

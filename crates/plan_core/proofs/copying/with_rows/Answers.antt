@@ -4,8 +4,8 @@ use Rattle.std.specs.FinSet as set
 use Rattle.std.specs.List.Sorted.{IsStrictlySortedBy}
 use Rattle.std.specs.Map.{keys_of}
 use Rattle.plan_basics.specs.Keys.{name_cmp, name_cmp_total, name_cmp-IsAntisymmetric, occurrence_cmp, occurrence_cmp_total, occurrence_cmp-IsAntisymmetric, operation_cmp, operation_cmp_total, operation_cmp-IsAntisymmetric}
-use Rattle.deletion_steps.specs.plan_steps.specs.plan_model.proofs.Entries.{entries_are, entries_in_order}
-use Rattle.deletion_steps.specs.plan_steps.specs.plan_model.specs.Contents.{Contents, pair_cmp}
+use Rattle.plan_records.specs.plan_model.proofs.Entries.{entries_are, entries_in_order}
+use Rattle.plan_records.specs.plan_model.specs.Contents.{Contents, pair_cmp}
 use Rattle.plan_core.proofs.copying.with_rows.Goals as goal
 
 pub of_rows-requires-clause-operations : goal.of_rows-requires-clause-operations

@@ -2,7 +2,7 @@ use Rattle.std.proofs.Common.{sym, subst, None}
 use Rattle.plan_core.proofs.Led.{first_looks, prepared_in}
 use Rattle.plan_core.proofs.counted.prepare_first.Goals as goal
 use Rattle.plan_core.specs.Outcomes.{IsPreparedIn}
-use Rattle.deletion_steps.specs.plan_steps.specs.plan_model.specs.Plan.{plan_held}
+use Rattle.plan_records.specs.plan_model.specs.Plan.{plan_held}
 
 pub returns-clause-prepared : goal.returns-clause-prepared
 returns-clause-prepared c =

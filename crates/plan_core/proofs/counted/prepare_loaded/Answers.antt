@@ -2,9 +2,9 @@ use Rattle.std.proofs.Common.{◌≡◌, ◌∙◌, ap, sym, subst, IfOk, Some}
 use Rattle.plan_core.proofs.Led.{prepared_in}
 use Rattle.plan_core.proofs.counted.prepare_loaded.Goals as goal
 use Rattle.plan_core.specs.Outcomes.{AreLooksTo, IsOutcomeOf, IsPreparedIn}
-use Rattle.deletion_steps.specs.plan_steps.specs.plan_model.specs.Contents.{Contents}
-use Rattle.deletion_steps.specs.plan_steps.specs.plan_model.specs.Plan.{plan_held}
-use Rattle.deletion_steps.specs.plan_steps.specs.plan_looks.specs.shown_records.specs.States.{ShownState}
+use Rattle.plan_records.specs.plan_model.specs.Contents.{Contents}
+use Rattle.plan_records.specs.plan_model.specs.Plan.{plan_held}
+use Rattle.plan_steps.specs.shown_records.specs.States.{ShownState}
 
 pub returns-in-Ok-clause-prepared : goal.returns-in-Ok-clause-prepared
 returns-in-Ok-clause-prepared c =

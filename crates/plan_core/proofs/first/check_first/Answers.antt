@@ -4,8 +4,8 @@ use Rattle.plan_core.proofs.Refusing.{load_is_free}
 use Rattle.plan_core.proofs.first.check_first.Goals as goal
 use Rattle.plan_core.specs.Requested.{MayBeMadeAt}
 use Rattle.plan_records.specs.declared.What.{What}
-use Rattle.deletion_steps.specs.plan_steps.specs.plan_checks.proofs.Searching.{if_ok}
-use Rattle.deletion_steps.specs.plan_steps.specs.plan_model.specs.Plan.{plan_held}
+use Rattle.plan_steps.specs.plan_checks.proofs.Searching.{if_ok}
+use Rattle.plan_records.specs.plan_model.specs.Plan.{plan_held}
 
 pub returns-in-Load-clause-ok : goal.returns-in-Load-clause-ok
 returns-in-Load-clause-ok c = λ clock at.

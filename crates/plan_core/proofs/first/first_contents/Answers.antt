@@ -1,14 +1,14 @@
 use Rattle.std.proofs.Common.{rules, ◌≡◌, ◌∙◌, sym, ap, subst, true≢false, None, Some, option_copied}
 use Rattle.plan_basics.specs.declared.Refusal.TheVariants as refusal
-use Rattle.deletion_steps.specs.plan_steps.specs.plan_changes.proofs.Answered.{if_ok}
+use Rattle.plan_steps.specs.plan_changes.proofs.Answered.{if_ok}
 use Rattle.plan_core.proofs.Preparing.{has_draft}
 use Rattle.plan_core.proofs.first.first_contents.Goals as goal
 use Rattle.plan_core.specs.Requested.{AreMadeBy}
 use Rattle.plan_records.specs.Acceptance.{NeedsPlan}
 use Rattle.plan_records.specs.declared.What.{What}
 use Rattle.plan_records.specs.declared.What.TheVariants as what
-use Rattle.deletion_steps.specs.plan_steps.specs.plan_model.specs.Contents.{nothing}
-use Rattle.deletion_steps.specs.plan_steps.specs.plan_model.specs.Plan.{plan_held}
+use Rattle.plan_records.specs.plan_model.specs.Contents.{nothing}
+use Rattle.plan_records.specs.plan_model.specs.Plan.{plan_held}
 
 pub unwrap-requires : goal.unwrap-requires
 unwrap-requires c = c.as_ref.ensures.variant ∙ has_draft (plan_held c.requires.0 None) c.args.request.now c.requires.1 c.in-Load.draft c.in-Load.is

@@ -4,7 +4,7 @@ use Rattle.plan_core.proofs.Refusing.{is_refused, may_be_accepted}
 use Rattle.plan_core.proofs.first.first_outcome.Goals as goal
 use Rattle.plan_records.specs.Answer.{refused}
 use Rattle.plan_records.specs.Step.{Step}
-use Rattle.deletion_steps.specs.plan_steps.specs.plan_model.specs.Plan.{plan_held}
+use Rattle.plan_records.specs.plan_model.specs.Plan.{plan_held}
 
 pub returns-in_err-check_first-clause-refused : goal.returns-in_err-check_first-clause-refused
 returns-in_err-check_first-clause-refused c =

@@ -2,8 +2,8 @@ use Rattle.std.proofs.Common.{ap, subst, sym, None, Some}
 use Rattle.plan_core.proofs.Preparing.{accepted_step, made_sound}
 use Rattle.plan_core.proofs.first.loaded_first.Goals as goal
 use Rattle.plan_core.specs.Requested.{AreMadeBy}
-use Rattle.deletion_steps.specs.plan_steps.specs.plan_model.specs.Contents.{Contents, nothing}
-use Rattle.deletion_steps.specs.plan_steps.specs.plan_model.specs.Plan.{plan_held}
+use Rattle.plan_records.specs.plan_model.specs.Contents.{Contents, nothing}
+use Rattle.plan_records.specs.plan_model.specs.Plan.{plan_held}
 
 pub of-new-requires : goal.of-new-requires
 of-new-requires c =

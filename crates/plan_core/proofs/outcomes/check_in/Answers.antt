@@ -5,8 +5,8 @@ use Rattle.plan_core.proofs.outcomes.check_in.Goals as goal
 use Rattle.plan_core.specs.Requested.{MayBeMadeAt}
 use Rattle.plan_records.specs.Acceptance.{IsLoad}
 use Rattle.plan_records.specs.declared.What.{What}
-use Rattle.deletion_steps.specs.plan_steps.specs.plan_checks.proofs.Searching.{if_ok, if_refused}
-use Rattle.deletion_steps.specs.plan_steps.specs.plan_model.specs.Plan.{Plan, plan_held}
+use Rattle.plan_steps.specs.plan_checks.proofs.Searching.{if_ok, if_refused}
+use Rattle.plan_records.specs.plan_model.specs.Plan.{Plan, plan_held}
 
 pub returns-in-Load-clause-ok : goal.returns-in-Load-clause-ok
 returns-in-Load-clause-ok c = λ clock.

@@ -1,9 +1,9 @@
 use Rattle.std.proofs.Common.{◌≡◌, subst, sym, IfOk}
-use Rattle.deletion_steps.specs.plan_steps.specs.plan_changes.specs.Additions.{HasNothingOf}
-use Rattle.deletion_steps.specs.plan_steps.specs.plan_checks.proofs.ComingApart.{comes_apart}
+use Rattle.plan_steps.specs.plan_changes.specs.Additions.{HasNothingOf}
+use Rattle.plan_steps.specs.plan_checks.proofs.ComingApart.{comes_apart}
 use Rattle.plan_core.proofs.Made.{legal_by_parts}
 use Rattle.plan_core.proofs.requests.added.Goals as goal
-use Rattle.deletion_steps.specs.plan_steps.specs.plan_model.specs.Contents.{Contents}
+use Rattle.plan_records.specs.plan_model.specs.Contents.{Contents}
 use Rattle.plan_records.specs.Changes.{with_added}
 
 pub with_addition-requires : goal.with_addition-requires

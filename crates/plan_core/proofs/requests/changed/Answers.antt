@@ -1,10 +1,10 @@
 use Rattle.std.proofs.Common.{◌≡◌, ◌∙◌, refl, ap, subst, sym, Some, IfOk, option_copied}
 use Rattle.plan_basics.specs.declared.Refusal.TheVariants as refusal
-use Rattle.deletion_steps.specs.plan_steps.specs.plan_model.specs.Contents.{Contents}
+use Rattle.plan_records.specs.plan_model.specs.Contents.{Contents}
 use Rattle.plan_records.specs.Changes.{Changes}
 use Rattle.plan_records.specs.declared.What.TheVariants as what
 use Rattle.plan_core.specs.Requested.{AreMadeBy}
-use Rattle.deletion_steps.specs.plan_steps.specs.plan_changes.proofs.Answered.{if_ok}
+use Rattle.plan_steps.specs.plan_changes.proofs.Answered.{if_ok}
 use Rattle.plan_core.proofs.Made.{clear_of, has_addition, if_made}
 use Rattle.plan_core.proofs.requests.changed.Goals as goal
 use Rattle.plan_core.proofs.requests.changed.Goals.{After-rows-rows, in-DeleteOccurrence, in-AddOccurrence, in-AddDependency}

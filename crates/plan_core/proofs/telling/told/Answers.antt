@@ -4,10 +4,10 @@ use Rattle.plan_core.proofs.TriedLooks.{tried_covers}
 use Rattle.plan_core.proofs.telling.told.Goals as goal
 use Rattle.plan_core.proofs.telling.told.Goals.{After-columns_of-columns}
 use Rattle.plan_core.specs.Tried.{contents_tried}
-use Rattle.deletion_steps.specs.plan_steps.specs.plan_model.specs.Contents.{Contents}
-use Rattle.deletion_steps.specs.plan_steps.specs.plan_model.specs.Plan.{plan_held}
-use Rattle.deletion_steps.specs.plan_steps.specs.plan_rows.specs.Notes.{IsNotedStep, operations_noted}
-use Rattle.deletion_steps.specs.plan_steps.specs.plan_rows.specs.Shown.{shown_with}
+use Rattle.plan_records.specs.plan_model.specs.Contents.{Contents}
+use Rattle.plan_records.specs.plan_model.specs.Plan.{plan_held}
+use Rattle.plan_steps.specs.plan_rows.specs.Notes.{IsNotedStep, operations_noted}
+use Rattle.plan_steps.specs.plan_rows.specs.Shown.{shown_with}
 
 -- the notes are those of a step from what is shown
 noted : (c : After-columns_of-columns) → IsNotedStep (Some (shown_with c.args.shown.now.contents c.columns_of-columns.result)) (contents_tried c.args.shown.now.contents c.args.tried) c.args.tried.notes
@@ -24,12 +24,12 @@ returns-clause-outcome c =
     let t = c.args.tried in
     let tried = c.requires.tried in
     let R = contents_tried P t in
-    let H = plan_held c.args.clock (Some P) in
+    let H = plan_held c.args.asked.now.clock (Some P) in
     record {
-      step = accepted_step H c.args.request.now c.requires.clear tried.changed tried.made c.args.at c.requires.at (plan_held c.args.at (Some R)) t.named.items tried.chosen
-          (ap (λ (Q : Contents). plan_held c.args.at (Some Q)) tried.after);
+      step = accepted_step H c.args.asked.now.request.now c.requires.acceptable.clear tried.changed tried.made c.args.asked.now.at c.requires.acceptable.at (plan_held c.args.asked.now.at (Some R)) t.named.items tried.chosen
+          (ap (λ (Q : Contents). plan_held c.args.asked.now.at (Some Q)) tried.after);
       changes = c.in_ok-changes.ensures.changes R (noted (goal.at.returns-clause-outcome c).After-columns_of-columns);
-      fits = tried.fits c.args.clock;
+      fits = tried.fits c.args.asked.now.clock;
     }
 
 pub returns-clause-looked : goal.returns-clause-looked

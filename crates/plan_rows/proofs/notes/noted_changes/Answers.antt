@@ -2,13 +2,13 @@ use Rattle.std.proofs.Common.{Some, sym, ap, subst, refl, arith, [], length}
 use Rattle.std.specs.FinMap.{entries}
 use Rattle.plan_model.specs.Contents.{Contents}
 use Rattle.plan_model.specs.Plan.{plan_held}
-use Rattle.plan_state.specs.plan_records.specs.Rows.{AreChanges, key_of, row_cmp}
+use Rattle.plan_figures.specs.plan_records.specs.Rows.{AreChanges, key_of, row_cmp}
 use Rattle.plan_rows.proofs.AllTables.{in_all_tables, in_no_table}
 use Rattle.plan_rows.proofs.Counted.{no_operation_below}
 use Rattle.plan_rows.proofs.MovedRows.{same_occurrences}
-use Rattle.plan_rows.proofs.NotedTables.{all_beside, noted_within}
+use Rattle.plan_rows.proofs.NotedTables.{all_beside, noted_within, pairs_stay}
 use Rattle.plan_rows.proofs.OccurrencesOf.{places_within}
-use Rattle.plan_rows.proofs.TouchedTables.{needs_stay, workstations_stay}
+use Rattle.plan_rows.proofs.TouchedTables.{dependencies_stay, needs_stay, workstations_stay}
 use Rattle.plan_rows.proofs.notes.noted_changes.Goals as goal
 use Rattle.plan_rows.proofs.notes.noted_changes.Goals.{After-deref-2}
 use Rattle.plan_rows.specs.Notes.{AreNotedAt, AreWithin, IsNotedStep}
@@ -17,7 +17,7 @@ use Rattle.plan_rows.specs.Shown.{plan_shown, shown_with}
 use Rattle.plan_rows.specs.Tables.{AreChangesBelow, IsRowBelow}
 use Rattle.plan_rows.specs.Touched.{AreTouched}
 use Rattle.row_differences.specs.Changes.{AreRowChanges}
-use Rattle.plan_state.specs.shown_records.specs.States.{ShownState}
+use Rattle.plan_figures.specs.shown_records.specs.States.{ShownState}
 
 pub push_noted_beside-requires : goal.push_noted_beside-requires
 push_noted_beside-requires c =
@@ -75,7 +75,6 @@ returns-clause-changes c = λ R step.
     let Q = plan_shown now (Some after) in
     let same = c.in_ok-push_noted_occurrences.ensures.unchanged in
     let so_far = c.push_noted_operations.new.changes in
-    let all = c.push_noted_pair.new.changes in
     let operations =
     subst (λ (x : ShownState). AreChangesBelow 6 (plan_shown was (Some (shown_with x.contents l))) Q so_far) same
     (c.in_ok-push_noted_operations.ensures.told was now after step.touched step.shown
@@ -83,12 +82,9 @@ returns-clause-changes c = λ R step.
     (subst (AreNotedAt (rows_of (keyed_operations after)) step.touched) (sym c.deref-2.ensures.value) step.noted.operations)
     (subst (λ (x : ShownState). AreChangesBelow 5 (plan_shown was (Some (shown_with x.contents l))) Q c.push_noted_occurrences.new.changes) (sym same) (before_operations ((goal.at.returns-clause-changes c).After-deref-2) R step)))
     in
-    let dependencies =
-    c.in_ok-push_noted_pair.ensures.told was now s after
-    (all_beside c.args.shown.now.contents after.contents.now step.beside c.args.notes.now.beside step.stays step.noted.beside) operations
-    in
-    let below = needs_stay was now (Some s) (Some after) all step.touched step.among.moved dependencies in
-    subst (λ (Z : Contents). AreChanges P (plan_held now (Some Z)) all.rows.items all.gone.items) step.holds (in_all_tables P Q all.rows.items all.gone.items below)
+    let dependencies = dependencies_stay was now (Some s) (Some after) so_far (pairs_stay c.args.shown.now.contents after.contents.now step.beside step.stays) operations in
+    let below = needs_stay was now (Some s) (Some after) so_far step.touched step.among.moved dependencies in
+    subst (λ (Z : Contents). AreChanges P (plan_held now (Some Z)) so_far.rows.items so_far.gone.items) step.holds (in_all_tables P Q so_far.rows.items so_far.gone.items below)
 
 pub returns-clause-operations : goal.returns-clause-operations
 returns-clause-operations c =
@@ -99,4 +95,4 @@ returns-clause-operations c =
     (before_operations ((goal.at.returns-clause-operations c).After-deref-2) R step)
     in
     let size = ap length c.deref-2.ensures.value in
-    omega (arith, none, size, c.in_ok-push_noted_operations.ensures.operations, c.in_ok-push_noted_pair.ensures.operations)
+    omega (arith, none, size, c.in_ok-push_noted_operations.ensures.operations)

@@ -45,9 +45,3 @@ returns-in-Intervals c = λ clock now before after same was is notes so_far.
     (c.push_noted_intervals.ensures clock now (Some before) (Some after) was is
     (c.workstations.ensures.rows ∙ ap (λ (P : Contents). entries P.workstations) (c.beside-kept.ensures.contents ∙ sym same))
     (c.deref-in-Intervals.ensures.value ∙ h.2) so_far)
-
-pub returns-in-Pair : goal.returns-in-Pair
-returns-in-Pair c = λ clock now before after same was is notes so_far.
-    let h = subst (NotesBeside c.args.shown.now.contents after.contents.now) c.in-Pair.is notes in
-    resources_stay clock now (Some before) (Some after) c.args.changes.now (h.1 ∙ ap (λ (P : Contents). P.resources) (sym same))
-    (intervals_stay clock now (Some before) (Some after) c.args.changes.now (h.0 ∙ ap (λ (P : Contents). P.workstations) (sym same)) so_far)

@@ -1,6 +1,6 @@
 use Rattle.std.proofs.Common.{◌≡◌, ◌∙◌, sym, ap, Some, slice_get}
 use Rattle.std.specs.FinMap.{entries}
-use Rattle.plan_state.specs.plan_status.proofs.RowKeys.{row_read}
+use Rattle.plan_figures.specs.plan_status.proofs.RowKeys.{row_read}
 use Rattle.plan_rows.proofs.operations.operation_row.Goals as goal
 use Rattle.plan_rows.proofs.operations.operation_row.Goals.{After-index-operations-place}
 

@@ -1,13 +1,13 @@
 use Rattle.std.proofs.Common.{◌≡◌, inl, sym, subst, ℕ, ◌<◌, List, map, length, []}
 use Rattle.plan_cascade.specs.Journal.{AreWithin, IsJournaled}
 use Rattle.plan_cascade.specs.declared.kept.Kept.{Kept}
-use Rattle.plan_looks.specs.plan_kept.specs.plan_drafts.proofs.Lists.{contains_none, from_map}
+use Rattle.plan_records.specs.plan_drafts.proofs.Lists.{contains_none, from_map}
 use Rattle.plan_steps.proofs.Counted.{counted_anew, counted_up, on_ok_both}
 use Rattle.plan_steps.proofs.StepParts.{all_below, graph_after, on_ok}
 use Rattle.plan_steps.proofs.counting.cascade.Goals as goal
 use Rattle.plan_steps.specs.Edits.{AreBelow}
-use Rattle.plan_looks.specs.plan_kept.specs.plan_waiting.proofs.Journals.{unnoted_stays}
-use Rattle.plan_looks.specs.plan_kept.specs.plan_waiting.specs.Changes.{IsRisen, IsTakenBack}
+use Rattle.plan_figures.proofs.Journals.{unnoted_stays}
+use Rattle.plan_figures.specs.WaitingChanges.{IsRisen, IsTakenBack}
 
 -- the places of a journal that was begun empty are those of nodes
 noted_below : (kept now : List Kept) (journal new : List (ℕ × Kept)) → IsJournaled kept journal now new → journal ≡ [] → AreBelow (length kept) (map (λ (e : ℕ × Kept). e.0) new)

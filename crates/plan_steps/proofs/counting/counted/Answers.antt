@@ -1,6 +1,6 @@
 use Rattle.std.proofs.Common.{◌≡◌, ◌⊎◌, ◌<◌, inl, inr, sym, subst, ap, ◌∙◌, ℕ, All, length, map, Contains}
 use Rattle.plan_cascade.specs.declared.kept.Kept.{Kept}
-use Rattle.plan_looks.specs.StepLooks.{IsKeptBeside}
+use Rattle.plan_steps.specs.StepLooks.{IsKeptBeside}
 use Rattle.plan_steps.proofs.Counted.{counted_with}
 use Rattle.plan_steps.proofs.KeptThen.{kept_leads, moved_on, placed}
 use Rattle.plan_steps.proofs.Overwritten.{leads_there}

@@ -1,6 +1,6 @@
 use Rattle.std.proofs.Common.{◌<◌, sym, subst, length}
 use Rattle.plan_cascade.specs.Journal.{AreWithin}
-use Rattle.plan_looks.specs.plan_kept.specs.plan_drafts.proofs.Lists.{contains_none}
+use Rattle.plan_records.specs.plan_drafts.proofs.Lists.{contains_none}
 use Rattle.plan_steps.proofs.counting.recount.Goals as goal
 
 pub take_back-requires : goal.take_back-requires

@@ -17,10 +17,7 @@ busy : (c : After-is_idle_at_one) → c.is_idle_at_one.result ≡ false → (m :
 busy c told m has = c.is_idle_at_one.ensures.others told m (subst (λ ms. Contains ms m) (sym c.deref.ensures.value) has)
 
 pub returns-then-is_idle_at_one-clause-edit : goal.returns-then-is_idle_at_one-clause-edit
-returns-then-is_idle_at_one-clause-edit c =
-    let k : After-is_idle_at_one = (goal.at.returns-then-is_idle_at_one-clause-edit c).After-is_idle_at_one in
-    let m = idle k c.if-is_idle_at_one.true in
-    nothing_edits c.args.shown.now.contents c.requires.clear.0 c.args.what.now c.in_ok-edit.edit c.nothing_edited.result c.requires.clear.2 c.in_ok-edit.ensures.noted m.0 m.1 m.2 c.nothing_edited.ensures c.beside.ensures.sound
+returns-then-is_idle_at_one-clause-edit c = nothing_edits c.args.shown.now.contents c.nothing_edited.result c.nothing_edited.ensures c.beside.ensures.sound
 
 pub returns-then-is_idle_at_one-clause-changes : goal.returns-then-is_idle_at_one-clause-changes
 returns-then-is_idle_at_one-clause-changes c =

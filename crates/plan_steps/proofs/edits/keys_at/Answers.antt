@@ -1,5 +1,5 @@
 use Rattle.std.specs.FinMap.{keys}
-use Rattle.plan_looks.specs.plan_kept.specs.plan_checks.proofs.ReachedKeys.{keys_more}
+use Rattle.plan_checks.proofs.ReachedKeys.{keys_more}
 use Rattle.plan_steps.proofs.edits.keys_at.Goals as goal
 
 pub loop-place-preserved : goal.loop-place-preserved

@@ -4,11 +4,11 @@ use Rattle.std.specs.FinMap.{entries, keys}
 use Rattle.plan_basics.specs.Refusals.{NoneRefuses}
 use Rattle.plan_basics.specs.declared.keys.OpKey.{OpKey}
 use Rattle.plan_changes.specs.Markings.{WereMarked}
-use Rattle.plan_looks.specs.plan_kept.specs.Edits.{IsEditedAt}
-use Rattle.plan_looks.specs.plan_kept.specs.plan_drafts.specs.PlanGraphs.{StandAt}
-use Rattle.plan_looks.specs.plan_kept.specs.plan_model.specs.Contents.{Contents, IsInPlan}
-use Rattle.plan_looks.specs.plan_kept.specs.plan_state.specs.Frames.{IsFrameOf}
-use Rattle.plan_looks.specs.plan_records.specs.Acceptance.{MayBeDone}
+use Rattle.plan_steps.specs.KeptEdits.{IsEditedAt}
+use Rattle.plan_records.specs.plan_drafts.specs.PlanGraphs.{StandAt}
+use Rattle.plan_records.specs.plan_model.specs.Contents.{Contents, IsInPlan}
+use Rattle.plan_figures.specs.Frames.{IsFrameOf}
+use Rattle.plan_records.specs.Acceptance.{MayBeDone}
 use Rattle.plan_steps.proofs.EditedKeys.{keys_in_plan}
 use Rattle.plan_steps.proofs.StepParts.{all_below}
 use Rattle.plan_steps.proofs.edits.noted_edit.Goals as goal

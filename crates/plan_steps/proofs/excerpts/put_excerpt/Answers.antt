@@ -1,8 +1,8 @@
 use Rattle.std.proofs.Common.{◌≡◌, sym, ap, subst, ◌∙◌, arith, ℕ, List, length}
 use Rattle.std.specs.Vec.{with_items}
-use Rattle.plan_looks.specs.plan_kept.specs.plan_model.specs.Contents.{Contents}
-use Rattle.plan_looks.specs.plan_restating.specs.ByStatuses.{AreEntriesBy}
-use Rattle.plan_looks.specs.plan_restating.specs.Entries.{CanBeRelisted}
+use Rattle.plan_records.specs.plan_model.specs.Contents.{Contents}
+use Rattle.plan_figures.specs.ByStatuses.{AreEntriesBy}
+use Rattle.plan_figures.specs.Entries.{CanBeRelisted}
 use Rattle.plan_steps.proofs.Overwritten.{led_there, length-overwritten, lent_within, vector_overwritten, vector_written}
 use Rattle.plan_steps.proofs.excerpts.put_excerpt.Goals as goal
 use Rattle.plan_steps.proofs.excerpts.put_excerpt.Goals.{After-relist_all}

@@ -1,8 +1,8 @@
 use Rattle.std.proofs.Common.{◌≡◌, ◌↔◌, ◌⊎◌, ◌<◌, refl, sym, subst, ap, ◌∙◌, ℕ, List, length, Contains, All}
 use Rattle.std.specs.FinMap.{entries}
-use Rattle.plan_looks.specs.plan_kept.specs.plan_model.specs.Contents.{Contents}
-use Rattle.plan_looks.specs.StepLooks.{AreBoth}
-use Rattle.plan_looks.specs.plan_restating.specs.Entries.{AreEntriesAt}
+use Rattle.plan_records.specs.plan_model.specs.Contents.{Contents}
+use Rattle.plan_steps.specs.StepLooks.{AreBoth}
+use Rattle.plan_figures.specs.Entries.{AreEntriesAt}
 use Rattle.plan_steps.proofs.FollowedParts.{joined_within}
 use Rattle.plan_steps.proofs.StepParts.{all_below}
 use Rattle.plan_steps.proofs.followed.followed_by.Goals as goal
@@ -19,14 +19,14 @@ module _ (c : In_ok-touched) where
   touched = c.in_ok-touched.touched.items
 
   -- what is touched are the places of both
-  both : AreBoth c.args.edited.now c.args.naming.places.items touched
+  both : AreBoth c.args.edited.places.now c.args.naming.places.items touched
   both = record {
     ascend = c.in_ok-touched.ensures.ascend;
-    both = subst (λ ps. (i : ℕ) → Contains touched i ↔ (Contains c.args.edited.now i ⊎ Contains ps i)) c.deref.ensures.value c.in_ok-touched.ensures.both;
+    both = subst (λ ps. (i : ℕ) → Contains touched i ↔ (Contains c.args.edited.places.now i ⊎ Contains ps i)) c.deref.ensures.value c.in_ok-touched.ensures.both;
   }
 
   inside : ArePlacesIn P touched
-  inside = joined_within P c.args.edited.now c.requires.edited c.args.naming.named.items c.args.naming.places.items c.requires.naming.1.places touched both
+  inside = joined_within P c.args.edited.places.now c.requires.edited c.args.naming.named.items c.args.naming.places.items c.requires.naming.1.places touched both
 
   -- each is within lists as long as the plan's operations
   below : (n : ℕ) → length (entries P.operations) ≡ n → (xs : List ℕ) → xs ≡ touched → All (λ i. i < n) xs

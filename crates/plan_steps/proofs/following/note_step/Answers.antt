@@ -1,5 +1,5 @@
 use Rattle.std.proofs.Common.{◌≡◌, sym, subst, ap, ◌∙◌}
-use Rattle.plan_looks.specs.plan_kept.specs.plan_model.specs.Ready.{IsChosen, named}
+use Rattle.plan_records.specs.plan_model.specs.Ready.{IsChosen, named}
 use Rattle.plan_steps.proofs.following.note_step.Goals as goal
 use Rattle.plan_steps.proofs.following.note_step.Goals.{After-with_named-after}
 use Rattle.plan_steps.specs.Following.{WasFollowed}
@@ -11,7 +11,7 @@ with_named-after-requires c = (c.requires.followed.0, subst (IsChosen c.args.sho
 is_named : (c : After-with_named-after) → c.with_named-after.result.contents ≡ named c.args.followed.naming.named.items c.args.shown.contents
 is_named c = c.with_named-after.ensures.contents ∙ ap (λ ks. named ks c.args.shown.contents) c.deref.ensures.value
 
-was_followed : (c : After-with_named-after) → WasFollowed c.args.shown.contents c.with_named-after.result.contents c.requires.followed.0 c.requires.followed.1 c.args.latest.now.starts c.args.columns.now c.args.ready.now c.args.followed
+was_followed : (c : After-with_named-after) → WasFollowed c.args.shown.contents c.with_named-after.result.contents c.requires.followed.0 c.requires.followed.1 c.args.setting.now.latest.now.starts c.args.columns.now c.args.ready.now c.args.followed
 was_followed c = record {
   followed = c.requires.followed.3;
   places = c.requires.followed.2;

@@ -4,11 +4,11 @@ use Rattle.std.specs.FinMap.{entries}
 use Rattle.std.specs.List.Sorted.{IsStrictlySortedBy}
 use Rattle.std.specs.Ordering.{nat_cmp}
 use Rattle.std.specs.Vec.{with_items}
-use Rattle.plan_looks.specs.plan_kept.specs.plan_choice.specs.Choices.{AreGivenOut, AreHeldIn}
-use Rattle.plan_looks.specs.plan_kept.specs.plan_drafts.proofs.Lists.{length_map}
-use Rattle.plan_looks.specs.plan_kept.specs.plan_model.specs.Contents.{Contents}
-use Rattle.plan_looks.specs.plan_kept.specs.workstations.specs.Timetables.{NamedWorkstation}
-use Rattle.plan_looks.specs.plan_restating.specs.Overwritten.{overwritten}
+use Rattle.plan_figures.specs.plan_choice.specs.Choices.{AreGivenOut, AreHeldIn}
+use Rattle.plan_records.specs.plan_drafts.proofs.Lists.{length_map}
+use Rattle.plan_records.specs.plan_model.specs.Contents.{Contents}
+use Rattle.workstations.specs.Timetables.{NamedWorkstation}
+use Rattle.plan_figures.specs.Overwritten.{overwritten}
 use Rattle.plan_steps.proofs.Counted.{counted_twice}
 use Rattle.plan_steps.proofs.ColumnParts.{kept_alike}
 use Rattle.plan_steps.proofs.Overwritten.{vector_unchanged}
@@ -18,7 +18,7 @@ use Rattle.plan_steps.proofs.groundwork.groundwork_of.Goals.{After-beside, After
 use Rattle.plan_steps.specs.Columns.{AreSizedBy, IsExcerptOf}
 use Rattle.plan_steps.specs.Edits.{IsKeptBefore}
 use Rattle.plan_steps.specs.Groundworks.{IsCounted, IsMovedOn}
-use Rattle.plan_takings.specs.Before.{HasPlanBefore}
+use Rattle.plan_figures.specs.TakingsBefore.{HasPlanBefore}
 
 pub recount-requires : goal.recount-requires
 recount-requires c =

@@ -2,11 +2,11 @@ use Rattle.std.proofs.Common.{◌≡◌, sym, subst, ap, ◌∙◌, arith, ◌<�
 use Rattle.std.proofs.lemmas.List.{with_items_is}
 use Rattle.std.specs.FinMap.{entries}
 use Rattle.std.specs.Vec.{with_items}
-use Rattle.plan_looks.specs.plan_kept.proofs.OneFrame.{frame_stays}
-use Rattle.plan_looks.specs.plan_kept.specs.plan_drafts.specs.Places.{AreStatuses}
-use Rattle.plan_looks.specs.plan_kept.specs.plan_waiting.specs.Kept.{AreKept}
-use Rattle.plan_looks.specs.plan_restating.specs.Before.{KeepStatus}
-use Rattle.plan_looks.specs.plan_restating.specs.Restanding.{AreCounters}
+use Rattle.plan_steps.proofs.OneFrame.{frame_stays}
+use Rattle.plan_records.specs.plan_drafts.specs.Places.{AreStatuses}
+use Rattle.plan_figures.specs.Kept.{AreKept}
+use Rattle.plan_figures.specs.RestatingBefore.{KeepStatus}
+use Rattle.plan_figures.specs.Restanding.{AreCounters}
 use Rattle.plan_rows.specs.plan_status.specs.Standings.{AreStandings, AreTallies}
 use Rattle.plan_steps.proofs.MovedColumns.{makes_back, then, then_known}
 use Rattle.plan_steps.proofs.Listing.{room_after}
@@ -14,7 +14,7 @@ use Rattle.plan_steps.proofs.Overwritten.{vector_overwritten}
 use Rattle.plan_steps.proofs.StepParts.{all_below, counters, keep_status, restood}
 use Rattle.plan_steps.proofs.moving.move_columns.Goals as goal
 use Rattle.plan_steps.specs.Columns.{AreColumnsOf}
-use Rattle.plan_steps.specs.declared.columns.Columns.{Columns}
+use Rattle.plan_steps.specs.declared.columns.FigureColumns.{FigureColumns}
 use Rattle.plan_steps.proofs.moving.move_columns.Goals.{After-restand, After-restate}
 
 pub restand-requires-clause-within : goal.restand-requires-clause-within
@@ -101,7 +101,7 @@ pub restate-requires-clause-room : goal.restate-requires-clause-room
 restate-requires-clause-room c = room_after c.requires.groundwork.0 c.args.shown.now.contents c.requires.groundwork.1 c.requires.groundwork.2.moved c.args.ready.now c.requires.groundwork.2.ready
 
 -- the columns then
-abbrev columns_then : After-restate → Columns
+abbrev columns_then : After-restate → FigureColumns
 columns_then c =
     let l = c.args.columns.now in
     record l { kept = with_items l.kept c.put_at.new.list; standings = with_items l.standings c.restand.new.standings; statuses = with_items l.statuses c.restate.new.statuses; tallies = with_items l.tallies c.restate.new.tallies }

@@ -1,9 +1,9 @@
 use Rattle.std.proofs.Common.{◌≡◌, sym, subst, ◌∙◌, IfOk}
 use Rattle.std.specs.FinMap.{entries}
-use Rattle.plan_looks.specs.plan_kept.specs.plan_choice.specs.Choices.{AreGivenOut, AreHeldIn}
-use Rattle.plan_looks.specs.plan_kept.specs.plan_choice.specs.declared.choice.Choice.{Choice}
-use Rattle.plan_looks.specs.plan_kept.specs.plan_model.specs.Contents.{Contents}
-use Rattle.plan_looks.specs.plan_kept.specs.plan_model.specs.Ready.{IsChosen, named}
+use Rattle.plan_figures.specs.plan_choice.specs.Choices.{AreGivenOut, AreHeldIn}
+use Rattle.plan_figures.specs.plan_choice.specs.declared.choice.Choice.{Choice}
+use Rattle.plan_records.specs.plan_model.specs.Contents.{Contents}
+use Rattle.plan_records.specs.plan_model.specs.Ready.{IsChosen, named}
 use Rattle.plan_steps.proofs.naming.name.Goals as goal
 use Rattle.plan_steps.proofs.naming.name.Goals.{After-beside}
 use Rattle.plan_steps.specs.Following.{IsChoiceOf}

@@ -1,7 +1,7 @@
 use Rattle.std.proofs.Common.{sym, subst, All}
-use Rattle.plan_looks.specs.plan_kept.proofs.ChosenEntries.{chosen_are_ready}
-use Rattle.plan_looks.specs.plan_kept.specs.Edits.{ArePlacesOf}
-use Rattle.plan_looks.specs.plan_kept.specs.plan_model.specs.Contents.{IsInPlan}
+use Rattle.plan_steps.proofs.ChosenEntries.{chosen_are_ready}
+use Rattle.plan_steps.specs.KeptEdits.{ArePlacesOf}
+use Rattle.plan_records.specs.plan_model.specs.Contents.{IsInPlan}
 use Rattle.plan_steps.proofs.naming.naming_of.Goals as goal
 
 pub places_of-requires : goal.places_of-requires

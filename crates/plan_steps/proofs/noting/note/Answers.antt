@@ -1,6 +1,6 @@
 use Rattle.std.proofs.Common.{sym, subst, ℕ, List}
-use Rattle.plan_looks.specs.plan_kept.specs.plan_model.specs.Contents.{Contents}
-use Rattle.plan_looks.specs.plan_restating.specs.Entries.{CanBeRelisted}
+use Rattle.plan_records.specs.plan_model.specs.Contents.{Contents}
+use Rattle.plan_figures.specs.Entries.{CanBeRelisted}
 use Rattle.plan_steps.proofs.FollowedParts.{followed_home, list_home, places_then, relistable_home, was_named}
 use Rattle.plan_steps.proofs.NamedFigures.{latest_after}
 use Rattle.plan_steps.proofs.noting.note.Goals as goal
@@ -12,7 +12,7 @@ use Rattle.plan_steps.specs.Following.{WasFollowed}
 pub settle-requires : goal.settle-requires
 settle-requires c =
     let (P, m, edited, was) = c.requires in
-    let starts = c.args.latest.now.starts in (
+    let starts = c.args.setting.now.latest.now.starts in (
       P,
       m,
       edited,
@@ -28,18 +28,18 @@ module _ (c : After-settle) where
   listed = subst (λ (R : Contents). IsReadyListOf R c.settle.new.ready) c.beside.ensures.contents c.settle.ensures.ready
 
   -- for each plan that it may have been
-  module _ (P : Contents) (m : ℕ) (edited : List ℕ) (was : WasFollowed P c.args.shown.now.contents m edited c.args.latest.now.starts c.args.columns.now c.args.ready.now c.args.followed.now) where
+  module _ (P : Contents) (m : ℕ) (edited : List ℕ) (was : WasFollowed P c.args.shown.now.contents m edited c.args.setting.now.latest.now.starts c.args.columns.now c.args.ready.now c.args.followed.now) where
     home : MakesOf c.args.followed.now.old c.settle.new.columns c.args.columns.now
-    home = followed_home P c.args.shown.now.contents m edited c.args.latest.now.starts c.args.columns.now c.args.ready.now c.args.followed.now was c.settle.new.columns settled
+    home = followed_home P c.args.shown.now.contents m edited c.args.setting.now.latest.now.starts c.args.columns.now c.args.ready.now c.args.followed.now was c.settle.new.columns settled
 
     relistable : CanBeRelisted c.args.shown.now.contents c.settle.new.columns.statuses.items c.settle.new.ready c.args.followed.now.old.statuses.items c.args.followed.now.entries.items
-    relistable = relistable_home P c.args.shown.now.contents m edited c.args.latest.now.starts c.args.columns.now c.args.ready.now c.args.followed.now was c.settle.new.columns settled c.settle.new.ready listed
+    relistable = relistable_home P c.args.shown.now.contents m edited c.args.setting.now.latest.now.starts c.args.columns.now c.args.ready.now c.args.followed.now was c.settle.new.columns settled c.settle.new.ready listed
 
 pub noted_of-noted-requires-clause-latest : goal.noted_of-noted-requires-clause-latest
 noted_of-noted-requires-clause-latest c =
     let (P, m, edited, was) = c.requires in
     let R = c.args.shown.now.contents in
-    let starts = c.args.latest.now.starts in
+    let starts = c.args.setting.now.latest.now.starts in
     let l = c.args.columns.now in
     let r = c.args.ready.now in
     let f = c.args.followed.now in
@@ -49,7 +49,7 @@ pub noted_of-noted-requires-clause-touched : goal.noted_of-noted-requires-clause
 noted_of-noted-requires-clause-touched c =
     let (P, m, edited, was) = c.requires in
     let R = c.args.shown.now.contents in
-    subst (ArePlacesIn R) (sym c.deref.ensures.value) (places_then P R m edited c.args.latest.now.starts c.args.columns.now c.args.ready.now c.args.followed.now was)
+    subst (ArePlacesIn R) (sym c.deref.ensures.value) (places_then P R m edited c.args.setting.now.latest.now.starts c.args.columns.now c.args.ready.now c.args.followed.now was)
 
 pub put_excerpt-requires-clause-makes : goal.put_excerpt-requires-clause-makes
 put_excerpt-requires-clause-makes c = let (P, m, edited, was) = c.requires in (c.args.columns.now, home (goal.at.put_excerpt-requires-clause-makes c).After-settle P m edited was)
@@ -72,4 +72,4 @@ returns-clause-ready c P m edited was =
     let R = c.args.shown.now.contents in
     let l = c.args.columns.now in
     let can = subst (CanBeRelisted R c.settle.new.columns.statuses.items c.settle.new.ready c.args.followed.now.old.statuses.items) (sym c.deref-2.ensures.value) (relistable here P m edited was) in
-    list_home P R m edited c.args.latest.now.starts l c.args.ready.now c.args.followed.now was c.put_excerpt.new.columns (c.put_excerpt.ensures.alike l (home here P m edited was)) c.put_excerpt.new.ready (c.put_excerpt.ensures.ready R can)
+    list_home P R m edited c.args.setting.now.latest.now.starts l c.args.ready.now c.args.followed.now was c.put_excerpt.new.columns (c.put_excerpt.ensures.alike l (home here P m edited was)) c.put_excerpt.new.ready (c.put_excerpt.ensures.ready R can)

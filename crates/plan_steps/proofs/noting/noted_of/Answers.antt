@@ -1,9 +1,9 @@
 use Rattle.std.proofs.Common.{◌<◌, refl, sym, subst, ◌∙◌, length, All}
 use Rattle.std.specs.FinMap.{entries}
-use Rattle.plan_looks.specs.plan_kept.specs.plan_drafts.specs.Places.{AreStatuses}
-use Rattle.plan_looks.specs.plan_kept.specs.plan_model.specs.Contents.{Contents}
+use Rattle.plan_records.specs.plan_drafts.specs.Places.{AreStatuses}
+use Rattle.plan_records.specs.plan_model.specs.Contents.{Contents}
 use Rattle.plan_rows.specs.Shown.{IsShown, shown_with}
-use Rattle.plan_rows.specs.declared.columns.Columns.{Columns as Lent}
+use Rattle.plan_rows.specs.declared.columns.SourceColumns.{SourceColumns as Lent}
 use Rattle.plan_rows.specs.plan_status.specs.Standings.{AreStandings, AreTallies}
 use Rattle.plan_steps.proofs.StepParts.{all_below}
 use Rattle.plan_steps.proofs.noting.noted_of.Goals as goal

@@ -1,9 +1,9 @@
 use Rattle.std.proofs.Common.{◌≡◌, sym, subst, ap, arith, ℕ, length, map, All}
 use Rattle.std.proofs.lemmas.List.{with_items_is}
 use Rattle.std.specs.FinMap.{entries}
-use Rattle.plan_looks.specs.plan_kept.specs.plan_drafts.specs.Places.{AreStatuses}
-use Rattle.plan_looks.specs.plan_restating.specs.Before.{HasStatusAt, KeepStatus}
-use Rattle.plan_looks.specs.plan_restating.specs.Entries.{AreEntriesAt}
+use Rattle.plan_records.specs.plan_drafts.specs.Places.{AreStatuses}
+use Rattle.plan_figures.specs.RestatingBefore.{HasStatusAt, KeepStatus}
+use Rattle.plan_figures.specs.Entries.{AreEntriesAt}
 use Rattle.plan_rows.specs.plan_status.specs.Standings.{AreTallies}
 use Rattle.plan_steps.proofs.FollowedParts.{entries_listed, keeps_status, moved_then, was_named}
 use Rattle.plan_steps.proofs.Listing.{room_after}

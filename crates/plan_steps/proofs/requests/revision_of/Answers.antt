@@ -4,12 +4,12 @@ use Rattle.plan_basics.specs.Intervals.{IsInterval}
 use Rattle.plan_basics.specs.Refusals.{NoneRefuses}
 use Rattle.plan_basics.specs.declared.Refusal.TheVariants as refusal
 use Rattle.plan_changes.specs.Intervals.{opened}
-use Rattle.plan_looks.specs.plan_kept.specs.plan_model.specs.Contents.{Contents}
-use Rattle.plan_looks.specs.plan_records.specs.Acceptance.{MayBeDone, MayBeOpenBy}
-use Rattle.plan_looks.specs.plan_records.specs.Changes.{marked}
-use Rattle.plan_looks.specs.plan_records.specs.declared.What.{What}
-use Rattle.plan_looks.specs.plan_records.specs.declared.What.TheVariants as what
-use Rattle.plan_looks.specs.plan_records.specs.ready_list.specs.Choice.{is_among}
+use Rattle.plan_records.specs.plan_model.specs.Contents.{Contents}
+use Rattle.plan_records.specs.Acceptance.{MayBeDone, MayBeOpenBy}
+use Rattle.plan_records.specs.Changes.{marked}
+use Rattle.plan_records.specs.declared.What.{What}
+use Rattle.plan_records.specs.declared.What.TheVariants as what
+use Rattle.ready_list.specs.Choice.{is_among}
 use Rattle.plan_steps.proofs.Requested.{holds_one, makes_available, makes_nop, marks_all, marks_one, opens, writes_nothing}
 use Rattle.plan_steps.proofs.requests.revision_of.Goals as goal
 use Rattle.plan_steps.specs.Revisions.{IsRevisionFor}

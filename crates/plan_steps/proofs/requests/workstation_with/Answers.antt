@@ -1,7 +1,7 @@
 use Rattle.std.proofs.Common.{◌∙◌, ap}
 use Rattle.std.specs.FinMap.{get}
 use Rattle.plan_basics.specs.declared.Refusal.TheVariants as refusal
-use Rattle.plan_looks.specs.plan_kept.specs.workstations.specs.Timetables.{reopened}
+use Rattle.workstations.specs.Timetables.{reopened}
 use Rattle.plan_changes.proofs.Taken.{is_taken, is_there, put_opened, reopened_in}
 use Rattle.plan_steps.proofs.requests.workstation_with.Goals as goal
 

@@ -1,6 +1,6 @@
 use Rattle.std.proofs.Common.{◌≡◌, ◌∙◌, sym, ap, subst, Some}
 use Rattle.std.specs.FinMap.{get}
-use Rattle.plan_looks.specs.plan_kept.specs.plan_model.specs.Contents.{Contents}
+use Rattle.plan_records.specs.plan_model.specs.Contents.{Contents}
 use Rattle.plan_steps.proofs.Written.{puts_resource_back, puts_workstation_back}
 use Rattle.plan_steps.proofs.revisions.standing.Goals as goal
 use Rattle.plan_steps.specs.Revisions.{PutsBack}

@@ -1,6 +1,6 @@
 use Rattle.std.proofs.Common.{sym, subst}
-use Rattle.plan_looks.specs.plan_kept.specs.plan_state.specs.Figures.{AreFigures}
-use Rattle.plan_looks.specs.plan_restating.specs.Entries.{CanBeRelisted}
+use Rattle.plan_figures.specs.Figures.{AreFigures}
+use Rattle.plan_figures.specs.Entries.{CanBeRelisted}
 use Rattle.plan_steps.proofs.ShiftedFigures.{figures_then, leads_then, relistable_then}
 use Rattle.plan_steps.proofs.shifting.shifted.Goals as goal
 

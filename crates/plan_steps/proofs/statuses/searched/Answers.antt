@@ -1,6 +1,6 @@
 use Rattle.std.specs.Cmp.{nat_cmp_total}
 use Rattle.std.specs.FinMap.{nat_cmp-IsAntisymmetric}
-use Rattle.plan_looks.specs.plan_kept.specs.plan_drafts.proofs.KeyPlaces.{searched}
+use Rattle.plan_records.specs.plan_drafts.proofs.KeyPlaces.{searched}
 use Rattle.plan_steps.proofs.statuses.searched.Goals as goal
 
 pub returns : goal.returns

@@ -1,5 +1,5 @@
 use Rattle.std.proofs.Common.{sym, subst}
-use Rattle.plan_looks.specs.plan_kept.specs.plan_state.specs.Figures.{AreFigures}
+use Rattle.plan_figures.specs.Figures.{AreFigures}
 use Rattle.plan_steps.proofs.ColumnParts.{are_columns, are_figures, are_shares, columns_alike}
 use Rattle.plan_steps.proofs.steps.small_step.Goals as goal
 

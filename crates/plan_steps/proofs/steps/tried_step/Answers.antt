@@ -1,10 +1,10 @@
 use Rattle.std.proofs.Common.{◌≡◌, sym, subst, ap, ◌∙◌, IfOk}
 use Rattle.plan_changes.proofs.Answered.{if_ok}
-use Rattle.plan_looks.specs.plan_kept.specs.plan_model.specs.Contents.{Contents}
-use Rattle.plan_looks.specs.plan_kept.specs.plan_model.specs.Ready.{IsChosen, named}
-use Rattle.plan_looks.specs.plan_kept.specs.plan_model.specs.Valid.{IsSound}
-use Rattle.plan_looks.specs.plan_kept.specs.plan_state.specs.Figures.{KeepsFrame}
-use Rattle.plan_looks.specs.StepLooks.{IsStepLooked}
+use Rattle.plan_records.specs.plan_model.specs.Contents.{Contents}
+use Rattle.plan_records.specs.plan_model.specs.Ready.{IsChosen, named}
+use Rattle.plan_records.specs.plan_model.specs.Valid.{IsSound}
+use Rattle.plan_figures.specs.Figures.{KeepsFrame}
+use Rattle.plan_steps.specs.StepLooks.{IsStepLooked}
 use Rattle.plan_rows.specs.Notes.{operations_noted}
 use Rattle.plan_steps.proofs.ColumnParts.{are_columns, are_figures, are_shares, is_list}
 use Rattle.plan_steps.proofs.steps.tried_step.Goals as goal
@@ -15,26 +15,26 @@ use Rattle.plan_steps.specs.Edits.{IsEditOf, WasEdited, edited}
 use Rattle.plan_steps.specs.Naming.{AreStepNotes}
 use Rattle.plan_steps.specs.Revisions.{HasPlaceFor, written}
 
-pub trial_of-requires-clause-shares : goal.trial_of-requires-clause-shares
-trial_of-requires-clause-shares c = are_shares c.args.shown.contents c.args.columns.now c.args.ready.now c.args.shares.now c.requires.figures
+pub undo_of-requires-clause-shares : goal.undo_of-requires-clause-shares
+undo_of-requires-clause-shares c = are_shares c.args.shown.contents c.args.columns.now c.args.ready.now c.args.shares.now c.requires.figures
 
 pub with_revision-after-requires-clause-has_place : goal.with_revision-after-requires-clause-has_place
 with_revision-after-requires-clause-has_place c = subst (HasPlaceFor c.args.shown.contents) (sym c.in-Ok.ensures.forth) c.requires.edit.has_place
 
 pub with_revision-after-requires-clause-sound : goal.with_revision-after-requires-clause-sound
 with_revision-after-requires-clause-sound c =
-    subst (λ ks. IsSound (written ks c.in-Ok.trial.forth c.args.shown.contents)) (sym c.deref.ensures.value)
+    subst (λ ks. IsSound (written ks c.in-Ok.undo.forth c.args.shown.contents)) (sym c.deref.ensures.value)
     (subst (λ x. IsSound (written c.args.edit.now.keys.items x c.args.shown.contents)) (sym c.in-Ok.ensures.forth) c.requires.edit.sound_after)
 
 -- what was written makes the edited plan
 is_edited : (c : After-with_revision-after) → c.with_revision-after.result.contents ≡ edited c.args.edit.now c.args.shown.contents
 is_edited c =
     c.with_revision-after.ensures.contents
-    ∙ ap (λ ks. written ks c.in-Ok.trial.forth c.args.shown.contents) c.deref.ensures.value
+    ∙ ap (λ ks. written ks c.in-Ok.undo.forth c.args.shown.contents) c.deref.ensures.value
     ∙ ap (λ x. written c.args.edit.now.keys.items x c.args.shown.contents) c.in-Ok.ensures.forth
 
 -- of which the edit was made
-was_edited : (c : After-with_revision-after) → WasEdited c.args.shown.contents c.with_revision-after.result.contents c.args.edit.now c.args.graph.now c.args.latest.now.starts (figures_of c.args.columns.now c.args.ready.now c.in-Ok.trial.shares)
+was_edited : (c : After-with_revision-after) → WasEdited c.args.shown.contents c.with_revision-after.result.contents c.args.edit.now c.args.setting.now.graph.now c.args.setting.now.latest.now.starts (figures_of c.args.columns.now c.args.ready.now c.in-Ok.undo.shares)
 was_edited c =
     let P = c.args.shown.contents in
     let e = c.args.edit.now in
@@ -45,7 +45,7 @@ was_edited c =
       after = is_edited c;
       graph = c.requires.graph;
       latest = c.requires.latest;
-      figures = are_figures P c.args.columns.now c.args.ready.now c.in-Ok.trial.shares (are_columns P c.args.columns.now c.args.ready.now c.args.shares.now c.requires.figures) (is_list P c.args.columns.now c.args.ready.now c.args.shares.now c.requires.figures) c.in-Ok.ensures.shares;
+      figures = are_figures P c.args.columns.now c.args.ready.now c.in-Ok.undo.shares (are_columns P c.args.columns.now c.args.ready.now c.args.shares.now c.requires.figures) (is_list P c.args.columns.now c.args.ready.now c.args.shares.now c.requires.figures) c.in-Ok.ensures.shares;
     }
 
 pub step_after-same-requires : goal.step_after-same-requires
@@ -70,7 +70,7 @@ returns-in-Err-clause-ready c = is_list c.args.shown.contents c.args.columns.now
 pub returns-in-Ok-clause-chosen : goal.returns-in-Ok-clause-chosen
 returns-in-Ok-clause-chosen c =
     let is = is_edited (goal.at.returns-in-Ok-clause-chosen c).After-with_revision-after in
-    subst (λ (Q : Contents). IfOk c.step_after-same.result.1 (λ s. IsChosen Q c.args.at s.named.items)) is c.step_after-same.ensures.chosen
+    subst (λ (Q : Contents). IfOk c.step_after-same.result.1 (λ s. IsChosen Q c.args.setting.now.at s.named.items)) is c.step_after-same.ensures.chosen
 
 pub returns-in-Ok-clause-shift : goal.returns-in-Ok-clause-shift
 returns-in-Ok-clause-shift c =

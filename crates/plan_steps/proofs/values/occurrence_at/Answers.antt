@@ -1,5 +1,5 @@
 use Rattle.std.specs.FinMap.{get}
-use Rattle.plan_looks.specs.plan_kept.specs.plan_drafts.proofs.Tables.{some_is}
+use Rattle.plan_records.specs.plan_drafts.proofs.Tables.{some_is}
 use Rattle.plan_rows.specs.plan_status.proofs.LoadedRows.{row_found}
 use Rattle.plan_steps.proofs.values.occurrence_at.Goals as goal
 

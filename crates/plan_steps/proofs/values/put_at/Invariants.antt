@@ -1,5 +1,5 @@
 use Rattle.std.proofs.Common.{◌≡◌, drop, length}
-use Rattle.plan_looks.specs.plan_restating.specs.Overwritten.{overwritten}
+use Rattle.plan_figures.specs.Overwritten.{overwritten}
 use Rattle.plan_steps.proofs.values.put_at.Given as goal
 
 -- to write what is left makes of the list what all make of the first one

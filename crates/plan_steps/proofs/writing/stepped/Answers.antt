@@ -1,8 +1,8 @@
 use Rattle.std.proofs.Common.{◌≡◌, sym, ap, subst, ◌∙◌}
-use Rattle.plan_looks.specs.plan_kept.specs.plan_laws.proofs.Kept.{choice_keeps_sound}
-use Rattle.plan_looks.specs.plan_kept.specs.plan_model.specs.Contents.{Contents}
-use Rattle.plan_looks.specs.plan_kept.specs.plan_model.specs.Ready.{named}
-use Rattle.plan_looks.specs.plan_kept.specs.plan_model.specs.Valid.{IsSound}
+use Rattle.plan_figures.specs.plan_laws.proofs.Kept.{choice_keeps_sound}
+use Rattle.plan_records.specs.plan_model.specs.Contents.{Contents}
+use Rattle.plan_records.specs.plan_model.specs.Ready.{named}
+use Rattle.plan_records.specs.plan_model.specs.Valid.{IsSound}
 use Rattle.plan_steps.proofs.writing.stepped.Goals as goal
 use Rattle.plan_steps.specs.Revisions.{HasPlaceFor, written}
 

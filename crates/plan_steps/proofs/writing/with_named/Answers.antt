@@ -1,4 +1,4 @@
-use Rattle.plan_looks.specs.plan_kept.specs.plan_laws.proofs.Kept.{choice_keeps_sound}
+use Rattle.plan_figures.specs.plan_laws.proofs.Kept.{choice_keeps_sound}
 use Rattle.plan_steps.proofs.writing.with_named.Goals as goal
 
 pub mark_all-requires : goal.mark_all-requires

@@ -1,8 +1,8 @@
 use Rattle.std.proofs.Common.{◌≡◌, sym, ap, subst, ◌∙◌, [], List}
 use Rattle.plan_basics.specs.declared.keys.OpKey.{OpKey}
 use Rattle.plan_changes.specs.Markings.{DifferInMarks, WereMarked}
-use Rattle.plan_looks.specs.plan_kept.specs.plan_model.specs.Contents.{Contents}
-use Rattle.plan_looks.specs.plan_kept.specs.plan_model.specs.Valid.{IsSound}
+use Rattle.plan_records.specs.plan_model.specs.Contents.{Contents}
+use Rattle.plan_records.specs.plan_model.specs.Valid.{IsSound}
 use Rattle.plan_changes.specs.plan_moves.specs.declared.Marking.{Marking}
 use Rattle.plan_steps.proofs.Written.{beside_sound}
 use Rattle.plan_steps.proofs.writing.without_edit.Goals as goal

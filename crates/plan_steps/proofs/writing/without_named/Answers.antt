@@ -1,8 +1,8 @@
 use Rattle.std.proofs.Common.{sym, ap, subst, ◌∙◌}
-use Rattle.plan_looks.specs.plan_kept.specs.plan_model.specs.Ready.{with_mark}
-use Rattle.plan_looks.specs.plan_kept.specs.plan_model.specs.Valid.{IsSound}
-use Rattle.plan_looks.specs.plan_records.specs.Changes.{revised}
-use Rattle.plan_looks.specs.plan_records.specs.ready_list.specs.Choice.{is_among}
+use Rattle.plan_records.specs.plan_model.specs.Ready.{with_mark}
+use Rattle.plan_records.specs.plan_model.specs.Valid.{IsSound}
+use Rattle.plan_records.specs.Changes.{revised}
+use Rattle.ready_list.specs.Choice.{is_among}
 use Rattle.status_rules.specs.declared.Mark.TheVariants as mark
 use Rattle.plan_steps.proofs.Unnamed.{unnamed}
 use Rattle.plan_steps.proofs.writing.without_named.Goals as goal

@@ -1,5 +1,5 @@
 use Rattle.std.proofs.Common.{◌≡◌, sym, ap, subst}
-use Rattle.deletion_steps.specs.plan_steps.specs.plan_model.specs.Plan.{Plan, IsSoundPlan, plan_held}
+use Rattle.plan_records.specs.plan_model.specs.Plan.{Plan, IsSoundPlan, plan_held}
 use Rattle.plan_records.specs.Answer.{accepted}
 use Rattle.plan_records.specs.Step.{Step}
 use Rattle.plan_core.proofs.Preparing.{seen_sound}

@@ -1,5 +1,5 @@
 use Rattle.std.proofs.Common.{IfOk}
-use Rattle.deletion_steps.specs.plan_steps.specs.plan_changes.proofs.Answered.{if_ok}
+use Rattle.plan_steps.specs.plan_changes.proofs.Answered.{if_ok}
 use Rattle.plan_core.proofs.Led.{seen_prepared}
 use Rattle.plan_core.proofs.Provided.{step_sound, step_starts}
 use Rattle.plan_core.proofs.plan.Plan.prepare.Goals as goal

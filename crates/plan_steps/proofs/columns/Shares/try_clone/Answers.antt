@@ -1,6 +1,6 @@
 use Rattle.std.proofs.Common.{◌∙◌, subst, sym}
 use Rattle.std.specs.FinMap.{entries}
-use Rattle.plan_looks.specs.plan_kept.specs.plan_choice.specs.Choices.{AreGivenOut, AreHeldIn}
+use Rattle.plan_figures.specs.plan_choice.specs.Choices.{AreGivenOut, AreHeldIn}
 use Rattle.plan_steps.proofs.columns.Shares.try_clone.Goals as goal
 
 pub returns-clause-shares : goal.returns-clause-shares

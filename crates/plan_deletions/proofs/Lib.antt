@@ -1,9 +1,0 @@
-pub mod Rows
-pub mod Raised
-pub mod LatestStarts
-pub mod Known
-pub mod Taken
-pub mod Listing
-pub mod NotedOutside
-pub mod Preceding
-pub mod Occurring

@@ -1,0 +1,37 @@
+//! All that is read off a plan and kept beside it, and how it moves with the plan: the figures of a loaded plan; which operations are
+//! satisfied and how many predecessors each waits for; what workstations have given out and who holds special resources; standings,
+//! statuses, the numbers of each occurrence's operations, and the ready list.
+#![tactic(auto)]
+
+mod figures;
+mod frame;
+mod given;
+mod held;
+mod keeping;
+mod laws;
+mod loaded;
+mod noting;
+mod relisting;
+mod restanding;
+mod restating;
+mod retallying;
+mod takings;
+mod waiting;
+
+pub use figures::Figures;
+pub use frame::{Frame, Outline, Reported};
+pub use keeping::kept_of;
+pub use laws::naming_keeps_kept;
+pub use loaded::{LoadedPlan, Parts};
+pub use noting::entries_at;
+pub use plan_choice::{
+    Beside, Choice, OperationRecord, Seen, Shown, SoundContents, Standing, ValidContents,
+    check_start, chosen, chosen_with, given_out_of, graph_for, holdings_of, latest_of,
+    occurrence_status_with, ready_of, standings_of, statuses_of, tallies_of,
+};
+pub use relisting::relist_all;
+pub use restanding::restand;
+pub use restating::{Restating, restate, restate_all};
+pub use shown_records::{Changes, OperationRow, PlanContents, PlanRow, RowKey, row_place};
+pub use takings::retake;
+pub use waiting::{satisfy, unsatisfy};
