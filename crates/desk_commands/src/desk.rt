@@ -3,6 +3,7 @@ ghost use Rattle.std.specs.Prelude.{◌≡◌, ◌⊎◌, ◌≤◌, IfOk, IfErr
 ghost use Rattle.clap.specs.Values.{kind_of};
 ghost use Rattle.desk_commands.specs.Statuses.{EndsExplaining, fault_status, IsOfSurroundings, IsStatusOf};
 
+use crate::databases::{Database, DatabaseFile};
 use crate::endings::{Ending, Fault};
 use crate::loading::{check, load};
 use crate::playing::play;
@@ -15,6 +16,7 @@ use clap::ArgMatches;
 use clap::error::{Error, ErrorKind};
 use command_words::desk_command;
 use plan_basics::Watched;
+use sqlite::{Alter, Connection};
 use std::alloc::Global;
 use std::io::Write;
 use std::rt::HostRuntime;
@@ -42,26 +44,29 @@ fn explain<W: Write, E: Write>(
 }
 
 /// Does what a command asks for.
-fn do_command<W: Write>(
+fn do_command<S: Alter + Drop, W: Write>(
     rt: &HostRuntime,
     name: &str,
     given: &ArgMatches,
     out: &mut Watched<W>,
-) -> Result<Ending, Fault> {
+) -> Result<Ending, Fault>
+where
+    Connection<S>: Database<S>,
+{
     match name {
         "validate" => validate(rt, given, out),
         "check" => check(rt, given, out),
-        "load" => load(rt, given, out),
-        "do" => make(rt, given, out),
-        "report" => report(rt, given, out),
-        "why" => why(rt, given, out),
-        "serve" => serve(rt, given, out),
+        "load" => load::<S, W>(rt, given, out),
+        "do" => make::<S, W>(rt, given, out),
+        "report" => report::<S, W>(rt, given, out),
+        "why" => why::<S, W>(rt, given, out),
+        "serve" => serve::<S, W>(rt, given, out),
         "play" => play(rt, given, out),
         _ => Err(Fault::Words),
     }
 }
 
-/// Does what the words ask for, and has standard output take all of the answer.
+/// Does what the words ask for, at desks whose databases are files, and has standard output take all of the answer.
 fn do_asked<W: Write>(
     rt: &HostRuntime,
     asked: &ArgMatches,
@@ -70,7 +75,7 @@ fn do_asked<W: Write>(
     let Some((name, given)) = asked.subcommand() else {
         return Err(Fault::Words);
     };
-    let ending = do_command(rt, name, given, out)?;
+    let ending = do_command::<DatabaseFile, W>(rt, name, given, out)?;
     out.flush()?;
     Ok(ending)
 }

@@ -2,6 +2,7 @@
 #![tactic(auto)]
 
 mod answers;
+mod databases;
 mod desk;
 mod endings;
 mod files;

@@ -9,8 +9,9 @@ ghost use Rattle.command_words.specs.Words.{text_given};
 ghost use Rattle.desk_commands.specs.declared.endings.Fault.{Fault};
 
 use crate::answers::tell;
+use crate::databases::{Database, close};
 use crate::endings::{Ending, Fault};
-use crate::files::{plan_of_file, tell_and_close};
+use crate::files::plan_of_file;
 use crate::given::moment_of;
 use clap::ArgMatches;
 use command_words::value_of;
@@ -18,7 +19,7 @@ use plan_basics::Watched;
 use plan_loads::load_into;
 use plan_records::PlanDraft;
 use plan_trials::answer_alone;
-use sqlite::{Connection, File, FileStore};
+use sqlite::{Alter, Connection};
 use std::alloc::Global;
 use std::io::Write;
 use std::rt::HostRuntime;
@@ -39,53 +40,60 @@ pub fn check<W: Write>(
     }
 }
 
-// Loads a draft over a connection, shows the answer and closes the database.
-fn load_over<W: Write>(
+// Loads a draft over a connection, shows the answer and closes the database. What is shown stands also where that fails.
+fn load_over<S: Alter + Drop, W: Write>(
     alloc: Global,
-    conn: Connection<FileStore<File>>,
+    conn: Connection<S>,
     at: i64,
     draft: Option<PlanDraft>,
     out: &mut Watched<W>,
 ) -> Result<Ending, Fault>
+where
+    Connection<S>: Database<S>,
     requires { conn.in_transaction ≡ false }
     ensures shown { IfOk result (IsLoadOf at draft (W.contents (inner_of out.old)) (W.contents (inner_of out.new))) }
     ensures fault { IfErr result IsOfSurroundings }
 {
     let (reply, conn) = load_into(alloc, conn, at, draft);
-    tell_and_close(conn, &reply, out)
+    let told = tell(out, &reply);
+    close(conn, &reply)?;
+    told
 }
 
 // Loads a draft into the desk of a database's file.
-#[tactic(auto, using(crate::proofs::Statuses::of_the_store))]
-fn load_draft<W: Write>(
+fn load_draft<S: Alter + Drop, W: Write>(
     rt: &HostRuntime,
     path: &str,
     at: i64,
     draft: Option<PlanDraft>,
     out: &mut Watched<W>,
 ) -> Result<Ending, Fault>
+where
+    Connection<S>: Database<S>,
     ensures shown { IfOk result (IsLoadOf at draft (W.contents (inner_of out.old)) (W.contents (inner_of out.new))) }
     ensures fault { IfErr result IsOfSurroundings }
 {
-    match Connection::open(rt, path) {
+    match Connection::<S>::open_at(rt, path) {
         Ok(conn) => load_over(rt.alloc(), conn, at, draft, out),
-        Err(error) => Err(Fault::from(error)),
+        Err(fault) => Err(fault),
     }
 }
 
 /// `load`: the plan of a file is loaded into the desk of a database's file. The moment is judged before the files, and
 /// the plan is read before the database is touched.
-pub fn load<W: Write>(
+pub fn load<S: Alter + Drop, W: Write>(
     rt: &HostRuntime,
     given: &ArgMatches,
     out: &mut Watched<W>,
 ) -> Result<Ending, Fault>
+where
+    Connection<S>: Database<S>,
     ensures shown { IfOk result (IsLoadShown (text_given (found_of given.now) (codes "at")) (W.contents (inner_of out.old)) (W.contents (inner_of out.new))) }
     ensures fault { IfErr result (λ fault. ((fault ≡ Fault.Moment) × IsNoMinute (text_given (found_of given.now) (codes "at"))) ⊎ IsOfSurroundings fault) }
 {
     let at = moment_of(given)?;
     match plan_of_file(rt, value_of(given, "plan")) {
-        Ok(draft) => load_draft(rt, value_of(given, "db"), at, draft, out),
+        Ok(draft) => load_draft::<S, W>(rt, value_of(given, "db"), at, draft, out),
         Err(fault) => Err(fault),
     }
 }

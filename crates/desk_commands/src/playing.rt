@@ -180,8 +180,8 @@ fn play_lines<S: Alter + Drop, W: Write>(
     Ok(ending_of_lines(refused))
 }
 
-// The desk over a connection, at which nothing is loaded.
-fn desk_in(alloc: Global, conn: Connection<MemStore>) -> Result<Desk<MemStore>, NoDesk>
+// A desk over a connection to a database that has no table: nothing is loaded there.
+fn new_desk<S: Alter + Drop>(alloc: Global, conn: Connection<S>) -> Result<Desk<S>, NoDesk>
     requires { conn.in_transaction ≡ false }
     ensures empty { IfOk result (λ desk. state_of desk ≡ empty_state) }
     ensures usable { IfOk result (λ desk. desk.is_usable ≡ true) }
@@ -190,18 +190,6 @@ fn desk_in(alloc: Global, conn: Connection<MemStore>) -> Result<Desk<MemStore>, 
     match Desk::create(alloc, conn) {
         Ok(desk) => Ok(desk),
         Err((refusal, _)) => Err(NoDesk::Refused(refusal)),
-    }
-}
-
-// A desk in memory, at which nothing is loaded.
-fn new_desk(alloc: Global) -> Result<Desk<MemStore>, NoDesk>
-    ensures empty { IfOk result (λ desk. state_of desk ≡ empty_state) }
-    ensures usable { IfOk result (λ desk. desk.is_usable ≡ true) }
-    ensures refused { IfErr result (IsWhyNoDesk IsOpeningRefusal) }
-{
-    match Connection::open_in_memory(alloc) {
-        Ok(conn) => desk_in(alloc, conn),
-        Err(_) => Err(NoDesk::Faulty(Fault::Memory)),
     }
 }
 
@@ -217,11 +205,11 @@ fn load_reply<S: Alter + Drop>(desk: &mut Desk<S>, at: i64, draft: Option<PlanDr
 }
 
 // A desk at which nothing is loaded, once a draft is; or the refusal of the load.
-fn desk_with(
-    desk: Desk<MemStore>,
+fn desk_with<S: Alter + Drop>(
+    desk: Desk<S>,
     at: i64,
     draft: Option<PlanDraft>,
-) -> Result<Desk<MemStore>, NoDesk>
+) -> Result<Desk<S>, NoDesk>
     requires empty { state_of desk ≡ empty_state }
     requires usable { desk.is_usable ≡ true }
     ensures loaded { IfOk result (λ made. (named : List OpKey) × IsLoaded at draft (accepted named) (state_of made)) }
@@ -235,6 +223,24 @@ fn desk_with(
     }
 }
 
+// A new desk over a connection at which a draft was loaded; or why there is none.
+fn loaded_over<S: Alter + Drop>(
+    alloc: Global,
+    conn: Connection<S>,
+    at: i64,
+    draft: Option<PlanDraft>,
+) -> Result<Desk<S>, NoDesk>
+    requires { conn.in_transaction ≡ false }
+    ensures loaded { IfOk result (λ desk. (named : List OpKey) × IsLoaded at draft (accepted named) (state_of desk)) }
+    ensures usable { IfOk result (λ desk. desk.is_usable ≡ true) }
+    ensures refused { IfErr result (IsWhyNoDesk (IsLoadRefusal at draft)) }
+{
+    match new_desk(alloc, conn) {
+        Ok(desk) => desk_with(desk, at, draft),
+        Err(none) => Err(none),
+    }
+}
+
 /// A desk in memory at which a plan was loaded; or why there is none, as the refusal of the load.
 pub fn loaded_desk(
     alloc: Global,
@@ -245,9 +251,9 @@ pub fn loaded_desk(
     ensures usable { IfOk result (λ desk. desk.is_usable ≡ true) }
     ensures refused { IfErr result (IsWhyNoDesk (IsLoadRefusal at draft)) }
 {
-    match new_desk(alloc) {
-        Ok(desk) => desk_with(desk, at, draft),
-        Err(none) => Err(none),
+    match Connection::open_in_memory(alloc) {
+        Ok(conn) => loaded_over(alloc, conn, at, draft),
+        Err(_) => Err(NoDesk::Faulty(Fault::Memory)),
     }
 }
 
@@ -273,7 +279,11 @@ fn play_plan<W: Write>(
     ensures { IsPlanPlayed at draft requests.now (W.contents (inner_of out.old)) (W.contents (inner_of out.new)) result }
 {
     match loaded_desk(alloc, at, draft) {
-        Ok(mut desk) => play_lines(alloc, &mut desk, requests, out),
+        Ok(mut desk) => {
+            let played = play_lines(alloc, &mut desk, requests, out);
+            desk.close();
+            played
+        }
         Err(none) => tell_no_desk(out, none),
     }
 }

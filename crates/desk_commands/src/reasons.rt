@@ -8,8 +8,9 @@ ghost use Rattle.command_words.specs.Words.{text_given};
 ghost use Rattle.desk_commands.specs.declared.endings.Fault.{Fault};
 
 use crate::answers::{tell_no_desk, tell_refusal};
+use crate::databases::{Database, close_desk, stored_desk};
 use crate::endings::{Ending, Fault};
-use crate::files::{close_desk, plan_of_file, stored_desk};
+use crate::files::plan_of_file;
 use crate::given::{moment_if_given, operation_of};
 use crate::playing::loaded_desk;
 use crate::reports::end_of;
@@ -18,7 +19,7 @@ use plan_basics::{Moment, OpKey, Refusal, Watched};
 use plan_loads::Desk;
 use plan_records::PlanDraft;
 use plan_reports::why_report;
-use sqlite::{Alter, File, FileStore};
+use sqlite::{Alter, Connection};
 use std::alloc::Global;
 use std::io::Write;
 use std::rt::HostRuntime;
@@ -54,7 +55,11 @@ fn why_planned<W: Write>(
     ensures fault { IfErr result IsOfSurroundings }
 {
     match loaded_desk(alloc, at, draft) {
-        Ok(desk) => tell_why(alloc, &desk, key, at, out),
+        Ok(desk) => {
+            let shown = tell_why(alloc, &desk, key, at, out);
+            desk.close();
+            shown
+        }
         Err(none) => tell_no_desk(out, none),
     }
 }
@@ -87,13 +92,15 @@ fn minute_of<S: Alter + Drop>(desk: &Desk<S>, minute: Option<i64>) -> i64
 }
 
 // Shows the same at the desk of a database, at its clock where no minute is given, and closes the database.
-fn why_and_close<W: Write>(
+fn why_and_close<S: Alter + Drop, W: Write>(
     alloc: Global,
-    desk: Desk<FileStore<File>>,
+    desk: Desk<S>,
     key: &OpKey,
     minute: Option<i64>,
     out: &mut Watched<W>,
 ) -> Result<Ending, Fault>
+where
+    Connection<S>: Database<S>,
     ensures shown { IfOk result (IsWhyShown key.now (minute_asked minute desk.plan) desk.is_usable desk.plan (W.contents (inner_of out.old)) (W.contents (inner_of out.new))) }
     ensures fault { IfErr result IsOfSurroundings }
 {
@@ -104,17 +111,19 @@ fn why_and_close<W: Write>(
 }
 
 // The same at the desk of a database's file; or why it can't be opened.
-fn why_stored<W: Write>(
+fn why_stored<S: Alter + Drop, W: Write>(
     rt: &HostRuntime,
     path: &str,
     key: &OpKey,
     minute: Option<i64>,
     out: &mut Watched<W>,
 ) -> Result<Ending, Fault>
+where
+    Connection<S>: Database<S>,
     ensures shown { IfOk result (IsWhyOfDesk key.now minute (W.contents (inner_of out.old)) (W.contents (inner_of out.new))) }
     ensures fault { IfErr result IsOfSurroundings }
 {
-    match stored_desk(rt, path) {
+    match stored_desk::<S>(rt, path) {
         Ok(desk) => why_and_close(rt.alloc(), desk, key, minute, out),
         Err(none) => tell_no_desk(out, none),
     }
@@ -122,18 +131,20 @@ fn why_stored<W: Write>(
 
 /// `why`: the words are judged before the files. A plan's text is loaded at the moment that is given; the database of a
 /// desk is closed at the end. `Words` where the words name no operation, or don't say at which desk.
-pub fn why<W: Write>(
+pub fn why<S: Alter + Drop, W: Write>(
     rt: &HostRuntime,
     given: &ArgMatches,
     out: &mut Watched<W>,
 ) -> Result<Ending, Fault>
+where
+    Connection<S>: Database<S>,
     ensures shown { IfOk result (IsWhyAsked (text_given (found_of given.now) (codes "op")) (first_value (found_of given.now) (codes "at")) (W.contents (inner_of out.old)) (W.contents (inner_of out.new))) }
     ensures fault { IfErr result (λ fault. ((fault ≡ Fault.Words) × (IsNoOperationText (text_given (found_of given.now) (codes "op")) ⊎ IsNoDeskGiven (first_value (found_of given.now) (codes "db")) (first_value (found_of given.now) (codes "plan")) (first_value (found_of given.now) (codes "at")))) ⊎ (((fault ≡ Fault.Moment) × IsNoMinuteGiven (first_value (found_of given.now) (codes "at"))) ⊎ IsOfSurroundings fault)) }
 {
     let key = operation_of(given)?;
     let at = moment_if_given(given)?;
     match (given.get_str("db"), given.get_str("plan"), at) {
-        (Some(path), _, at) => why_stored(rt, path, &key, at, out),
+        (Some(path), _, at) => why_stored::<S, W>(rt, path, &key, at, out),
         (None, Some(path), Some(at)) => why_of_file(rt, path, at, &key, out),
         _ => Err(Fault::Words),
     }

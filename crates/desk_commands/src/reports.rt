@@ -12,15 +12,15 @@ ghost use Rattle.plan_reports.specs.Reports.{IsOwed, IsWritten};
 ghost use Rattle.plan_reports.specs.declared.reports.ReportFault.{ReportFault};
 
 use crate::answers::{tell_no_desk, tell_refusal};
+use crate::databases::{Database, close_desk, stored_desk};
 use crate::endings::{Ending, Fault};
-use crate::files::{close_desk, stored_desk};
 use crate::given::{Kind, kind_of};
 use clap::ArgMatches;
 use command_words::value_of;
 use plan_basics::Watched;
 use plan_loads::Desk;
 use plan_reports::{ReportFault, error_report, late_report, occurrence_report, ready_report};
-use sqlite::{Alter, File, FileStore};
+use sqlite::{Alter, Connection};
 use std::alloc::Global;
 use std::io::Write;
 use std::rt::HostRuntime;
@@ -76,12 +76,14 @@ pub fn show<S: Alter + Drop, W: Write>(
 }
 
 // Shows a report of the desk of a database, or why it is refused, and closes the database.
-fn show_and_close<W: Write>(
+fn show_and_close<S: Alter + Drop, W: Write>(
     alloc: Global,
-    desk: Desk<FileStore<File>>,
+    desk: Desk<S>,
     kind: &Kind,
     out: &mut Watched<W>,
 ) -> Result<Ending, Fault>
+where
+    Connection<S>: Database<S>,
     ensures shown { IfOk result (IsReportShown kind.now desk.is_usable desk.plan (W.contents (inner_of out.old)) (W.contents (inner_of out.new))) }
     ensures fault { IfErr result IsOfSurroundings }
 {
@@ -92,16 +94,18 @@ fn show_and_close<W: Write>(
 
 /// `report`: which report is asked for is judged before the file. At its end the database is closed. `Words` where the
 /// words ask for no report.
-pub fn report<W: Write>(
+pub fn report<S: Alter + Drop, W: Write>(
     rt: &HostRuntime,
     given: &ArgMatches,
     out: &mut Watched<W>,
 ) -> Result<Ending, Fault>
+where
+    Connection<S>: Database<S>,
     ensures shown { IfOk result (IsReportAsked (text_given (found_of given.now) (codes "kind")) (first_value (found_of given.now) (codes "ws")) (W.contents (inner_of out.old)) (W.contents (inner_of out.new))) }
     ensures fault { IfErr result (λ fault. ((fault ≡ Fault.Words) × AsksNoReport (text_given (found_of given.now) (codes "kind")) (first_value (found_of given.now) (codes "ws"))) ⊎ IsOfSurroundings fault) }
 {
     let kind = kind_of(given)?;
-    match stored_desk(rt, value_of(given, "db")) {
+    match stored_desk::<S>(rt, value_of(given, "db")) {
         Ok(desk) => show_and_close(rt.alloc(), desk, &kind, out),
         Err(none) => tell_no_desk(out, none),
     }

@@ -7,44 +7,50 @@ ghost use Rattle.desk_commands.specs.Statuses.{IsOfSurroundings};
 ghost use Rattle.command_words.specs.Words.{text_given};
 ghost use Rattle.desk_commands.specs.declared.endings.Fault.{Fault};
 
-use crate::answers::tell_no_desk;
+use crate::answers::{tell, tell_no_desk};
+use crate::databases::{Database, close_desk, stored_desk};
 use crate::endings::{Ending, Fault};
-use crate::files::{stored_desk, tell_and_close};
 use crate::given::request_of;
 use clap::ArgMatches;
 use command_words::value_of;
 use plan_basics::Watched;
 use plan_loads::Desk;
 use plan_records::Request;
-use sqlite::{File, FileStore};
+use sqlite::{Alter, Connection};
 use std::io::Write;
 use std::rt::HostRuntime;
 
-// Has a desk answer a request, shows the answer and closes the database.
-fn answer<W: Write>(
-    desk: Desk<FileStore<File>>,
+// Has a desk answer a request, shows the answer and closes the database. What is shown stands also where that fails.
+fn answer<S: Alter + Drop, W: Write>(
+    desk: Desk<S>,
     request: &Request,
     out: &mut Watched<W>,
 ) -> Result<Ending, Fault>
+where
+    Connection<S>: Database<S>,
     ensures shown { IfOk result (IsRequestAnswered request.now (W.contents (inner_of out.old)) (W.contents (inner_of out.new))) }
     ensures fault { IfErr result IsOfSurroundings }
 {
     let mut desk = desk;
     let reply = desk.call(request);
-    tell_and_close(desk.close(), &reply, out)
+    let told = tell(out, &reply);
+    close_desk(desk)?;
+    told
 }
 
 // Makes a request at the desk of a database's file.
-fn make_stored<W: Write>(
+fn make_stored<S: Alter + Drop, W: Write>(
     rt: &HostRuntime,
     path: &str,
     request: &Request,
     out: &mut Watched<W>,
 ) -> Result<Ending, Fault>
+where
+    Connection<S>: Database<S>,
     ensures shown { IfOk result (IsRequestAnswered request.now (W.contents (inner_of out.old)) (W.contents (inner_of out.new))) }
     ensures fault { IfErr result IsOfSurroundings }
 {
-    match stored_desk(rt, path) {
+    match stored_desk::<S>(rt, path) {
         Ok(desk) => answer(desk, request, out),
         Err(none) => tell_no_desk(out, none),
     }
@@ -52,16 +58,18 @@ fn make_stored<W: Write>(
 
 /// `do`: the request is judged before the file. At its end the database is closed, but where its store has failed: then
 /// the files are let go as they are.
-pub fn make<W: Write>(
+pub fn make<S: Alter + Drop, W: Write>(
     rt: &HostRuntime,
     given: &ArgMatches,
     out: &mut Watched<W>,
 ) -> Result<Ending, Fault>
+where
+    Connection<S>: Database<S>,
     ensures shown { IfOk result (IsRequestShown (text_given (found_of given.now) (codes "request")) (W.contents (inner_of out.old)) (W.contents (inner_of out.new))) }
     ensures fault { IfErr result (λ fault. IsOfSurroundings fault ⊎ ((fault ≡ Fault.Request) × IsNoRequest (text_given (found_of given.now) (codes "request")))) }
 {
     match request_of(rt.alloc(), value_of(given, "request").as_bytes()) {
-        Ok(request) => make_stored(rt, value_of(given, "db"), &request, out),
+        Ok(request) => make_stored::<S, W>(rt, value_of(given, "db"), &request, out),
         Err(fault) => Err(fault),
     }
 }

@@ -1,12 +1,12 @@
 // `serve`: the desk of a database's file over HTTP, so many connections, one after another.
 use crate::answers::tell_no_desk;
+use crate::databases::{Database, close_desk, stored_desk};
 use crate::endings::{Ending, Fault};
-use crate::files::{close_desk, stored_desk};
 use clap::ArgMatches;
 use command_words::value_of;
 use plan_basics::Watched;
 use plan_loads::Desk;
-use sqlite::{Alter, File, FileStore};
+use sqlite::{Alter, Connection};
 use std::alloc::Global;
 use std::io;
 use std::io::Write;
@@ -60,11 +60,11 @@ fn taken_port(rt: &HostRuntime, given: &ArgMatches) -> Result<TcpListener, Fault
 }
 
 /// Tells that the port is taken, and serves so many connections.
-fn serve_port<W: Write>(
+fn serve_port<S: Alter + Drop, W: Write>(
     alloc: Global,
     listener: &TcpListener,
     connections: u64,
-    desk: &mut Desk<FileStore<File>>,
+    desk: &mut Desk<S>,
     out: &mut Watched<W>,
 ) -> Result<(), Fault> {
     writeln!(out, "listening")?;
@@ -73,10 +73,10 @@ fn serve_port<W: Write>(
 }
 
 /// Takes the port that the words give, tells so before the first connection, and serves so many connections.
-fn listen<W: Write>(
+fn listen<S: Alter + Drop, W: Write>(
     rt: &HostRuntime,
     given: &ArgMatches,
-    desk: &mut Desk<FileStore<File>>,
+    desk: &mut Desk<S>,
     out: &mut Watched<W>,
 ) -> Result<(), Fault> {
     let connections = given.get_one::<u32>("requests").ok_or(Fault::Words)?;
@@ -86,37 +86,34 @@ fn listen<W: Write>(
     }
 }
 
-/// Closes the database of a desk, but where its store has failed: then the files are let go as they are.
-fn close_usable(desk: Desk<FileStore<File>>) -> Result<(), Fault> {
-    if desk.is_usable() {
-        close_desk(desk)
-    } else {
-        Ok(())
-    }
-}
-
 /// Serves the connections that the words give at a desk, and closes its database.
-fn serve_and_close<W: Write>(
+fn serve_and_close<S: Alter + Drop, W: Write>(
     rt: &HostRuntime,
     given: &ArgMatches,
-    desk: Desk<FileStore<File>>,
+    desk: Desk<S>,
     out: &mut Watched<W>,
-) -> Result<Ending, Fault> {
+) -> Result<Ending, Fault>
+where
+    Connection<S>: Database<S>,
+{
     let mut desk = desk;
     let served = listen(rt, given, &mut desk, out);
-    close_usable(desk)?;
+    close_desk(desk)?;
     served?;
     Ok(Ending::Done)
 }
 
 /// `serve`: the database is opened before the port is taken. At its end it is closed, but where its store has failed:
 /// then the files are let go as they are.
-pub fn serve<W: Write>(
+pub fn serve<S: Alter + Drop, W: Write>(
     rt: &HostRuntime,
     given: &ArgMatches,
     out: &mut Watched<W>,
-) -> Result<Ending, Fault> {
-    match stored_desk(rt, value_of(given, "db")) {
+) -> Result<Ending, Fault>
+where
+    Connection<S>: Database<S>,
+{
+    match stored_desk::<S>(rt, value_of(given, "db")) {
         Ok(desk) => serve_and_close(rt, given, desk, out),
         Err(none) => tell_no_desk(out, none),
     }

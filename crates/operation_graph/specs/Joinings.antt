@@ -1,7 +1,7 @@
 -- A graph's lists, to which an edge was added.
-use Rattle.std.specs.Prelude.{◌≡◌, ℕ, ◌<◌, List, length, Contains}
+use Rattle.std.specs.Prelude.{◌≡◌, ℕ, ◌<◌, List, Contains}
 use Rattle.operation_graph.specs.Graphs.{Digraph}
-use Rattle.operation_graph.specs.Adjacency.{AreRanks, IsKept, Rows, graph_of, joined, row}
+use Rattle.operation_graph.specs.Adjacency.{IsKept, Rows, graph_of, joined, row}
 
 -- a graph's lists and ranks, and two of its nodes
 pub record IsAsked (succs preds : Rows) (ranks : List ℕ) (g : Digraph) (a b : ℕ) : Type 0 where
@@ -16,7 +16,3 @@ pub record IsJoining (succs preds : Rows) (ranks : List ℕ) (g : Digraph) (a b 
   pub new : ¬ Contains (row succs a) b
   pub succs_are : succs' ≡ joined succs a b
   pub preds_are : preds' ≡ joined preds b a
-
--- there is a rank for each node, and ranks rise along the edges of these lists
-abbrev pub RanksFit : Rows → List ℕ → Type 0
-RanksFit succs ranks = (length ranks ≡ length succs) × AreRanks succs ranks

@@ -12,4 +12,4 @@ pub use clearing::rerun;
 pub use journal::{take_back, write};
 pub use kept::{Kept, Rule};
 pub use rules::Rules;
-pub use settling::{settle, settle_up, spread};
+pub use settling::{settle, settle_up};

@@ -130,11 +130,11 @@ fn lower_all<R: Rules>(
     Ok(())
 }
 
-/// Tells the successors of all nodes at work, and of those that pass by that, until none is left: what is kept is right then. It
-/// takes a look at each node that comes to wait for no predecessor.
-///
-/// Refused where a growth was refused. Then as on success the journal leads back to what stood before.
-pub fn spread<R: Rules>(
+// Tells the successors of all nodes at work, and of those that pass by that, until none is left: what is kept is right then. It
+// takes a look at each node that comes to wait for no predecessor.
+//
+// Refused where a growth was refused. Then as on success the journal leads back to what stood before.
+fn spread<R: Rules>(
     graph: &Graph,
     rules: &mut R,
     kept: &mut [Kept],

@@ -13,6 +13,6 @@ mod under_way;
 pub use checks::{check_load, check_request};
 pub use plan_figures::{
     Beside, Choice, Figures, Frame, LoadedPlan, Outline, Parts, Reported, Seen, Shown,
-    SoundContents, chosen, chosen_with, latest_of, ready_of, satisfy, unsatisfy,
+    SoundContents, chosen_with, satisfy, unsatisfy,
 };
 pub use reach::reached_keys;

@@ -1,4 +1,4 @@
--- Who holds what of special resources, as one row of loaded contents after another is gone through.
+-- Who holds what of special resources, as one row after another is gone through.
 use Rattle.std.proofs.Common.{◌≡◌, ◌≢◌, ◌⊎◌, ◌↔◌, inl, inr, refl, sym, ap, subst, ◌∙◌, true≢false, arith, ℕ, ◌+◌, ◌<◌, ◌≤◌, Bool, true, false, length, slice_get, Option, Some, None}
 use Rattle.std.specs.FinMap.{entries, empty, get, get-empty}
 use Rattle.std.proofs.lemmas.Bool.{cases_lt}
@@ -11,7 +11,6 @@ use Rattle.status_rules.specs.Table.{marked_status}
 use Rattle.shown_records.specs.plan_status.specs.plan_model.proofs.Entries.{entries_in_order}
 use Rattle.shown_records.specs.plan_status.specs.plan_model.specs.Holdings.{holds_resource, takes}
 use Rattle.shown_records.specs.plan_status.specs.plan_model.specs.Contents.{Contents, Operation, attribute_at}
-use Rattle.shown_records.specs.plan_status.specs.plan_model.specs.Valid.{IsValid}
 use Rattle.shown_records.specs.plan_status.proofs.Ascending.{one_place}
 use Rattle.shown_records.specs.plan_status.proofs.LoadedRows.{row_found, row_of}
 use Rattle.plan_choice.specs.Choices.{AreHeldIn}
@@ -40,7 +39,7 @@ AreHeldAmong c i held = (o : OpKey) (r : Name) (mode : Mode) → (get held (r, o
 pub none_held : (c : Contents) → AreHeldAmong c 0 empty
 none_held c o r mode = (λ is. absurd (none-some mode (sym (get-empty holding_cmp (r, o)) ∙ is)), λ t. absurd (omega (arith, t.before)))
 
-module _ (c : Contents) (h : IsValid c) where
+module _ (c : Contents) where
   module _ (i : ℕ) (o : OpKey) (op : Operation) (row : slice_get (entries c.operations) i ≡ Some (o, op)) (held : Held) (so_far : AreHeldAmong c i held) where
     later : (p : OpKey) (r : Name) (mode : Mode) → IsHeldAmong c i p r mode → IsHeldAmong c (i + 1) p r mode
     later p r mode t = record { place = t.place; operation = t.operation; before = omega (arith, t.before); stands = t.stands; by = t.by }
@@ -55,12 +54,16 @@ module _ (c : Contents) (h : IsValid c) where
           inr (ap (λ (z : OpKey × Operation). z.0) same, subst (λ (z : OpKey × Operation). IsHeldBy c z.1 r mode) same t.by)
     ]
 
+    -- the operation holds nothing
+    pub row_passed_over : ((r : Name) (mode : Mode) → ¬ IsHeldBy c op r mode) → AreHeldAmong c (i + 1) held
+    row_passed_over none p r mode = (
+      λ is. later p r mode ((so_far p r mode).0 is),
+      λ t. elim (which p r mode t) [ inl early ↦ (so_far p r mode).1 early | inr here ↦ absurd (none r mode here.1) ],
+    )
+
     -- on its workstation nothing is held
     pub row_holds_none : takes (attribute_at c op.workstation) ≡ false → AreHeldAmong c (i + 1) held
-    row_holds_none none p r mode = (
-      λ is. later p r mode ((so_far p r mode).0 is),
-      λ t. elim (which p r mode t) [ inl early ↦ (so_far p r mode).1 early | inr here ↦ absurd (true≢false (sym here.1.known ∙ none)) ],
-    )
+    row_holds_none none = row_passed_over (λ r mode by. true≢false (sym by.known ∙ none))
 
     nothing_yet : (r : Name) → get held (r, o) ≡ None
     nothing_yet r = at (get held (r, o)) refl

@@ -8,6 +8,7 @@ pub use Rattle.shown_records.specs.plan_status.specs.plan_model
 pub use Rattle.shown_records.specs.plan_status.specs.plan_records
 pub use Rattle.shown_records.specs.plan_status
 pub use Rattle.workstations
+pub mod BriefedTakings
 pub mod Choices
 pub mod ReadyItems
 pub mod Shut

@@ -9,12 +9,12 @@ ghost use Rattle.plan_choice.specs.Shut.{AreShut};
 ghost use Rattle.plan_choice.specs.StartGates.{Answers, counted};
 ghost use Rattle.ready_list.specs.declared.entry.ReadyEntry.{ReadyEntry as ReadyEntryValue};
 
-use super::holders::{holdings_of, take_needs};
+use super::holders::take_needs;
 use super::shut::{is_shut, shut_at};
-use super::taken::{check_start, given_out_of, with_operation};
+use super::taken::{check_start, with_operation};
 use plan_basics::{Moment, OpKey, Refusal};
 use ready_list::{Gate, ReadyEntry, ReadyList};
-use shown_records::{PlanContents, Seen, Shown, SoundContents};
+use shown_records::{PlanContents, Seen, Shown};
 use special_resources::Holdings;
 use std::alloc::Global;
 use std::marker::Model;
@@ -55,7 +55,6 @@ fn name_at(
 }
 
 /// Allows operations of a plan to start at a moment, one after the other, and counts those as started that it allowed.
-#[derive(Drop)]
 struct StartGate {
     shown: Shown,
     at: Moment,
@@ -224,62 +223,5 @@ pub fn chosen_with(
     match shut_in(alloc, &shown, at, &given) {
         Ok(shut) => named_with(shown, ready, at, given, holdings, shut),
         Err(refusal) => (shown, Err(refusal)),
-    }
-}
-
-// What is named to start at a moment in these contents, which it gives back, where this is given out and held. The error is
-// always `Memory`.
-fn chosen_in(
-    alloc: Global,
-    contents: SoundContents,
-    ready: &ReadyList,
-    at: Moment,
-    given: Vec<Capacity>,
-    holdings: Holdings,
-) -> (SoundContents, Result<Vec<OpKey>, Refusal>)
-    requires ready { AreReadyEntries contents ready.now.entries }
-    requires given { AreGivenOut contents (entries contents.workstations) given.items }
-    requires held { AreHeldIn contents holdings.held }
-    ensures contents { result.0 ≡ contents }
-    ensures chosen { IfOk result.1 (λ named. IsChosen contents at named.items) }
-    ensures refused { IfErr result.1 (λ r. r ≡ Refusal.Memory) }
-{
-    let (shown, opener) = Shown::of(contents);
-    let (shown, choice) = chosen_with(alloc, shown, ready, at, given, holdings);
-    let (contents, _) = shown.into_contents(opener);
-    match choice {
-        Ok(choice) => (contents, Ok(choice.named)),
-        Err(refusal) => (contents, Err(refusal)),
-    }
-}
-
-// What each workstation of these contents has given out, and who holds special resources. The error is always `Memory`.
-fn takings_of(alloc: Global, contents: &SoundContents) -> Result<(Vec<Capacity>, Holdings), Refusal>
-    ensures given { IfOk result (λ t. AreGivenOut contents.now (entries contents.now.workstations) t.0.items) }
-    ensures held { IfOk result (λ t. AreHeldIn contents.now t.1.held) }
-    ensures refused { IfErr result (λ r. r ≡ Refusal.Memory) }
-{
-    let given = given_out_of(alloc, contents)?;
-    let holdings = holdings_of(alloc, contents.valid())?;
-    Ok((given, holdings))
-}
-
-/// What is named to start at a moment, in order, in contents that were made anew, which it gives back: from the front of the ready
-/// list, each operation on an automatic workstation that is allowed to start once those before it are named; the others are passed
-/// over (IBM OPC/ESA, Planning and Scheduling the Workload). The error is always `Memory`.
-pub fn chosen(
-    alloc: Global,
-    contents: SoundContents,
-    ready: &ReadyList,
-    at: Moment,
-) -> (SoundContents, Result<Vec<OpKey>, Refusal>)
-    requires { AreReadyEntries contents ready.now.entries }
-    ensures contents { result.0 ≡ contents }
-    ensures chosen { IfOk result.1 (λ named. IsChosen contents at named.items) }
-    ensures refused { IfErr result.1 (λ r. r ≡ Refusal.Memory) }
-{
-    match takings_of(alloc, &contents) {
-        Ok((given, holdings)) => chosen_in(alloc, contents, ready, at, given, holdings),
-        Err(refusal) => (contents, Err(refusal)),
     }
 }

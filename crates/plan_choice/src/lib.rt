@@ -1,4 +1,5 @@
-//! What is named to start: latest starts, the ready list, and the choice from it.
+//! What is worked out of a whole plan on the way to what starts: latest starts, the ready list, what is given out, who holds what, and
+//! the choice; and the numbers of its occurrences.
 #![tactic(auto)]
 
 mod choice;
@@ -7,14 +8,16 @@ mod latest;
 mod ready;
 mod shut;
 mod taken;
+mod tallies;
 
-pub use choice::{Choice, chosen, chosen_with};
-pub use holders::{holdings_of, take_marked};
+pub use choice::{Choice, chosen_with};
+pub use holders::{holdings_in, holdings_of, take_marked};
 pub use latest::latest_of;
 pub use ready::{entry_at, entry_with, ready_of};
 pub use shown_records::{
-    Beside, Kept, Marking, OperationRecord, Seen, Shown, SoundContents, Standing, ValidContents,
-    attribute_of, count_one, graph_for, occurrence_status_with, standings_of, status_with,
-    statuses_of, tallies_of,
+    Beside, Brief, Kept, Marking, OperationRecord, RecordCopy, Seen, Shown, SoundContents,
+    Standing, ValidContents, attribute_of, briefs_of, count_one, graph_for, occurrence_status_with,
+    standings_of, status_with, statuses_of,
 };
 pub use taken::{check_start, given_out_of, starts_are_known, with_operation};
+pub use tallies::tallies_of;

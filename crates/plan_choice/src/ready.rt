@@ -1,5 +1,5 @@
 // The ready list.
-ghost use Rattle.std.specs.Prelude.{◌≡◌, ◌<◌, Some, length, slice_get, IfOk, IfErr};
+ghost use Rattle.std.specs.Prelude.{◌≡◌, ◌+◌, ◌<◌, ◌≤◌, Some, length, slice_get, IfOk, IfErr};
 ghost use Rattle.std.specs.FinMap.{entries, get};
 ghost use Rattle.shown_records.specs.plan_status.specs.plan_model.specs.declared.Occurrence.{Occurrence};
 ghost use Rattle.plan_basics.specs.declared.Refusal.{Refusal};
@@ -7,13 +7,15 @@ ghost use Rattle.plan_basics.specs.declared.keys.OpKey.{OpKey as OpKeyValue};
 ghost use Rattle.shown_records.specs.plan_status.specs.plan_drafts.specs.Places.{AreStatuses};
 ghost use Rattle.shown_records.specs.plan_status.specs.plan_model.specs.Starts.{IsLatestStart};
 ghost use Rattle.shown_records.specs.plan_status.specs.plan_model.specs.Contents.{Operation};
+ghost use Rattle.shown_records.specs.plan_status.specs.Briefs.{AreBriefs};
+ghost use Rattle.plan_choice.specs.BriefedTakings.{holder_count};
 ghost use Rattle.plan_choice.specs.Choices.{AreLatestStarts, AreReadyEntries};
 ghost use Rattle.plan_choice.specs.ReadyItems.{AreAllReady, IsEntryIn};
 
 use latest_start::Latest;
 use plan_basics::{OpKey, Refusal};
 use ready_list::{ReadyEntry, ReadyKey, ReadyList};
-use shown_records::{Beside, OperationRecord, SoundContents};
+use shown_records::{Beside, Brief, OperationRecord};
 use status_rules::Status;
 use std::alloc::{AllocError, Global};
 
@@ -55,52 +57,71 @@ pub fn entry_with(
     }
 }
 
-/// The entry of the operation at a place, whether or not it is ready.
-pub fn entry_at(contents: &SoundContents, latest: &Latest, place: usize) -> ReadyEntry
-    requires within { place < length (entries contents.now.operations) }
-    requires latest { AreLatestStarts contents.now latest.now.starts }
-    ensures op { (o : OpKeyValue) (op : Operation) → slice_get (entries contents.now.operations) place ≡ Some (o, op) → result.key.op ≡ o }
-    ensures entry { IsEntryIn contents.now result }
+/// The entry of the operation at a place, by its brief, whether or not it is ready.
+pub fn entry_at(beside: &Beside<'_>, briefs: &[Brief], latest: &Latest, place: usize) -> ReadyEntry
+    requires within { place < length briefs.now }
+    requires briefs { AreBriefs beside.now.contents.now briefs.now }
+    requires latest { AreLatestStarts beside.now.contents.now latest.now.starts }
+    ensures op { (o : OpKeyValue) (op : Operation) → slice_get (entries beside.now.contents.now.operations) place ≡ Some (o, op) → result.key.op ≡ o }
+    ensures entry { IsEntryIn beside.now.contents.now result }
 {
-    let (key, operation) = &contents.operations()[place];
-    let beside = Beside::of(contents);
-    entry_with(&beside, key, operation, latest.of(place), place)
+    let key = beside.operation_key(place);
+    let brief = &briefs[place];
+    ReadyEntry {
+        key: ReadyKey {
+            latest: latest.of(place),
+            priority: priority_of(beside, key, place),
+            duration: brief.duration,
+            op: *key,
+        },
+        ws: beside.workstations()[brief.station].name(),
+        attr: brief.attribute,
+        site: brief.station,
+        place,
+    }
 }
 
-// The entries of what is ready, in key order.
+// The entries of what is ready, in key order. There are no more than operations that can't hold special resources.
 fn ready_entries(
     alloc: Global,
-    contents: &SoundContents,
+    beside: &Beside<'_>,
+    briefs: &[Brief],
     statuses: &[Status],
     latest: &Latest,
 ) -> Result<Vec<ReadyEntry>, AllocError>
-    requires statuses { AreStatuses contents.now statuses.now }
-    requires latest { AreLatestStarts contents.now latest.now.starts }
-    ensures { IfOk result (λ entries. AreAllReady contents.now entries.items) }
+    requires briefs { AreBriefs beside.now.contents.now briefs.now }
+    requires statuses { AreStatuses beside.now.contents.now statuses.now }
+    requires latest { AreLatestStarts beside.now.contents.now latest.now.starts }
+    ensures ready { IfOk result (λ entries. AreAllReady beside.now.contents.now entries.items) }
+    ensures few { IfOk result (λ entries. length entries.items + holder_count briefs.now ≤ length briefs.now) }
 {
-    let rows = contents.operations();
+    beside.are_sound();
     let mut entries = Vec::new(alloc);
-    for i in 0..rows.len() {
-        if statuses[i].is_ready() {
-            entries.push(entry_at(contents, latest, i))?;
+    for place in 0..briefs.len() {
+        if statuses[place].is_ready() {
+            entries.push(entry_at(beside, briefs, latest, place))?;
         }
     }
     Ok(entries)
 }
 
 /// The ready list: what is arriving or ready, held or not, in the order in which it is to start (IBM OPC/ESA, Planning and
-/// Scheduling the Workload; the order is this project's own). The error is always `Memory`.
+/// Scheduling the Workload; the order is this project's own). Nothing that is ready holds special resources. The error is always
+/// `Memory`.
 pub fn ready_of(
     alloc: Global,
-    contents: &SoundContents,
+    beside: &Beside<'_>,
+    briefs: &[Brief],
     statuses: &[Status],
     latest: &Latest,
 ) -> Result<ReadyList, Refusal>
-    requires statuses { AreStatuses contents.now statuses.now }
-    requires latest { AreLatestStarts contents.now latest.now.starts }
-    ensures list { IfOk result (λ list. AreReadyEntries contents.now list.entries) }
+    requires briefs { AreBriefs beside.now.contents.now briefs.now }
+    requires statuses { AreStatuses beside.now.contents.now statuses.now }
+    requires latest { AreLatestStarts beside.now.contents.now latest.now.starts }
+    ensures list { IfOk result (λ list. AreReadyEntries beside.now.contents.now list.entries) }
+    ensures few { IfOk result (λ list. length list.entries + holder_count briefs.now ≤ length briefs.now) }
     ensures refused { IfErr result (λ r. r ≡ Refusal.Memory) }
 {
-    let entries = ready_entries(alloc, contents, statuses, latest)?;
+    let entries = ready_entries(alloc, beside, briefs, statuses, latest)?;
     ReadyList::build(entries)
 }

@@ -6,11 +6,13 @@ ghost use Rattle.plan_basics.specs.declared.keys.OpKey.{OpKey};
 ghost use Rattle.shown_records.specs.plan_status.specs.plan_model.specs.Contents.{Contents, attribute_at};
 ghost use Rattle.shown_records.specs.plan_status.specs.plan_model.specs.Starts.{MayStart};
 ghost use Rattle.shown_records.specs.plan_status.specs.plan_model.specs.Holdings.{takes};
+ghost use Rattle.shown_records.specs.plan_status.specs.Briefs.{AreBriefs};
+ghost use Rattle.plan_choice.specs.BriefedTakings.{takes_server_briefed};
 ghost use Rattle.plan_choice.specs.Choices.{AreGivenOut, HasTaken, IsStartLine};
-ghost use Rattle.plan_choice.specs.Takings.{CanMeetNeed, CanMeetNeeds, CanStart, IsAtMost, MeetsLinesBelow, most_given_out, takes_server, with_one_more};
+ghost use Rattle.plan_choice.specs.Takings.{CanMeetNeed, CanMeetNeeds, CanStart, IsAtMost, MeetsLinesBelow, most_given_out, with_one_more};
 
 use plan_basics::{Attr, Moment, OpKey, Refusal, ResName};
-use shown_records::{Beside, OperationRecord, SoundContents, ValidContents, attribute_of};
+use shown_records::{Beside, Brief, OperationRecord, ValidContents, attribute_of};
 use special_resources::{Holdings, Need};
 use std::alloc::{AllocError, Global};
 use workstations::Capacity;
@@ -33,12 +35,11 @@ pub fn starts_are_known(contents: &ValidContents, operation: &OperationRecord) -
     }
 }
 
-// Whether an operation of the plan holds a server of its workstation.
-fn holds_a_server(contents: &SoundContents, operation: &OperationRecord) -> bool
-    requires { (o : OpKey) × (get contents.now.operations o ≡ Some operation.now) }
-    ensures { result ≡ takes_server contents.now operation.now }
+// Whether an operation holds a server of its workstation.
+fn holds_a_server(brief: &Brief) -> bool
+    ensures { result ≡ takes_server_briefed brief.now }
 {
-    operation.mark.holds_server() && starts_are_known(contents.valid(), operation)
+    brief.starts_are_known() && brief.mark.holds_server()
 }
 
 // What is given out, with this much more.
@@ -48,29 +49,39 @@ fn with_more(taken: u32, more: u8) -> u32
     taken.saturating_add(u32::from(more))
 }
 
-/// What is given out, with a server more, and the operation's R1 and R2. All operations of a plan give out at most
-/// `MOST_OPERATIONS` times `MOST_FIXED`.
-pub fn with_operation(taken: &Capacity, operation: &OperationRecord) -> Capacity
-    ensures { IsAtMost most_given_out taken.now → result ≡ with_one_more taken.now operation.now }
+// What is given out, with a server more, and this much of R1 and R2. All operations of a plan give out at most `MOST_OPERATIONS`
+// times `MOST_FIXED`.
+fn with_server(taken: &Capacity, r1: u8, r2: u8) -> Capacity
+    ensures { IsAtMost most_given_out taken.now → result ≡ record { servers = taken.now.servers + 1; r1 = taken.now.r1 + r1; r2 = taken.now.r2 + r2 } }
 {
     Capacity {
         servers: with_more(taken.servers, 1),
-        r1: with_more(taken.r1, operation.r1),
-        r2: with_more(taken.r2, operation.r2),
+        r1: with_more(taken.r1, r1),
+        r2: with_more(taken.r2, r2),
     }
 }
 
-/// What each workstation has given out, by name.
-pub fn given_out_of(alloc: Global, contents: &SoundContents) -> Result<Vec<Capacity>, AllocError>
-    ensures { IfOk result (λ found. AreGivenOut contents.now (entries contents.now.workstations) found.items) }
+/// What is given out, with a server more, and the operation's R1 and R2.
+pub fn with_operation(taken: &Capacity, operation: &OperationRecord) -> Capacity
+    ensures { IsAtMost most_given_out taken.now → result ≡ with_one_more taken.now operation.now }
 {
-    let stations = contents.workstations().len();
+    with_server(taken, operation.r1, operation.r2)
+}
+
+/// What each workstation has given out, by name, as the briefs of all operations say.
+pub fn given_out_of(
+    alloc: Global,
+    beside: &Beside<'_>,
+    briefs: &[Brief],
+) -> Result<Vec<Capacity>, AllocError>
+    requires { AreBriefs beside.now.contents.now briefs.now }
+    ensures { IfOk result (λ found. AreGivenOut beside.now.contents.now (entries beside.now.contents.now.workstations) found.items) }
+{
+    let stations = beside.workstations().len();
     let mut given = vec![in alloc; NOTHING; stations]?;
-    for row in contents.operations() {
-        let operation = &row.1;
-        if holds_a_server(contents, operation) {
-            let place = contents.workstation_place_of(operation);
-            given[place] = with_operation(&given[place], operation);
+    for brief in briefs {
+        if holds_a_server(brief) {
+            given[brief.station] = with_server(&given[brief.station], brief.r1, brief.r2);
         }
     }
     Ok(given)

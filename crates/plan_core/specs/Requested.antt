@@ -1,26 +1,9 @@
--- What a request is answered, and what it makes of the plan.
-use Rattle.std.specs.Prelude.{ℕ, pos}
-use Rattle.plan_basics.specs.declared.Refusal.{Refusal}
-use Rattle.plan_basics.specs.declared.Refusal.TheVariants as refusal
-use Rattle.plan_basics.specs.Refusals.{from_on}
-use Rattle.plan_records.specs.plan_model.specs.Contents.{Contents}
-use Rattle.plan_records.specs.plan_model.specs.Plan.{Plan}
-use Rattle.plan_records.specs.Acceptance.{MayBeAccepted}
-use Rattle.plan_records.specs.Answer.{Answer}
-use Rattle.plan_records.specs.Changes.{Changes, IsRequest}
-use Rattle.plan_records.specs.Run.{Answers, plain, usable}
-use Rattle.plan_records.specs.Step.{Receipts}
-use Rattle.plan_records.specs.declared.Request.{Request}
-use Rattle.plan_records.specs.declared.What.{What}
-
--- made at minute m, the request isn't refused for this; those refusals that go by the moment don't count
-abbrev pub MayBeMadeAt : Plan → ℕ → What → Refusal → Type 0
-MayBeMadeAt P m w = from_on refusal.NotLoaded (MayBeAccepted P (record { at = pos m; what = w }))
-
--- what this legal request makes of what a plan holds, P
-pub record AreMadeBy (P : Contents) (w : What) (new : Contents) : Type 0 where
-  pub is_request : IsRequest w
-  pub changes : Changes P w new
+-- What a request is answered, and the plan that it leaves.
+use Rattle.plan_outcomes.specs.plan_model.specs.Plan.{Plan}
+use Rattle.plan_outcomes.specs.plan_records.specs.Answer.{Answer}
+use Rattle.plan_outcomes.specs.plan_records.specs.Run.{Answers, plain, usable}
+use Rattle.plan_outcomes.specs.plan_records.specs.Step.{Receipts}
+use Rattle.plan_outcomes.specs.plan_records.specs.declared.Request.{Request}
 
 -- what a request is answered, and the plan that it leaves: a step, or want of memory, whatever receipts are kept beside the plan
 abbrev pub IsAnswered : Plan → Request → Answer → Plan → Type 0

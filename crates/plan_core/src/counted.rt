@@ -1,22 +1,61 @@
 // A plan that is taken apart while a request is prepared, and put together again.
 ghost use Rattle.std.specs.Prelude.{◌≡◌, ◌⊎◌, ◌≤ℤ◌, pos, None, Some, IfErr, IfOk};
 ghost use Rattle.plan_basics.specs.declared.Refusal.{Refusal};
-ghost use Rattle.plan_core.specs.Outcomes.{IsPreparedIn};
-ghost use Rattle.plan_records.specs.Answer.{refused};
-ghost use Rattle.plan_records.specs.Step.{Step};
-ghost use Rattle.plan_records.specs.plan_model.specs.Plan.{IsSoundPlan, plan_held};
+ghost use Rattle.plan_outcomes.specs.Anew.{AreLooksAnew, IsAnewOf};
+ghost use Rattle.plan_outcomes.specs.Led.{AreLooksLed, IsLedOf};
+ghost use Rattle.plan_core.specs.Prepares.{IsPreparedIn};
+ghost use Rattle.plan_outcomes.specs.plan_records.specs.Answer.{refused};
+ghost use Rattle.plan_outcomes.specs.plan_records.specs.Step.{Step};
+ghost use Rattle.plan_outcomes.specs.plan_records.specs.declared.Request.{Request};
+ghost use Rattle.plan_outcomes.specs.plan_model.specs.Plan.{IsSoundPlan, Plan, plan_held};
 
-use super::asked::Asked;
-use super::first::first_outcome;
-use super::outcomes::outcome_of;
 use super::prepared::Prepared;
 use plan_basics::{Moment, Refusal};
-use plan_records::{Request, What};
+use plan_outcomes::{
+    Anew, Asked, Led, LoadedPlan, Next, Outcome, Parts, Remade, Request, Settled, Shown, What,
+    first_outcome, outcome_of,
+};
 use plan_status::SoundContents;
-use plan_steps::{LoadedPlan, Parts, Shown};
+use record_permits::{Permit, granted};
 use std::alloc::Global;
 
-// What a request leads to where no plan is loaded: there was no record to look at.
+// What was prepared with a plan that was made anew, which is put together: its looks count beside those at the plan before.
+fn prepared_anew(at: Moment, anew: Anew, looks: u64, permit: &Permit) -> Result<Prepared, Refusal>
+    requires { (P : Plan) × (request : Request) × IsAnewOf P request at anew }
+    ensures prepared { (P : Plan) (request : Request) → IsAnewOf P request at anew → AreLooksAnew P.contents request.what anew looks → IfOk result (IsPreparedIn P request) }
+    ensures refused { IfErr result (λ r. r ≡ Refusal.Memory) }
+{
+    let Anew { shown, remade } = anew;
+    let (contents, more) = shown.into_contents(permit);
+    let Remade { settled, changes } = remade?;
+    let Settled {
+        named,
+        graph,
+        latest,
+        figures,
+    } = settled;
+    let plan = LoadedPlan::of(contents, graph, latest, figures);
+    let outcome = Outcome {
+        next: Next::Whole(plan),
+        named,
+        changes,
+    };
+    Ok(Prepared::of(at, outcome, looks.saturating_add(more)))
+}
+
+// What was prepared by what a request leads to in a plan at which so many looks were taken.
+fn prepared_by(at: Moment, led: Led, looks: u64, permit: &Permit) -> Result<Prepared, Refusal>
+    requires { (P : Plan) × (request : Request) × IsLedOf P request at led }
+    ensures prepared { (P : Plan) (request : Request) → IsLedOf P request at led → AreLooksLed P.contents request.what led looks → IfOk result (IsPreparedIn P request) }
+    ensures refused { IfErr result (λ r. r ≡ Refusal.Memory) }
+{
+    match led {
+        Led::Small(outcome) => Ok(Prepared::of(at, outcome, looks)),
+        Led::Whole(anew) => prepared_anew(at, anew, looks, permit),
+    }
+}
+
+// What a request leads to where no plan is loaded: all looks are at the plan that it makes.
 fn prepare_first(
     alloc: Global,
     clock: Moment,
@@ -29,8 +68,8 @@ fn prepare_first(
     ensures prepared { IfOk result (IsPreparedIn (plan_held clock None) request.now) }
     ensures refused { IfErr result (λ r. (r ≡ Refusal.Memory) ⊎ Step (plan_held clock None) request.now (refused r) (plan_held clock None)) }
 {
-    let outcome = first_outcome(alloc, clock, request, at)?;
-    Ok(Prepared::of(at, outcome, 0))
+    let anew = first_outcome(alloc, clock, request, at)?;
+    prepared_anew(at, anew, 0, &granted())
 }
 
 // The same contents, in which the operation that a report or a command is of is found without a search.
@@ -54,7 +93,8 @@ fn seeking(contents: SoundContents, what: &What) -> SoundContents
 }
 
 // What a request leads to in a plan that is loaded, which comes back as it was. All that works it out is shown the records one by
-// one, and can't take apart what shows them: so each look counts.
+// one, those of a plan that is made anew too; it has no permit to take apart what shows them, and can't let go of it: so each look
+// counts.
 fn prepare_loaded(
     alloc: Global,
     loaded: LoadedPlan,
@@ -74,13 +114,14 @@ fn prepare_loaded(
         latest,
         figures,
     } = loaded.into_parts();
-    let (shown, opener) = Shown::of(seeking(contents, &request.what));
+    let permit = granted();
+    let shown = Shown::of(seeking(contents, &request.what), &permit);
     let asked = Asked { clock, request, at };
-    let (shown, figures, outcome) = outcome_of(alloc, shown, &graph, &latest, figures, &asked);
-    let (contents, work) = shown.into_contents(opener);
+    let (shown, figures, led) = outcome_of(alloc, shown, &graph, &latest, figures, &asked);
+    let (contents, looks) = shown.into_contents(&permit);
     let plan = LoadedPlan::of(contents, graph, latest, figures);
-    match outcome {
-        Ok(outcome) => (plan, Ok(Prepared::of(at, outcome, work))),
+    match led {
+        Ok(led) => (plan, prepared_by(at, led, looks, &permit)),
         Err(refusal) => (plan, Err(refusal)),
     }
 }

@@ -1,40 +1,10 @@
 // A request that was prepared.
 ghost use Rattle.std.specs.Prelude.{◌≡◌};
-ghost use Rattle.plan_core.specs.Outcomes.{prepared_by};
+ghost use Rattle.plan_core.specs.Prepares.{prepared_by};
 
 use plan_basics::{Moment, OpKey};
-use plan_records::Changes;
-use plan_steps::{LoadedPlan, Revision, Shift};
+use plan_outcomes::{Changes, Next, Outcome};
 use std::marker::Model;
-
-/// What a small request writes into what a plan holds, and what changes in its figures. The graph and the latest starts
-/// stay.
-#[derive(Drop)]
-pub(crate) struct Writing {
-    /// The operations on which it sets a mark, if that is what it writes.
-    pub keys: Vec<OpKey>,
-    pub revision: Revision,
-    /// With what is named marked so.
-    pub shift: Shift,
-}
-
-/// What a request that is accepted makes of a plan.
-#[derive(Drop)]
-pub(crate) enum Next {
-    /// All of it anew.
-    Whole(LoadedPlan),
-    /// The plan with this written into it.
-    Small(Writing),
-}
-
-/// What a request leads to that is accepted, before its moment and its looks are told.
-#[derive(Drop)]
-pub(crate) struct Outcome {
-    pub next: Next,
-    /// The operations that are named, in order.
-    pub named: Vec<OpKey>,
-    pub changes: Changes,
-}
 
 /// A request that is accepted, with all that it takes: its moment, what it makes of the plan that it was prepared for, the
 /// operations that are named to start, which rows of the tables change, and how many operation records were looked at.

@@ -1,15 +1,14 @@
 // A loaded plan into which is written what was prepared.
 ghost use Rattle.std.specs.Prelude.{◌≡◌, ℕ, Some};
-ghost use Rattle.plan_core.specs.Next.{IsNextFor, IsWritingFor, contents_next, rewritten};
-ghost use Rattle.plan_records.specs.plan_model.specs.Plan.{plan_held};
-ghost use Rattle.plan_records.specs.plan_model.specs.Ready.{named as named_in};
+ghost use Rattle.plan_outcomes.specs.Next.{IsNextFor, IsWritingFor, contents_next, rewritten};
+ghost use Rattle.plan_outcomes.specs.plan_model.specs.Plan.{plan_held};
+ghost use Rattle.plan_outcomes.specs.plan_model.specs.Ready.{named as named_in};
 
-use super::prepared::{Next, Writing};
 use plan_basics::OpKey;
-use plan_steps::{LoadedPlan, Parts, shifted, stepped};
+use plan_outcomes::{LoadedPlan, Next, Parts, Writing, shifted, stepped};
 
-/// The plan once this is written into it, and these are named in it. It takes no memory.
-pub fn with_writing(plan: LoadedPlan, writing: Writing, named: &[OpKey]) -> LoadedPlan
+// The plan once this is written into it, and these are named in it. It takes no memory.
+fn with_writing(plan: LoadedPlan, writing: Writing, named: &[OpKey]) -> LoadedPlan
     requires { IsWritingFor plan writing named.now }
     ensures { result ≡ named_in named.now (rewritten writing plan) }
 {

@@ -68,26 +68,6 @@ pub fn copies_of(
     Ok(copies)
 }
 
-// These pairs, which are in order, and one more. One that is there already stays.
-fn with_pair(
-    alloc: Global,
-    pairs: &[(OpKey, OpKey)],
-    pair: (OpKey, OpKey),
-) -> Result<Vec<(OpKey, OpKey)>, AllocError>
-    requires { IsStrictlySortedBy pair_cmp pairs.now }
-    ensures pairs { IfOk result (λ v. set.from_list {R = pair_cmp} v.items ≡ set.insert (set.from_list pairs.now) pair) }
-    ensures in_order { IfOk result (λ v. IsStrictlySortedBy pair_cmp v.items) }
-{
-    let mut copy = Vec::from_slice(alloc, pairs)?;
-    match pairs.binary_search(&pair) {
-        Ok(_) => Ok(copy),
-        Err(place) => {
-            copy.insert(place, pair)?;
-            Ok(copy)
-        }
-    }
-}
-
 // The operation of a row is marked so from now on.
 fn mark_row(row: &mut (OpKey, OperationRecord), mark: &Mark)
     ensures { row.new ≡ (row.old.0, with_mark mark.now row.old.1) }
@@ -408,29 +388,6 @@ impl PlanContents {
             self.pairs.insert(place, pair)?;
         }
         Ok(())
-    }
-
-    /// Its pairs and one more, by predecessor and then successor. One that is there already stays.
-    pub fn pairs_with(
-        &self,
-        alloc: Global,
-        predecessor: &OpKey,
-        successor: &OpKey,
-    ) -> Result<Vec<(OpKey, OpKey)>, AllocError>
-        ensures pairs { IfOk result (λ v. set.from_list {R = pair_cmp} v.items ≡ set.insert self.now.pairs (predecessor.now, successor.now)) }
-        ensures in_order { IfOk result (λ v. IsStrictlySortedBy pair_cmp v.items) }
-    {
-        with_pair(alloc, self.pairs(), (*predecessor, *successor))
-    }
-
-    /// These pairs from now on, by predecessor and then successor; it gives those that there were. It takes no memory.
-    pub fn put_pairs(&mut self, pairs: Vec<(OpKey, OpKey)>) -> Vec<(OpKey, OpKey)>
-        requires { IsStrictlySortedBy pair_cmp pairs.items }
-        ensures contents { self.new ≡ record self.old { pairs = set.from_list pairs.items } }
-        ensures before { set.from_list {R = pair_cmp} result.items ≡ self.old.pairs }
-        ensures in_order { IsStrictlySortedBy pair_cmp result.items }
-    {
-        std::mem::replace(&mut self.pairs, pairs)
     }
 }
 

@@ -26,3 +26,4 @@ pub mod RestatingBefore
 pub mod Overwritten
 pub mod Entries
 pub mod Beside
+pub mod Afresh

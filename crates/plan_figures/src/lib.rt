@@ -3,6 +3,7 @@
 //! statuses, the numbers of each occurrence's operations, and the ready list.
 #![tactic(auto)]
 
+mod afresh;
 mod figures;
 mod frame;
 mod given;
@@ -18,15 +19,16 @@ mod retallying;
 mod takings;
 mod waiting;
 
+pub use afresh::{WorkedOut, worked_out};
 pub use figures::Figures;
 pub use frame::{Frame, Outline, Reported};
 pub use keeping::kept_of;
 pub use laws::naming_keeps_kept;
 pub use loaded::{LoadedPlan, Parts};
-pub use noting::entries_at;
+pub use noting::{entries_at, entries_briefed};
 pub use plan_choice::{
-    Beside, Choice, OperationRecord, Seen, Shown, SoundContents, Standing, ValidContents,
-    check_start, chosen, chosen_with, given_out_of, graph_for, holdings_of, latest_of,
+    Beside, Brief, Choice, OperationRecord, RecordCopy, Seen, Shown, SoundContents, Standing,
+    ValidContents, check_start, chosen_with, given_out_of, graph_for, holdings_of, latest_of,
     occurrence_status_with, ready_of, standings_of, statuses_of, tallies_of,
 };
 pub use relisting::relist_all;

@@ -1,15 +1,17 @@
 // The entries of operations at some places, noted.
-ghost use Rattle.std.specs.Prelude.{◌≡◌, ◌+◌, ◌<◌, ◌≤◌, ℕ, [], ◌∷◌, All, Contains, MatchOption, Some, length, slice_get, vec_capacity};
+ghost use Rattle.std.specs.Prelude.{◌≡◌, ◌+◌, ◌<◌, ◌≤◌, ℕ, [], ◌∷◌, All, Contains, IfOk, MatchOption, Some, length, slice_get, vec_capacity};
 ghost use Rattle.std.specs.FinMap.{entries};
 ghost use Rattle.std.specs.List.Sorted.{IsStrictlySortedBy};
 ghost use Rattle.std.specs.Ordering.{nat_cmp};
 ghost use Rattle.plan_choice.specs.Choices.{AreLatestStarts};
+ghost use Rattle.plan_choice.specs.plan_status.specs.Briefs.{AreBriefs};
 ghost use Rattle.plan_figures.specs.Beside.{places_beside};
 ghost use Rattle.plan_figures.specs.Entries.{AreEntriesAt, IsEntryAt};
 
 use latest_start::Latest;
-use plan_choice::{Seen, Shown, entry_with};
+use plan_choice::{Beside, Brief, Seen, Shown, entry_at, entry_with};
 use ready_list::ReadyEntry;
+use std::alloc::{AllocError, Global};
 
 /// The entry of the operation at a place, which is seen.
 pub fn entry_seen(seen: &Seen<'_>, latest: &Latest, place: usize) -> ReadyEntry
@@ -84,4 +86,34 @@ pub fn entries_at(
         let entry = entry_of(shown, latest, *place, known_at, known);
         noted.push_reserved(entry);
     }
+}
+
+// The entry of the operation at a place, by its brief.
+fn entry_briefed(beside: &Beside<'_>, briefs: &[Brief], latest: &Latest, place: usize) -> ReadyEntry
+    requires within { place < length (entries beside.now.contents.now.operations) }
+    requires briefs { AreBriefs beside.now.contents.now briefs.now }
+    requires latest { AreLatestStarts beside.now.contents.now latest.now.starts }
+    ensures { IsEntryAt beside.now.contents.now place result }
+{
+    entry_at(beside, briefs, latest, place)
+}
+
+/// The entry of the operation at each of these places, by the briefs of all operations: nothing is looked at.
+pub fn entries_briefed(
+    alloc: Global,
+    beside: &Beside<'_>,
+    briefs: &[Brief],
+    latest: &Latest,
+    places: &[usize],
+) -> Result<Vec<ReadyEntry>, AllocError>
+    requires within { All (λ i. i < length (entries beside.now.contents.now.operations)) places.now }
+    requires briefs { AreBriefs beside.now.contents.now briefs.now }
+    requires latest { AreLatestStarts beside.now.contents.now latest.now.starts }
+    ensures { IfOk result (λ found. AreEntriesAt beside.now.contents.now places.now found.items) }
+{
+    let mut found = Vec::with_capacity(alloc, places.len())?;
+    for place in places {
+        found.push(entry_briefed(beside, briefs, latest, *place))?;
+    }
+    Ok(found)
 }

@@ -48,3 +48,14 @@ pub if_judged :
 if_judged rows valid (Ok (Some s)) told its = λ P sound are. ap Some (told ∙ its P sound are)
 if_judged rows valid (Ok None) told its = λ P sound are. absurd (told (subst IsSound (sym (its P sound are)) sound))
 if_judged rows valid (Err e) told its = tt
+
+-- of a plan that is loaded where all of these are its rows: it is the one whose rows these are, since no other can be
+pub if_loaded :
+    {E : Type 0} (clock : ℕ) (rows : List PlanRow) (H : Contents) → IsSound H → ((P : Plan) → IsSound P.contents → AreRows P rows → ◌≡◌ {A = Option Contents} (Some H) (Some P.contents)) → (r : Result (Option Contents) E) →
+    IfOk r (λ found. MatchOption found (¬ AreRows (plan_held clock (Some H)) rows) (λ loaded. AreRows (plan_held clock (Some H)) rows × (loaded ≡ H))) →
+    IfOk r (λ found. MatchOption found ((P : Contents) → ¬ AreContentsOf clock rows P) (AreContentsOf clock rows))
+if_loaded clock rows H sound its (Ok (Some loaded)) (are, same) = record { sound = subst IsSound (sym same) sound; are_rows = subst (λ Q. AreRows (plan_held clock (Some Q)) rows) (sym same) are }
+if_loaded clock rows H sound its (Ok None) none = λ P h.
+    let same = same_Some H P (its (plan_held clock (Some P)) h.sound h.are_rows) in
+    none (subst (λ Q. AreRows (plan_held clock (Some Q)) rows) (sym same) h.are_rows)
+if_loaded clock rows H sound its (Err e) told = tt

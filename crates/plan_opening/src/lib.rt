@@ -3,8 +3,6 @@
 #![tactic(auto)]
 
 mod first;
-mod loading;
 mod opening;
 
-pub use loading::{figures_of, loaded_with};
 pub use opening::{OpenedPlan, plan_of_rows};

@@ -5,16 +5,23 @@ ghost use Rattle.plan_basics.specs.declared.Refusal.{Refusal};
 ghost use Rattle.plan_rows.specs.plan_model.specs.Contents.{Contents};
 ghost use Rattle.plan_rows.specs.plan_model.specs.Plan.{Plan, plan_held};
 ghost use Rattle.plan_rows.specs.plan_model.specs.Valid.{IsSound};
+ghost use Rattle.plan_rows.specs.plan_drafts.specs.PlanGraphs.{IsGraphFor};
+ghost use Rattle.plan_rows.specs.plan_figures.specs.Frames.{IsFrameOf};
 ghost use Rattle.plan_opening.specs.Opening.{AreContentsOf, AreOfNoPlan, IsPlanOf};
+ghost use Rattle.plan_rows.specs.plan_figures.specs.Afresh.{IsWorkedOut};
 ghost use Rattle.plan_records.specs.Rows.{AreRows};
 
 use super::first::are_first;
-use super::loading::loaded_of;
+use operation_graph::Graph;
 use plan_basics::{Moment, Refusal};
 use plan_records::PlanRow;
 use plan_restore::{contents_of_rows, meta_of_rows};
-use plan_rows::{LoadedPlan, RowSource, SoundContents, ValidContents, rows_of};
+use plan_rows::{
+    Frame, LoadedPlan, Shown, SoundContents, ValidContents, WorkedOut, columns_of, graph_for,
+    rows_of, worked_out,
+};
 use plan_soundness::judged;
+use record_permits::granted;
 use row_lists::are_these;
 use std::alloc::Global;
 
@@ -37,18 +44,70 @@ fn sound_contents_of(alloc: Global, rows: &[PlanRow]) -> Result<Option<SoundCont
     judged(alloc, ValidContents::of(contents))
 }
 
-// Whether these are all rows of a loaded plan at this clock, each once. The error is always `Memory`.
+// Whether these are all rows of what is shown as a loaded plan at this clock, each once, where this is kept of it. The error is always
+// `Memory`.
 fn are_rows_of(
     alloc: Global,
     clock: Moment,
-    loaded: &LoadedPlan,
+    shown: &mut Shown,
+    frame: Frame<'_>,
     rows: &[PlanRow],
 ) -> Result<bool, Refusal>
-    ensures told { IfOk result (λ told. IsTrue told ↔ AreRows (plan_held clock (Some loaded.now)) rows.now) }
+    requires frame { IsFrameOf shown.old.contents frame }
+    ensures told { IfOk result (λ told. IsTrue told ↔ AreRows (plan_held clock (Some shown.old.contents)) rows.now) }
+    ensures contents { shown.new.contents ≡ shown.old.contents }
     ensures refused { IfErr result (λ r. r ≡ Refusal.Memory) }
 {
-    let all = rows_of(alloc, clock, RowSource::of(loaded))?;
+    shown.beside().are_sound();
+    let all = rows_of(alloc, shown, columns_of(frame), clock)?;
     Ok(are_these(alloc, rows, &all)?)
+}
+
+// What is kept of what is shown, which has this graph, if these are all of its rows as a loaded plan at this clock. The error is always
+// `Memory`.
+fn kept_with_rows(
+    alloc: Global,
+    clock: Moment,
+    shown: &mut Shown,
+    graph: &Graph,
+    rows: &[PlanRow],
+) -> Result<Option<WorkedOut>, Refusal>
+    requires graph { IsGraphFor shown.old.contents graph.now }
+    ensures found { IfOk result (λ found. MatchOption found (¬ AreRows (plan_held clock (Some shown.old.contents)) rows.now) (λ w. AreRows (plan_held clock (Some shown.old.contents)) rows.now × IsWorkedOut shown.old.contents w)) }
+    ensures contents { shown.new.contents ≡ shown.old.contents }
+    ensures refused { IfErr result (λ r. r ≡ Refusal.Memory) }
+{
+    let worked_out = worked_out(alloc, shown, graph)?;
+    let frame = Frame {
+        graph,
+        latest: &worked_out.latest,
+        figures: &worked_out.figures,
+    };
+    if !are_rows_of(alloc, clock, shown, frame, rows)? {
+        return Ok(None);
+    }
+    Ok(Some(worked_out))
+}
+
+// The loaded plan of these contents, if these are all of its rows at this clock. No look is counted. The error is always `Memory`.
+fn loaded_with_rows(
+    alloc: Global,
+    clock: Moment,
+    contents: SoundContents,
+    rows: &[PlanRow],
+) -> Result<Option<LoadedPlan>, Refusal>
+    ensures found { IfOk result (λ found. MatchOption found (¬ AreRows (plan_held clock (Some contents)) rows.now) (λ loaded. AreRows (plan_held clock (Some contents)) rows.now × (loaded ≡ contents))) }
+    ensures refused { IfErr result (λ r. r ≡ Refusal.Memory) }
+{
+    let graph = graph_for(alloc, contents.valid())?;
+    let permit = granted();
+    let mut shown = Shown::of(contents, &permit);
+    let kept = kept_with_rows(alloc, clock, &mut shown, &graph, rows);
+    let (contents, _looks) = shown.into_contents(&permit);
+    match kept? {
+        Some(kept) => Ok(Some(LoadedPlan::of(contents, graph, kept.latest, kept.figures))),
+        None => Ok(None),
+    }
 }
 
 // The loaded plan whose rows these are at this clock. The error is always `Memory`.
@@ -63,11 +122,7 @@ fn loaded_of_rows(
     let Some(contents) = sound_contents_of(alloc, rows)? else {
         return Ok(None);
     };
-    let loaded = loaded_of(alloc, contents)?;
-    if !are_rows_of(alloc, clock, &loaded, rows)? {
-        return Ok(None);
-    }
-    Ok(Some(loaded))
+    loaded_with_rows(alloc, clock, contents, rows)
 }
 
 // The sound plan whose rows these are, where each plan that has them is loaded or not, as told, and has this clock. The

@@ -17,7 +17,7 @@ use super::predecessors::{look_at, roots, waits};
 use super::reasons::{Reason, Supply, Unsatisfied};
 use super::single::{at_rest, held, needs_start, too_early};
 use plan_basics::{Moment, OpKey, Refusal};
-use plan_choice::{given_out_of, holdings_of};
+use plan_choice::{Beside, briefs_of, given_out_of, holdings_in};
 use plan_core::{LoadedPlan, Reported};
 use plan_model::OperationRecord;
 use plan_status::SoundContents;
@@ -47,7 +47,8 @@ fn taken_at(
     ensures { IfOk result (λ taken. taken ≡ given_out contents.now operation.now.workstation) }
 {
     let place = contents.workstation_place_of(operation);
-    let given = given_out_of(alloc, contents)?;
+    let briefs = briefs_of(alloc, contents.valid())?;
+    let given = given_out_of(alloc, &Beside::of(contents), &briefs)?;
     Ok(given[place])
 }
 
@@ -94,7 +95,7 @@ fn note_start(
         lacks(workstation, operation, &taken, Supply::R2, at),
     )?;
     note_all(reasons, all_unavailable(alloc, contents, operation)?)?;
-    let holdings = holdings_of(alloc, contents.valid())?;
+    let holdings = holdings_in(alloc, contents.valid())?;
     note_all(reasons, all_held(alloc, key, operation, &holdings)?)?;
     Ok(())
 }

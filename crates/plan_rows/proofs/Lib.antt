@@ -7,6 +7,7 @@ mod ShownPlaces
 pub mod NoRows
 mod BothKeys
 mod WithinRows
+mod MadeOfEach
 mod MetaRow
 mod AllTables
 mod DifferentRows
@@ -17,3 +18,9 @@ mod TouchedRows
 mod PairedLists
 mod NotedTables
 pub mod Counted
+mod FewPlaces
+mod AddedRows
+pub mod Sources
+mod KeptOperations
+mod NewPlaces
+mod NewNeeds

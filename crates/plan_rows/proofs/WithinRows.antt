@@ -120,7 +120,7 @@ module _ (P : Plan) where
         ap (λ (w : Name × Need). ((h.0.0, w.0), w.1)) x.1 ∙ h.4,
       )
 
-  need_told : (r : PlanRow) → Contains (map need_row needs) r → IsRowOf 7 P r
+  pub need_told : (r : PlanRow) → Contains (map need_row needs) r → IsRowOf 7 P r
   need_told r has =
       let y = mapped_contains need_row needs r has in
       let h = need_from y.0 y.2 in

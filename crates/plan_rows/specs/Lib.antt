@@ -5,6 +5,7 @@ pub use Rattle.plan_model
 pub use Rattle.plan_figures
 pub use Rattle.plan_figures.specs.plan_status
 pub mod Shown
+pub mod Kept
 pub mod Rows
 pub mod Tables
 pub mod Alike

@@ -11,6 +11,7 @@ use Rattle.plan_figures.specs.plan_status.specs.declared.standings.Standing.{Sta
 use Rattle.status_rules.specs.declared.Status.{Status}
 use Rattle.plan_rows.specs.declared.columns.SourceColumns.{SourceColumns}
 use Rattle.plan_rows.specs.declared.shown.RowSource.{RowSource}
+use Rattle.plan_rows.specs.declared.shown.TableSource.{TableSource}
 
 -- its contents are sound, and beside them is what is read off them
 pub record IsShown (s : RowSource) : Type 0 where
@@ -23,6 +24,15 @@ pub record IsShown (s : RowSource) : Type 0 where
 -- what these columns show of these contents, wherever those lie
 abbrev pub shown_with : Contents → SourceColumns → RowSource
 shown_with P c = record { contents = record { ref_ptr = (0, 0); now = P }; standings = c.standings; statuses = c.statuses; tallies = c.tallies; latest = c.latest }
+
+-- what the tables of a plan are told by, as what is shown of the plan
+abbrev pub source_of : TableSource → RowSource
+source_of t = shown_with t.beside.contents.now t.columns
+
+-- so where there is one
+abbrev pub source_if_any : Option TableSource → Option RowSource
+source_if_any None = None
+source_if_any (Some t) = Some (source_of t)
 
 -- so where there is one
 abbrev pub IsShownIfAny : Option RowSource → Type 0

@@ -1,9 +1,14 @@
 // All tables together: what changes from one plan to another, and all rows of a plan.
-ghost use Rattle.std.specs.Prelude.{Some, IfOk, map};
+ghost use Rattle.std.specs.Prelude.{◌≡◌, ◌+◌, ◌*◌, ◌≤◌, ℕ, Some, IfOk, OnOk, length, map};
+ghost use Rattle.std.specs.FinMap.{entries};
 ghost use Rattle.std.specs.List.Sorted.{IsStrictlySortedBy};
 ghost use Rattle.plan_figures.specs.plan_records.specs.Rows.{AreChanges, AreRows, key_of, row_cmp};
-ghost use Rattle.plan_rows.specs.Shown.{IsShown, IsShownIfAny, plan_shown};
+ghost use Rattle.plan_model.specs.Plan.{plan_held};
+ghost use Rattle.plan_rows.specs.Kept.{KeepsRecords};
+ghost use Rattle.plan_rows.specs.Shown.{IsShown, IsShownIfAny, contents_shown, plan_shown, shown_with, source_if_any, source_of};
+ghost use Rattle.plan_rows.specs.Tables.{AreChangesBelow};
 
+use super::columns::SourceColumns;
 use super::dependencies::push_dependencies;
 use super::intervals::push_intervals;
 use super::keyed::push_resources;
@@ -11,51 +16,73 @@ use super::meta::meta_changes;
 use super::needs::push_needs;
 use super::occurrences::push_occurrences;
 use super::operations::push_operations;
-use super::shown::{PlanShown, RowSource};
+use super::shown::{PlanBefore, TableSource};
 use super::workplaces::push_workstations;
 use plan_basics::Moment;
-use plan_figures::{Changes, PlanRow};
+use plan_figures::{Changes, PlanRow, Shown};
 use std::alloc::{AllocError, Global};
 
-/// Which rows of the tables change from one plan to another.
+// Adds what changes in the tables of workstations, of intervals and of special resources.
+fn push_stations(
+    alloc: Global,
+    before: Option<TableSource<'_>>,
+    after: TableSource<'_>,
+    changes: &mut Changes,
+) -> Result<(), AllocError>
+    requires before { IsShownIfAny (source_if_any before) }
+    requires after { IsShown (source_of after) }
+    ensures { (clock now : ℕ) → AreChangesBelow 1 (plan_shown clock (source_if_any before.entry)) (plan_shown now (Some (source_of after.entry))) changes.old → OnOk result (AreChangesBelow 4 (plan_shown clock (source_if_any before.entry)) (plan_shown now (Some (source_of after.entry))) changes.new) }
+{
+    push_workstations(alloc, before, Some(after), changes)?;
+    push_intervals(alloc, before, Some(after), changes)?;
+    push_resources(alloc, before, Some(after), changes)
+}
+
+/// Which rows of the tables change from the plan before to what is shown at this clock, which keeps the operations of that. It takes a
+/// look at each operation whose row is told, and one at each that there wasn't, for its needs.
 pub fn changes_between(
     alloc: Global,
-    before: PlanShown<'_>,
-    after: PlanShown<'_>,
+    before: &PlanBefore<'_>,
+    shown: &mut Shown,
+    columns: SourceColumns<'_>,
+    clock: Moment,
 ) -> Result<Changes, AllocError>
-    requires before { IsShownIfAny before.loaded }
-    requires after { IsShownIfAny after.loaded }
-    ensures { IfOk result (λ c. AreChanges (plan_shown before.entry.clock before.entry.loaded) (plan_shown after.entry.clock after.entry.loaded) c.rows.items c.gone.items) }
+    requires before { IsShownIfAny (source_if_any before.now.loaded) }
+    requires shown { IsShown (shown_with shown.old.contents columns) }
+    requires kept { KeepsRecords (contents_shown (source_if_any before.now.loaded)) shown.old.contents }
+    ensures changes { IfOk result (λ c. AreChanges (plan_shown before.now.clock (source_if_any before.now.loaded)) (plan_held clock (Some shown.old.contents)) c.rows.items c.gone.items) }
+    ensures contents { shown.new.contents ≡ shown.old.contents }
+    ensures fewest { shown.old.looks ≤ shown.new.looks }
+    ensures most { IfOk result (λ c. shown.new.looks + length (entries (contents_shown (source_if_any before.now.loaded)).operations) ≤ shown.old.looks + 2 * length (entries shown.old.contents.operations)) }
 {
-    let (old, new) = (before.loaded, after.loaded);
-    let mut changes = meta_changes(alloc, old, before.clock, new, after.clock)?;
-    push_workstations(alloc, old, new, &mut changes)?;
-    push_intervals(alloc, old, new, &mut changes)?;
-    push_resources(alloc, old, new, &mut changes)?;
-    push_occurrences(alloc, old, new, &mut changes)?;
-    push_operations(alloc, old, new, &mut changes)?;
-    push_dependencies(alloc, old, new, &mut changes)?;
-    push_needs(alloc, old, new, &mut changes)?;
+    let old = before.loaded;
+    let mut changes = meta_changes(alloc, before, clock)?;
+    let beside = shown.beside();
+    push_stations(alloc, old, TableSource { beside, columns }, &mut changes)?;
+    push_occurrences(alloc, old, shown, columns, &mut changes)?;
+    push_operations(alloc, old, shown, columns, &mut changes)?;
+    let beside = shown.beside();
+    let new = TableSource { beside, columns };
+    push_dependencies(alloc, old, Some(new), &mut changes)?;
+    push_needs(alloc, old, shown, &mut changes)?;
     Ok(changes)
 }
 
-/// All rows of a loaded plan at this clock, in key order.
+/// All rows of what is shown as a loaded plan at this clock, in key order: two looks at each operation.
 pub fn rows_of(
     alloc: Global,
+    shown: &mut Shown,
+    columns: SourceColumns<'_>,
     clock: Moment,
-    shown: RowSource<'_>,
 ) -> Result<Vec<PlanRow>, AllocError>
-    requires { IsShown shown }
-    ensures rows { IfOk result (λ v. AreRows (plan_shown clock (Some shown.entry)) v.items) }
+    requires { IsShown (shown_with shown.old.contents columns) }
+    ensures rows { IfOk result (λ v. AreRows (plan_held clock (Some shown.old.contents)) v.items) }
     ensures in_order { IfOk result (λ v. IsStrictlySortedBy row_cmp (map key_of v.items)) }
+    ensures contents { shown.new.contents ≡ shown.old.contents }
 {
-    let nothing = PlanShown {
+    let nothing = PlanBefore {
         clock,
         loaded: None,
     };
-    let all = PlanShown {
-        clock,
-        loaded: Some(shown),
-    };
-    Ok(changes_between(alloc, nothing, all)?.rows)
+    Ok(changes_between(alloc, &nothing, shown, columns, clock)?.rows)
 }

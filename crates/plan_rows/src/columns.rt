@@ -1,6 +1,11 @@
 // What is read off a plan's contents.
+ghost use Rattle.plan_model.specs.Contents.{Contents};
+ghost use Rattle.plan_model.specs.Valid.{IsSound};
+ghost use Rattle.plan_figures.specs.Frames.{IsFrameOf};
+ghost use Rattle.plan_rows.specs.Shown.{IsShown, shown_with};
+
 use latest_start::Latest;
-use plan_figures::Standing;
+use plan_figures::{Frame, Standing};
 use status_rules::{Counts, Status};
 
 /// What is known of each operation and of each occurrence of a plan, in key order, lent beside what the plan holds.
@@ -10,4 +15,17 @@ pub struct SourceColumns<'a> {
     pub statuses: &'a [Status],
     pub tallies: &'a [Counts],
     pub latest: &'a Latest,
+}
+
+/// What is known of each operation and of each occurrence, of what is kept of a plan.
+pub fn columns_of<'a>(frame: Frame<'a>) -> SourceColumns<'a>
+    ensures { (P : Contents) → IsSound P → IsFrameOf P frame.entry → IsShown (shown_with P result) }
+{
+    let figures = frame.figures;
+    SourceColumns {
+        standings: &figures.standings,
+        statuses: &figures.statuses,
+        tallies: &figures.tallies,
+        latest: frame.latest,
+    }
 }

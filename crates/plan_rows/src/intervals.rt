@@ -7,12 +7,12 @@ ghost use Rattle.plan_basics.specs.Keys.{name_cmp};
 ghost use Rattle.plan_figures.specs.plan_drafts.specs.declared.RowKey.TheVariants as key;
 ghost use Rattle.plan_rows.specs.Alike.{interval_alike, interval_key_cmp, interval_key_exact};
 ghost use Rattle.plan_rows.specs.Rows.{all_intervals, interval_row, intervals_within, under_both};
-ghost use Rattle.plan_rows.specs.Shown.{IsShownIfAny, contents_shown, plan_shown};
+ghost use Rattle.plan_rows.specs.Shown.{IsShownIfAny, contents_shown, plan_shown, source_if_any};
 ghost use Rattle.plan_rows.specs.Tables.{AreChangesBelow};
 ghost use Rattle.plan_rows.specs.declared.shown.RowSource.{RowSource as RowSourceValue};
 
 use super::kept::workstations_of;
-use super::shown::RowSource;
+use super::shown::TableSource;
 use super::tables::{PlanTable, push_changes};
 use plan_basics::{Interval, Moment, WsName};
 use plan_figures::{Changes, PlanRow, RowKey};
@@ -98,13 +98,13 @@ pub fn push_noted_intervals(
 /// Adds what changes in the table of intervals.
 pub fn push_intervals(
     alloc: Global,
-    before: Option<RowSource<'_>>,
-    after: Option<RowSource<'_>>,
+    before: Option<TableSource<'_>>,
+    after: Option<TableSource<'_>>,
     changes: &mut Changes,
 ) -> Result<(), AllocError>
-    requires before { IsShownIfAny before }
-    requires after { IsShownIfAny after }
-    ensures { (clock now : ℕ) → AreChangesBelow 2 (plan_shown clock before.entry) (plan_shown now after.entry) changes.old → OnOk result (AreChangesBelow 3 (plan_shown clock before.entry) (plan_shown now after.entry) changes.new) }
+    requires before { IsShownIfAny (source_if_any before) }
+    requires after { IsShownIfAny (source_if_any after) }
+    ensures { (clock now : ℕ) → AreChangesBelow 2 (plan_shown clock (source_if_any before.entry)) (plan_shown now (source_if_any after.entry)) changes.old → OnOk result (AreChangesBelow 3 (plan_shown clock (source_if_any before.entry)) (plan_shown now (source_if_any after.entry)) changes.new) }
 {
     let new = intervals_of(alloc, workstations_of(after))?;
     push_noted_intervals(alloc, workstations_of(before), &new, changes)

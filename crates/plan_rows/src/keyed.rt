@@ -8,11 +8,11 @@ ghost use Rattle.plan_model.specs.Plan.{Plan};
 ghost use Rattle.plan_figures.specs.plan_drafts.specs.declared.RowKey.TheVariants as key;
 ghost use Rattle.plan_rows.specs.Alike.{resource_alike};
 ghost use Rattle.plan_rows.specs.Rows.{resource_row};
-ghost use Rattle.plan_rows.specs.Shown.{plan_shown};
+ghost use Rattle.plan_rows.specs.Shown.{plan_shown, source_if_any};
 ghost use Rattle.plan_rows.specs.Tables.{AreChangesBelow};
 
 use super::kept::resources_of;
-use super::shown::RowSource;
+use super::shown::TableSource;
 use super::tables::{PlanTable, push_changes};
 use plan_basics::ResName;
 use plan_figures::{Changes, PlanRow, RowKey};
@@ -59,11 +59,11 @@ pub fn push_noted_resources(
 /// Adds what changes in the table of special resources.
 pub fn push_resources(
     alloc: Global,
-    before: Option<RowSource<'_>>,
-    after: Option<RowSource<'_>>,
+    before: Option<TableSource<'_>>,
+    after: Option<TableSource<'_>>,
     changes: &mut Changes,
 ) -> Result<(), AllocError>
-    ensures { (clock now : ℕ) → AreChangesBelow 3 (plan_shown clock before.entry) (plan_shown now after.entry) changes.old → OnOk result (AreChangesBelow 4 (plan_shown clock before.entry) (plan_shown now after.entry) changes.new) }
+    ensures { (clock now : ℕ) → AreChangesBelow 3 (plan_shown clock (source_if_any before.entry)) (plan_shown now (source_if_any after.entry)) changes.old → OnOk result (AreChangesBelow 4 (plan_shown clock (source_if_any before.entry)) (plan_shown now (source_if_any after.entry)) changes.new) }
 {
     push_noted_resources(alloc, resources_of(before), resources_of(after), changes)
 }

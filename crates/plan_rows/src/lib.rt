@@ -9,6 +9,7 @@ mod kept;
 mod keyed;
 mod meta;
 mod needs;
+mod new_places;
 mod noted_rows;
 mod notes;
 mod occurrence_places;
@@ -20,7 +21,7 @@ mod tables;
 mod workplaces;
 
 pub use changing::{changes_between, rows_of};
-pub use columns::SourceColumns;
+pub use columns::{SourceColumns, columns_of};
 pub use dependencies::push_dependencies;
 pub use intervals::push_intervals;
 pub use keyed::push_resources;
@@ -29,8 +30,8 @@ pub use notes::{ChangeBeside, Notes, noted_changes, notes_of};
 pub use occurrences::push_occurrences;
 pub use operations::push_operations;
 pub use plan_figures::{
-    Figures, LoadedPlan, SoundContents, Standing, ValidContents, given_out_of, graph_for,
-    holdings_of, kept_of, latest_of, ready_of, standings_of, statuses_of, tallies_of,
+    Brief, Figures, Frame, LoadedPlan, Shown, SoundContents, Standing, ValidContents, WorkedOut,
+    graph_for, worked_out,
 };
-pub use shown::{PlanShown, RowSource};
+pub use shown::{PlanBefore, RowSource, TableSource};
 pub use workplaces::push_workstations;

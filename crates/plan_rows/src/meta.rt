@@ -1,11 +1,12 @@
 // The table that tells whether a plan is loaded, and its clock: one row.
-ghost use Rattle.std.specs.Prelude.{◌≡◌, ◌↔◌, ◌++◌, ◌∷◌, [], IsTrue, IfOk, OnOk, is_some};
+ghost use Rattle.std.specs.Prelude.{◌≡◌, ◌↔◌, ◌++◌, ◌∷◌, [], IsTrue, IfOk, OnOk, Some, is_some};
 ghost use Rattle.plan_model.specs.Plan.{Plan};
 ghost use Rattle.plan_figures.specs.plan_records.specs.declared.PlanRow.TheVariants as row;
-ghost use Rattle.plan_rows.specs.Shown.{plan_shown};
+ghost use Rattle.plan_rows.specs.Shown.{plan_shown, source_if_any};
 ghost use Rattle.plan_rows.specs.Tables.{AreChangesBelow};
+ghost use Rattle.plan_rows.specs.declared.shown.RowSource.{RowSource};
 
-use super::shown::RowSource;
+use super::shown::{PlanBefore, TableSource};
 use plan_basics::Moment;
 use plan_figures::{Changes, PlanRow};
 use row_differences::push_made;
@@ -59,9 +60,9 @@ pub fn push_meta(
     push_meta_row(loaded, clock, &mut changes.rows)
 }
 
-/// Whether a plan is loaded.
-pub fn is_loaded(shown: Option<RowSource<'_>>) -> bool
-    ensures { result ≡ is_some shown.entry }
+// Whether a plan is loaded.
+fn is_loaded(shown: Option<TableSource<'_>>) -> bool
+    ensures { result ≡ is_some (source_if_any shown.entry) }
 {
     match shown {
         Some(_) => true,
@@ -69,24 +70,22 @@ pub fn is_loaded(shown: Option<RowSource<'_>>) -> bool
     }
 }
 
-/// What changes in the table of one row, from what was shown at its clock to what is shown at this one.
+/// What changes in the table of one row, from the plan before to one that is loaded at this clock.
 pub fn meta_changes(
     alloc: Global,
-    before: Option<RowSource<'_>>,
-    was: Moment,
-    after: Option<RowSource<'_>>,
+    before: &PlanBefore<'_>,
     clock: Moment,
 ) -> Result<Changes, AllocError>
-    ensures { IfOk result (AreChangesBelow 1 (plan_shown was before.entry) (plan_shown clock after.entry)) }
+    ensures { (after : RowSource) → IfOk result (AreChangesBelow 1 (plan_shown before.now.clock (source_if_any before.now.loaded)) (plan_shown clock (Some after))) }
 {
     let mut changes = Changes {
         rows: Vec::new(alloc),
         gone: Vec::new(alloc),
     };
     push_meta(
-        is_loaded(before),
-        was,
-        is_loaded(after),
+        is_loaded(before.loaded),
+        before.clock,
+        true,
         clock,
         &mut changes,
     )?;

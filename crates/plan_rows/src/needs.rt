@@ -1,90 +1,89 @@
 // The table of the needs of operations.
-ghost use Rattle.std.specs.Prelude.{◌≡◌, ◌↔◌, ◌<◌, ◌++◌, ℕ, List, Some, IfOk, OnOk, length, map, refl, slice_get};
-ghost use Rattle.plan_figures.specs.plan_drafts.specs.declared.RowKey.TheVariants as key;
-ghost use Rattle.plan_rows.specs.Alike.{need_alike, need_key_exact};
-ghost use Rattle.plan_rows.specs.Rows.{all_needs, need_row, needs_within, under_both};
-ghost use Rattle.plan_rows.specs.Shown.{plan_shown};
+ghost use Rattle.std.specs.Prelude.{◌≡◌, ◌⊎◌, ◌+◌, ◌<◌, ◌≤◌, ◌++◌, ℕ, Contains, Some, OnOk, length, map, slice_get};
+ghost use Rattle.std.specs.FinMap.{entries};
+ghost use Rattle.plan_basics.specs.declared.keys.OpKey.{OpKey as OpKeyValue};
+ghost use Rattle.plan_figures.specs.plan_records.specs.declared.PlanRow.TheVariants as row;
+ghost use Rattle.plan_model.specs.Contents.{Operation};
+ghost use Rattle.plan_rows.specs.Kept.{KeepsRecords};
+ghost use Rattle.plan_rows.specs.Rows.{need_row, needs_within, under_both};
+ghost use Rattle.plan_rows.specs.Shown.{IsShown, IsShownIfAny, contents_shown, plan_shown, source_if_any};
 ghost use Rattle.plan_rows.specs.Tables.{AreChangesBelow};
+ghost use Rattle.plan_rows.specs.declared.shown.RowSource.{RowSource};
+ghost use Rattle.special_resources.specs.declared.Need.{Need as NeedValue};
 
-use super::kept::operations_of;
-use super::shown::RowSource;
-use super::tables::{PlanTable, push_changes};
-use plan_basics::{OpKey, ResName};
-use plan_figures::{Changes, PlanRow, RowKey};
+use super::new_places::new_places;
+use super::shown::TableSource;
+use plan_basics::OpKey;
+use plan_figures::{Changes, PlanRow, Shown};
 use plan_model::OperationRecord;
-use row_differences::KeyedRows;
 use special_resources::Need;
 use std::alloc::{AllocError, Global};
 
-impl<'a, 'b> PlanTable for KeyedRows<'a, 'b, (OpKey, ResName), Need> {
-    ghost name = { λ x. key.Need x.0 x.1 };
-
-    ghost olds = { λ t. map need_row t.before.now };
-
-    ghost news = { λ t. map need_row t.after.now };
-
-    fn key_before(&self, old: usize) -> RowKey {
-        let (operation, resource) = self.before[old].0;
-        RowKey::Need(operation, resource)
-    }
-
-    fn row_after(&self, new: usize) -> PlanRow {
-        let ((op, _), need) = self.after[new];
-        PlanRow::Need { op, need }
-    }
-
-    ghost in_order = { λ a b. refl };
-
-    ghost exact = { need_key_exact };
-
-    ghost alike = { λ t i j one. need_alike t.before.now t.after.now i j one };
+// The needs of an operation.
+fn needs_of(operation: &OperationRecord) -> &[Need]
+    ensures { (o : OpKeyValue) → map (λ n. row.Need o n) result.now ≡ map need_row (under_both needs_within (o, operation.now)) }
+{
+    operation.needs.as_slice()
 }
 
-// Adds the needs of an operation, each under its key and the resource's name.
-fn push_needs_of(
-    found: &mut Vec<((OpKey, ResName), Need)>,
-    operation: &(OpKey, OperationRecord),
+// Adds what is made of each of these needs, in order. At an error a part of it may be added.
+fn push_each<Row: Drop, F: Fn(Need) -> Row>(
+    rows: &mut Vec<Row>,
+    needs: &[Need],
+    make: F,
 ) -> Result<(), AllocError>
-    ensures { OnOk result (found.new.items ≡ found.old.items ++ under_both needs_within operation.now) }
+    requires { (n : NeedValue) → Contains needs.now n → F.pre make n }
+    ensures { (f : NeedValue → Row) → ((n : NeedValue) (r : Row) → Contains needs.now n → F.post make n r → r ≡ f n) → OnOk result (rows.new.items ≡ rows.old.items ++ map f needs.now) }
 {
-    let needs = operation.1.needs.as_slice();
     for need in needs {
-        found.push(((operation.0, need.name), *need))?;
+        rows.push(make(*need))?;
     }
     Ok(())
 }
 
-// The needs of all operations, each under its operation's key and its resource's name.
-fn needs_of(
-    alloc: Global,
-    operations: &[(OpKey, OperationRecord)],
-) -> Result<Vec<((OpKey, ResName), Need)>, AllocError>
-    ensures { IfOk result (λ v. v.items ≡ all_needs operations.now) }
+// Adds these needs of an operation.
+fn push_needs_of(op: OpKey, needs: &[Need], rows: &mut Vec<PlanRow>) -> Result<(), AllocError>
+    ensures { OnOk result (rows.new.items ≡ rows.old.items ++ map (λ n. row.Need op n) needs.now) }
 {
-    let mut found = Vec::new(alloc);
-    for operation in operations {
-        push_needs_of(&mut found, operation)?;
-    }
-    Ok(found)
+    push_each(
+        rows,
+        needs,
+        |need|
+            ensures { result ≡ row.Need op need }
+        { PlanRow::Need { op, need } },
+    )
 }
 
-/// Adds what changes in the table of needs.
+// Adds the needs of the operation at a place: a look.
+fn push_needs_at(shown: &mut Shown, place: usize, rows: &mut Vec<PlanRow>) -> Result<(), AllocError>
+    requires { place < length (entries shown.old.contents.operations) }
+    ensures rows { (o : OpKeyValue) (op : Operation) → slice_get (entries shown.old.contents.operations) place ≡ Some (o, op) → OnOk result (rows.new.items ≡ rows.old.items ++ map need_row (under_both needs_within (o, op))) }
+    ensures contents { shown.new.contents ≡ shown.old.contents }
+    ensures fewest { shown.old.looks ≤ shown.new.looks }
+    ensures most { shown.new.looks ≤ shown.old.looks + 1 }
+{
+    let seen = shown.see(place);
+    push_needs_of(*seen.key, needs_of(seen.operation), rows)
+}
+
+/// Adds what changes in the table of needs, where what is shown keeps the operations of the plan before: a look at each operation that
+/// there wasn't, since the needs of others stay.
 pub fn push_needs(
     alloc: Global,
-    before: Option<RowSource<'_>>,
-    after: Option<RowSource<'_>>,
+    before: Option<TableSource<'_>>,
+    shown: &mut Shown,
     changes: &mut Changes,
 ) -> Result<(), AllocError>
-    ensures { (clock now : ℕ) → AreChangesBelow 7 (plan_shown clock before.entry) (plan_shown now after.entry) changes.old → OnOk result (AreChangesBelow 8 (plan_shown clock before.entry) (plan_shown now after.entry) changes.new) }
+    requires before { IsShownIfAny (source_if_any before) }
+    requires kept { KeepsRecords (contents_shown (source_if_any before)) shown.old.contents }
+    ensures changes { (clock now : ℕ) (after : RowSource) → IsShown after → after.contents.now ≡ shown.old.contents → AreChangesBelow 7 (plan_shown clock (source_if_any before.entry)) (plan_shown now (Some after)) changes.old → OnOk result (AreChangesBelow 8 (plan_shown clock (source_if_any before.entry)) (plan_shown now (Some after)) changes.new) }
+    ensures contents { shown.new.contents ≡ shown.old.contents }
+    ensures fewest { shown.old.looks ≤ shown.new.looks }
+    ensures most { shown.new.looks + length (entries (contents_shown (source_if_any before.entry)).operations) ≤ shown.old.looks + length (entries shown.old.contents.operations) }
 {
-    let old = needs_of(alloc, operations_of(before))?;
-    let new = needs_of(alloc, operations_of(after))?;
-    push_changes(
-        alloc,
-        &KeyedRows {
-            before: &old,
-            after: &new,
-        },
-        changes,
-    )
+    let places = new_places(alloc, before, &shown.beside())?;
+    for place in &places {
+        push_needs_at(shown, *place, &mut changes.rows)?;
+    }
+    Ok(())
 }

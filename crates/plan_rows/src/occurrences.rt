@@ -2,29 +2,28 @@
 ghost use Rattle.std.specs.Prelude.{◌≡◌, ◌<◌, ℕ, List, Contains, Some, IfOk, OnOk, length, refl, slice_get};
 ghost use Rattle.std.specs.FinMap.{entries};
 ghost use Rattle.std.specs.List.Sorted.{IsStrictlySortedBy};
+ghost use Rattle.std.specs.Map.{keys_of};
 ghost use Rattle.std.specs.Ordering.{nat_cmp};
 ghost use Rattle.plan_basics.specs.Keys.{occurrence_cmp-IsAntisymmetric};
 ghost use Rattle.plan_figures.specs.plan_drafts.specs.declared.RowKey.TheVariants as key;
+ghost use Rattle.plan_rows.specs.Kept.{KeepsRecords};
 ghost use Rattle.plan_rows.specs.Notes.{AreNotedAt, AreWithin};
 ghost use Rattle.plan_rows.specs.Rows.{keyed_occurrences, rows_of};
-ghost use Rattle.plan_rows.specs.Shown.{IsShown, IsShownIfAny, plan_shown, shown_with};
+ghost use Rattle.plan_rows.specs.Shown.{IsShown, IsShownIfAny, contents_shown, plan_shown, shown_with, source_if_any, source_of};
 ghost use Rattle.plan_rows.specs.Tables.{AreChangesBelow};
 ghost use Rattle.plan_rows.specs.Touched.{AreOccurrencesOf, AreTouched};
 ghost use Rattle.plan_rows.specs.declared.shown.RowSource.{RowSource as RowSourceValue};
 
 use super::columns::SourceColumns;
-use super::kept::occurrences_of;
 use super::noted_rows::{Noted, NotedRow, note_rows, push_noted};
 use super::occurrence_places::occurrence_places;
-use super::shown::RowSource;
-use super::shown_tables::{ShownTables, Tabled};
-use super::tables::push_changes;
+use super::shown::TableSource;
+use super::shown_tables::{Tabled, push_shown};
 use plan_basics::OccKey;
 use plan_figures::{Changes, PlanRow, RowKey, Shown, occurrence_status_with};
 use plan_model::Occurrence;
 use status_rules::Counts;
 use std::alloc::{AllocError, Global};
-use std::marker::PhantomData;
 
 // The row of the occurrence at an index, by the numbers of its operations there.
 fn row_of(occurrences: &[(OccKey, Occurrence)], tallies: &[Counts], place: usize) -> PlanRow
@@ -41,6 +40,23 @@ fn row_of(occurrences: &[(OccKey, Occurrence)], tallies: &[Counts], place: usize
     }
 }
 
+// The key of the occurrence at an index.
+fn key_of(occurrences: &[(OccKey, Occurrence)], place: usize) -> OccKey
+    requires { place < length occurrences.now }
+    ensures { slice_get (keys_of occurrences.now) place ≡ Some result }
+{
+    occurrences[place].0
+}
+
+// The row of the occurrence at an index.
+fn source_row(source: TableSource<'_>, place: usize) -> PlanRow
+    requires shown { IsShown (source_of source) }
+    requires within { place < length (entries source.beside.contents.now.occurrences) }
+    ensures { slice_get (rows_of (keyed_occurrences (source_of source.entry))) place ≡ Some result }
+{
+    row_of(source.beside.occurrences(), source.columns.tallies, place)
+}
+
 impl Tabled for Occurrence {
     type Key = OccKey;
 
@@ -52,12 +68,16 @@ impl Tabled for Occurrence {
         RowKey::Occurrence(key)
     }
 
-    fn kept<'a>(shown: Option<RowSource<'a>>) -> &'a [(OccKey, Occurrence)] {
-        occurrences_of(shown)
+    fn count(source: TableSource<'_>) -> usize {
+        source.beside.occurrences().len()
     }
 
-    fn row(shown: RowSource<'_>, place: usize) -> PlanRow {
-        row_of(shown.contents.occurrences(), shown.tallies, place)
+    fn key_at(source: TableSource<'_>, place: usize) -> OccKey {
+        key_of(source.beside.occurrences(), place)
+    }
+
+    fn is_alike(before: TableSource<'_>, after: TableSource<'_>, old: usize, new: usize) -> bool {
+        source_row(before, old) == source_row(after, new)
     }
 
     ghost in_order = { λ a b. refl };
@@ -65,26 +85,21 @@ impl Tabled for Occurrence {
     ghost exact = { occurrence_cmp-IsAntisymmetric };
 }
 
-/// Adds what changes in the table of occurrences.
+/// Adds what changes in the table of occurrences: no look is taken.
 pub fn push_occurrences(
     alloc: Global,
-    before: Option<RowSource<'_>>,
-    after: Option<RowSource<'_>>,
+    before: Option<TableSource<'_>>,
+    shown: &mut Shown,
+    columns: SourceColumns<'_>,
     changes: &mut Changes,
 ) -> Result<(), AllocError>
-    requires before { IsShownIfAny before }
-    requires after { IsShownIfAny after }
-    ensures { (clock now : ℕ) → AreChangesBelow 4 (plan_shown clock before.entry) (plan_shown now after.entry) changes.old → OnOk result (AreChangesBelow 5 (plan_shown clock before.entry) (plan_shown now after.entry) changes.new) }
+    requires before { IsShownIfAny (source_if_any before) }
+    requires shown { IsShown (shown_with shown.old.contents columns) }
+    requires kept { KeepsRecords (contents_shown (source_if_any before)) shown.old.contents }
+    ensures changes { (clock now : ℕ) → AreChangesBelow 4 (plan_shown clock (source_if_any before.entry)) (plan_shown now (Some (shown_with shown.old.contents columns.entry))) changes.old → OnOk result (AreChangesBelow 5 (plan_shown clock (source_if_any before.entry)) (plan_shown now (Some (shown_with shown.old.contents columns.entry))) changes.new) }
+    ensures unchanged { shown.new ≡ shown.old }
 {
-    push_changes(
-        alloc,
-        &ShownTables {
-            table: PhantomData::<Occurrence>,
-            before,
-            after,
-        },
-        changes,
-    )
+    push_shown::<Occurrence>(alloc, before, shown, columns, changes)
 }
 
 impl Noted for Occurrence {

@@ -1,27 +1,27 @@
 // The table of operations.
-ghost use Rattle.std.specs.Prelude.{◌≡◌, ◌⊎◌, ◌+◌, ◌<◌, ◌≤◌, ℕ, List, Contains, Some, IfOk, OnOk, count_by, length, refl, slice_get};
+ghost use Rattle.std.specs.Prelude.{◌≡◌, ◌⊎◌, ◌↔◌, ◌+◌, ◌<◌, ◌≤◌, ℕ, List, Contains, Decides, Some, IfOk, IsTrue, OnOk, option_map, count_by, length, refl, slice_get};
 ghost use Rattle.std.specs.FinMap.{entries};
 ghost use Rattle.plan_basics.specs.Keys.{operation_cmp-IsAntisymmetric};
 ghost use Rattle.plan_model.specs.Contents.{Contents};
 ghost use Rattle.plan_figures.specs.plan_drafts.specs.declared.RowKey.TheVariants as key;
+ghost use Rattle.plan_rows.specs.Kept.{AreKnownAlike, KeepsRecords};
 ghost use Rattle.plan_rows.specs.Notes.{AreNotedAt, AreWithin, is_operation};
 ghost use Rattle.plan_rows.specs.Rows.{keyed_operations, rows_of};
-ghost use Rattle.plan_rows.specs.Shown.{IsShown, IsShownIfAny, plan_shown, shown_with};
+ghost use Rattle.plan_rows.specs.Shown.{IsShown, IsShownIfAny, contents_shown, plan_shown, shown_with, source_if_any};
 ghost use Rattle.plan_rows.specs.Tables.{AreChangesBelow};
 ghost use Rattle.plan_rows.specs.Touched.{AreTouched};
 ghost use Rattle.plan_rows.specs.declared.shown.RowSource.{RowSource as RowSourceValue};
 
 use super::columns::SourceColumns;
-use super::kept::operations_of;
 use super::noted_rows::{Noted, NotedRow, note_rows, push_noted};
-use super::shown::RowSource;
-use super::shown_tables::{ShownTables, Tabled};
-use super::tables::push_changes;
+use super::shown::TableSource;
+use super::shown_tables::{Tabled, push_shown};
+use latest_start::Latest;
 use plan_basics::OpKey;
-use plan_figures::{Changes, OperationRow, PlanRow, RowKey, Shown};
+use plan_figures::{Changes, OperationRow, PlanRow, RowKey, Shown, Standing};
 use plan_model::OperationRecord;
+use status_rules::Status;
 use std::alloc::{AllocError, Global};
-use std::marker::PhantomData;
 
 // The row of an operation, from its record and what is known of the operation at its index.
 fn row_of(
@@ -50,20 +50,72 @@ fn row_of(
     })
 }
 
-// The row of the operation at an index.
-fn operation_row(shown: RowSource<'_>, place: usize) -> PlanRow
-    requires shown { IsShown shown }
-    requires within { place < length (entries shown.contents.now.operations) }
-    ensures { slice_get (rows_of (keyed_operations shown.entry)) place ≡ Some result }
+// Whether two statuses are one.
+fn is_one_status(before: Status, after: Status) -> bool
+    ensures { Decides result (before ≡ after) }
 {
-    let row = &shown.contents.operations()[place];
-    let columns = SourceColumns {
-        standings: shown.standings,
-        statuses: shown.statuses,
-        tallies: shown.tallies,
-        latest: shown.latest,
-    };
-    row_of(row.0, &row.1, columns, place)
+    before == after
+}
+
+// Whether two latest starts are one.
+fn is_one_start(before: i64, after: i64) -> bool
+    ensures { Decides result (before ≡ after) }
+{
+    before == after
+}
+
+// Whether two numbers of waiting predecessors are one.
+fn is_one_number(before: u32, after: u32) -> bool
+    ensures { Decides result (before ≡ after) }
+{
+    before == after
+}
+
+// Whether operations have one status at these indices.
+fn have_one_status(before: &[Status], after: &[Status], old: usize, new: usize) -> bool
+    requires old { old < length before.now }
+    requires new { new < length after.now }
+    ensures { Decides result (slice_get before.now old ≡ slice_get after.now new) }
+{
+    is_one_status(before[old], after[new])
+}
+
+// Whether operations have one latest start at these indices.
+fn have_one_start(before: &Latest, after: &Latest, old: usize, new: usize) -> bool
+    requires old { old < length before.now.starts }
+    requires new { new < length after.now.starts }
+    ensures { Decides result (slice_get before.now.starts old ≡ slice_get after.now.starts new) }
+{
+    is_one_start(before.of(old), after.of(new))
+}
+
+// Whether operations wait for as many predecessors at these indices.
+fn have_one_number(before: &[Standing], after: &[Standing], old: usize, new: usize) -> bool
+    requires old { old < length before.now }
+    requires new { new < length after.now }
+    ensures { Decides result (option_map (λ s. s.waiting) (slice_get before.now old) ≡ option_map (λ s. s.waiting) (slice_get after.now new)) }
+{
+    is_one_number(before[old].waiting, after[new].waiting)
+}
+
+// Whether what is known of the operations at these indices is the same: their status, latest start and number of waiting predecessors.
+fn are_known_alike(
+    before: SourceColumns<'_>,
+    after: SourceColumns<'_>,
+    old: usize,
+    new: usize,
+) -> bool
+    requires before { (P : Contents) × IsShown (shown_with P before) × (old < length (entries P.operations)) }
+    requires after { (Q : Contents) × IsShown (shown_with Q after) × (new < length (entries Q.operations)) }
+    ensures { IsTrue result ↔ AreKnownAlike before.entry after.entry old new }
+{
+    if !have_one_status(before.statuses, after.statuses, old, new) {
+        return false;
+    }
+    if !have_one_start(before.latest, after.latest, old, new) {
+        return false;
+    }
+    have_one_number(before.standings, after.standings, old, new)
 }
 
 impl Tabled for OperationRecord {
@@ -77,12 +129,16 @@ impl Tabled for OperationRecord {
         RowKey::Operation(key)
     }
 
-    fn kept<'a>(shown: Option<RowSource<'a>>) -> &'a [(OpKey, OperationRecord)] {
-        operations_of(shown)
+    fn count(source: TableSource<'_>) -> usize {
+        source.beside.operation_count()
     }
 
-    fn row(shown: RowSource<'_>, place: usize) -> PlanRow {
-        operation_row(shown, place)
+    fn key_at(source: TableSource<'_>, place: usize) -> OpKey {
+        *source.beside.operation_key(place)
+    }
+
+    fn is_alike(before: TableSource<'_>, after: TableSource<'_>, old: usize, new: usize) -> bool {
+        are_known_alike(before.columns, after.columns, old, new)
     }
 
     ghost in_order = { λ a b. refl };
@@ -90,26 +146,24 @@ impl Tabled for OperationRecord {
     ghost exact = { operation_cmp-IsAntisymmetric };
 }
 
-/// Adds what changes in the table of operations.
+/// Adds what changes in the table of operations, where what is shown keeps the operations of the plan before: a look at each that is
+/// told. Of any other its status, latest start and number of waiting predecessors are those before, and so is its record.
 pub fn push_operations(
     alloc: Global,
-    before: Option<RowSource<'_>>,
-    after: Option<RowSource<'_>>,
+    before: Option<TableSource<'_>>,
+    shown: &mut Shown,
+    columns: SourceColumns<'_>,
     changes: &mut Changes,
 ) -> Result<(), AllocError>
-    requires before { IsShownIfAny before }
-    requires after { IsShownIfAny after }
-    ensures { (clock now : ℕ) → AreChangesBelow 5 (plan_shown clock before.entry) (plan_shown now after.entry) changes.old → OnOk result (AreChangesBelow 6 (plan_shown clock before.entry) (plan_shown now after.entry) changes.new) }
+    requires before { IsShownIfAny (source_if_any before) }
+    requires shown { IsShown (shown_with shown.old.contents columns) }
+    requires kept { KeepsRecords (contents_shown (source_if_any before)) shown.old.contents }
+    ensures changes { (clock now : ℕ) → AreChangesBelow 5 (plan_shown clock (source_if_any before.entry)) (plan_shown now (Some (shown_with shown.old.contents columns.entry))) changes.old → OnOk result (AreChangesBelow 6 (plan_shown clock (source_if_any before.entry)) (plan_shown now (Some (shown_with shown.old.contents columns.entry))) changes.new) }
+    ensures contents { shown.new.contents ≡ shown.old.contents }
+    ensures fewest { shown.old.looks ≤ shown.new.looks }
+    ensures most { shown.new.looks ≤ shown.old.looks + length (entries shown.old.contents.operations) }
 {
-    push_changes(
-        alloc,
-        &ShownTables {
-            table: PhantomData::<OperationRecord>,
-            before,
-            after,
-        },
-        changes,
-    )
+    push_shown::<OperationRecord>(alloc, before, shown, columns, changes)
 }
 
 impl Noted for OperationRecord {

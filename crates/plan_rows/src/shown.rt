@@ -2,9 +2,10 @@
 ghost use Rattle.std.specs.Prelude.{◌≡◌};
 ghost use Rattle.plan_rows.specs.Shown.{IsShown};
 
+use super::columns::SourceColumns;
 use latest_start::Latest;
 use plan_basics::Moment;
-use plan_figures::{LoadedPlan, PlanContents, Standing};
+use plan_figures::{Beside, LoadedPlan, PlanContents, Standing};
 use status_rules::{Counts, Status};
 
 /// The rows of a loaded plan, with what is known of each of them.
@@ -33,9 +34,17 @@ impl<'a> RowSource<'a> {
     }
 }
 
-/// A plan at its clock, and what is kept of it if one is loaded.
+/// What the tables of a loaded plan are told by without a look at a record: what stands beside the records, and what is known of each
+/// operation and of each occurrence.
 #[derive(Clone, Copy)]
-pub struct PlanShown<'a> {
+pub struct TableSource<'a> {
+    pub beside: Beside<'a>,
+    pub columns: SourceColumns<'a>,
+}
+
+/// The plan before, at its clock, and what its tables are told by if one was loaded.
+#[derive(Clone, Copy)]
+pub struct PlanBefore<'a> {
     pub clock: Moment,
-    pub loaded: Option<RowSource<'a>>,
+    pub loaded: Option<TableSource<'a>>,
 }

@@ -1,18 +1,25 @@
 // Tables with a row for each entry of what is kept, told with what is known of it.
-ghost use Rattle.std.specs.Prelude.{◌≡◌, ◌<◌, List, Some, length, slice_get};
+ghost use Rattle.std.specs.Prelude.{◌≡◌, ◌↔◌, ◌+◌, ◌*◌, ◌<◌, ◌≤◌, ◌++◌, ℕ, List, Contains, IsTrue, OnOk, Some, length, map, slice_get};
 ghost use Rattle.std.specs.FinMap.{IsAntisymmetric};
+ghost use Rattle.std.specs.List.Sorted.{IsStrictlySortedBy};
 ghost use Rattle.std.specs.Map.{keys_of};
 ghost use Rattle.plan_figures.specs.plan_drafts.specs.declared.RowKey.{RowKey as RowKeyValue};
 ghost use Rattle.plan_figures.specs.plan_records.specs.Rows.{row_cmp};
 ghost use Rattle.plan_figures.specs.plan_records.specs.declared.PlanRow.{PlanRow as PlanRowValue};
+ghost use Rattle.plan_rows.specs.Kept.{KeepsRecords};
 ghost use Rattle.plan_rows.specs.Rows.{if_shown, rows_of};
-ghost use Rattle.plan_rows.specs.Shown.{IsShown, IsShownIfAny};
+ghost use Rattle.plan_rows.specs.Shown.{IsShown, IsShownIfAny, contents_shown, plan_shown, shown_with, source_if_any, source_of};
+ghost use Rattle.plan_rows.specs.Tables.{AreChangesBelow, AreRowsOf};
 ghost use Rattle.plan_rows.specs.declared.shown.RowSource.{RowSource as RowSourceValue};
+ghost use Rattle.row_differences.specs.Changes.{AreAt};
+ghost use Rattle.row_differences.specs.Differences.{HaveOneKey};
 
-use super::shown::RowSource;
-use super::tables::PlanTable;
-use plan_figures::{PlanRow, RowKey};
-use row_differences::TwoTables;
+use super::columns::SourceColumns;
+use super::noted_rows::Noted;
+use super::shown::TableSource;
+use plan_figures::{Changes, PlanRow, RowKey, Shown};
+use row_differences::{TwoTables, differences};
+use std::alloc::{AllocError, Global};
 use std::cmp::Ordering;
 use std::marker::{Model, PhantomData};
 
@@ -30,16 +37,24 @@ pub trait Tabled: Sized {
     fn named(key: Self::Key) -> RowKey
         ensures { result ≡ name key };
 
-    /// All that is kept of the plan that is shown, by key; nothing where no plan is.
-    fn kept<'a>(shown: Option<RowSource<'a>>) -> &'a [(Self::Key, Self)]
-        requires { IsShownIfAny shown }
-        ensures { keys_of result.now ≡ keys_of (if_shown keyed shown.entry) };
+    /// How many rows there are.
+    fn count(source: TableSource<'_>) -> usize
+        requires { IsShown (source_of source) }
+        ensures { result ≡ length (keys_of (keyed (source_of source.entry))) };
 
-    /// The row at an index.
-    fn row(shown: RowSource<'_>, place: usize) -> PlanRow
-        requires shown { IsShown shown }
-        requires within { place < length (keys_of (keyed shown)) }
-        ensures { slice_get (rows_of (keyed shown.entry)) place ≡ Some result };
+    /// The key of the row at an index.
+    fn key_at(source: TableSource<'_>, place: usize) -> Self::Key
+        requires shown { IsShown (source_of source) }
+        requires within { place < length (keys_of (keyed (source_of source))) }
+        ensures { slice_get (keys_of (keyed (source_of source.entry))) place ≡ Some result };
+
+    /// Whether two rows of one key are the same, where the plan after keeps the operations of the one before: no record is looked at.
+    fn is_alike(before: TableSource<'_>, after: TableSource<'_>, old: usize, new: usize) -> bool
+        requires before { IsShown (source_of before) }
+        requires after { IsShown (source_of after) }
+        requires kept { KeepsRecords before.beside.contents.now after.beside.contents.now }
+        requires one_key { HaveOneKey (keys_of (keyed (source_of before))) (keys_of (keyed (source_of after))) old new }
+        ensures { IsTrue result ↔ (slice_get (rows_of (keyed (source_of before.entry))) old ≡ slice_get (rows_of (keyed (source_of after.entry))) new) };
 
     /// Rows are in the order of their keys.
     ghost in_order: { (a b : Self.Key) → row_cmp (name a) (name b) ≡ Self.Key.cmp a b };
@@ -48,43 +63,46 @@ pub trait Tabled: Sized {
     ghost exact: { IsAntisymmetric Self.Key.cmp };
 }
 
-// The key at an index.
-fn key<T: Tabled>(shown: Option<RowSource<'_>>, place: usize) -> T::Key
-    requires shown { IsShownIfAny shown }
-    requires within { place < length (keys_of (if_shown T.keyed shown)) }
-    ensures { (k : T.Key) → slice_get (keys_of (if_shown T.keyed shown.entry)) place ≡ Some k → result ≡ k }
+// How many rows there are; none where no plan is loaded.
+fn count<T: Tabled>(source: Option<TableSource<'_>>) -> usize
+    requires { IsShownIfAny (source_if_any source) }
+    ensures { result ≡ length (keys_of (if_shown T.keyed (source_if_any source.entry))) }
 {
-    T::kept(shown)[place].0
+    match source {
+        Some(source) => T::count(source),
+        None => 0,
+    }
 }
 
-/// The row at an index.
-pub fn row<T: Tabled>(shown: Option<RowSource<'_>>, place: usize) -> PlanRow
-    requires shown { IsShownIfAny shown }
-    requires within { place < length (keys_of (if_shown T.keyed shown)) }
-    ensures { slice_get (rows_of (if_shown T.keyed shown.entry)) place ≡ Some result }
+// The key at an index.
+fn key<T: Tabled>(source: Option<TableSource<'_>>, place: usize) -> T::Key
+    requires shown { IsShownIfAny (source_if_any source) }
+    requires within { place < length (keys_of (if_shown T.keyed (source_if_any source))) }
+    ensures { slice_get (keys_of (if_shown T.keyed (source_if_any source.entry))) place ≡ Some result }
 {
-    T::row(shown.unwrap(), place)
+    T::key_at(source.unwrap(), place)
 }
 
 /// Such a table before and after. Contracts see the rows under their keys.
 #[derive(Drop)]
 pub struct ShownTables<'a, 'b, T: Tabled> {
     pub table: PhantomData<T>,
-    pub before: Option<RowSource<'a>>,
-    pub after: Option<RowSource<'b>>,
+    pub before: Option<TableSource<'a>>,
+    pub after: TableSource<'b>,
 }
 
 impl<'a, 'b, T: Tabled> Model for ShownTables<'a, 'b, T> {
     ghost use Rattle.std.specs.Prelude.{List};
     ghost use Rattle.plan_figures.specs.plan_records.specs.declared.PlanRow.{PlanRow};
+    ghost use Rattle.plan_rows.specs.Kept.{KeepsRecords};
     ghost use Rattle.plan_rows.specs.Rows.{if_shown};
-    ghost use Rattle.plan_rows.specs.Shown.{IsShownIfAny};
+    ghost use Rattle.plan_rows.specs.Shown.{IsShown, IsShownIfAny, contents_shown, source_if_any, source_of};
 
     ghost Value = { List (T.Key × PlanRow) × List (T.Key × PlanRow) };
 
-    ghost view = { λ t. (if_shown T.keyed t.before, if_shown T.keyed t.after) };
+    ghost view = { λ t. (if_shown T.keyed (source_if_any t.before), T.keyed (source_of t.after)) };
 
-    ghost invariant = { λ t. IsShownIfAny t.before × IsShownIfAny t.after };
+    ghost invariant = { λ t. IsShownIfAny (source_if_any t.before) × IsShown (source_of t.after) × KeepsRecords (contents_shown (source_if_any t.before)) t.after.beside.contents.now };
 }
 
 impl<'a, 'b, T: Tabled> TwoTables for ShownTables<'a, 'b, T> {
@@ -97,40 +115,88 @@ impl<'a, 'b, T: Tabled> TwoTables for ShownTables<'a, 'b, T> {
     ghost IsAlike = { λ t i j. slice_get (rows_of t.0) i ≡ slice_get (rows_of t.1) j };
 
     fn rows_before(&self) -> usize {
-        T::kept(self.before).len()
+        count::<T>(self.before)
     }
 
     fn rows_after(&self) -> usize {
-        T::kept(self.after).len()
+        T::count(self.after)
     }
 
     fn order(&self, old: usize, new: usize) -> Ordering {
-        key::<T>(self.before, old).cmp(&key::<T>(self.after, new))
+        key::<T>(self.before, old).cmp(&T::key_at(self.after, new))
     }
 
     fn is_alike(&self, old: usize, new: usize) -> bool {
-        row::<T>(self.before, old) == row::<T>(self.after, new)
+        T::is_alike(self.before.unwrap(), self.after, old, new)
     }
 }
 
-impl<'a, 'b, T: Tabled> PlanTable for ShownTables<'a, 'b, T> {
-    ghost name = { T.name };
-
-    ghost olds = { λ t. rows_of t.0 };
-
-    ghost news = { λ t. rows_of t.1 };
-
-    fn key_before(&self, old: usize) -> RowKey {
-        T::named(key::<T>(self.before, old))
+// Adds the rows at these places.
+fn push_rows<T: Noted>(
+    shown: &mut Shown,
+    columns: SourceColumns<'_>,
+    places: &[usize],
+    rows: &mut Vec<PlanRow>,
+) -> Result<(), AllocError>
+    requires shown { IsShown (shown_with shown.old.contents columns) }
+    requires within { (i : ℕ) → Contains places.now i → i < length (keys_of (T.keyed (shown_with shown.old.contents columns))) }
+    ensures rows { OnOk result ((more : List PlanRowValue) × AreAt (rows_of (T.keyed (shown_with shown.old.contents columns.entry))) places.now more × (rows.new.items ≡ rows.old.items ++ more)) }
+    ensures contents { shown.new.contents ≡ shown.old.contents }
+    ensures fewest { shown.old.looks ≤ shown.new.looks }
+    ensures most { shown.new.looks ≤ shown.old.looks + T.looks * length places.now }
+{
+    for place in places {
+        rows.push(T::seen(shown, columns, *place))?;
     }
+    Ok(())
+}
 
-    fn row_after(&self, new: usize) -> PlanRow {
-        row::<T>(self.after, new)
+// Adds the keys of the rows at these places.
+fn push_keys<T: Tabled>(
+    source: Option<TableSource<'_>>,
+    places: &[usize],
+    keys: &mut Vec<RowKey>,
+) -> Result<(), AllocError>
+    requires shown { IsShownIfAny (source_if_any source) }
+    requires within { (i : ℕ) → Contains places.now i → i < length (keys_of (if_shown T.keyed (source_if_any source))) }
+    ensures { OnOk result ((more : List RowKeyValue) × AreAt (map T.name (keys_of (if_shown T.keyed (source_if_any source.entry)))) places.now more × (keys.new.items ≡ keys.old.items ++ more)) }
+{
+    for place in places {
+        keys.push(T::named(key::<T>(source, *place)))?;
     }
+    Ok(())
+}
 
-    ghost in_order = { T.in_order };
-
-    ghost exact = { T.exact };
-
-    ghost alike = { λ t i j one. (λ h. h, λ h. h) };
+/// Adds what changes in such a table from the plan before to what is shown, which keeps the operations of that: the rows that are told
+/// take their looks, and no others do.
+pub fn push_shown<T: Noted>(
+    alloc: Global,
+    before: Option<TableSource<'_>>,
+    shown: &mut Shown,
+    columns: SourceColumns<'_>,
+    changes: &mut Changes,
+) -> Result<(), AllocError>
+    requires before { IsShownIfAny (source_if_any before) }
+    requires shown { IsShown (shown_with shown.old.contents columns) }
+    requires kept { KeepsRecords (contents_shown (source_if_any before)) shown.old.contents }
+    requires before_in_order { IsStrictlySortedBy T.Key.cmp (keys_of (if_shown T.keyed (source_if_any before))) }
+    requires in_order { IsStrictlySortedBy T.Key.cmp (keys_of (T.keyed (shown_with shown.old.contents columns))) }
+    ensures changes { (n clock now : ℕ) → (let P = plan_shown clock (source_if_any before.entry) in let Q = plan_shown now (Some (shown_with shown.old.contents columns.entry)) in AreRowsOf T.name n P (keys_of (if_shown T.keyed (source_if_any before.entry))) (rows_of (if_shown T.keyed (source_if_any before.entry))) → AreRowsOf T.name n Q (keys_of (T.keyed (shown_with shown.old.contents columns.entry))) (rows_of (T.keyed (shown_with shown.old.contents columns.entry))) → AreChangesBelow n P Q changes.old → OnOk result (AreChangesBelow (n + 1) P Q changes.new)) }
+    ensures contents { shown.new.contents ≡ shown.old.contents }
+    ensures fewest { shown.old.looks ≤ shown.new.looks }
+    ensures most { shown.new.looks ≤ shown.old.looks + T.looks * length (keys_of (T.keyed (shown_with shown.old.contents columns.entry))) }
+{
+    let found = differences(
+        alloc,
+        &ShownTables {
+            table: PhantomData::<T>,
+            before,
+            after: TableSource {
+                beside: shown.beside(),
+                columns,
+            },
+        },
+    )?;
+    push_rows::<T>(shown, columns, &found.changed, &mut changes.rows)?;
+    push_keys::<T>(before, &found.gone, &mut changes.gone)
 }

@@ -4,11 +4,11 @@ ghost use Rattle.std.specs.Map.{keys_of};
 ghost use Rattle.plan_basics.specs.Keys.{Name, name_cmp-IsAntisymmetric};
 ghost use Rattle.plan_figures.specs.plan_drafts.specs.declared.RowKey.TheVariants as key;
 ghost use Rattle.plan_rows.specs.Rows.{workstation_row};
-ghost use Rattle.plan_rows.specs.Shown.{plan_shown};
+ghost use Rattle.plan_rows.specs.Shown.{plan_shown, source_if_any};
 ghost use Rattle.plan_rows.specs.Tables.{AreChangesBelow};
 
 use super::kept::workstations_of;
-use super::shown::RowSource;
+use super::shown::TableSource;
 use super::tables::{PlanTable, push_changes};
 use plan_basics::WsName;
 use plan_figures::{Changes, PlanRow, RowKey};
@@ -87,11 +87,11 @@ impl<'a, 'b> PlanTable for Workplaces<'a, 'b> {
 /// Adds what changes in the table of workstations.
 pub fn push_workstations(
     alloc: Global,
-    before: Option<RowSource<'_>>,
-    after: Option<RowSource<'_>>,
+    before: Option<TableSource<'_>>,
+    after: Option<TableSource<'_>>,
     changes: &mut Changes,
 ) -> Result<(), AllocError>
-    ensures { (clock now : ℕ) → AreChangesBelow 1 (plan_shown clock before.entry) (plan_shown now after.entry) changes.old → OnOk result (AreChangesBelow 2 (plan_shown clock before.entry) (plan_shown now after.entry) changes.new) }
+    ensures { (clock now : ℕ) → AreChangesBelow 1 (plan_shown clock (source_if_any before.entry)) (plan_shown now (source_if_any after.entry)) changes.old → OnOk result (AreChangesBelow 2 (plan_shown clock (source_if_any before.entry)) (plan_shown now (source_if_any after.entry)) changes.new) }
 {
     push_changes(
         alloc,

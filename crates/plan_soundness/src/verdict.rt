@@ -12,7 +12,9 @@ use super::marks::marks_are_allowed;
 use super::occurrences::occurrences_are_deleted_whole;
 use super::order::reports_are_in_order;
 use plan_basics::Refusal;
-use plan_choice::{SoundContents, Standing, ValidContents, graph_for, holdings_of, standings_of};
+use plan_choice::{
+    SoundContents, Standing, ValidContents, briefs_of, graph_for, holdings_in, standings_of,
+};
 use special_resources::Holdings;
 use std::alloc::Global;
 
@@ -48,8 +50,9 @@ fn is_sound(alloc: Global, contents: &ValidContents) -> Result<bool, Refusal>
         return Ok(false);
     }
     let graph = graph_for(alloc, contents)?;
-    let standings = standings_of(alloc, contents, &graph)?;
-    let holdings = holdings_of(alloc, contents)?;
+    let briefs = briefs_of(alloc, contents)?;
+    let standings = standings_of(alloc, &briefs, &graph)?;
+    let holdings = holdings_in(alloc, contents)?;
     Ok(reports_and_holders_are_sound(contents, &standings, &holdings))
 }
 

@@ -47,6 +47,11 @@ stands_first P o = record {
 abbrev pub WaitForAtMost : ℕ → List Standing → Type 0
 WaitForAtMost n standings = (i : ℕ) (s : Standing) → slice_get standings i ≡ Some s → s.waiting ≤ n
 
+-- the standings once some of the pairs have been added, and how many those are
+pub record AreStandingsSoFar (P : Contents) (pairs : List (OpKey × OpKey)) (n : ℕ) (standings : List Standing) : Type 0 where
+  pub so_far : AreStandings (with_pairs pairs P) standings
+  pub at_most : WaitForAtMost n standings
+
 pub at_most_first : (n : ℕ) (standings : List Standing) → standings ≡ replicate n first → WaitForAtMost 0 standings
 at_most_first n standings is i s e =
     let same = ap (λ (x : Standing). x.waiting) (all_alike n i first s (ap (λ ss. slice_get ss i) (sym is) ∙ e)) in

@@ -1,16 +1,10 @@
--- What standings are worked out from: operations on their workstations, and pairs that are added one after another.
-use Rattle.std.specs.Prelude.{◌≡◌, List, ◌∷◌, Some}
-use Rattle.std.specs.FinMap.{get}
+-- What standings are worked out from: pairs that are added one after another.
+use Rattle.std.specs.Prelude.{List, ◌∷◌}
 use Rattle.std.specs.FinSet.{from_list}
-use Rattle.plan_basics.specs.declared.Attr.{Attr}
 use Rattle.plan_basics.specs.declared.keys.OpKey.{OpKey}
-use Rattle.plan_laws.specs.plan_model.specs.Contents.{Contents, Operation, HasAttribute, IsPairOf}
+use Rattle.plan_laws.specs.plan_model.specs.Contents.{Contents, IsPairOf}
 use Rattle.plan_status.specs.Standings.{IsStanding}
 use Rattle.plan_status.specs.declared.standings.Standing.{Standing}
-
--- o is this operation, on a workstation that reports so
-abbrev pub IsOperationOn : Contents → OpKey → Operation → Attr → Type 0
-IsOperationOn P o op a = (get P.operations o ≡ Some op) × HasAttribute P op.workstation a
 
 -- the plan with these pairs alone
 abbrev pub with_pairs : List (OpKey × OpKey) → Contents → Contents

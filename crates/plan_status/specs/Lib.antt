@@ -6,3 +6,4 @@ pub use Rattle.plan_laws.specs.ready_list
 pub mod Standings
 pub mod Incoming
 pub mod OneMore
+pub mod Briefs

@@ -4,6 +4,7 @@
 
 ghost use Rattle.plan_status.specs.Standings.{NamingKeepsStandings};
 
+mod briefs;
 mod graphs;
 mod sound;
 mod standings;
@@ -11,6 +12,7 @@ mod statuses;
 mod tallies;
 mod valid;
 
+pub use briefs::{Brief, brief_of, briefs_of};
 pub use graphs::graph_for;
 pub use plan_laws::{
     Changes, OperationRecord, OperationRow, PlanContents, PlanRow, RowKey, row_place,
@@ -18,7 +20,7 @@ pub use plan_laws::{
 pub use sound::SoundContents;
 pub use standings::{Standing, attribute_near, attribute_of, standings_of};
 pub use statuses::{status_with, statuses_of};
-pub use tallies::{count_one, occurrence_status_with, tallies_of};
+pub use tallies::{count_one, occurrence_status_with};
 pub use valid::ValidContents;
 
 /// The law that to name operations that are ready changes nothing of what any operation waits for. It does nothing.

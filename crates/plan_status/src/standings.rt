@@ -5,11 +5,11 @@ ghost use Rattle.plan_basics.specs.declared.Refusal.{Refusal};
 ghost use Rattle.plan_basics.specs.declared.keys.OpKey.{OpKey};
 ghost use Rattle.plan_laws.specs.plan_model.specs.Contents.{Contents, HasAttribute};
 ghost use Rattle.plan_laws.specs.plan_model.specs.Status.{IsSatisfied};
-ghost use Rattle.plan_laws.specs.plan_drafts.specs.PlanGraphs.{IsGraphFor};
-ghost use Rattle.plan_status.specs.Incoming.{IsNextStanding, IsOperationOn};
+ghost use Rattle.plan_status.specs.Briefs.{HasBrief, IsBriefedBy};
+ghost use Rattle.plan_status.specs.Incoming.{IsNextStanding};
 ghost use Rattle.plan_status.specs.Standings.{IsStanding, AreStandings};
 
-use super::statuses::status_with;
+use super::briefs::Brief;
 use super::valid::ValidContents;
 use operation_graph::Graph;
 use plan_basics::{Attr, Refusal};
@@ -58,10 +58,10 @@ pub fn attribute_near(contents: &ValidContents, operation: &OperationRecord, pla
 }
 
 // Whether an operation is satisfied, by its standing: its status is complete or deleted.
-fn is_satisfied(operation: &OperationRecord, attr: Attr, standing: &Standing) -> bool
-    ensures { (P : Contents) (o : OpKey) → IsOperationOn P o operation.now attr → IsStanding P o standing.now → Decides result (IsSatisfied P o) }
+fn is_satisfied(brief: &Brief, standing: &Standing) -> bool
+    ensures { (P : Contents) (o : OpKey) → HasBrief P o brief.now → IsStanding P o standing.now → Decides result (IsSatisfied P o) }
 {
-    status_with(operation, attr, standing).is_satisfied()
+    brief.status(standing).is_satisfied()
 }
 
 // The standing with one more live predecessor.
@@ -88,43 +88,34 @@ fn with_one_more(standing: &Standing, satisfied: bool, nonreporting: bool) -> St
 }
 
 // The standing of an operation, once it comes after this predecessor too.
-fn standing_after(
-    standing: &Standing,
-    predecessor: &OperationRecord,
-    attr: Attr,
-    its: &Standing,
-) -> Standing
+fn standing_after(standing: &Standing, predecessor: &Brief, its: &Standing) -> Standing
     requires { standing.now.waiting < 4294967295 }
-    ensures standing { (P : Contents) (pairs : List (OpKey × OpKey)) (pair : OpKey × OpKey) → IsOperationOn P pair.0 predecessor.now attr → IsNextStanding P pairs pair its.now standing.now result }
+    ensures standing { (P : Contents) (pairs : List (OpKey × OpKey)) (pair : OpKey × OpKey) → HasBrief P pair.0 predecessor.now → IsNextStanding P pairs pair its.now standing.now result }
     ensures waiting { result.waiting ≤ standing.now.waiting + 1 }
 {
     if !predecessor.mark.is_live() {
         return *standing;
     }
-    let satisfied = is_satisfied(predecessor, attr, its);
-    let nonreporting = matches!(attr, Attr::Nonreporting);
+    let satisfied = is_satisfied(predecessor, its);
+    let nonreporting = matches!(predecessor.attribute, Attr::Nonreporting);
     with_one_more(standing, satisfied, nonreporting)
 }
 
-/// The standing of each operation, in key order. The error is always `Memory`.
+/// The standing of each operation, in key order, by their briefs and the graph of their plan. The error is always `Memory`.
 pub fn standings_of(
     alloc: Global,
-    contents: &ValidContents,
+    briefs: &[Brief],
     graph: &Graph,
 ) -> Result<Vec<Standing>, Refusal>
-    requires { IsGraphFor contents.now graph.now }
-    ensures standings { IfOk result (λ found. AreStandings contents.now found.items) }
+    requires { (P : Contents) × IsBriefedBy P graph.now briefs.now }
+    ensures standings { IfOk result (λ found. (P : Contents) → IsBriefedBy P graph.now briefs.now → AreStandings P found.items) }
     ensures refused { IfErr result (λ r. r ≡ Refusal.Memory) }
 {
-    let rows = contents.operations();
-    let mut standings = vec![in alloc; FIRST; rows.len()]?;
+    let mut standings = vec![in alloc; FIRST; briefs.len()]?;
     for (before, after) in &graph.edges_in_turn()? {
-        let predecessor = &rows[*before].1;
-        let attr = attribute_near(contents, predecessor, *before);
         standings[*after] = standing_after(
             &standings[*after],
-            predecessor,
-            attr,
+            &briefs[*before],
             &standings[*before],
         );
     }

@@ -1,14 +1,15 @@
 // Statuses of operations.
-ghost use Rattle.std.specs.Prelude.{◌≡◌, IfOk, Some};
+ghost use Rattle.std.specs.Prelude.{◌≡◌, IfOk, Some, length};
 ghost use Rattle.std.specs.FinMap.{get};
 ghost use Rattle.plan_basics.specs.declared.keys.OpKey.{OpKey};
 ghost use Rattle.plan_laws.specs.plan_model.specs.Contents.{Contents, HasAttribute};
 ghost use Rattle.plan_laws.specs.plan_model.specs.Status.{HasStatus};
 ghost use Rattle.plan_laws.specs.plan_drafts.specs.Places.{AreStatuses};
+ghost use Rattle.plan_status.specs.Briefs.{AreBriefs};
 ghost use Rattle.plan_status.specs.Standings.{IsStanding, AreStandings};
 
-use super::sound::SoundContents;
-use super::standings::{Standing, attribute_near};
+use super::briefs::Brief;
+use super::standings::Standing;
 use plan_basics::Attr;
 use plan_laws::OperationRecord;
 use status_rules::{Status, status_of};
@@ -27,21 +28,18 @@ pub fn status_with(operation: &OperationRecord, attribute: Attr, standing: &Stan
     )
 }
 
-/// The status of each operation, in key order.
+/// The status of each operation, in key order, by their briefs and standings.
 pub fn statuses_of(
     alloc: Global,
-    contents: &SoundContents,
+    briefs: &[Brief],
     standings: &[Standing],
 ) -> Result<Vec<Status>, AllocError>
-    requires { AreStandings contents.now standings.now }
-    ensures { IfOk result (λ found. AreStatuses contents.now found.items) }
+    requires { length briefs.now ≡ length standings.now }
+    ensures { IfOk result (λ found. (P : Contents) → AreBriefs P briefs.now → AreStandings P standings.now → AreStatuses P found.items) }
 {
-    let rows = contents.operations();
     let mut statuses = Vec::with_capacity(alloc, standings.len())?;
     for (i, standing) in standings.iter().enumerate() {
-        let operation = &rows[i].1;
-        let attribute = attribute_near(contents.valid(), operation, i);
-        statuses.push(status_with(operation, attribute, standing))?;
+        statuses.push(briefs[i].status(standing))?;
     }
     Ok(statuses)
 }

@@ -311,6 +311,6 @@ module _ {P : Contents} {w : What} {Q : Contents} {n : ℕ} (acyclic : IsAcyclic
         let entries : length after ≡ length a.after = ap length (one_ready_list Q after a.after ready a.ready_after) in
         few_looks base asked work few_first (subst (λ k. asked ≤ k + length named) entries few_asked) few
 
--- where no operation goes, four looks, and four at each record of the plan before, are within the allowance by the whole plan
-pub four_looks_each : (P Q : Contents) (work : ℕ) → len P.operations ≤ len Q.operations → work ≤ 4 + 4 * len P.operations → work ≤ by_whole_plan Q
-four_looks_each P Q work kept few = omega (arith, kept, few)
+-- a look, and four at each record of the plan that it leads to, are within the allowance by the whole plan
+pub four_looks_each : (Q : Contents) (work : ℕ) → work ≤ 1 + 4 * len Q.operations → work ≤ by_whole_plan Q
+four_looks_each Q work few = omega (arith, few)

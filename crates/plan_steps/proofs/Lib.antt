@@ -36,6 +36,7 @@ pub mod Belonging
 pub mod KeptThen
 pub mod MovedColumns
 pub mod Looked
+pub mod NoneBeside
 pub mod MadeSteps
 pub mod Listing
 pub mod NamedStatuses

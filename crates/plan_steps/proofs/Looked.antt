@@ -25,7 +25,7 @@ use Rattle.ready_list.proofs.Members.{contains_filter, contains_from_filter}
 use Rattle.ready_list.specs.Entries.{ReadyEntries}
 
 -- what is among places is told to be
-told_among : (known : List ℕ) (i : ℕ) → Contains known i → is_place_among known i ≡ true
+pub told_among : (known : List ℕ) (i : ℕ) → Contains known i → is_place_among known i ≡ true
 told_among [] i has = absurd (contains_none i has)
 told_among (p ∷ known) i has =
     elim (contains_cases p known i has) [
@@ -33,7 +33,7 @@ told_among (p ∷ known) i has =
       | inr later ↦ ap (λ b. nat_eq p i || b) (told_among known i later) ∙ or-true (nat_eq p i)
     ]
 
-abbrev is_beside : List ℕ → ℕ → Bool
+abbrev pub is_beside : List ℕ → ℕ → Bool
 is_beside moved i = not (is_place_among moved i)
 
 -- of what is touched, what wasn't moved is what is named and wasn't moved

@@ -33,6 +33,6 @@ SmallStepsLookFew = (P Q : Contents) (w : What) (m : ℕ) (is_rerun : Bool) (edi
     IsStepLooked P Q is_rerun edits os noted before after → before ≤ 1 + one_at_least (length edits) → work ≤ after + noted →
     IsAllowance P w (named os Q) n → work ≤ n
 
--- where no operation goes, four looks, and four at each record of the plan before, are within the allowance by the whole plan
+-- a look, and four at each record of the plan that it leads to, are within the allowance by the whole plan
 abbrev pub WholePlansLookFew : Type 0
-WholePlansLookFew = (P Q : Contents) (work : ℕ) → len P.operations ≤ len Q.operations → work ≤ 4 + 4 * len P.operations → work ≤ by_whole_plan Q
+WholePlansLookFew = (Q : Contents) (work : ℕ) → work ≤ 1 + 4 * len Q.operations → work ≤ by_whole_plan Q

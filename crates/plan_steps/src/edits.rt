@@ -91,8 +91,8 @@ fn is_idle_at_one(what: &What, marks: &[Marking]) -> bool
     false
 }
 
-/// The edit of nothing.
-pub fn nothing_edited(alloc: Global) -> Edit
+// The edit of nothing.
+fn nothing_edited(alloc: Global) -> Edit
     ensures { IsOfNothing result }
 {
     Edit {

@@ -37,8 +37,8 @@ pub struct Followed {
     pub entries: Vec<ReadyEntry>,
 }
 
-// What follows from a naming, and from an edit. It takes a look at each place that the edit didn't touch. The error is always `Memory`.
-fn followed_by(
+/// What follows from a naming, and from an edit. It takes a look at each place that the edit didn't touch. The error is always `Memory`.
+pub fn followed_by(
     alloc: Global,
     shown: &mut Shown,
     latest: &Latest,
@@ -51,6 +51,7 @@ fn followed_by(
     requires naming { (at : ℕ) × IsNaming shown.old.contents at naming }
     requires edited { ArePlacesIn shown.old.contents edited.places.now }
     requires known { AreEntriesAt shown.old.contents edited.places.now edited.entries.now }
+    ensures naming { IfOk result (λ f. f.naming ≡ naming) }
     ensures followed { IfOk result (λ f. (at : ℕ) → IsNaming shown.old.contents at naming → IsFollowed shown.old.contents at edited.entry.places.now columns.now f) }
     ensures contents { shown.new.contents ≡ shown.old.contents }
     ensures fewest { shown.old.looks ≤ shown.new.looks }

@@ -40,7 +40,8 @@ pub fn small_steps_look_few()
     ensures { SmallStepsLookFew }
 {}
 
-/// The law that four looks and four at each record are within what is allowed by the whole plan. It does nothing.
+/// The law that a look, and four at each record of the plan that a request leads to, are within what is allowed by that whole plan. It does
+/// nothing.
 pub fn whole_plans_look_few()
     ensures { WholePlansLookFew }
 {}

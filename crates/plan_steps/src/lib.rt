@@ -21,6 +21,7 @@ mod places;
 mod requests;
 mod revisions;
 mod setting;
+mod settling;
 mod shifting;
 mod statuses;
 mod steps;
@@ -28,21 +29,25 @@ mod trying;
 mod values;
 mod writing;
 
-pub use edits::{Edit, edit_of, nothing_edited};
+pub use edits::{Edit, edit_of};
 pub use following::SmallStep;
 pub use kept_edits::is_small;
 pub use laws::{
     edits_lead_on, frame_stays, naming_moves, small_requests_move, small_steps_look_few,
     whole_plans_look_few,
 };
-pub use plan_changes::{deleted, with_addition, with_pair};
 pub use plan_checks::{check_load, check_request};
 pub use plan_figures::{
-    Figures, Frame, LoadedPlan, Parts, Reported, Shown, chosen, latest_of, ready_of,
+    Beside, Figures, Frame, LoadedPlan, Parts, RecordCopy, Reported, Shown, WorkedOut, chosen_with,
+    worked_out,
 };
-pub use plan_rows::{Notes, PlanShown, RowSource, SourceColumns, changes_between, noted_changes};
+pub use plan_rows::{
+    Notes, PlanBefore, RowSource, SourceColumns, TableSource, changes_between, columns_of,
+    noted_changes,
+};
 pub use revisions::Revision;
 pub use setting::Setting;
+pub use settling::{Settled, settle};
 pub use shifting::{Shift, shifted};
 pub use steps::small_step;
 pub use writing::stepped;

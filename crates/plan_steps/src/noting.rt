@@ -29,8 +29,8 @@ pub struct StepNotes {
     pub columns: Excerpt,
 }
 
-// Moves columns and the ready list on to those of the plan in which what follows is named. It takes no memory, and looks at nothing.
-fn settle(
+/// Moves columns and the ready list on to those of the plan in which what follows is named. It takes no memory, and looks at nothing.
+pub fn move_on(
     rest: &Beside<'_>,
     columns: &mut FigureColumns,
     ready: &mut ReadyList,
@@ -101,7 +101,7 @@ pub fn note(
     ensures least { OnOk result ((18446744073709551615 ≤ shown.new.looks) ⊎ (shown.old.looks + length followed.now.touched.items ≤ shown.new.looks)) }
     ensures refused { IfErr result (λ r. r ≡ Refusal.Memory) }
 {
-    settle(&shown.beside(), columns, ready, followed);
+    move_on(&shown.beside(), columns, ready, followed);
     let Setting { alloc, latest, .. } = *setting;
     let noted = noted_of(alloc, shown, latest, columns, beside, &followed.touched);
     put_excerpt(columns, ready, &followed.old, &followed.entries);

@@ -4,12 +4,12 @@ use Rattle.plan_basics.specs.Refusals.{NoneRefuses}
 use Rattle.plan_basics.specs.declared.Refusal.{Refusal}
 use Rattle.plan_basics.specs.declared.Refusal.TheVariants as refusal
 use Rattle.plan_basics.specs.declared.keys.OpKey.{OpKey}
-use Rattle.plan_core.proofs.Preparing.{accepted_step}
+use Rattle.plan_core.specs.plan_outcomes.proofs.Preparing.{accepted_step}
 use Rattle.plan_core.specs.plan_drafts.specs.Drafts.{IsDraft}
 use Rattle.plan_core.specs.plan_model.specs.Contents.{Contents}
 use Rattle.plan_core.specs.plan_model.specs.Plan.{Plan, no_plan, plan_held}
 use Rattle.plan_core.specs.plan_model.specs.Ready.{IsChosen, named}
-use Rattle.plan_core.specs.Requested.{AreMadeBy}
+use Rattle.plan_core.specs.plan_outcomes.specs.Requested.{AreMadeBy}
 use Rattle.plan_records.specs.Acceptance.{MayBeAccepted}
 use Rattle.plan_records.specs.Answer.{accepted, refused}
 use Rattle.plan_records.specs.Changes.{IsRequest}

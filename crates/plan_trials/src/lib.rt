@@ -12,17 +12,16 @@ ghost use Rattle.plan_records.specs.Answer.{accepted, answer_of, refused};
 ghost use Rattle.plan_records.specs.Step.{Step};
 ghost use Rattle.plan_core.specs.plan_drafts.specs.Drafts.{IsDraft};
 ghost use Rattle.plan_core.specs.plan_drafts.specs.PlanGraphs.{IsGraphFor};
-ghost use Rattle.plan_status.specs.Standings.{AreStandings};
-ghost use Rattle.plan_core.specs.plan_steps.specs.plan_choice.specs.Choices.{AreLatestStarts};
+ghost use Rattle.plan_core.specs.plan_figures.specs.Afresh.{IsWorkedOut};
 ghost use Rattle.plan_trials.specs.Trials.{IsAnswerAlone, load_at};
 
-use latest_start::Latest;
 use operation_graph::Graph;
 use plan_basics::{Moment, OpKey, Refusal};
-use plan_core::{check_load, chosen, latest_of, ready_of};
+use plan_core::{Shown, WorkedOut, check_load, chosen_with, worked_out};
 use plan_drafts::DraftParts;
 use plan_records::{PlanDraft, Reply};
-use plan_status::{SoundContents, Standing, standings_of, statuses_of};
+use plan_status::SoundContents;
+use record_permits::granted;
 use std::alloc::Global;
 
 // The moment of a load into an empty plan that may be accepted; else the least refusal that applies.
@@ -39,25 +38,45 @@ fn check(at: i64, draft: &Option<PlanDraft>) -> Result<Moment, Refusal>
     Ok(moment)
 }
 
-// What is named at a moment, by the standings and the latest starts of the operations. The error is always `Memory`.
+// What is named at a moment in what is shown, where this was worked out of it; nothing is marked. The error is always `Memory`.
 fn named_by(
     alloc: Global,
-    contents: SoundContents,
-    standings: &[Standing],
-    latest: &Latest,
+    shown: Shown,
+    worked_out: WorkedOut,
     at: Moment,
-) -> Result<Vec<OpKey>, Refusal>
-    requires standings { AreStandings contents standings.now }
-    requires latest { AreLatestStarts contents latest.now.starts }
-    ensures chosen { IfOk result (λ keys. IsChosen contents at keys.items) }
-    ensures refused { IfErr result (λ r. r ≡ Refusal.Memory) }
+) -> (Shown, Result<Vec<OpKey>, Refusal>)
+    requires { IsWorkedOut shown.contents worked_out }
+    ensures chosen { IfOk result.1 (λ keys. IsChosen shown.contents at keys.items) }
+    ensures refused { IfErr result.1 (λ r. r ≡ Refusal.Memory) }
 {
-    let statuses = statuses_of(alloc, &contents, standings)?;
-    let ready = ready_of(alloc, &contents, &statuses, latest)?;
-    chosen(alloc, contents, &ready, at).1
+    let figures = worked_out.figures;
+    let (given, holdings) = (figures.given, figures.holdings);
+    let (shown, choice) = chosen_with(alloc, shown, &figures.ready, at, given, holdings);
+    match choice {
+        Ok(choice) => (shown, Ok(choice.named)),
+        Err(refusal) => (shown, Err(refusal)),
+    }
 }
 
-// What is named at a moment in these contents, with this graph. The error is always `Memory`.
+// What is named at a moment in what is shown, with this graph. The error is always `Memory`.
+fn named_in(
+    alloc: Global,
+    shown: Shown,
+    graph: &Graph,
+    at: Moment,
+) -> (Shown, Result<Vec<OpKey>, Refusal>)
+    requires { IsGraphFor shown.contents graph.now }
+    ensures chosen { IfOk result.1 (λ keys. IsChosen shown.contents at keys.items) }
+    ensures refused { IfErr result.1 (λ r. r ≡ Refusal.Memory) }
+{
+    let mut shown = shown;
+    match worked_out(alloc, &mut shown, graph) {
+        Ok(worked_out) => named_by(alloc, shown, worked_out, at),
+        Err(refusal) => (shown, Err(refusal)),
+    }
+}
+
+// What is named at a moment in these contents, with this graph; no look is counted. The error is always `Memory`.
 fn named_at(
     alloc: Global,
     contents: SoundContents,
@@ -68,9 +87,11 @@ fn named_at(
     ensures chosen { IfOk result (λ keys. IsChosen contents at keys.items) }
     ensures refused { IfErr result (λ r. r ≡ Refusal.Memory) }
 {
-    let standings = standings_of(alloc, contents.valid(), graph)?;
-    let latest = latest_of(alloc, &contents, graph)?;
-    named_by(alloc, contents, &standings, &latest, at)
+    let permit = granted();
+    let shown = Shown::of(contents, &permit);
+    let (shown, named) = named_in(alloc, shown, graph, at);
+    let _ = shown.into_contents(&permit);
+    named
 }
 
 // What a draft holds, which is sound, and its graph.

@@ -6,15 +6,18 @@ ghost use Rattle.std.specs.List.Sorted.{IsStrictlySortedBy};
 ghost use Rattle.std.specs.Map.{keys_of};
 ghost use Rattle.plan_basics.specs.Keys.{name_cmp, occurrence_cmp};
 ghost use Rattle.plan_basics.specs.declared.keys.OpKey.{OpKey as OpKeyValue};
+ghost use Rattle.plan_status.specs.Briefs.{IsBriefOf};
+ghost use Rattle.plan_status.specs.plan_drafts.specs.PlanGraphs.{IsGraphFor};
 ghost use Rattle.plan_status.specs.plan_model.specs.Contents.{attribute_at, pair_cmp, HasAttribute, Operation};
 ghost use Rattle.plan_status.specs.plan_model.specs.Holdings.{takes};
 ghost use Rattle.plan_status.specs.plan_model.specs.declared.Occurrence.{Occurrence as OccurrenceValue};
 ghost use Rattle.plan_status.specs.plan_model.specs.Valid.{IsSound};
 ghost use Rattle.workstations.specs.Workstations.{Workstation as WorkstationValue};
 
+use operation_graph::Graph;
 use plan_basics::{Attr, OccKey, OpKey, ResName, WsName};
 use plan_changes::Occurrence;
-use plan_status::{OperationRecord, SoundContents, attribute_near};
+use plan_status::{Brief, OperationRecord, SoundContents, attribute_near, brief_of, graph_for};
 use std::alloc::{AllocError, Global};
 use workstations::Workstation;
 
@@ -77,21 +80,6 @@ impl<'a> Beside<'a> {
         ensures sound { IsSound self.now.contents.now }
     {
         self.contents.pairs()
-    }
-
-    /// Its pairs and one more, by predecessor and then successor. One that is there already stays.
-    pub fn pairs_with(
-        &self,
-        alloc: Global,
-        predecessor: &OpKey,
-        successor: &OpKey,
-    ) -> Result<Vec<(OpKey, OpKey)>, AllocError>
-        ensures pairs { IfOk result (λ v. set.from_list {R = pair_cmp} v.items ≡ set.insert self.now.contents.now.pairs (predecessor.now, successor.now)) }
-        ensures in_order { IfOk result (λ v. IsStrictlySortedBy pair_cmp v.items) }
-    {
-        self.contents
-            .rows()
-            .pairs_with(alloc, predecessor, successor)
     }
 
     /// How many operations there are.
@@ -172,6 +160,13 @@ impl<'a> Beside<'a> {
         self.contents.workstation_place_near(operation, place)
     }
 
+    /// The graph of its operations and pairs: a node is the index of an operation.
+    pub fn graph(&self, alloc: Global) -> Result<Graph, AllocError>
+        ensures { IfOk result (IsGraphFor self.now.contents.now) }
+    {
+        graph_for(alloc, self.contents.valid())
+    }
+
     /// The occurrence of a key, if there is one.
     pub fn occurrence(&self, key: &OccKey) -> Option<&'a Occurrence>
         ensures found { IfSome result (λ occurrence. get self.now.contents.now.occurrences key.now ≡ Some occurrence.now) }
@@ -221,6 +216,14 @@ impl<'a> Beside<'a> {
         ensures { HasAttribute self.now.contents.now operation.now.workstation result }
     {
         attribute_near(self.contents.valid(), operation, place)
+    }
+
+    /// The brief of an operation of the plan. Where that operation stands at this place, no search is made.
+    pub fn brief_of(&self, operation: &OperationRecord, place: usize) -> Brief
+        requires { (o : OpKeyValue) × (get self.now.contents.now.operations o ≡ Some operation.now) }
+        ensures { IsBriefOf self.now.contents.now operation.now result }
+    {
+        brief_of(self.contents.valid(), operation, place)
     }
 
     /// Whether starts are known on the workstation of an operation of the plan: there it takes servers and special resources.

@@ -3,17 +3,20 @@
 #![tactic(auto)]
 
 mod beside;
+mod briefs;
+mod copies;
 mod markings;
 mod rules;
 mod shown;
 mod writing;
 
 pub use beside::Beside;
+pub use copies::RecordCopy;
 pub use plan_cascade::{Kept, rerun, settle_up};
 pub use plan_changes::{Marking, Occurrence};
 pub use plan_status::{
-    Changes, OperationRecord, OperationRow, PlanContents, PlanRow, RowKey, SoundContents, Standing,
-    ValidContents, attribute_of, count_one, graph_for, occurrence_status_with, row_place,
-    standings_of, status_with, statuses_of, tallies_of,
+    Brief, Changes, OperationRecord, OperationRow, PlanContents, PlanRow, RowKey, SoundContents,
+    Standing, ValidContents, attribute_of, briefs_of, count_one, graph_for, occurrence_status_with,
+    row_place, standings_of, status_with, statuses_of,
 };
-pub use shown::{Opener, Seen, Shown};
+pub use shown::{Seen, Shown};

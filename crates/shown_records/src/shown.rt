@@ -8,11 +8,12 @@ ghost use Rattle.plan_status.specs.plan_model.specs.Valid.{IsSound};
 use super::beside::Beside;
 use plan_basics::OpKey;
 use plan_status::{OperationRecord, PlanContents, SoundContents};
+use record_permits::Permit;
 use std::marker::Model;
 
-/// What a plan holds, of which an operation's record is shown by one call alone, which counts. Contracts see what it holds, and
-/// how many looks were taken.
-#[derive(Drop)]
+/// What a plan holds, of which an operation's record is shown by one call alone, which counts. It is made and taken apart by a permit
+/// alone, and can't be let go: a part to which it is handed can't get at what it holds, and has to hand it back with its count.
+/// Contracts see what it holds, and how many looks were taken.
 pub struct Shown {
     contents: SoundContents,
     looks: u64,
@@ -28,13 +29,6 @@ impl Model for Shown {
     ghost view = { λ s. record { contents = s.contents; looks = s.looks } };
 }
 
-/// What takes a `Shown` apart again. Whoever makes one has it; a part to which no more than the `Shown` is handed can't get at what
-/// it holds.
-#[derive(Drop)]
-pub struct Opener {
-    made: (),
-}
-
 /// The key and the record of an operation, and all that stands beside records.
 #[derive(Clone, Copy)]
 pub struct Seen<'a> {
@@ -44,15 +38,15 @@ pub struct Seen<'a> {
 }
 
 impl Shown {
-    /// These contents, of which nothing was looked at, and what takes them out again.
-    pub fn of(contents: SoundContents) -> (Shown, Opener)
-        ensures { result.0 ≡ record { contents = contents; looks = 0 } }
+    /// These contents, of which nothing was looked at.
+    pub fn of(contents: SoundContents, _permit: &Permit) -> Shown
+        ensures { result ≡ record { contents = contents; looks = 0 } }
     {
-        (Shown { contents, looks: 0 }, Opener { made: () })
+        Shown { contents, looks: 0 }
     }
 
     /// What it holds, and how many looks were taken.
-    pub fn into_contents(self, _opener: Opener) -> (SoundContents, u64)
+    pub fn into_contents(self, _permit: &Permit) -> (SoundContents, u64)
         ensures contents { result.0 ≡ self.contents }
         ensures looks { result.1 ≡ self.looks }
         ensures sound { IsSound self.contents }

@@ -1,10 +1,8 @@
 // Marks, flags, availability and open intervals, written into what is shown: it shows no record, so it takes no look.
 ghost use Rattle.std.specs.Prelude.{◌≡◌, true};
 ghost use Rattle.std.specs.FinMap.{contains_key, insert};
-ghost use Rattle.std.specs.FinSet as set;
-ghost use Rattle.std.specs.List.Sorted.{IsStrictlySortedBy};
 ghost use Rattle.plan_changes.specs.Markings.{DifferInMarks, WereMarked};
-ghost use Rattle.plan_status.specs.plan_model.specs.Contents.{Contents, pair_cmp};
+ghost use Rattle.plan_status.specs.plan_model.specs.Contents.{Contents};
 ghost use Rattle.plan_status.specs.plan_model.specs.Ready.{with_mark};
 ghost use Rattle.plan_status.specs.plan_model.specs.Valid.{IsSound};
 ghost use Rattle.plan_status.specs.plan_records.specs.Changes.{is_at, revised};
@@ -86,20 +84,5 @@ impl Shown {
         let (mut rows, looks) = self.into_rows();
         rows.set_workstation(workstation);
         Shown::of_rows(rows, looks)
-    }
-
-    /// With these pairs, by predecessor and then successor, by which it stays sound; it gives those that there were. It takes no
-    /// memory.
-    pub fn put_pairs(self, pairs: Vec<(OpKey, OpKey)>) -> (Shown, Vec<(OpKey, OpKey)>)
-        requires in_order { IsStrictlySortedBy pair_cmp pairs.items }
-        requires sound { IsSound (record self.contents { pairs = set.from_list {R = pair_cmp} pairs.items }) }
-        ensures contents { result.0.contents ≡ record self.contents { pairs = set.from_list {R = pair_cmp} pairs.items } }
-        ensures before { set.from_list {R = pair_cmp} result.1.items ≡ self.contents.pairs }
-        ensures in_order_before { IsStrictlySortedBy pair_cmp result.1.items }
-        ensures looks { result.0.looks ≡ self.looks }
-    {
-        let (mut rows, looks) = self.into_rows();
-        let before = rows.put_pairs(pairs);
-        (Shown::of_rows(rows, looks), before)
     }
 }

@@ -7,6 +7,6 @@ use Rattle.desk_commands.proofs.loading.load_over.Goals as goal
 pub returns-clause-shown : goal.returns-clause-shown
 returns-clause-shown g c =
     let fits : FitsSigned w64 c.args.at = c.ranges.at in
-    load_told c.args.at c.args.draft _ _ (answer_of c.load_into-reply.result.0) c.tell_and_close.result
-    (g.W.Write.contents (inner_of c.args.out.now)) (g.W.Write.contents (inner_of c.tell_and_close.new.out))
-    (simp to_z-of_z at c.load_into-reply.ensures) c.tell_and_close.ensures.shown
+    load_told c.args.at c.args.draft _ _ (answer_of c.load_into-reply.result.0) c.tell-told.result
+    (g.W.Write.contents (inner_of c.args.out.now)) (g.W.Write.contents (inner_of c.tell-told.new.out))
+    (simp to_z-of_z at c.load_into-reply.ensures) c.tell-told.ensures.shown

@@ -5,7 +5,7 @@ use Rattle.desk_commands.proofs.Played.{loaded}
 use Rattle.desk_commands.proofs.playing.desk_with.Goals as goal
 
 pub returns-in-Accepted-clause-loaded : goal.returns-in-Accepted-clause-loaded
-returns-in-Accepted-clause-loaded c =
+returns-in-Accepted-clause-loaded g c =
     let fits : FitsSigned w64 c.args.at = c.ranges.at in (
       c.in-Accepted.named.items,
       loaded (state_of c.args.desk) c.args.desk.is_usable c.args.at c.args.draft (accepted c.in-Accepted.named.items) (state_of c.load_reply.new.desk)
@@ -13,7 +13,7 @@ returns-in-Accepted-clause-loaded c =
     )
 
 pub returns-in-Refused-clause-refused : goal.returns-in-Refused-clause-refused
-returns-in-Refused-clause-refused c =
+returns-in-Refused-clause-refused g c =
     let fits : FitsSigned w64 c.args.at = c.ranges.at in
     inl (
       state_of c.load_reply.new.desk,

@@ -1,20 +1,12 @@
-use Rattle.std.proofs.Common.{FitsSigned, inr, to_z-of_z, w64}
-use Rattle.plan_basics.specs.declared.Refusal.{Refusal}
-use Rattle.plan_loads.specs.plan_tables.specs.Faults.{IsOpeningRefusal}
-use Rattle.desk_commands.specs.Turns.{IsLoadRefusal}
-use Rattle.desk_commands.proofs.Opened.{none_wider}
+use Rattle.std.proofs.Common.{FitsSigned, to_z-of_z, w64}
 use Rattle.desk_commands.proofs.playing.loaded_desk.Goals as goal
 
 pub returns-in-Ok-clause-loaded : goal.returns-in-Ok-clause-loaded
 returns-in-Ok-clause-loaded c =
     let fits : FitsSigned w64 c.args.at = c.ranges.at in
-    simp to_z-of_z at c.desk_with.ensures.loaded
+    simp to_z-of_z at c.loaded_over.ensures.loaded
 
 pub returns-in-Ok-clause-refused : goal.returns-in-Ok-clause-refused
 returns-in-Ok-clause-refused c =
     let fits : FitsSigned w64 c.args.at = c.ranges.at in
-    simp to_z-of_z at c.desk_with.ensures.refused
-
-pub returns-in-Err-clause-refused : goal.returns-in-Err-clause-refused
-returns-in-Err-clause-refused c =
-    none_wider IsOpeningRefusal (IsLoadRefusal c.args.at c.args.draft) c.in-Err.none (λ (q : Refusal) (is : IsOpeningRefusal q). inr is) c.in-Err.ensures.refused
+    simp to_z-of_z at c.loaded_over.ensures.refused

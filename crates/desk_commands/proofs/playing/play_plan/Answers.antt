@@ -12,8 +12,8 @@ pub returns-in-Ok : goal.returns-in-Ok
 returns-in-Ok g c =
     let fits : FitsSigned w64 c.args.at = c.ranges.at in
     let loads : (named : List OpKey) × IsLoaded c.args.at c.args.draft (accepted named) (state_of c.in-Ok.desk) = simp to_z-of_z at c.in-Ok.ensures.loaded in
-    plan_played c.args.at c.args.draft c.args.requests.now (g.W.Write.contents (inner_of c.args.out.now)) (g.W.Write.contents (inner_of c.play_lines.new.out))
-    loads.0 (state_of c.in-Ok.desk) c.in-Ok.desk.is_usable c.play_lines.result loads.1 c.in-Ok.ensures.usable c.play_lines.ensures
+    plan_played c.args.at c.args.draft c.args.requests.now (g.W.Write.contents (inner_of c.args.out.now)) (g.W.Write.contents (inner_of c.play_lines-played.new.out))
+    loads.0 (state_of c.in-Ok.desk) c.in-Ok.desk.is_usable c.play_lines-played.result loads.1 c.in-Ok.ensures.usable c.play_lines-played.ensures
 
 pub returns-in-Err : goal.returns-in-Err
 returns-in-Err g c =

@@ -14,10 +14,10 @@ pub returns-in-Ok-clause-shown : goal.returns-in-Ok-clause-shown
 returns-in-Ok-clause-shown g c =
     let fits : FitsSigned w64 c.args.at = c.ranges.at in
     let old = g.W.Write.contents (inner_of c.args.out.now) in
-    let new = g.W.Write.contents (inner_of c.tell_why.new.out) in
+    let new = g.W.Write.contents (inner_of c.tell_why-shown.new.out) in
     let loads : (named : List OpKey) × IsLoaded c.args.at c.args.draft (accepted named) (state_of c.in-Ok.desk) = simp to_z-of_z at c.in-Ok.ensures.loaded in
-    let shown : IfOk c.tell_why.result (IsWhyShown c.args.key.now c.args.at c.in-Ok.desk.is_usable c.in-Ok.desk.plan old new) = simp to_z-of_z at c.tell_why.ensures.shown in
-    why_planned c.args.key.now old new c.tell_why.result c.args.at c.args.draft loads.0 (state_of c.in-Ok.desk) loads.1 c.in-Ok.desk.is_usable c.in-Ok.ensures.usable shown
+    let shown : IfOk c.tell_why-shown.result (IsWhyShown c.args.key.now c.args.at c.in-Ok.desk.is_usable c.in-Ok.desk.plan old new) = simp to_z-of_z at c.tell_why-shown.ensures.shown in
+    why_planned c.args.key.now old new c.tell_why-shown.result c.args.at c.args.draft loads.0 (state_of c.in-Ok.desk) loads.1 c.in-Ok.desk.is_usable c.in-Ok.ensures.usable shown
 
 pub returns-in-Err-clause-shown : goal.returns-in-Err-clause-shown
 returns-in-Err-clause-shown g c =

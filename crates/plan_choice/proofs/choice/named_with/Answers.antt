@@ -56,9 +56,9 @@ returns-in-Ok-clause-held c =
     let so = counted_then ((goal.at.returns-in-Ok-clause-held c).In-Ok) in
     subst (λ (g : Counted). AreHeldIn (named c.in-Ok.named.items c.args.shown.contents) g.held) (sym c.gate.view_is) so.holders
 
-pub returns-clause-refused : goal.returns-clause-refused
-returns-clause-refused c =
-    let p = (goal.at.returns-clause-refused c).Start in
+pub returns-in-Err-clause-refused : goal.returns-in-Err-clause-refused
+returns-in-Err-clause-refused c =
+    let p = (goal.at.returns-in-Err-clause-refused c).Start in
     elim c.in-Err.ensures.refused [
       | inl is ↦ is
       | inr in_turn ↦ refuses_alone Memory c.in-Err.refusal (on_automatic c.args.ready.now.entries) (first p) in_turn

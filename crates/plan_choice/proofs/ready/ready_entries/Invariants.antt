@@ -1,7 +1,12 @@
+use Rattle.std.proofs.Common.{◌+◌, ◌≤◌, length, take}
 use Rattle.std.specs.FinMap.{entries}
+use Rattle.plan_choice.specs.BriefedTakings.{holder_count}
 use Rattle.plan_choice.proofs.ReadyLists.{AreReadyBelow}
 use Rattle.plan_choice.proofs.ready.ready_entries.Given as goal
 
--- the rows below i are gone through
-abbrev pub invariant-loop-i : goal.invariant-loop-i
-invariant-loop-i l = AreReadyBelow l.contents (entries l.contents.operations) l.i l.entries.items
+-- the rows below the place are gone through, and each is an entry, or may hold something, or neither
+abbrev pub invariant-loop-place : goal.invariant-loop-place
+invariant-loop-place l = record {
+  ready : AreReadyBelow l.beside.contents.now (entries l.beside.contents.now.operations) l.place l.entries.items;
+  few : length l.entries.items + holder_count (take l.place l.briefs) ≤ l.place;
+}

@@ -16,5 +16,5 @@ loop-place-preserved c =
     let shut = c.loop-place.shut.items in
     let place = c.loop-place.place in
     let w = c.index-workstations-place.result in
-    subst (λ (all : List Capacity). AreShut rows c.args.at all (set shut place c.is_shut.result)) (set-get_or given place _)
-    (told_one rows c.args.at given shut c.loop-place.invariant place w (slice_get_read rows _ place w refl c.loop-place-test.true c.index-workstations-place.is) _ c.is_shut.result c.is_shut.ensures.0)
+    subst (λ (all : List Capacity). AreShut rows c.args.at all (set shut place c.names_none.result)) (set-get_or given place _)
+    (told_one rows c.args.at given shut c.loop-place.invariant place w (slice_get_read rows _ place w refl c.loop-place-test.true c.index-workstations-place.is) _ c.names_none.result c.names_none.ensures)

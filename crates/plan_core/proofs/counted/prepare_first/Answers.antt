@@ -1,13 +1,9 @@
-use Rattle.std.proofs.Common.{sym, subst, None}
-use Rattle.plan_core.proofs.Led.{first_looks, prepared_in}
+use Rattle.std.proofs.Common.{None}
 use Rattle.plan_core.proofs.counted.prepare_first.Goals as goal
-use Rattle.plan_core.specs.Outcomes.{IsPreparedIn}
-use Rattle.plan_records.specs.plan_model.specs.Plan.{plan_held}
+use Rattle.plan_outcomes.specs.plan_model.specs.Plan.{plan_held}
+
+pub prepared_anew-requires : goal.prepared_anew-requires
+prepared_anew-requires c = (plan_held c.args.clock None, c.args.request.now, c.in_ok-anew.ensures.anew)
 
 pub returns-clause-prepared : goal.returns-clause-prepared
-returns-clause-prepared c =
-    let P = plan_held c.args.clock None in
-    let q = c.args.request.now in
-    let x = c.in_ok-outcome.outcome in
-    let of = c.in_ok-outcome.ensures.outcome in
-    subst (IsPreparedIn P q) (sym c.of.ensures) (prepared_in P q c.args.at x 0 of (first_looks c.args.clock q c.args.at x of))
+returns-clause-prepared c = c.prepared_anew.ensures.prepared (plan_held c.args.clock None) c.args.request.now c.in_ok-anew.ensures.anew c.in_ok-anew.ensures.looked

@@ -3,7 +3,7 @@ use Rattle.std.proofs.lemmas.Int.{ints}
 use Rattle.std.proofs.lemmas.Option.{same_Some, slice_get-get_or}
 use Rattle.std.specs.FinMap.{entries, get}
 use Rattle.plan_basics.specs.declared.keys.OpKey.{OpKey}
-use Rattle.plan_records.specs.plan_model.specs.Contents.{Operation}
+use Rattle.plan_outcomes.specs.plan_model.specs.Contents.{Operation}
 use Rattle.plan_status.proofs.LoadedRows.{its_occurrence}
 use Rattle.plan_status.proofs.Workplaces.{there}
 use Rattle.plan_status.specs.declared.standings.Standing.{Standing}

@@ -1,16 +1,41 @@
+use Rattle.std.proofs.Common.{◌≡◌, ◌∙◌, sym, subst, ap, arith, refl, Some}
+use Rattle.plan_figures.specs.shown_records.specs.States.{ShownState}
+use Rattle.plan_model.specs.Contents.{Contents}
+use Rattle.plan_model.specs.Plan.{plan_held}
 use Rattle.plan_rows.proofs.AllTables.{in_all_tables}
 use Rattle.plan_rows.proofs.changing.changes_between.Goals as goal
-use Rattle.plan_rows.specs.Shown.{plan_shown}
+use Rattle.plan_rows.specs.Kept.{KeepsRecords}
+use Rattle.plan_rows.specs.Shown.{IsShown, contents_shown, plan_shown, shown_with, source_if_any}
+use Rattle.plan_rows.specs.Tables.{AreChangesBelow}
+
+pub push_stations-requires-clause-after : goal.push_stations-requires-clause-after
+push_stations-requires-clause-after c = subst (λ (C : Contents). IsShown (shown_with C c.args.columns)) (sym c.beside-beside.ensures.contents) c.requires.shown
+
+pub push_operations-requires-clause-shown : goal.push_operations-requires-clause-shown
+push_operations-requires-clause-shown c = subst (λ (s : ShownState). IsShown (shown_with s.contents c.args.columns)) (sym c.in_ok-push_occurrences.ensures.unchanged) c.requires.shown
+
+pub push_operations-requires-clause-kept : goal.push_operations-requires-clause-kept
+push_operations-requires-clause-kept c = subst (λ (s : ShownState). KeepsRecords (contents_shown (source_if_any c.args.before.now.loaded)) s.contents) (sym c.in_ok-push_occurrences.ensures.unchanged) c.requires.kept
+
+pub push_needs-requires-clause-kept : goal.push_needs-requires-clause-kept
+push_needs-requires-clause-kept c =
+    let same = c.in_ok-push_operations.ensures.contents ∙ ap (λ (s : ShownState). s.contents) c.in_ok-push_occurrences.ensures.unchanged in
+    subst (KeepsRecords (contents_shown (source_if_any c.args.before.now.loaded))) (sym same) c.requires.kept
 
 -- table by table
-pub returns : goal.returns
-returns c =
-    let was = c.args.before.clock in
-    let now = c.args.after.clock in
-    let workstations = c.in_ok-push_workstations.ensures was now c.in_ok-changes.ensures in
-    let intervals = c.in_ok-push_intervals.ensures was now workstations in
-    let resources = c.in_ok-push_resources.ensures was now intervals in
-    let occurrences = c.in_ok-push_occurrences.ensures was now resources in
-    let operations = c.in_ok-push_operations.ensures was now occurrences in
-    let dependencies = c.in_ok-push_dependencies.ensures was now operations in
-    in_all_tables (plan_shown was c.args.before.loaded) (plan_shown now c.args.after.loaded) c.push_needs.new.changes.rows.items c.push_needs.new.changes.gone.items (c.in_ok-push_needs.ensures was now dependencies)
+pub returns-clause-changes : goal.returns-clause-changes
+returns-clause-changes c =
+    let was = c.args.before.now.clock in
+    let now = c.args.clock in
+    let P = plan_shown was (source_if_any c.args.before.now.loaded) in
+    let Q = c.args.shown.now.contents in
+    let S = shown_with Q c.args.columns in
+    let first = c.beside-beside.ensures.contents in
+    let seen = ap (λ (s : ShownState). s.contents) c.in_ok-push_occurrences.ensures.unchanged in
+    let told = c.in_ok-push_operations.ensures.contents ∙ seen in
+    let then = c.beside-beside-2.ensures.contents ∙ told in
+    let stations = subst (λ (C : Contents). AreChangesBelow 4 P (plan_held now (Some C)) c.push_stations.new.changes) first (c.in_ok-push_stations.ensures was now (subst (λ (C : Contents). AreChangesBelow 1 P (plan_held now (Some C)) c.in_ok-changes.changes) (sym first) (c.in_ok-changes.ensures S))) in
+    let occurrences = c.in_ok-push_occurrences.ensures.changes was now stations in
+    let operations = subst (λ (C : Contents). AreChangesBelow 6 P (plan_held now (Some C)) c.push_operations.new.changes) seen (c.in_ok-push_operations.ensures.changes was now (subst (λ (C : Contents). AreChangesBelow 5 P (plan_held now (Some C)) c.push_occurrences.new.changes) (sym seen) occurrences)) in
+    let dependencies = subst (λ (C : Contents). AreChangesBelow 7 P (plan_held now (Some C)) c.push_dependencies.new.changes) then (c.in_ok-push_dependencies.ensures was now (subst (λ (C : Contents). AreChangesBelow 6 P (plan_held now (Some C)) c.push_operations.new.changes) (sym then) operations)) in
+    in_all_tables P (plan_held now (Some Q)) c.push_needs.new.changes.rows.items c.push_needs.new.changes.gone.items (c.in_ok-push_needs.ensures.changes was now S c.requires.shown (sym told) dependencies)

@@ -2,6 +2,7 @@ use Rattle.std.proofs.Common.{◌∙◌, ap}
 use Rattle.plan_rows.proofs.WithinRows.{intervals_ascend}
 use Rattle.plan_rows.proofs.intervals.push_intervals.Goals as goal
 use Rattle.plan_rows.specs.Rows.{all_intervals}
+use Rattle.plan_rows.specs.Shown.{source_if_any}
 
 pub push_noted_intervals-requires-clause-in_order : goal.push_noted_intervals-requires-clause-in_order
 push_noted_intervals-requires-clause-in_order c =
@@ -9,5 +10,5 @@ push_noted_intervals-requires-clause-in_order c =
 
 pub returns : goal.returns
 returns c = λ clock now so_far.
-    c.push_noted_intervals.ensures clock now c.args.before c.args.after c.requires.before c.requires.after c.workstations_of-2.ensures.rows
+    c.push_noted_intervals.ensures clock now (source_if_any c.args.before) (source_if_any c.args.after) c.requires.before c.requires.after c.workstations_of-2.ensures.rows
     (c.deref.ensures.value ∙ c.in_ok-new.ensures ∙ ap all_intervals c.workstations_of.ensures.rows) so_far

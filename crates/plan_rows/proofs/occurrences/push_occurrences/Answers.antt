@@ -1,13 +1,14 @@
+use Rattle.std.proofs.Common.{Some}
 use Rattle.plan_rows.proofs.ShownRows.{are_occurrences, occurrences_ascend}
 use Rattle.plan_rows.proofs.occurrences.push_occurrences.Goals as goal
-use Rattle.plan_rows.specs.Shown.{plan_shown}
+use Rattle.plan_rows.specs.Shown.{shown_with, source_if_any}
 
-pub push_changes-requires-clause-before : goal.push_changes-requires-clause-before
-push_changes-requires-clause-before c = occurrences_ascend c.args.before c.requires.before
+pub push_shown-requires-clause-before_in_order : goal.push_shown-requires-clause-before_in_order
+push_shown-requires-clause-before_in_order c = occurrences_ascend (source_if_any c.args.before) c.requires.before
 
-pub push_changes-requires-clause-after : goal.push_changes-requires-clause-after
-push_changes-requires-clause-after c = occurrences_ascend c.args.after c.requires.after
+pub push_shown-requires-clause-in_order : goal.push_shown-requires-clause-in_order
+push_shown-requires-clause-in_order c = occurrences_ascend (Some (shown_with c.args.shown.now.contents c.args.columns)) c.requires.shown
 
-pub returns : goal.returns
-returns c = λ clock now so_far.
-    c.push_changes.ensures 4 (plan_shown clock c.args.before) (plan_shown now c.args.after) (are_occurrences clock c.args.before c.requires.before) (are_occurrences now c.args.after c.requires.after) so_far
+pub returns-clause-changes : goal.returns-clause-changes
+returns-clause-changes c = λ clock now so_far.
+    c.push_shown.ensures.changes 4 clock now (are_occurrences clock (source_if_any c.args.before) c.requires.before) (are_occurrences now (Some (shown_with c.args.shown.now.contents c.args.columns)) c.requires.shown) so_far

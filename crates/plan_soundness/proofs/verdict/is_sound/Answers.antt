@@ -1,4 +1,5 @@
-use Rattle.std.proofs.Common.{sym, ◌∙◌, true≢false}
+use Rattle.std.proofs.Common.{sym, subst, ◌∙◌, true≢false}
+use Rattle.plan_choice.specs.plan_status.specs.Briefs.{AreBriefs}
 use Rattle.plan_soundness.proofs.verdict.is_sound.Goals as goal
 
 pub returns-then-not-rows_are_sound-clause-sound : goal.returns-then-not-rows_are_sound-clause-sound
@@ -23,3 +24,13 @@ returns-clause-sound c =
           },
       λ sound. others.1 (λ o op is reported. sound.in_order o (op, is, reported), λ r a b. sound.compatible a b r),
     )
+
+pub standings_of-requires : goal.standings_of-requires
+standings_of-requires c = (
+  c.args.contents.now,
+  record {
+    valid = c.rows_are_sound.ensures.valid;
+    graph = c.in_ok-graph.ensures;
+    briefs = subst (AreBriefs c.args.contents.now) (sym c.deref.ensures.value) c.in_ok-briefs.ensures;
+  },
+)

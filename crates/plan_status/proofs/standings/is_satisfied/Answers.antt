@@ -4,6 +4,6 @@ use Rattle.plan_laws.specs.plan_model.specs.Status.{IsSatisfied}
 use Rattle.plan_status.proofs.standings.is_satisfied.Goals as goal
 
 pub returns : goal.returns
-returns c P o on its =
-    let s = c.status_with.result in
-    subst (λ b. Decides b (IsSatisfied P o)) (sym c.is_satisfied.ensures) (satisfied_decides P o s (c.status_with.ensures P o on.0 on.1 its))
+returns c P o has its =
+    let s = c.status.result in
+    subst (λ b. Decides b (IsSatisfied P o)) (sym c.is_satisfied.ensures) (satisfied_decides P o s (c.status.ensures P o has its))

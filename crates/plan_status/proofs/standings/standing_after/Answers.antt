@@ -6,31 +6,31 @@ use Rattle.plan_laws.specs.plan_model.specs.Contents.{Operation}
 use Rattle.std.proofs.lemmas.Option.{same_Some}
 use Rattle.plan_status.specs.Incoming.{with_pairs}
 use Rattle.plan_status.proofs.Alike.{decides_on}
+use Rattle.plan_status.proofs.Briefed.{briefed_with}
 use Rattle.plan_status.proofs.Incoming.{dead_changes_nothing, stands_behind}
 use Rattle.plan_status.proofs.standings.standing_after.Goals as goal
 use Rattle.plan_status.proofs.standings.standing_after.Goals.{in-Nonreporting, in_default}
 
 pub returns-then-not-is_live-clause-standing : goal.returns-then-not-is_live-clause-standing
-returns-then-not-is_live-clause-standing c P pairs pair on next its =
-    let same = ap (λ (x : Operation). x.mark) c.predecessor.view_is in
+returns-then-not-is_live-clause-standing c P pairs pair (op, found, is) next its =
     let no : c.is_live.result ≡ false = search rules in
-    let dead : is_live c.args.predecessor.now.mark ≡ false = ap is_live (sym same) ∙ sym c.is_live.ensures ∙ no in
+    let dead : is_live op.mark ≡ false = ap is_live (sym is.mark) ∙ sym c.is_live.ensures ∙ no in
     dead_changes_nothing P pairs pair next
-    (λ live. true≢false (sym (mark_live live.0.mark live.2) ∙ ap (λ (x : Operation). is_live x.mark) (same_Some live.0 c.args.predecessor.now (sym live.1 ∙ on.0)) ∙ dead))
+    (λ live. true≢false (sym (mark_live live.0.mark live.2) ∙ ap (λ (x : Operation). is_live x.mark) (same_Some live.0 op (sym live.1 ∙ found)) ∙ dead))
     c.args.standing.now
 
 pub returns-clause-standing : goal.returns-clause-standing
-returns-clause-standing c P pairs pair on next its stands =
-    let same = ap (λ (x : Operation). x.mark) c.predecessor.view_is in
+returns-clause-standing c P pairs pair (op, found, is) next its stands =
     let yes : c.is_live.result ≡ true = search rules in
-    let other = live_mark c.args.predecessor.now.mark (ap is_live (sym same) ∙ sym c.is_live.ensures ∙ yes) in
-    let nonreporting : Decides c.match-matches.matches (c.args.attr ≡ Nonreporting) = elim c.match-matches.branch [
+    let other = live_mark op.mark (ap is_live (sym is.mark) ∙ sym c.is_live.ensures ∙ yes) in
+    let attribute = c.args.predecessor.now.attribute in
+    let nonreporting : Decides c.match-matches.matches (attribute ≡ Nonreporting) = elim c.match-matches.branch [
       | in-Nonreporting w ↦ (λ _. w.in-Nonreporting.is, λ _. w.matches-is)
       | in_default w ↦ (λ e. absurd (true≢false (sym e ∙ w.matches-is)), λ e. absurd (w.in_default.not-Nonreporting e))
     ] in
     let t = c.with_one_more.ensures in
-    stands_behind P pairs pair next (c.args.predecessor.now, on.0, other) c.args.standing.now stands
+    stands_behind P pairs pair next (op, found, other) c.args.standing.now stands
     c.is_satisfied-satisfied.result c.match-matches.matches
-    (c.is_satisfied-satisfied.ensures (with_pairs pairs P) pair.0 on its)
-    (decides_on P pair.0 c.args.predecessor.now c.args.attr c.match-matches.matches on.0 on.1 nonreporting)
+    (c.is_satisfied-satisfied.ensures (with_pairs pairs P) pair.0 (briefed_with P pairs pair.0 c.args.predecessor.now (op, found, is)) its)
+    (decides_on P pair.0 op attribute c.match-matches.matches found is.attribute nonreporting)
     c.with_one_more.result t.live t.satisfied t.nonreporting t.waiting

@@ -1,10 +1,10 @@
 use Rattle.std.proofs.Common.{◌≡◌, sym, ap, subst}
-use Rattle.plan_records.specs.plan_model.specs.Plan.{Plan, IsSoundPlan, plan_held}
-use Rattle.plan_records.specs.Answer.{accepted}
-use Rattle.plan_records.specs.Step.{Step}
-use Rattle.plan_core.proofs.Preparing.{seen_sound}
+use Rattle.plan_outcomes.specs.plan_model.specs.Plan.{Plan, IsSoundPlan, plan_held}
+use Rattle.plan_outcomes.specs.plan_records.specs.Answer.{accepted}
+use Rattle.plan_outcomes.specs.plan_records.specs.Step.{Step}
+use Rattle.plan_core.proofs.Seen.{seen_sound}
 use Rattle.plan_core.proofs.Provided.{step_sound, step_starts}
-use Rattle.plan_core.proofs.Trying.{is_after}
+use Rattle.plan_core.proofs.Seen.{is_after}
 use Rattle.plan_core.proofs.plan.Plan.apply.Goals as goal
 use Rattle.plan_core.proofs.plan.Plan.apply.Goals.{After-put}
 use Rattle.plan_core.specs.State.{PreparedState, plan_after}

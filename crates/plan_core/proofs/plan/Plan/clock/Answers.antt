@@ -1,4 +1,4 @@
-use Rattle.plan_core.proofs.Preparing.{seen_sound}
+use Rattle.plan_core.proofs.Seen.{seen_sound}
 use Rattle.plan_core.proofs.plan.Plan.clock.Goals as goal
 
 pub returns-clause-sound : goal.returns-clause-sound

@@ -1,0 +1,25 @@
+use Rattle.std.proofs.Common.{◌≡◌, sym, subst, IfOk}
+use Rattle.plan_core.proofs.counted.prepared_anew.Goals as goal
+use Rattle.plan_core.proofs.counted.prepared_anew.Goals.{After-into_contents-contents}
+use Rattle.plan_outcomes.specs.Anew.{IsKeptOf, IsRemadeBy}
+use Rattle.plan_outcomes.specs.declared.settle.Settled.{Settled}
+use Rattle.plan_outcomes.specs.plan_model.specs.Contents.{Contents}
+
+-- what is kept of some contents is kept of those that they are
+kept_at : (P Q : Contents) (s : Settled) → P ≡ Q → IsKeptOf P s → IsKeptOf Q s
+kept_at P Q s same kept = subst (λ (R : Contents). IsKeptOf R s) same kept
+
+pub of-plan-requires-clause-graph : goal.of-plan-requires-clause-graph
+of-plan-requires-clause-graph c =
+    let by = subst (λ r. IfOk r (IsRemadeBy c.requires.0 c.requires.1 c.args.at c.args.anew.shown.contents)) c.in_ok-settled.was c.requires.2.remade in
+    (kept_at _ _ _ (sym c.into_contents-contents.ensures.contents) by.kept).graph
+
+pub of-plan-requires-clause-latest : goal.of-plan-requires-clause-latest
+of-plan-requires-clause-latest c =
+    let by = subst (λ r. IfOk r (IsRemadeBy c.requires.0 c.requires.1 c.args.at c.args.anew.shown.contents)) c.in_ok-settled.was c.requires.2.remade in
+    (kept_at _ _ _ (sym c.into_contents-contents.ensures.contents) by.kept).latest
+
+pub of-plan-requires-clause-figures : goal.of-plan-requires-clause-figures
+of-plan-requires-clause-figures c =
+    let by = subst (λ r. IfOk r (IsRemadeBy c.requires.0 c.requires.1 c.args.at c.args.anew.shown.contents)) c.in_ok-settled.was c.requires.2.remade in
+    (kept_at _ _ _ (sym c.into_contents-contents.ensures.contents) by.kept).figures

@@ -1,0 +1,19 @@
+use Rattle.std.proofs.Common.{sym, subst}
+use Rattle.plan_core.proofs.Seen.{prepared_in}
+use Rattle.plan_core.proofs.counted.prepared_by.Goals as goal
+use Rattle.plan_outcomes.specs.Led.{AreLooksLed, IsLedOf}
+use Rattle.plan_core.specs.Prepares.{IsPreparedIn}
+use Rattle.plan_outcomes.specs.declared.led.Led.{Led}
+
+pub returns-in-Small-clause-prepared : goal.returns-in-Small-clause-prepared
+returns-in-Small-clause-prepared c = λ P request of looked.
+    let is = subst (λ (l : Led). IsLedOf P request c.args.at l) c.in-Small.is of in
+    let are = subst (λ (l : Led). AreLooksLed P.contents request.what l c.args.looks) c.in-Small.is looked in
+    subst (IsPreparedIn P request) (sym c.of.ensures) (prepared_in P request c.args.at c.in-Small.outcome c.args.looks is are)
+
+pub prepared_anew-requires : goal.prepared_anew-requires
+prepared_anew-requires c = (c.requires.0, c.requires.1, subst (λ (l : Led). IsLedOf c.requires.0 c.requires.1 c.args.at l) c.in-Whole.is c.requires.2)
+
+pub returns-in-Whole-clause-prepared : goal.returns-in-Whole-clause-prepared
+returns-in-Whole-clause-prepared c = λ P request of looked.
+    c.prepared_anew.ensures.prepared P request (subst (λ (l : Led). IsLedOf P request c.args.at l) c.in-Whole.is of) (subst (λ (l : Led). AreLooksLed P.contents request.what l c.args.looks) c.in-Whole.is looked)

@@ -1,0 +1,11 @@
+pub mod HandedGraphs
+pub mod KeptRecords
+pub mod KnownRows
+pub mod LedTo
+pub mod Made
+pub mod Preparing
+pub mod Refusing
+pub mod SmallTried
+pub mod TriedLooks
+pub mod Trying
+pub mod WholeLooks

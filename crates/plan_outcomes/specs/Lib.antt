@@ -1,0 +1,16 @@
+pub use Rattle.plan_steps
+pub use Rattle.plan_records.specs.plan_drafts
+pub use Rattle.plan_steps.specs.plan_laws
+pub use Rattle.plan_records.specs.plan_model
+pub use Rattle.plan_records
+pub use Rattle.plan_steps.specs.plan_figures
+pub use Rattle.plan_steps.specs.plan_status
+pub mod Next
+pub mod Looked
+pub mod Outcomes
+pub mod Asked
+pub mod Anew
+pub mod Led
+pub mod Requested
+pub mod Trials
+pub mod Tried

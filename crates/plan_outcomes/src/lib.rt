@@ -1,0 +1,29 @@
+//! What a request leads to in a plan that is shown, or where none is loaded. No part of this has a permit: what shows a plan's records is
+//! handed in and handed back, so that each look counts.
+#![tactic(auto)]
+
+mod accepted;
+mod anew;
+mod asked;
+mod first;
+mod graphs;
+mod led;
+mod outcomes;
+mod requests;
+mod settle;
+mod small;
+mod telling;
+mod whole;
+
+pub use accepted::{Next, Outcome, Writing};
+pub use anew::{Anew, Remade};
+pub use asked::Asked;
+pub use first::first_outcome;
+pub use led::Led;
+pub use outcomes::outcome_of;
+pub use plan_records::{Changes, PlanRow, Reply, Request, What};
+pub use plan_steps::{
+    LoadedPlan, Parts, Reported, RowSource, Shown, WorkedOut, check_load, chosen_with, shifted,
+    stepped, worked_out,
+};
+pub use settle::Settled;

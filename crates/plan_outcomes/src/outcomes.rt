@@ -1,0 +1,168 @@
+// What a request leads to in what is shown of a loaded plan.
+ghost use Rattle.std.specs.Prelude.{◌≡◌, ◌⊎◌, ◌+◌, ◌≤◌, ◌≤ℤ◌, ℕ, pos, Some, IfErr, IfOk, OnOk};
+ghost use Rattle.plan_basics.specs.Minutes.{IsMoment};
+ghost use Rattle.plan_basics.specs.Refusals.{IsLeastRefusal, NoneRefuses};
+ghost use Rattle.plan_basics.specs.declared.Refusal.{Refusal};
+ghost use Rattle.plan_outcomes.specs.Asked.{IsAcceptable, plan_asked};
+ghost use Rattle.plan_outcomes.specs.Led.{AreLooksLed, IsLedFor};
+ghost use Rattle.plan_outcomes.specs.Requested.{MayBeMadeAt};
+ghost use Rattle.plan_records.specs.Answer.{refused};
+ghost use Rattle.plan_records.specs.Step.{Step};
+ghost use Rattle.plan_steps.specs.KeptEdits.{IsSmall};
+ghost use Rattle.plan_steps.specs.plan_choice.specs.Choices.{AreLatestStarts};
+ghost use Rattle.plan_records.specs.plan_drafts.specs.PlanGraphs.{IsGraphFor};
+ghost use Rattle.plan_records.specs.plan_model.specs.Plan.{plan_held};
+ghost use Rattle.plan_steps.specs.plan_figures.specs.Figures.{AreFigures};
+ghost use Rattle.plan_steps.specs.plan_figures.specs.Frames.{IsFrameOf};
+
+use super::asked::Asked;
+use super::led::Led;
+use super::small::tried_small;
+use super::telling::told;
+use super::whole::whole_outcome;
+use latest_start::Latest;
+use operation_graph::Graph;
+use plan_basics::{Moment, Refusal};
+use plan_records::What;
+use plan_steps::{Figures, Frame, Setting, Shown, check_load, check_request, is_small};
+use std::alloc::Global;
+
+// What stands in the way of a request that is made at a moment where a plan is loaded, but for that moment: by one look at most.
+fn check_in(
+    alloc: Global,
+    shown: &mut Shown,
+    frame: Frame<'_>,
+    what: &What,
+    at: Moment,
+) -> Result<(), Refusal>
+    requires frame { IsFrameOf shown.old.contents frame }
+    ensures ok { (clock : ℕ) → OnOk result (NoneRefuses (MayBeMadeAt (plan_held clock (Some shown.old.contents)) at what.now)) }
+    ensures refused { (clock : ℕ) → IfErr result (λ r. (r ≡ Refusal.Memory) ⊎ IsLeastRefusal (MayBeMadeAt (plan_held clock (Some shown.old.contents)) at what.now) r) }
+    ensures contents { shown.new.contents ≡ shown.old.contents }
+    ensures most { shown.new.looks ≤ shown.old.looks + 1 }
+{
+    if let What::Load(draft) = what {
+        check_load(true, draft)
+    } else {
+        check_request(alloc, shown, frame, what, at)
+    }
+}
+
+// What a small request in whose way nothing stands leads to in a plan, of which this is shown: it is tried there, and told by that.
+// All comes back as it was. The error is always `Memory`.
+fn small_outcome(
+    alloc: Global,
+    shown: Shown,
+    graph: &Graph,
+    latest: &Latest,
+    figures: Figures,
+    asked: &Asked<'_>,
+) -> (Shown, Figures, Result<Led, Refusal>)
+    requires graph { IsGraphFor shown.contents graph.now }
+    requires latest { AreLatestStarts shown.contents latest.now.starts }
+    requires figures { AreFigures shown.contents figures }
+    requires acceptable { IsAcceptable shown.contents asked.now }
+    requires small { IsSmall asked.now.request.now.what }
+    requires few { shown.looks ≤ 1 }
+    ensures contents { result.0.contents ≡ shown.contents }
+    ensures figures { AreFigures shown.contents result.1 }
+    ensures led { IfOk result.2 (IsLedFor shown.contents asked.now) }
+    ensures looked { IfOk result.2 (λ l. AreLooksLed shown.contents asked.now.request.now.what l result.0.looks) }
+    ensures refused { IfErr result.2 (λ r. r ≡ Refusal.Memory) }
+{
+    let setting = Setting {
+        alloc,
+        graph,
+        latest,
+        at: asked.at,
+    };
+    let (mut shown, figures, tried) = tried_small(&setting, shown, figures, &asked.request.what);
+    match tried {
+        Ok(tried) => {
+            let frame = Frame {
+                graph,
+                latest,
+                figures: &figures,
+            };
+            match told(alloc, &mut shown, frame, asked, tried) {
+                Ok(outcome) => (shown, figures, Ok(Led::Small(outcome))),
+                Err(refusal) => (shown, figures, Err(refusal)),
+            }
+        }
+        Err(refusal) => (shown, figures, Err(refusal)),
+    }
+}
+
+// What a request in whose way nothing stands leads to in a plan, of which this is shown: tried there where it is small, or else worked
+// out over a copy. All comes back as it was. The error is always `Memory`.
+fn accepted_outcome(
+    alloc: Global,
+    shown: Shown,
+    graph: &Graph,
+    latest: &Latest,
+    figures: Figures,
+    asked: &Asked<'_>,
+) -> (Shown, Figures, Result<Led, Refusal>)
+    requires graph { IsGraphFor shown.contents graph.now }
+    requires latest { AreLatestStarts shown.contents latest.now.starts }
+    requires figures { AreFigures shown.contents figures }
+    requires acceptable { IsAcceptable shown.contents asked.now }
+    requires few { shown.looks ≤ 1 }
+    ensures contents { result.0.contents ≡ shown.contents }
+    ensures figures { AreFigures shown.contents result.1 }
+    ensures led { IfOk result.2 (IsLedFor shown.contents asked.now) }
+    ensures looked { IfOk result.2 (λ l. AreLooksLed shown.contents asked.now.request.now.what l result.0.looks) }
+    ensures refused { IfErr result.2 (λ r. r ≡ Refusal.Memory) }
+{
+    if is_small(&asked.request.what) {
+        return small_outcome(alloc, shown, graph, latest, figures, asked);
+    }
+    let mut shown = shown;
+    let frame = Frame {
+        graph,
+        latest,
+        figures: &figures,
+    };
+    match whole_outcome(alloc, &mut shown, frame, asked) {
+        Ok(anew) => (shown, figures, Ok(Led::Whole(anew))),
+        Err(refusal) => (shown, figures, Err(refusal)),
+    }
+}
+
+/// What a request that is made at a moment leads to in a plan at its clock, of which this is shown and nothing was looked at; or
+/// the least refusal that applies, or that no memory is found. What is shown and what is kept come back as they were. A request by
+/// which only marks and flags change, which special resources are available, or when workstations are open, is tried in what is
+/// shown; any other works all out afresh over a copy.
+pub fn outcome_of(
+    alloc: Global,
+    shown: Shown,
+    graph: &Graph,
+    latest: &Latest,
+    figures: Figures,
+    asked: &Asked<'_>,
+) -> (Shown, Figures, Result<Led, Refusal>)
+    requires graph { IsGraphFor shown.contents graph.now }
+    requires latest { AreLatestStarts shown.contents latest.now.starts }
+    requires figures { AreFigures shown.contents figures }
+    requires clock { IsMoment asked.now.clock }
+    requires moment { IsMoment asked.now.at }
+    requires at { asked.now.request.now.at ≡ pos asked.now.at }
+    requires onward { pos asked.now.clock ≤ℤ asked.now.request.now.at }
+    requires none { shown.looks ≡ 0 }
+    ensures contents { result.0.contents ≡ shown.contents }
+    ensures figures { AreFigures shown.contents result.1 }
+    ensures led { IfOk result.2 (IsLedFor shown.contents asked.now) }
+    ensures looked { IfOk result.2 (λ l. AreLooksLed shown.contents asked.now.request.now.what l result.0.looks) }
+    ensures refused { IfErr result.2 (λ r. (r ≡ Refusal.Memory) ⊎ Step (plan_asked shown.contents asked.now) asked.now.request.now (refused r) (plan_asked shown.contents asked.now)) }
+{
+    let mut shown = shown;
+    let frame = Frame {
+        graph,
+        latest,
+        figures: &figures,
+    };
+    match check_in(alloc, &mut shown, frame, &asked.request.what, asked.at) {
+        Ok(()) => accepted_outcome(alloc, shown, graph, latest, figures, asked),
+        Err(refusal) => (shown, figures, Err(refusal)),
+    }
+}

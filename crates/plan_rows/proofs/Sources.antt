@@ -1,0 +1,29 @@
+-- What tables are told by, if a plan is loaded.
+use Rattle.std.proofs.Common.{◌≡◌, ◌∙◌, arith, refl, sym, subst, ℕ, ◌<◌, true, is_some, length, List, Option, Some, None}
+use Rattle.std.specs.FinMap.{get, get-empty}
+use Rattle.std.specs.Map.{keys_of}
+use Rattle.std.proofs.lemmas.Option.{none-some}
+use Rattle.plan_basics.specs.Keys.{operation_cmp}
+use Rattle.plan_figures.specs.plan_records.specs.declared.PlanRow.{PlanRow}
+use Rattle.plan_model.specs.Contents.{Contents, nothing}
+use Rattle.plan_rows.specs.Kept.{KeepsRecords}
+use Rattle.plan_rows.specs.Rows.{if_shown}
+use Rattle.plan_rows.specs.Shown.{IsShown, IsShownIfAny, contents_shown, source_if_any, source_of}
+use Rattle.plan_rows.specs.declared.shown.RowSource.{RowSource}
+use Rattle.plan_rows.specs.declared.shown.TableSource.{TableSource}
+
+-- where there is a row, a plan is loaded
+pub some_source : {K : Type 0} (keyed : RowSource → List (K × PlanRow)) (s : Option TableSource) (i : ℕ) → i < length (keys_of (if_shown keyed (source_if_any s))) → is_some s ≡ true
+some_source keyed None i lt = absurd (omega (arith, lt))
+some_source keyed (Some t) i lt = refl
+
+-- of a source that is the one there is
+pub is_source : (s : Option TableSource) (t : TableSource) → s ≡ Some t → IsShownIfAny (source_if_any s) → IsShown (source_of t)
+is_source s t is shown = subst (λ (s : Option TableSource). IsShownIfAny (source_if_any s)) is shown
+
+pub source_keeps : (s : Option TableSource) (t : TableSource) (Q : Contents) → s ≡ Some t → KeepsRecords (contents_shown (source_if_any s)) Q → KeepsRecords t.beside.contents.now Q
+source_keeps s t Q is keeps = subst (λ (s : Option TableSource). KeepsRecords (contents_shown (source_if_any s)) Q) is keeps
+
+-- nothing is kept by any plan
+pub nothing_kept : (Q : Contents) → KeepsRecords nothing Q
+nothing_kept Q o op is = absurd (none-some op (sym (get-empty operation_cmp o) ∙ is))

@@ -1,0 +1,36 @@
+-- Briefs: what the figures of a whole plan go by of its operations, each read off its record once.
+use Rattle.std.specs.Prelude.{◌≡◌, List, Some, slice_get}
+use Rattle.std.specs.FinMap.{entries, keys}
+use Rattle.operation_graph.specs.Graphs.{Digraph}
+use Rattle.plan_basics.specs.declared.keys.OpKey.{OpKey}
+use Rattle.plan_laws.specs.plan_model.specs.Contents.{Contents, Operation, Has, HasAttribute}
+use Rattle.plan_laws.specs.plan_model.specs.Valid.{IsValid}
+use Rattle.plan_laws.specs.plan_drafts.specs.Places.{AreByPlace}
+use Rattle.plan_laws.specs.plan_drafts.specs.PlanGraphs.{IsGraphFor}
+use Rattle.plan_status.specs.declared.briefs.Brief.{Brief}
+
+-- what the operation's record says, how its workstation reports, and the index of that
+pub record IsBriefOf (P : Contents) (op : Operation) (b : Brief) : Type 0 where
+  pub mark : b.mark ≡ op.mark
+  pub held : b.held ≡ op.held
+  pub nop : b.nop ≡ op.nop
+  pub attribute : HasAttribute P op.workstation b.attribute
+  pub station : slice_get (keys P.workstations) b.station ≡ Some op.workstation
+  pub duration : b.duration ≡ op.duration
+  pub deadline : b.deadline ≡ op.deadline
+  pub r1 : b.r1 ≡ op.r1
+  pub r2 : b.r2 ≡ op.r2
+
+-- o is an operation of the plan, and this is its brief
+abbrev pub HasBrief : Contents → OpKey → Brief → Type 0
+HasBrief P o b = Has P o (λ op. IsBriefOf P op b)
+
+-- the brief of each operation, in key order
+abbrev pub AreBriefs : Contents → List Brief → Type 0
+AreBriefs P briefs = AreByPlace (entries P.operations) briefs (HasBrief P)
+
+-- the plan is valid, this is its graph, and these are the briefs of its operations
+pub record IsBriefedBy (P : Contents) (g : Digraph) (told : List Brief) : Type 0 where
+  pub valid : IsValid P
+  pub graph : IsGraphFor P g
+  pub briefs : AreBriefs P told

@@ -1,0 +1,147 @@
+// A copy of what is shown, which shows nothing until it is shown itself.
+ghost use Rattle.std.specs.Prelude.{◌≡◌, ◌⊎◌, ◌+◌, ◌<◌, ◌≤◌, IfOk, OnOk, Some, length, slice_get};
+ghost use Rattle.std.specs.FinMap.{entries};
+ghost use Rattle.plan_changes.specs.Additions.{HasNothingOf};
+ghost use Rattle.plan_status.specs.plan_model.specs.Valid.{IsSound};
+ghost use Rattle.plan_status.specs.plan_records.specs.Changes.{Changes, with_added, with_pair as with_pair_of};
+ghost use Rattle.plan_status.specs.plan_records.specs.declared.What.TheVariants as what;
+
+use super::shown::Shown;
+use plan_basics::{OccKey, OpKey};
+use plan_changes::{deleted, with_addition, with_pair};
+use plan_records::{Addition, PlanDraft, copies_of};
+use plan_status::{OperationRecord, PlanContents};
+use std::alloc::{AllocError, Global};
+use std::marker::Model;
+
+/// A copy of what a plan holds. It shows no record: it is written to, and then shown by what counts. Contracts see it as what it
+/// holds.
+#[derive(Drop)]
+pub struct RecordCopy {
+    contents: PlanContents,
+}
+
+impl Model for RecordCopy {
+    ghost use Rattle.plan_status.specs.plan_model.specs.Contents.{Contents};
+    ghost use Rattle.plan_status.specs.plan_model.specs.Code.{contents_code};
+
+    ghost Value = { Contents };
+
+    ghost coded = { contents_code };
+
+    ghost view = { λ c. c.contents };
+}
+
+impl RecordCopy {
+    /// What a draft holds.
+    pub fn of_draft(alloc: Global, draft: &PlanDraft) -> Result<RecordCopy, AllocError>
+        ensures { IfOk result (λ copy. copy ≡ draft.now) }
+    {
+        let contents = draft.contents().try_clone(alloc)?;
+        Ok(RecordCopy { contents })
+    }
+
+    /// The same, with all operations of an occurrence marked deleted.
+    pub fn deleted(self, alloc: Global, occurrence: &OccKey) -> Result<RecordCopy, AllocError>
+        ensures { IfOk result (λ new. Changes self (what.DeleteOccurrence occurrence.now) new) }
+    {
+        let contents = deleted(alloc, &self.contents, occurrence)?;
+        Ok(RecordCopy { contents })
+    }
+
+    /// The same, with one more pair. One that is there already stays.
+    pub fn with_pair(
+        self,
+        alloc: Global,
+        predecessor: &OpKey,
+        successor: &OpKey,
+    ) -> Result<RecordCopy, AllocError>
+        ensures { IfOk result (λ new. new ≡ with_pair_of self predecessor.now successor.now) }
+    {
+        let contents = with_pair(alloc, &self.contents, predecessor, successor)?;
+        Ok(RecordCopy { contents })
+    }
+
+    /// The same, with an occurrence that is added, of which there is nothing yet.
+    pub fn with_addition(self, alloc: Global, addition: &Addition) -> Result<RecordCopy, AllocError>
+        requires { HasNothingOf self addition.now }
+        ensures { IfOk result (λ new. new ≡ with_added self addition.now) }
+    {
+        let contents = with_addition(alloc, &self.contents, addition)?;
+        Ok(RecordCopy { contents })
+    }
+
+    /// What it holds, which is sound, shown: nothing was looked at.
+    pub fn into_shown(self) -> Shown
+        requires { IsSound self }
+        ensures { result ≡ record { contents = self; looks = 0 } }
+    {
+        Shown::of_rows(self.contents, 0)
+    }
+}
+
+impl Shown {
+    // The row of the operation at a place: a look.
+    fn row_at(&mut self, place: usize) -> (OpKey, OperationRecord)
+        requires { place < length (entries self.old.contents.operations) }
+        ensures row { slice_get (entries self.old.contents.operations) place ≡ Some result }
+        ensures contents { self.new.contents ≡ self.old.contents }
+        ensures most { self.new.looks ≤ self.old.looks + 1 }
+        ensures least { (18446744073709551615 ≤ self.new.looks) ⊎ (self.old.looks + 1 ≤ self.new.looks) }
+    {
+        let seen = self.see(place);
+        (*seen.key, *seen.operation)
+    }
+
+    // The rows of all operations, in key order: a look at each.
+    fn rows_of(&mut self, alloc: Global) -> Result<Vec<(OpKey, OperationRecord)>, AllocError>
+        ensures rows { IfOk result (λ rows. rows.items ≡ entries self.old.contents.operations) }
+        ensures contents { self.new.contents ≡ self.old.contents }
+        ensures most { self.new.looks ≤ self.old.looks + length (entries self.old.contents.operations) }
+        ensures least { OnOk result ((18446744073709551615 ≤ self.new.looks) ⊎ (self.old.looks + length (entries self.old.contents.operations) ≤ self.new.looks)) }
+    {
+        let count = self.beside().operation_count();
+        let mut rows = Vec::with_capacity(alloc, count)?;
+        for place in 0..count {
+            rows.push(self.row_at(place))?;
+        }
+        Ok(rows)
+    }
+
+    // A copy of what is shown, with these rows for its operations.
+    fn with_rows(
+        &self,
+        alloc: Global,
+        operations: Vec<(OpKey, OperationRecord)>,
+    ) -> Result<RecordCopy, AllocError>
+        requires { operations.items ≡ entries self.now.contents.operations }
+        ensures { IfOk result (λ copy. copy ≡ self.now.contents) }
+    {
+        let beside = self.beside();
+        let workstations = copies_of(alloc, beside.workstations())?;
+        let resources = Vec::from_slice(alloc, beside.resources())?;
+        let occurrences = Vec::from_slice(alloc, beside.occurrences())?;
+        let pairs = Vec::from_slice(alloc, beside.pairs())?;
+        let contents = PlanContents::of_rows(
+            workstations,
+            resources,
+            occurrences,
+            operations,
+            pairs,
+        );
+        Ok(RecordCopy { contents })
+    }
+
+    /// A copy of what is shown, by a look at each record.
+    pub fn copied(&mut self, alloc: Global) -> Result<RecordCopy, AllocError>
+        ensures copy { IfOk result (λ copy. copy ≡ self.old.contents) }
+        ensures contents { self.new.contents ≡ self.old.contents }
+        ensures most { self.new.looks ≤ self.old.looks + length (entries self.old.contents.operations) }
+        ensures least { OnOk result ((18446744073709551615 ≤ self.new.looks) ⊎ (self.old.looks + length (entries self.old.contents.operations) ≤ self.new.looks)) }
+        ensures sound { OnOk result (IsSound self.old.contents) }
+    {
+        let operations = self.rows_of(alloc)?;
+        self.beside().are_sound();
+        self.with_rows(alloc, operations)
+    }
+}
