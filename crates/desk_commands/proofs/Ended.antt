@@ -5,10 +5,10 @@ use Rattle.plan_basics.specs.declared.Refusal.{Refusal}
 use Rattle.plan_reports.specs.Reports.{IsOwed, IsWritten}
 use Rattle.plan_reports.specs.declared.reports.ReportFault.{ReportFault}
 use Rattle.plan_reports.specs.declared.reports.ReportFault.TheVariants as report_fault
-use Rattle.desk_commands.specs.Answers.{refusal_line}
+use Rattle.command_answers.specs.Answers.{refusal_line}
 use Rattle.desk_commands.specs.Shown.{IsEndOf, IsTold}
-use Rattle.desk_commands.specs.declared.endings.Ending.{Ending}
-use Rattle.desk_commands.specs.declared.endings.Ending.TheVariants as ending
+use Rattle.command_answers.specs.declared.endings.Ending.{Ending}
+use Rattle.command_answers.specs.declared.endings.Ending.TheVariants as ending
 
 module _ (owed : Option Refusal) (IsText : List ℕ → Type 0) (old between new : Option (List ℕ)) where
   -- behind a report that was written or refused so

@@ -1,10 +1,5 @@
-pub mod Appended
-pub mod Loaded
-pub mod Opened
-pub mod Played
-pub mod Statuses
-pub mod Told
-pub mod Ended
-pub mod Reasoned
-pub mod Judging
-pub mod Minutes
+mod Ended
+mod Loaded
+mod Played
+mod Reasoned
+mod Told

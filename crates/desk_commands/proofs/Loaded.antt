@@ -5,11 +5,12 @@ use Rattle.plan_basics.specs.Minutes.{IsMinuteText}
 use Rattle.plan_loads.specs.Databases.{IsAnswerToLoad}
 use Rattle.plan_loads.specs.plan_model.specs.Contents.{Contents}
 use Rattle.plan_records.specs.Answer.{Answer, accepted, refused}
+use Rattle.plan_trials.specs.Trials.{IsAnswerAlone}
 use Rattle.sqlite.specs.State.{State as StoreState}
-use Rattle.desk_commands.specs.Answers.{IsShown}
-use Rattle.desk_commands.specs.Loads.{IsCheckAnswer, IsCheckShown, IsLoadAnswer, IsLoadOf, IsLoadShown}
-use Rattle.desk_commands.specs.declared.endings.Ending.{Ending}
-use Rattle.desk_commands.specs.declared.endings.Fault.{Fault}
+use Rattle.command_answers.specs.Answers.{IsShown}
+use Rattle.desk_commands.specs.Loads.{IsCheckShown, IsLoadAnswer, IsLoadOf, IsLoadShown}
+use Rattle.command_answers.specs.declared.endings.Ending.{Ending}
+use Rattle.command_answers.specs.declared.endings.Fault.{Fault}
 
 -- the answer at a database is that of a desk
 load_answer : (before after : StoreState) (at : ℤ) (found : Option Contents) (a : Answer) → IsAnswerToLoad before after at found a → IsLoadAnswer at found a
@@ -31,9 +32,9 @@ load_shown moment at found r old new says shown =
     IfOk-weaker r (IsLoadOf at found old new) (IsLoadShown moment old new)
     (λ (e : Ending) (was : IsLoadOf at found old new e). (at, says, found, was.0, was.1, was.2)) shown
 
--- so is that of an empty plan
+-- so is that of an empty desk
 pub check_shown : (moment : List ℕ) (at : ℤ) (found : Option Contents) (a : Answer) (r : Result Ending Fault) (old new : Option (List ℕ))
-    → IsMinuteText moment at → IsCheckAnswer at found a → IfOk r (IsShown a old new) → IfOk r (IsCheckShown moment old new)
+    → IsMinuteText moment at → IsAnswerAlone at found a → IfOk r (IsShown a old new) → IfOk r (IsCheckShown moment old new)
 check_shown moment at found a r old new says answers shown =
     IfOk-weaker r (IsShown a old new) (IsCheckShown moment old new)
     (λ (e : Ending) (is : IsShown a old new e). (at, says, found, a, answers, is)) shown

@@ -11,18 +11,18 @@ use Rattle.plan_records.specs.Answer.{Answer, accepted, refused}
 use Rattle.plan_records.specs.Run.{Answers, State, Usable, empty_state, plain}
 use Rattle.plan_records.specs.declared.Request.{Request}
 use Rattle.plan_loads.specs.plan_tables.specs.Desk.{usability}
-use Rattle.request_texts.specs.Requests.{ReadsAsRequest}
-use Rattle.desk_commands.specs.Statuses.{IsOfSurroundings}
-use Rattle.desk_commands.specs.Answers.{IsShown, answer_text}
-use Rattle.desk_commands.specs.Asked.{IsNoRequest}
-use Rattle.desk_commands.specs.Opened.{IsFaultOfNone, IsWhyNoDesk, IsNoneShown}
+use Rattle.command_answers.specs.request_texts.specs.Requests.{ReadsAsRequest}
+use Rattle.command_answers.specs.Statuses.{IsOfSurroundings}
+use Rattle.command_answers.specs.Answers.{IsShown, answer_text}
+use Rattle.command_answers.specs.Given.{IsNoRequest}
+use Rattle.command_answers.specs.Opened.{IsFaultOfNone, IsWhyNoDesk, IsNoneShown}
 use Rattle.desk_commands.specs.Turns.{IsFirstLine, IsLinePlayed, IsLoadRefusal, IsLoaded, IsNumberShown, IsPlanPlayed, IsPlayed, IsTurnShown, Plays, PlaysLine, breaks_off, goes_on, joined, no_more, number_line, turn_head}
-use Rattle.desk_commands.specs.declared.endings.Ending.{Ending}
-use Rattle.desk_commands.specs.declared.endings.Ending.TheVariants as ending
-use Rattle.desk_commands.specs.declared.endings.Fault.{Fault}
-use Rattle.desk_commands.specs.declared.endings.Fault.TheVariants as fault
-use Rattle.desk_commands.specs.declared.endings.NoDesk.{NoDesk}
-use Rattle.desk_commands.specs.declared.endings.NoDesk.TheVariants as no_desk
+use Rattle.command_answers.specs.declared.endings.Ending.{Ending}
+use Rattle.command_answers.specs.declared.endings.Ending.TheVariants as ending
+use Rattle.command_answers.specs.declared.endings.Fault.{Fault}
+use Rattle.command_answers.specs.declared.endings.Fault.TheVariants as fault
+use Rattle.command_answers.specs.declared.endings.NoDesk.{NoDesk}
+use Rattle.command_answers.specs.declared.endings.NoDesk.TheVariants as no_desk
 
 -- refused by either of two is refused by the one and then by the other
 joined-or : (b c : Bool) (outcome : Result Ending Fault) → joined (b || c) outcome ≡ joined b (joined c outcome)

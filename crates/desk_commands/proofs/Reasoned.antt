@@ -12,16 +12,17 @@ use Rattle.plan_loads.specs.plan_tables.specs.Faults.{IsOpeningRefusal}
 use Rattle.plan_reports.specs.Reports.{IsOwed, IsWhyReport, IsWritten, why_refusal_of}
 use Rattle.plan_reports.specs.declared.reports.ReportFault.{ReportFault}
 use Rattle.plan_reports.specs.declared.reports.ReportFault.TheVariants as report_fault
-use Rattle.desk_commands.specs.Answers.{IsShown}
-use Rattle.desk_commands.specs.Opened.{IsWhyNoDesk, IsNoneShown}
+use Rattle.command_answers.specs.Answers.{IsShown}
+use Rattle.command_answers.specs.Opened.{IsWhyNoDesk, IsNoneShown}
 use Rattle.desk_commands.specs.Shown.{IsEndOf}
 use Rattle.desk_commands.specs.Turns.{IsLoadRefusal, IsLoaded}
-use Rattle.desk_commands.specs.Whys.{IsMinuteGiven, IsWhyAsked, IsWhyOfDesk, IsWhyOfText, IsWhyPlanned, IsWhyShown, minute_asked}
-use Rattle.desk_commands.specs.declared.endings.Ending.{Ending}
-use Rattle.desk_commands.specs.declared.endings.Fault.{Fault}
-use Rattle.desk_commands.specs.declared.endings.NoDesk.{NoDesk}
+use Rattle.desk_commands.specs.Whys.{IsWhyAsked, IsWhyOfDesk, IsWhyOfText, IsWhyPlanned, IsWhyShown, minute_asked}
+use Rattle.command_answers.specs.Given.{IsMinuteGiven}
+use Rattle.command_answers.specs.declared.endings.Ending.{Ending}
+use Rattle.command_answers.specs.declared.endings.Fault.{Fault}
+use Rattle.command_answers.specs.declared.endings.NoDesk.{NoDesk}
 use Rattle.desk_commands.proofs.Ended.{told}
-use Rattle.desk_commands.proofs.Opened.{none_shown}
+use Rattle.command_answers.proofs.Opened.{none_shown}
 
 module _ (o : OpKey) (old new : Option (List ℕ)) (r : Result Ending Fault) where
   -- at a desk, behind the report

@@ -7,18 +7,19 @@ use Rattle.plan_records.specs.Answer.{Answer, refused}
 use Rattle.plan_records.specs.Run.{Answers, State, Usable, plain}
 use Rattle.plan_records.specs.declared.Request.{Request}
 use Rattle.plan_loads.specs.plan_tables.specs.Faults.{IsOpeningRefusal}
-use Rattle.request_texts.specs.Requests.{ReadsAsRequest}
-use Rattle.desk_commands.specs.Answers.{IsShown}
-use Rattle.desk_commands.specs.Asked.{AsksReport, IsRequestAnswered, IsRequestShown}
+use Rattle.command_answers.specs.request_texts.specs.Requests.{ReadsAsRequest}
+use Rattle.command_answers.specs.Answers.{IsShown}
+use Rattle.desk_commands.specs.Asked.{IsRequestAnswered, IsRequestShown}
+use Rattle.command_answers.specs.Given.{AsksReport}
 use Rattle.desk_commands.specs.Shown.{IsReportAsked, IsReportShown}
-use Rattle.desk_commands.specs.Opened.{IsWhyNoDesk, IsNoneShown}
-use Rattle.desk_commands.specs.Statuses.{IsOfSurroundings}
-use Rattle.desk_commands.specs.declared.endings.Ending.{Ending}
-use Rattle.desk_commands.specs.declared.endings.Fault.{Fault}
-use Rattle.desk_commands.specs.declared.endings.Fault.TheVariants as fault
-use Rattle.desk_commands.specs.declared.endings.NoDesk.{NoDesk}
-use Rattle.desk_commands.specs.declared.given.Kind.{Kind}
-use Rattle.desk_commands.proofs.Opened.{none_shown}
+use Rattle.command_answers.specs.Opened.{IsWhyNoDesk, IsNoneShown}
+use Rattle.command_answers.specs.Statuses.{IsOfSurroundings}
+use Rattle.command_answers.specs.declared.endings.Ending.{Ending}
+use Rattle.command_answers.specs.declared.endings.Fault.{Fault}
+use Rattle.command_answers.specs.declared.endings.Fault.TheVariants as fault
+use Rattle.command_answers.specs.declared.endings.NoDesk.{NoDesk}
+use Rattle.command_answers.specs.declared.given.Kind.{Kind}
+use Rattle.command_answers.proofs.Opened.{none_shown}
 
 -- a fault of the surroundings is one of theirs, or another
 pub of_them : (Other : Fault → Type 0) (r : Result Ending Fault) → IfErr r IsOfSurroundings → IfErr r (λ f. IsOfSurroundings f ⊎ Other f)

@@ -1,10 +1,6 @@
-pub mod Answers
+pub use Rattle.command_answers
 pub mod Asked
 pub mod Loads
-pub mod Opened
 pub mod Shown
-pub mod Statuses
 pub mod Turns
-pub mod Words
 pub mod Whys
-pub mod Judged

@@ -8,12 +8,12 @@ use Rattle.plan_reports.specs.declared.reports.ReportFault.{ReportFault}
 use Rattle.plan_reports.specs.declared.reports.ReportFault.TheVariants as report_fault
 use Rattle.plan_records.specs.Answer.{refused}
 use Rattle.plan_loads.specs.plan_tables.specs.Faults.{IsOpeningRefusal}
-use Rattle.desk_commands.specs.Answers.{IsShown, refusal_line}
-use Rattle.desk_commands.specs.Asked.{AsksReport}
-use Rattle.desk_commands.specs.declared.endings.Ending.{Ending}
-use Rattle.desk_commands.specs.declared.endings.Ending.TheVariants as ending
-use Rattle.desk_commands.specs.declared.given.Kind.{Kind}
-use Rattle.desk_commands.specs.declared.given.Kind.TheVariants as kind
+use Rattle.command_answers.specs.Answers.{IsShown, refusal_line}
+use Rattle.command_answers.specs.Given.{AsksReport}
+use Rattle.command_answers.specs.declared.endings.Ending.{Ending}
+use Rattle.command_answers.specs.declared.endings.Ending.TheVariants as ending
+use Rattle.command_answers.specs.declared.given.Kind.{Kind}
+use Rattle.command_answers.specs.declared.given.Kind.TheVariants as kind
 
 -- the text is this report of a plan
 abbrev pub IsReport : Kind → Plan → List ℕ → Type 0

@@ -11,14 +11,14 @@ use Rattle.plan_records.specs.Answer.{Answer, accepted, refused}
 use Rattle.plan_records.specs.Run.{Answers, State, Usable, empty_state, plain, usable}
 use Rattle.plan_records.specs.declared.Request.{Request}
 use Rattle.plan_loads.specs.plan_tables.specs.Faults.{IsOpeningRefusal}
-use Rattle.request_texts.specs.Requests.{ReadsAsRequest}
-use Rattle.desk_commands.specs.Answers.{IsShown, answer_text, line}
-use Rattle.desk_commands.specs.Asked.{IsNoRequest}
-use Rattle.desk_commands.specs.Statuses.{IsOfSurroundings}
-use Rattle.desk_commands.specs.declared.endings.Ending.{Ending}
-use Rattle.desk_commands.specs.declared.endings.Ending.TheVariants as ending
-use Rattle.desk_commands.specs.declared.endings.Fault.{Fault}
-use Rattle.desk_commands.specs.declared.endings.Fault.TheVariants as fault
+use Rattle.command_answers.specs.request_texts.specs.Requests.{ReadsAsRequest}
+use Rattle.command_answers.specs.Answers.{IsShown, answer_text, line}
+use Rattle.command_answers.specs.Given.{IsNoRequest}
+use Rattle.command_answers.specs.Statuses.{IsOfSurroundings}
+use Rattle.command_answers.specs.declared.endings.Ending.{Ending}
+use Rattle.command_answers.specs.declared.endings.Ending.TheVariants as ending
+use Rattle.command_answers.specs.declared.endings.Fault.{Fault}
+use Rattle.command_answers.specs.declared.endings.Fault.TheVariants as fault
 
 -- a byte that JSON passes over, within a line: a space, a tab or CR
 abbrev pub is_blank_byte : ℕ → Bool

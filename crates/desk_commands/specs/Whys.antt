@@ -1,8 +1,7 @@
 -- What the program shows of why an operation doesn't go on.
 use Rattle.std.specs.Prelude.{◌≡◌, ◌⊎◌, Bool, true, ℕ, ℤ, pos, List, Option, Some, None}
 use Rattle.plan_basics.specs.KeyTexts.{IsOperationText}
-use Rattle.plan_basics.specs.Keys.{IsOperationKey}
-use Rattle.plan_basics.specs.Minutes.{IsMinuteText, IsMoment}
+use Rattle.plan_basics.specs.Minutes.{IsMoment}
 use Rattle.plan_basics.specs.declared.Refusal.{Refusal}
 use Rattle.plan_basics.specs.declared.Refusal.TheVariants as refusal
 use Rattle.plan_basics.specs.declared.keys.OpKey.{OpKey}
@@ -12,10 +11,11 @@ use Rattle.plan_records.specs.Answer.{accepted, refused}
 use Rattle.plan_records.specs.Run.{State}
 use Rattle.plan_loads.specs.plan_tables.specs.Faults.{IsOpeningRefusal}
 use Rattle.plan_reports.specs.Reports.{IsWhyReport, why_refusal_of}
-use Rattle.desk_commands.specs.Answers.{IsShown}
+use Rattle.command_answers.specs.Answers.{IsShown}
+use Rattle.command_answers.specs.Given.{IsMinuteGiven}
 use Rattle.desk_commands.specs.Shown.{IsTold}
 use Rattle.desk_commands.specs.Turns.{IsLoadRefusal, IsLoaded}
-use Rattle.desk_commands.specs.declared.endings.Ending.{Ending}
+use Rattle.command_answers.specs.declared.endings.Ending.{Ending}
 
 -- the minute at which it is asked: the given one; where none is given, that of the plan's clock
 abbrev pub minute_asked : Option ℤ → Plan → ℤ
@@ -43,24 +43,6 @@ abbrev pub IsWhyOfDesk : OpKey → Option ℤ → Option (List ℕ) → Option (
 IsWhyOfDesk o z old new ending =
     ((usable : Bool) × (P : Plan) × IsWhyShown o (minute_asked z P) usable P old new ending)
     ⊎ ((r : Refusal) × IsOpeningRefusal r × IsShown (refused r) old new ending)
-
--- the minute that the words give, if they give one
-abbrev pub IsMinuteGiven : Option (List ℕ) → Option ℤ → Type 0
-IsMinuteGiven (Some text) (Some z) = IsMinuteText text z
-IsMinuteGiven None None = Unit {0}
-IsMinuteGiven text z = ⊥
-
--- the text is no moment
-abbrev pub IsNoMinute : List ℕ → Type 0
-IsNoMinute text = (z : ℤ) → ¬ IsMinuteText text z
-
--- what the words give is no moment, and not nothing either
-abbrev pub IsNoMinuteGiven : Option (List ℕ) → Type 0
-IsNoMinuteGiven given = (z : Option ℤ) → ¬ IsMinuteGiven given z
-
--- the text is no key of an operation
-abbrev pub IsNoOperationText : List ℕ → Type 0
-IsNoOperationText text = (o : OpKey) → IsOperationKey o → ¬ IsOperationText text o
 
 -- the words don't say at which desk: neither a database nor a plan, or a plan without its moment
 abbrev pub IsNoDeskGiven : Option (List ℕ) → Option (List ℕ) → Option (List ℕ) → Type 0

@@ -1,10 +1,10 @@
 // The databases of desks: opened by their paths, and closed at the end.
 ghost use Rattle.std.specs.Prelude.{◌≡◌, false, IfOk, IfErr};
-ghost use Rattle.desk_commands.specs.Opened.{IsWhyNoDesk};
-ghost use Rattle.desk_commands.specs.Statuses.{IsOfSurroundings};
+ghost use Rattle.command_answers.specs.Opened.{IsWhyNoDesk};
+ghost use Rattle.command_answers.specs.Statuses.{IsOfSurroundings};
 ghost use Rattle.plan_loads.specs.plan_tables.specs.Faults.{IsOpeningRefusal};
 
-use crate::endings::{Fault, NoDesk};
+use command_answers::{Fault, NoDesk};
 use plan_basics::Refusal;
 use plan_loads::Desk;
 use plan_records::Reply;
@@ -20,7 +20,7 @@ pub type DatabaseFile = FileStore<File>;
 /// for any store.
 pub trait Database<S: Alter>: Sized {
     ghost use Rattle.std.specs.Prelude.{◌≡◌, false, IfOk, IfErr};
-    ghost use Rattle.desk_commands.specs.Statuses.{IsOfSurroundings};
+    ghost use Rattle.command_answers.specs.Statuses.{IsOfSurroundings};
 
     /// Opens the database of a path, which is made where there is none. No transaction is open.
     fn open_at(rt: &HostRuntime, path: &str) -> Result<Connection<S>, Fault>
@@ -33,7 +33,7 @@ pub trait Database<S: Alter>: Sized {
 }
 
 impl Database<DatabaseFile> for Connection<DatabaseFile> {
-    #[tactic(auto, using(crate::proofs::Statuses::of_the_store))]
+    #[tactic(auto, using(command_answers::proofs::Statuses::of_the_store))]
     fn open_at(rt: &HostRuntime, path: &str) -> Result<Connection<DatabaseFile>, Fault>
         ensures idle { IfOk result (λ conn. conn.in_transaction ≡ false) }
         ensures fault { IfErr result IsOfSurroundings }
@@ -45,7 +45,7 @@ impl Database<DatabaseFile> for Connection<DatabaseFile> {
     }
 
     // What the log has is copied into the file.
-    #[tactic(auto, using(crate::proofs::Statuses::of_the_store))]
+    #[tactic(auto, using(command_answers::proofs::Statuses::of_the_store))]
     fn shut(self) -> Result<(), Fault>
         ensures { IfErr result IsOfSurroundings }
     {
@@ -83,8 +83,7 @@ where
 fn stored_connection<S: Alter + Drop>(rt: &HostRuntime, path: &str) -> Result<Connection<S>, Fault>
 where
     Connection<S>: Database<S>,
-    ensures idle { IfOk result (λ conn. conn.in_transaction ≡ false) }
-    ensures fault { IfErr result IsOfSurroundings }
+    ensures { IfErr result IsOfSurroundings }
 {
     fs::metadata(rt, path)?;
     Connection::<S>::open_at(rt, path)
@@ -94,7 +93,6 @@ where
 fn opened_desk<S: Alter + Drop>(alloc: Global, conn: Connection<S>) -> Result<Desk<S>, NoDesk>
 where
     Connection<S>: Database<S>,
-    requires { conn.in_transaction ≡ false }
     ensures { IfErr result (IsWhyNoDesk IsOpeningRefusal) }
 {
     match Desk::open(alloc, conn) {

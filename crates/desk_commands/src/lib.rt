@@ -1,20 +1,18 @@
-//! The commands of the program plandesk: what its words ask for, what is done, and what is shown of it.
+//! The commands at a desk, over any store: what each does, and what it shows.
 #![tactic(auto)]
 
-mod answers;
 mod databases;
-mod desk;
-mod endings;
-mod files;
-mod given;
 mod loading;
 mod playing;
 mod reasons;
 mod reports;
 mod requests;
-mod serving;
-mod validating;
 
-pub use desk::{desk_run, tell_fault};
-pub use endings::{Ending, Fault};
-pub use serving::serve_listener;
+pub use command_answers::{Ending, Fault, tell_no_desk, validate};
+pub use databases::{Database, DatabaseFile, close_desk, stored_desk};
+pub use loading::{check, load};
+pub use plan_loads::Desk;
+pub use playing::play;
+pub use reasons::why;
+pub use reports::report;
+pub use requests::make;

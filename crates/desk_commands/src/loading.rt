@@ -1,19 +1,16 @@
-// `check` and `load`: what an empty plan answers to the load of a plan's text, and its load into the desk of a database's file.
-ghost use Rattle.std.specs.Prelude.{◌≡◌, ◌⊎◌, false, IfOk, IfErr, codes};
+// `check` and `load`: what an empty desk answers to the load of a plan's text, and its load into the desk of a database's file.
+ghost use Rattle.std.specs.Prelude.{◌≡◌, ◌⊎◌, IfOk, IfErr, codes};
 ghost use Rattle.clap.specs.Matches.{found_of};
 ghost use Rattle.plan_basics.specs.Watched.{inner_of};
 ghost use Rattle.desk_commands.specs.Loads.{IsCheckShown, IsLoadOf, IsLoadShown};
-ghost use Rattle.desk_commands.specs.Statuses.{IsOfSurroundings};
-ghost use Rattle.desk_commands.specs.Whys.{IsNoMinute};
+ghost use Rattle.command_answers.specs.Statuses.{IsOfSurroundings};
+ghost use Rattle.command_answers.specs.Given.{IsNoMinute};
 ghost use Rattle.command_words.specs.Words.{text_given};
-ghost use Rattle.desk_commands.specs.declared.endings.Fault.{Fault};
+ghost use Rattle.command_answers.specs.declared.endings.Fault.{Fault};
 
-use crate::answers::tell;
 use crate::databases::{Database, close};
-use crate::endings::{Ending, Fault};
-use crate::files::plan_of_file;
-use crate::given::moment_of;
 use clap::ArgMatches;
+use command_answers::{Ending, Fault, moment_of, plan_of_file, tell};
 use command_words::value_of;
 use plan_basics::Watched;
 use plan_loads::load_into;
@@ -24,7 +21,7 @@ use std::alloc::Global;
 use std::io::Write;
 use std::rt::HostRuntime;
 
-/// `check`: what an empty plan in memory answers to the load of a file's plan. The moment is judged before the file.
+/// `check`: what an empty desk answers to the load of a file's plan. The moment is judged before the file.
 pub fn check<W: Write>(
     rt: &HostRuntime,
     given: &ArgMatches,
@@ -50,7 +47,6 @@ fn load_over<S: Alter + Drop, W: Write>(
 ) -> Result<Ending, Fault>
 where
     Connection<S>: Database<S>,
-    requires { conn.in_transaction ≡ false }
     ensures shown { IfOk result (IsLoadOf at draft (W.contents (inner_of out.old)) (W.contents (inner_of out.new))) }
     ensures fault { IfErr result IsOfSurroundings }
 {

@@ -1,26 +1,26 @@
 // `play`: the requests of a text are made one after another at a desk in memory.
-ghost use Rattle.std.specs.Prelude.{◌≡◌, Ok, IfOk, IfErr, IfSome, IfNone, OnOk, [], false, true, List, ℕ};
+ghost use Rattle.std.specs.Prelude.{◌≡◌, Ok, IfOk, IfErr, IfSome, IfNone, OnOk, [], true, List, ℕ};
 ghost use Rattle.std.specs.List.{list_all};
 ghost use Rattle.std.specs.Io.KnownBytes.{Appends};
 ghost use Rattle.plan_basics.specs.Minutes.{IsShownAs};
 ghost use Rattle.plan_basics.specs.Watched.{inner_of};
-ghost use Rattle.desk_commands.specs.Opened.{IsWhyNoDesk};
-ghost use Rattle.desk_commands.specs.Statuses.{IsOfSurroundings};
+ghost use Rattle.command_answers.specs.Opened.{IsWhyNoDesk};
+ghost use Rattle.command_answers.specs.Statuses.{IsOfSurroundings};
 ghost use Rattle.desk_commands.specs.Turns.{is_blank_byte, is_refusal, IsFirstLine, IsLinePlayed, IsLoadRefusal, IsLoaded, IsNumberShown, IsPlanPlayed, IsPlayed, IsTurnShown, joined, number_line, turn_head};
-ghost use Rattle.desk_commands.specs.declared.endings.Ending.{Ending as Ended};
+ghost use Rattle.command_answers.specs.declared.endings.Ending.{Ending as Ended};
 ghost use Rattle.plan_records.specs.Answer.{Answer, accepted, answer_of};
 ghost use Rattle.plan_records.specs.Run.{Answers, empty_state, plain};
 ghost use Rattle.plan_loads.specs.Databases.{load_request};
 ghost use Rattle.plan_loads.specs.plan_tables.specs.Faults.{IsOpeningRefusal};
-ghost use Rattle.request_texts.specs.Requests.{ReadsAsRequest};
+ghost use Rattle.command_answers.specs.request_texts.specs.Requests.{ReadsAsRequest};
 ghost use Rattle.plan_loads.specs.plan_tables.specs.Desk.{state_of, usability};
 ghost use Rattle.plan_basics.specs.declared.keys.OpKey.{OpKey};
 
-use crate::answers::{tell, tell_no_desk};
-use crate::endings::{Ending, Fault, NoDesk};
-use crate::files::{plan_of_file, text_of, text_of_file};
-use crate::given::{moment_of, request_of};
 use clap::ArgMatches;
+use command_answers::{
+    Ending, Fault, NoDesk, moment_of, plan_of_file, request_of, tell, tell_no_desk, text_of,
+    text_of_file,
+};
 use command_words::value_of;
 use plan_basics::{Watched, minute_text};
 use plan_loads::Desk;
@@ -53,7 +53,7 @@ fn first_line(text: &[u8]) -> Option<(&[u8], &[u8])>
 }
 
 // Shows the number of a line and the moment of its request.
-#[tactic(auto, using(crate::proofs::Statuses::of_the_surroundings))]
+#[tactic(auto, using(command_answers::proofs::Statuses::of_the_surroundings))]
 fn tell_head<W: Write>(out: &mut Watched<W>, number: usize, at: i64) -> Result<(), Fault>
     ensures shown { OnOk result ((moment : List ℕ) × IsShownAs at moment × Appends (W.contents (inner_of out.old)) (W.contents (inner_of out.new)) (turn_head number moment)) }
     ensures fault { IfErr result IsOfSurroundings }
@@ -65,7 +65,7 @@ fn tell_head<W: Write>(out: &mut Watched<W>, number: usize, at: i64) -> Result<(
 }
 
 // Shows the number of a line that is no request.
-#[tactic(auto, using(crate::proofs::Statuses::of_the_surroundings))]
+#[tactic(auto, using(command_answers::proofs::Statuses::of_the_surroundings))]
 fn tell_number<W: Write>(out: &mut Watched<W>, number: usize) -> Result<(), Fault>
     ensures shown { OnOk result (Appends (W.contents (inner_of out.old)) (W.contents (inner_of out.new)) (number_line number)) }
     ensures fault { IfErr result IsOfSurroundings }
@@ -182,7 +182,6 @@ fn play_lines<S: Alter + Drop, W: Write>(
 
 // A desk over a connection to a database that has no table: nothing is loaded there.
 fn new_desk<S: Alter + Drop>(alloc: Global, conn: Connection<S>) -> Result<Desk<S>, NoDesk>
-    requires { conn.in_transaction ≡ false }
     ensures empty { IfOk result (λ desk. state_of desk ≡ empty_state) }
     ensures usable { IfOk result (λ desk. desk.is_usable ≡ true) }
     ensures refused { IfErr result (IsWhyNoDesk IsOpeningRefusal) }
@@ -230,7 +229,6 @@ fn loaded_over<S: Alter + Drop>(
     at: i64,
     draft: Option<PlanDraft>,
 ) -> Result<Desk<S>, NoDesk>
-    requires { conn.in_transaction ≡ false }
     ensures loaded { IfOk result (λ desk. (named : List OpKey) × IsLoaded at draft (accepted named) (state_of desk)) }
     ensures usable { IfOk result (λ desk. desk.is_usable ≡ true) }
     ensures refused { IfErr result (IsWhyNoDesk (IsLoadRefusal at draft)) }

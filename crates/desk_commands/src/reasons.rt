@@ -2,19 +2,19 @@
 ghost use Rattle.std.specs.Prelude.{◌≡◌, ◌⊎◌, IfOk, IfErr, codes};
 ghost use Rattle.clap.specs.Matches.{first_value, found_of};
 ghost use Rattle.plan_basics.specs.Watched.{inner_of};
-ghost use Rattle.desk_commands.specs.Statuses.{IsOfSurroundings};
-ghost use Rattle.desk_commands.specs.Whys.{IsNoDeskGiven, IsNoMinuteGiven, IsNoOperationText, IsWhyAsked, IsWhyOfDesk, IsWhyOfText, IsWhyPlanned, IsWhyShown, minute_asked};
+ghost use Rattle.command_answers.specs.Statuses.{IsOfSurroundings};
+ghost use Rattle.desk_commands.specs.Whys.{IsNoDeskGiven, IsWhyAsked, IsWhyOfDesk, IsWhyOfText, IsWhyPlanned, IsWhyShown, minute_asked};
+ghost use Rattle.command_answers.specs.Given.{IsNoMinuteGiven, IsNoOperationText};
 ghost use Rattle.command_words.specs.Words.{text_given};
-ghost use Rattle.desk_commands.specs.declared.endings.Fault.{Fault};
+ghost use Rattle.command_answers.specs.declared.endings.Fault.{Fault};
 
-use crate::answers::{tell_no_desk, tell_refusal};
 use crate::databases::{Database, close_desk, stored_desk};
-use crate::endings::{Ending, Fault};
-use crate::files::plan_of_file;
-use crate::given::{moment_if_given, operation_of};
 use crate::playing::loaded_desk;
 use crate::reports::end_of;
 use clap::ArgMatches;
+use command_answers::{
+    Ending, Fault, moment_if_given, operation_of, plan_of_file, tell_no_desk, tell_refusal,
+};
 use plan_basics::{Moment, OpKey, Refusal, Watched};
 use plan_loads::Desk;
 use plan_records::PlanDraft;

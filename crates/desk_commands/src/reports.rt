@@ -3,19 +3,17 @@ ghost use Rattle.std.specs.Prelude.{◌≡◌, ◌⊎◌, Err, IfOk, IfErr, IsEr
 ghost use Rattle.clap.specs.Matches.{first_value, found_of};
 ghost use Rattle.plan_basics.specs.Watched.{inner_of};
 ghost use Rattle.plan_basics.specs.declared.Refusal.{Refusal};
-ghost use Rattle.desk_commands.specs.Asked.{AsksNoReport};
+ghost use Rattle.command_answers.specs.Given.{AsksNoReport};
 ghost use Rattle.desk_commands.specs.Shown.{IsEndOf, IsReport, IsReportAsked, IsReportShown, report_refusal_of};
-ghost use Rattle.desk_commands.specs.Statuses.{IsOfSurroundings};
+ghost use Rattle.command_answers.specs.Statuses.{IsOfSurroundings};
 ghost use Rattle.command_words.specs.Words.{text_given};
-ghost use Rattle.desk_commands.specs.declared.endings.Fault.{Fault};
+ghost use Rattle.command_answers.specs.declared.endings.Fault.{Fault};
 ghost use Rattle.plan_reports.specs.Reports.{IsOwed, IsWritten};
 ghost use Rattle.plan_reports.specs.declared.reports.ReportFault.{ReportFault};
 
-use crate::answers::{tell_no_desk, tell_refusal};
 use crate::databases::{Database, close_desk, stored_desk};
-use crate::endings::{Ending, Fault};
-use crate::given::{Kind, kind_of};
 use clap::ArgMatches;
+use command_answers::{Ending, Fault, Kind, kind_of, tell_no_desk, tell_refusal};
 use command_words::value_of;
 use plan_basics::Watched;
 use plan_loads::Desk;

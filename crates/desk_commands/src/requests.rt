@@ -2,16 +2,15 @@
 ghost use Rattle.std.specs.Prelude.{◌≡◌, ◌⊎◌, IfOk, IfErr, codes};
 ghost use Rattle.clap.specs.Matches.{found_of};
 ghost use Rattle.plan_basics.specs.Watched.{inner_of};
-ghost use Rattle.desk_commands.specs.Asked.{IsNoRequest, IsRequestAnswered, IsRequestShown};
-ghost use Rattle.desk_commands.specs.Statuses.{IsOfSurroundings};
+ghost use Rattle.desk_commands.specs.Asked.{IsRequestAnswered, IsRequestShown};
+ghost use Rattle.command_answers.specs.Given.{IsNoRequest};
+ghost use Rattle.command_answers.specs.Statuses.{IsOfSurroundings};
 ghost use Rattle.command_words.specs.Words.{text_given};
-ghost use Rattle.desk_commands.specs.declared.endings.Fault.{Fault};
+ghost use Rattle.command_answers.specs.declared.endings.Fault.{Fault};
 
-use crate::answers::{tell, tell_no_desk};
 use crate::databases::{Database, close_desk, stored_desk};
-use crate::endings::{Ending, Fault};
-use crate::given::request_of;
 use clap::ArgMatches;
+use command_answers::{Ending, Fault, request_of, tell, tell_no_desk};
 use command_words::value_of;
 use plan_basics::Watched;
 use plan_loads::Desk;

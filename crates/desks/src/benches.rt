@@ -23,25 +23,17 @@ impl<S: Alter + Drop> Model for Bench<S> {
 impl<S: Alter + Drop> Bench<S> {
     /// One that is made over a connection.
     pub fn created(alloc: Global, conn: Connection<S>) -> Result<Self, Refusal> {
-        if conn.is_autocommit() {
-            match Desk::create(alloc, conn) {
-                Ok(desk) => Ok(Bench { desk }),
-                Err((refusal, _)) => Err(refusal),
-            }
-        } else {
-            Err(Refusal::Store)
+        match Desk::create(alloc, conn) {
+            Ok(desk) => Ok(Bench { desk }),
+            Err((refusal, _)) => Err(refusal),
         }
     }
 
     /// The one that is opened over a connection.
     pub fn opened(alloc: Global, conn: Connection<S>) -> Result<Self, Refusal> {
-        if conn.is_autocommit() {
-            match Desk::open(alloc, conn) {
-                Ok(desk) => Ok(Bench { desk }),
-                Err((refusal, _)) => Err(refusal),
-            }
-        } else {
-            Err(Refusal::Store)
+        match Desk::open(alloc, conn) {
+            Ok(desk) => Ok(Bench { desk }),
+            Err((refusal, _)) => Err(refusal),
         }
     }
 

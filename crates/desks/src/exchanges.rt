@@ -1,14 +1,13 @@
 // What connections bring, and what is to come of them.
 use super::FAILED;
 use super::benches::Bench;
-use super::wire_texts::{NIGHT, accepted, post};
-use super::wires::{After, Paper, Pieces};
 use plan_basics::{OpKey, Watched};
 use plan_tables::OpView;
 use sqlite::MemStore;
 use status_rules::{Mark, Status};
 use std::alloc::Global;
 use tracker_http::{WireFault, serve_one};
+use wires::{After, NIGHT, Paper, Pieces, accepted, post};
 
 /// A connection: its whole input, of which a read gives at most so many bytes, and what the reader answers after it;
 /// how many calls the writer takes; the fault in which it is to end, if any; the reply, and whether it is to be written

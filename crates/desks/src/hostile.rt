@@ -1,11 +1,10 @@
 // Requests that fail a test of their form, and bodies that are no requests.
 use super::benches::Bench;
 use super::exchanges::{and_five, loaded, send};
-use super::wire_texts::{START, accepted, fault, post, reply};
-use super::wires::After;
 use sqlite::MemStore;
 use status_rules::{Mark, Status};
 use std::alloc::Global;
+use wires::{After, START, accepted, fault, post, reply};
 
 // A request, the status of its reply, and what its head has beside.
 type Head = (&'static str, &'static str, &'static str);

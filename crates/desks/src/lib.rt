@@ -19,8 +19,6 @@ mod reports;
 mod samples;
 mod stored;
 mod wire_faults;
-mod wire_texts;
-mod wires;
 mod written;
 
 pub use hostile::{
@@ -39,8 +37,7 @@ pub use reports::{
     a_report_cut_after_each_byte, a_start_is_reported_in_pieces, a_tick_of_an_operator,
 };
 pub use stored::{
-    name_of_a_table_is_taken, operation_in_error_is_handed_out,
-    tables_that_are_no_plans_are_not_opened, waiting_predecessors_are_stored,
+    name_of_a_table_is_taken, operation_in_error_is_handed_out, waiting_predecessors_are_stored,
 };
 pub use wire_faults::{a_reader_that_fails_at_each_read, a_writer_that_fails_at_each_write};
 pub use written::rows_that_are_written;

@@ -2,11 +2,10 @@
 use super::FAILED;
 use super::benches::Bench;
 use super::exchanges::{and_five, loaded, send};
-use super::wire_texts::{get, reply};
-use super::wires::After;
 use sqlite::MemStore;
 use status_rules::{Mark, Status};
 use std::alloc::Global;
+use wires::{After, get, reply};
 
 const SETP: &str =
     "[{\"duration\":10,\"held\":false,\"latest\":\"2024-03-02T02:59\",\"op\":\"PAYROLL/2024-03-01T22:00/005\",\"priority\":5,\"status\":\"A\"}]";

@@ -83,12 +83,8 @@ fn statements(alloc: Global, trackers: u32, text: &str) -> Result<String, AllocE
     Ok(sql)
 }
 
-/// The desk that is opened after a text has changed the tables of this one.
-pub fn changed(
-    alloc: Global,
-    bench: Bench<MemStore>,
-    sql: &str,
-) -> Result<Bench<MemStore>, Refusal> {
+// The desk that is opened after a text has changed the tables of this one.
+fn changed(alloc: Global, bench: Bench<MemStore>, sql: &str) -> Result<Bench<MemStore>, Refusal> {
     let mut conn = bench.close();
     match conn.execute_batch(sql) {
         Ok(_) => Bench::opened(alloc, conn),

@@ -1,11 +1,10 @@
 // The numbers of trackers, over connections.
 use super::benches::Bench;
 use super::exchanges::{and_five, loaded, send};
-use super::wire_texts::{Report, accepted, reply};
-use super::wires::After;
 use sqlite::MemStore;
 use status_rules::{Mark, Status};
 use std::alloc::Global;
+use wires::{After, Report, accepted, reply};
 
 // Reports of the first tracker: number, time, what is reported and of which operation; status, length and body of the
 // reply.

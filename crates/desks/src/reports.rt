@@ -2,11 +2,10 @@
 use super::FAILED;
 use super::benches::Bench;
 use super::exchanges::{Exchange, and_five, loaded, make_exchange, send};
-use super::wire_texts::{START, accepted, fault, post, reply};
-use super::wires::After;
 use sqlite::MemStore;
 use status_rules::{Mark, Status};
 use std::alloc::Global;
+use wires::{After, START, accepted, fault, post, reply};
 
 // The start is reported in pieces of so many bytes, and accepted.
 fn in_pieces(alloc: Global, bench: &mut Bench<MemStore>, most: usize) -> Option<()> {

@@ -1,7 +1,6 @@
 // What the tables of a desk hold, as SQL shows it, and what is made of tables that hold something else.
 use super::FAILED;
 use super::benches::Bench;
-use super::numbered::changed;
 use super::players::AtOnce;
 use nights::after;
 use plan_basics::Refusal;
@@ -86,38 +85,9 @@ pub fn operation_in_error_is_handed_out(alloc: Global) -> Result<(), &'static st
     }
 }
 
-// Changes of the tables, each of which damages them.
-const DAMAGES: &str = "UPDATE operation SET status = 'R' WHERE app = 'PAYROLL' AND num = 20
-UPDATE operation SET waiting = 0 WHERE app = 'PAYROLL' AND num = 30
-UPDATE operation SET latest = latest + 1 WHERE app = 'PAYROLL' AND num = 5
-UPDATE operation SET mark = 'none' WHERE app = 'PAYROLL' AND num = 5
-UPDATE operation SET held = 2 WHERE app = 'PAYROLL' AND num = 5
-UPDATE occurrence SET status = 'W' WHERE app = 'PAYROLL'
-UPDATE need SET mode = 'Y'
-UPDATE meta SET version = 2
-INSERT INTO meta (id, version, loaded, clock) VALUES (2, 1, 1, 0)";
-
 // Whether no desk is opened over these tables, since they are damaged.
 fn is_damaged(opened: Result<Bench<MemStore>, Refusal>) -> bool {
     matches!(opened, Err(Refusal::Damaged))
-}
-
-// Whether a change damages the tables of a night.
-fn is_damaging(alloc: Global, sql: &str) -> bool {
-    match after::<AtOnce>(alloc, "BILLS_IN", &[]) {
-        Ok(player) => is_damaged(changed(alloc, player.into_bench(), sql)),
-        Err(_) => false,
-    }
-}
-
-/// Tables that are no plan's.
-pub fn tables_that_are_no_plans_are_not_opened(alloc: Global) -> Result<(), &'static str> {
-    for sql in DAMAGES.lines() {
-        if !is_damaging(alloc, sql) {
-            return Err(sql);
-        }
-    }
-    Ok(())
 }
 
 // Whether no desk is made over a database that has a table of the name of one of the desk's.

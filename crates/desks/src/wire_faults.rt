@@ -1,12 +1,11 @@
 // Readers and writers that fail.
 use super::benches::Bench;
 use super::exchanges::{Exchange, and_five, loaded, make_exchange};
-use super::wire_texts::{START, accepted};
-use super::wires::After;
 use sqlite::MemStore;
 use status_rules::{Mark, Status};
 use std::alloc::Global;
 use tracker_http::WireFault;
+use wires::{After, START, accepted};
 
 // A reader's fault after the front of a report, of which a byte is read a call: it is told, and nothing is written.
 fn reader_fault(alloc: Global, bench: &mut Bench<MemStore>, front: &str) -> Option<()> {

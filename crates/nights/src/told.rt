@@ -5,8 +5,7 @@ use super::reasons::REASONS;
 use super::words::cut;
 use plan_basics::{Moment, OpKey};
 use plan_core::Plan;
-use plan_reasons::{Why, why};
-use reason_texts::why_text;
+use reason_texts::{why, why_text};
 use std::alloc::Global;
 
 // The operation and the moment of the first line of a text.
@@ -17,19 +16,17 @@ fn asked(text: &str) -> Option<(OpKey, Moment)> {
     Some((key, at))
 }
 
-// Whether this is the text of what is told, without the end of its last line.
-fn is_text(alloc: Global, key: &OpKey, at: Moment, why: &Why, told: &str) -> bool {
-    match why_text(alloc, key, at, why) {
-        Ok(text) => text.strip_suffix(b"\n") == Some(told.as_bytes()),
-        Err(_) => false,
-    }
+// The text in which a plan tells why an operation doesn't go on at a moment, if it does.
+fn text_of(alloc: Global, plan: &Plan, key: &OpKey, at: Moment) -> Option<Vec<u8>> {
+    let why = why(alloc, plan, key, at).ok()??;
+    why_text(alloc, key, at, &why).ok()
 }
 
-// Whether this is what a plan tells of an operation at a moment.
+// Whether this is what a plan tells of an operation at a moment, without the end of its last line.
 fn tells(alloc: Global, plan: &Plan, key: &OpKey, at: Moment, told: &str) -> bool {
-    match why(alloc, plan, key, at) {
-        Ok(Some(why)) => is_text(alloc, key, at, &why, told),
-        _ => false,
+    match text_of(alloc, plan, key, at) {
+        Some(text) => text.strip_suffix(b"\n") == Some(told.as_bytes()),
+        None => false,
     }
 }
 

@@ -27,7 +27,6 @@ use tracker_receipts::{Judged, Receipt, ReceiptRow, Receipts};
 /// It is refused as `Old`, `Gap` or `Reused` by its number and its text; a new one for the least number that applies,
 /// where `Limit` applies too if there is no room for its receipt; and as `Memory` for want of memory.
 pub fn prepare_numbered(
-    alloc: Global,
     plan: &mut Plan,
     receipts: &Receipts,
     tracker: &TrackerName,
@@ -41,6 +40,7 @@ pub fn prepare_numbered(
     ensures starts { IfOk result (IfNew (λ p. StartsAreProvided plan.old.plan request.now (accepted p.prepared.named) (plan_after plan.old p.prepared))) }
     ensures refused { IfErr result (λ r. (r ≡ Refusal.Memory) ⊎ NumberedStepOf plan.old.plan receipts.now (numbered_by tracker.now number text.now request.now) (refused r) plan.old.plan receipts.now) }
 {
+    let alloc = plan.alloc();
     match receipts.judge(tracker, number, text) {
         Judged::New => {}
         Judged::Again(named) => return Ok(Outcome::Again(Vec::from_slice(alloc, named)?)),

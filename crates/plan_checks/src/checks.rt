@@ -17,7 +17,7 @@ use super::commands::{
 };
 use super::dependencies::check_paired;
 use plan_basics::{Attr, Moment, OpKey, Refusal};
-use plan_figures::{Frame, Outline, Reported, Shown, check_start};
+use plan_figures::{Frame, Outline, Reported, Seen, Shown, check_start};
 use plan_records::{PlanDraft, What};
 use status_rules::{Mark, Status};
 use std::alloc::Global;
@@ -55,16 +55,12 @@ fn check_started(
             let operation = reported.operation;
             let taken = outline.given_out_at(operation);
             let beside = outline.beside();
-            let place = reported.place;
-            check_start(
-                &beside,
+            let seen = Seen {
                 key,
                 operation,
-                place,
-                &taken,
-                outline.holdings(),
-                at,
-            )
+                beside,
+            };
+            check_start(&seen, reported.place, &taken, outline.holdings(), at)
         }
         Attr::CompletionOnly | Attr::Nonreporting => Err(Refusal::WrongWorkstation),
     }

@@ -37,20 +37,16 @@ fn name_at(
     ensures refused { IfErr result (λ r. r ≡ Refusal.Memory) }
     ensures contents { shown.new.contents ≡ shown.old.contents }
 {
-    let Seen {
-        key,
-        operation,
-        beside,
-    } = shown.see(place);
-    let station = beside.workstation_place_near(operation, place);
+    let seen = shown.see(place);
+    let station = seen.beside.workstation_place_near(seen.operation, place);
     let taken = given[station];
-    if check_start(&beside, key, operation, place, &taken, holdings, at).is_err() {
+    if check_start(&seen, place, &taken, holdings, at).is_err() {
         return Ok(false);
     }
-    take_needs(holdings, key, operation)?;
-    let taken = with_operation(&taken, operation);
+    take_needs(holdings, seen.key, seen.operation)?;
+    let taken = with_operation(&taken, seen.operation);
     given[station] = taken;
-    shut[station] = is_shut(&beside.workstations()[station], at, &taken);
+    shut[station] = is_shut(&seen.beside.workstations()[station], at, &taken);
     Ok(true)
 }
 

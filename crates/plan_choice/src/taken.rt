@@ -12,7 +12,7 @@ ghost use Rattle.plan_choice.specs.Choices.{AreGivenOut, HasTaken, IsStartLine};
 ghost use Rattle.plan_choice.specs.Takings.{CanMeetNeed, CanMeetNeeds, CanStart, IsAtMost, MeetsLinesBelow, most_given_out, with_one_more};
 
 use plan_basics::{Attr, Moment, OpKey, Refusal, ResName};
-use shown_records::{Beside, Brief, OperationRecord, ValidContents, attribute_of};
+use shown_records::{Beside, Brief, OperationRecord, Seen, ValidContents, attribute_of};
 use special_resources::{Holdings, Need};
 use std::alloc::{AllocError, Global};
 use workstations::Capacity;
@@ -124,31 +124,31 @@ fn has_resources(
 /// `ResourceBusy` (a special resource isn't available, another operation holds it exclusively, or another holds it at all
 /// and the need is exclusive). Where the operation stands at this place, its workstation isn't searched for.
 pub fn check_start(
-    beside: &Beside<'_>,
-    key: &OpKey,
-    operation: &OperationRecord,
+    seen: &Seen<'_>,
     place: usize,
     taken: &Capacity,
     holdings: &Holdings,
     at: Moment,
 ) -> Result<(), Refusal>
-    requires { get beside.now.contents.now.operations key.now ≡ Some operation.now }
-    ensures ok { OnOk result ((P : Contents) → HasTaken P beside.now.contents.now operation.now taken.now holdings.now.held → CanStart P key.now operation.now at) }
+    requires { get seen.now.beside.contents.now.operations seen.now.key.now ≡ Some seen.now.operation.now }
+    ensures ok { OnOk result ((P : Contents) → HasTaken P seen.now.beside.contents.now seen.now.operation.now taken.now holdings.now.held → CanStart P seen.now.key.now seen.now.operation.now at) }
     ensures line { IfErr result IsStartLine }
-    ensures refused { IfErr result (λ r. (P : Contents) → HasTaken P beside.now.contents.now operation.now taken.now holdings.now.held → ¬ MayStart P key.now operation.now at r) }
-    ensures least { IfErr result (λ r. (P : Contents) → HasTaken P beside.now.contents.now operation.now taken.now holdings.now.held → MeetsLinesBelow P key.now operation.now at r) }
+    ensures refused { IfErr result (λ r. (P : Contents) → HasTaken P seen.now.beside.contents.now seen.now.operation.now taken.now holdings.now.held → ¬ MayStart P seen.now.key.now seen.now.operation.now at r) }
+    ensures least { IfErr result (λ r. (P : Contents) → HasTaken P seen.now.beside.contents.now seen.now.operation.now taken.now holdings.now.held → MeetsLinesBelow P seen.now.key.now seen.now.operation.now at r) }
 {
+    let operation = seen.operation;
     if operation.held {
         return Err(Refusal::Held);
     }
     if at.minute() < operation.not_before.minute() {
         return Err(Refusal::TooEarly);
     }
-    let workstation = beside
+    let workstation = seen
+        .beside
         .workstation_near(&operation.workstation, place)
         .unwrap();
     workstation.fits(at, taken, u32::from(operation.r1), u32::from(operation.r2))?;
-    if has_resources(beside, key, operation, holdings) {
+    if has_resources(&seen.beside, seen.key, operation, holdings) {
         Ok(())
     } else {
         Err(Refusal::ResourceBusy)

@@ -61,6 +61,13 @@ impl Plan {
         self.clock
     }
 
+    /// What memory is taken from.
+    pub fn alloc(&self) -> Global
+        ensures sound { IsSoundPlan self.now.plan }
+    {
+        self.alloc
+    }
+
     // The moment of a request, which lies in range and not before the plan's clock; else the refusal that applies.
     fn moment_of(&self, request: &Request) -> Result<Moment, Refusal>
         ensures at { IfOk result (λ m. request.now.at ≡ pos m) }

@@ -36,7 +36,6 @@ pub mod RowsListed
 pub mod RowsTold
 pub mod Running
 pub mod Runs
-pub mod Schedules
 pub mod Single
 pub mod Sorted
 pub mod Sorting

@@ -12,7 +12,6 @@ ghost use Rattle.plan_basics.specs.declared.Refusal.{Refusal};
 ghost use Rattle.plan_basics.specs.declared.keys.OpKey.{OpKey};
 ghost use Rattle.plan_records.specs.plan_model.specs.Plan.{no_plan, IsSoundPlan};
 ghost use Rattle.plan_records.specs.plan_model.specs.Contents.{Contents, Operation, Pairs, IsPairOf, Precedes};
-ghost use Rattle.plan_records.specs.Schedules.{EverySchedule};
 ghost use Rattle.std.specs.FinSet as set;
 ghost use Rattle.plan_records.specs.workstations.specs.Workstations.{Workstation};
 ghost use Rattle.plan_records.specs.status_rules.specs.declared.Preds.{Preds};
@@ -104,12 +103,6 @@ pub fn reached_starts_are_provided_for()
 /// A pair that is added closes a path exactly where its ends are one, or a path leads back from second to first.
 pub fn pair_closes_a_path()
     ensures { (pairs : Pairs) → (p : OpKey) → (s : OpKey) → IsAcyclic pairs → IsAcyclic (set.insert pairs (p, s)) ↔ ((p ≢ s) × ¬ LeadsBy (IsPairOf pairs) s p) }
-{}
-
-/// Whatever calls are made, and wherever they are stopped: what is stored is what a run leaves over the calls that were
-/// answered accepted and some of the stopped, and no opening finds it damaged.
-pub fn every_schedule()
-    ensures { EverySchedule }
 {}
 
 /// A request has one answer at most, and this leaves one plan: a plan and a request determine both. So it is with a

@@ -4,7 +4,7 @@ use Rattle.std.proofs.lemmas.Bool.{true≢false, false≢true}
 use Rattle.std.specs.List.{list_any}
 use Rattle.sqlite.specs.Effect.{Database}
 use Rattle.sqlite.specs.Schema.{Schema}
-use Rattle.sqlite.specs.State.{State as StoreState}
+use Rattle.sqlite.specs.State.{State as StoreState, HasCleanDisk}
 use Rattle.plan_tables.specs.table_rows.specs.Tables.{no_schema}
 use Rattle.plan_basics.specs.declared.Refusal.{Refusal}
 use Rattle.plan_basics.specs.declared.Refusal.TheVariants as refusal
@@ -17,6 +17,7 @@ use Rattle.plan_records.specs.declared.Request.{Request}
 use Rattle.plan_tables.specs.plan_schema.specs.Schema.{schema_9}
 use Rattle.plan_tables.specs.Desk.{HasTables, HoldsNoState, HoldsState, IsClean, usability}
 use Rattle.plan_tables.specs.Faults.{IsOpeningRefusal}
+use Rattle.plan_tables.specs.Shut.{IsOpenAfter, may_have_shut}
 use Rattle.plan_loads.specs.Databases.{HasNoTable, HasSchema, IsAnswerToLoad, IsDamaged, IsStateAt, load_request}
 
 -- what is found of a schema that has no table
@@ -37,11 +38,11 @@ module _ (old new : StoreState) where
   }
 
   -- that of a desk that was opened
-  pub opened_state : ¬ HasNoTable old.now.schema → OnlyReads old new → (s : State) → (IsClean new → HasTables new → HoldsState s new.committed) → IsStateAt old new s
-  opened_state some reads s holds = record {
+  pub opened_state : ¬ HasNoTable old.now.schema → OnlyReads old new → (s : State) → (HasCleanDisk new → IsTrue new.is_open) → (HasCleanDisk new → HasTables new → HoldsState s new.committed) → IsStateAt old new s
+  opened_state some reads s is_open holds = record {
     made = λ none. absurd (some none);
     opened = λ clean has.
-        let same = (reads.kept clean.0).committed clean.1 in
+        let same = (reads.kept clean).committed (is_open clean) in
         subst (HoldsState s) same (holds clean (ap (λ (db : Database). db.schema) same ∙ has.1));
   }
 
@@ -76,31 +77,40 @@ refused_step X s t q v r h = inr (subst (λ X. Step s.plan q (refused r) X) h.0.
 module _ (old mid new : StoreState) (s t : State) (at : ℤ) (draft : Option Contents) (u v : Bool)
     (found : IsStateAt old mid s)
     (in_use : u ≡ true)
-    (made : IsClean mid → HasSchema old no_schema → HoldsState empty_state mid.committed)
-    (opened : IsClean mid → HasSchema old schema_9 → mid.committed ≡ old.committed)
-    (clean_before : IsClean new → IsClean mid) where
+    (is_open : HasCleanDisk mid → IsTrue mid.is_open)
+    (made : HasCleanDisk mid → HasSchema old no_schema → HoldsState empty_state mid.committed)
+    (opened : HasCleanDisk mid → HasSchema old schema_9 → mid.committed ≡ old.committed)
+    (late : HasCleanDisk new → HasCleanDisk mid) where
   state_kept : IsStateAt old new s
-  state_kept = record { made = found.made; opened = λ clean. found.opened (clean_before clean) }
+  state_kept = record { made = found.made; opened = λ clean. found.opened (late clean) }
 
-  has_tables : IsClean new → HasSchema old schema_9 ⊎ HasSchema old no_schema → HasTables mid
-  has_tables clean (inl has) = ap (λ (db : Database). db.schema) (opened (clean_before clean) has) ∙ has.1
-  has_tables clean (inr none) = (made (clean_before clean) none).stores.schema_is
+  has_tables : HasCleanDisk mid → HasSchema old schema_9 ⊎ HasSchema old no_schema → HasTables mid
+  has_tables clean (inl has) = ap (λ (db : Database). db.schema) (opened clean has) ∙ has.1
+  has_tables clean (inr none) = (made clean none).stores.schema_is
 
   load_of : (x : Answer) → Answers s usable (plain (load_request at draft)) x t (usability v)
-      → (IsClean new → HasTables mid → HoldsState t new.committed)
-      → (IsClean new → (r : Refusal) → x ≡ refused r → new.committed ≡ mid.committed)
+      → (HasCleanDisk new → IsTrue mid.is_open → may_have_shut x ≡ false → IsTrue new.is_open)
+      → (HasCleanDisk new → IsTrue mid.is_open → IsOpenAfter x new → HasTables mid → HoldsState t new.committed)
+      → (HasCleanDisk new → (r : Refusal) → x ≡ refused r → IsOpenAfter (refused r) new → new.committed ≡ mid.committed)
       → IsAnswerToLoad old new at draft x
-  load_of (accepted named) answers holds kept = (s, t, state_kept, answers.0, λ clean has. holds clean (has_tables clean has))
-  load_of (refused r) answers holds kept = (
+  load_of (accepted named) answers stays holds kept = (
+    s,
+    t,
+    state_kept,
+    answers.0,
+    λ clean has. let was = is_open (late clean) in (stays clean was refl, holds clean was (λ shut. absurd (false≢true shut)) (has_tables (late clean) has)),
+  )
+  load_of (refused r) answers stays holds kept = (
     elim (refused_step (IsClean new → IsDamaged old) s t (load_request at draft) v r answers) [
       | inl why ↦ inl why
       | inr step ↦ inr (s, state_kept, step)
     ],
-    λ clean has. kept clean r refl ∙ opened (clean_before clean) has,
+    λ clean has. kept clean.0 r refl (λ _. clean.1) ∙ opened (late clean.0) has,
   )
 
   pub load_answered : (x : Answer) → Answers s (usability u) (plain (load_request at draft)) x t (usability v)
-      → (IsClean new → HasTables mid → HoldsState t new.committed)
-      → (IsClean new → (r : Refusal) → x ≡ refused r → new.committed ≡ mid.committed)
+      → (HasCleanDisk new → IsTrue mid.is_open → may_have_shut x ≡ false → IsTrue new.is_open)
+      → (HasCleanDisk new → IsTrue mid.is_open → IsOpenAfter x new → HasTables mid → HoldsState t new.committed)
+      → (HasCleanDisk new → (r : Refusal) → x ≡ refused r → IsOpenAfter (refused r) new → new.committed ≡ mid.committed)
       → IsAnswerToLoad old new at draft x
   load_answered x answers = load_of x (subst (λ b. Answers s (usability b) (plain (load_request at draft)) x t (usability v)) in_use answers)

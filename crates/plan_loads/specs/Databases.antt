@@ -1,8 +1,8 @@
 -- The desk of a database, and what it answers to the load of a text's plan.
-use Rattle.std.specs.Prelude.{◌≡◌, ◌⊎◌, ℤ, false, [], Option, is_some}
+use Rattle.std.specs.Prelude.{◌≡◌, ◌⊎◌, ℤ, false, [], Option, IsTrue, is_some}
 use Rattle.std.specs.List.{list_any}
 use Rattle.sqlite.specs.Schema.{Schema}
-use Rattle.sqlite.specs.State.{State as StoreState}
+use Rattle.sqlite.specs.State.{State as StoreState, HasCleanDisk}
 use Rattle.plan_basics.specs.declared.Refusal.TheVariants as refusal
 use Rattle.plan_tables.specs.table_rows.specs.Tables.{no_schema}
 use Rattle.plan_tables.specs.plan_model.specs.Contents.{Contents}
@@ -25,7 +25,7 @@ HasSchema s schema = (s.now.schema ≡ schema) × (s.committed.schema ≡ schema
 -- the plan and the receipts at the desk of a database: neither is there where the database had no table; where it had a desk's tables, they hold their rows
 pub record IsStateAt (old new : StoreState) (s : State) : Type 0 where
   pub made : HasNoTable old.now.schema → s ≡ empty_state
-  pub opened : IsClean new → HasSchema old schema_9 → HoldsState s old.committed
+  pub opened : HasCleanDisk new → HasSchema old schema_9 → HoldsState s old.committed
 
 -- what `Damaged` tells of a database: it has tables, and where they are those of a desk, they hold no state of one
 abbrev pub IsDamaged : StoreState → Type 0
@@ -35,11 +35,11 @@ IsDamaged s = ¬ HasSchema s no_schema × (HasSchema s schema_9 → HoldsNoState
 abbrev pub load_request : ℤ → Option Contents → Request
 load_request at draft = record { at = at; what = Load draft }
 
--- the load of a draft at a minute is answered as at the plan of the database's desk, and where it is accepted the tables hold the plan after it; or the tables are no plan's, which is told of such tables alone, memory lacks, or the store failed. What is refused leaves a desk's tables as they were
+-- the load of a draft at a minute is answered as at the plan of the database's desk, and where it is accepted the store is open and the tables hold the plan after it; or the tables are no plan's, which is told of such tables alone, memory lacks, or the store failed. What is refused leaves a desk's tables as they were, where the store is open
 abbrev pub IsAnswerToLoad : StoreState → StoreState → ℤ → Option Contents → Answer → Type 0
 IsAnswerToLoad old new at draft (accepted named) =
     (before : State) × (after : State) × IsStateAt old new before × CallStep before (plain (load_request at draft)) (accepted named) after
-    × (IsClean new → HasSchema old schema_9 ⊎ HasSchema old no_schema → HoldsState after new.committed)
+    × (HasCleanDisk new → HasSchema old schema_9 ⊎ HasSchema old no_schema → IsTrue new.is_open × HoldsState after new.committed)
 IsAnswerToLoad old new at draft (refused r) =
     ((IsOpeningRefusal r × (r ≡ refusal.Damaged → IsClean new → IsDamaged old)) ⊎ ((before : State) × IsStateAt old new before × CallStep before (plain (load_request at draft)) (refused r) before))
     × (IsClean new → HasSchema old schema_9 → new.committed ≡ old.committed)

@@ -1,7 +1,8 @@
 // The desk of a database, and what it answers to a load.
-ghost use Rattle.std.specs.Prelude.{◌≡◌, ◌↔◌, true, false, is_some, IsTrue, IfOk, IfErr};
+ghost use Rattle.std.specs.Prelude.{◌≡◌, ◌↔◌, true, is_some, IsTrue, IfOk, IfErr};
 ghost use Rattle.std.specs.List.{list_any};
 ghost use Rattle.sqlite.specs.Held.{state};
+ghost use Rattle.sqlite.specs.State.{HasCleanDisk};
 ghost use Rattle.plan_basics.specs.declared.Refusal.{Refusal};
 ghost use Rattle.plan_records.specs.Answer.{answer_of};
 ghost use Rattle.plan_records.specs.Run.{empty_state};
@@ -38,11 +39,11 @@ fn desk_of<S: Alter + Drop>(
     alloc: Global,
     conn: Connection<S>,
 ) -> Result<Desk<S>, (Refusal, Connection<S>)>
-    requires { conn.in_transaction ≡ false }
     ensures state { IfOk result (λ desk. IsStateAt (state S.Store conn) (state S.Store desk.conn) (state_of desk)) }
     ensures usable { IfOk result (λ desk. desk.is_usable ≡ true) }
-    ensures made { IfOk result (λ desk. IsClean (state S.Store desk.conn) → HasSchema (state S.Store conn) no_schema → HoldsState empty_state (state S.Store desk.conn).committed) }
-    ensures opened { IfOk result (λ desk. IsClean (state S.Store desk.conn) → HasSchema (state S.Store conn) schema_9 → (state S.Store desk.conn).committed ≡ (state S.Store conn).committed) }
+    ensures is_open { IfOk result (λ desk. HasCleanDisk (state S.Store desk.conn) → IsTrue (state S.Store desk.conn).is_open) }
+    ensures made { IfOk result (λ desk. HasCleanDisk (state S.Store desk.conn) → HasSchema (state S.Store conn) no_schema → HoldsState empty_state (state S.Store desk.conn).committed) }
+    ensures opened { IfOk result (λ desk. HasCleanDisk (state S.Store desk.conn) → HasSchema (state S.Store conn) schema_9 → (state S.Store desk.conn).committed ≡ (state S.Store conn).committed) }
     ensures refused { IfErr result (λ e. IsOpeningRefusal e.0) }
     ensures damaged { IfErr result (λ e. e.0 ≡ Refusal.Damaged → IsClean (state S.Store e.1) → IsDamaged (state S.Store conn)) }
     ensures unchanged { IfErr result (λ e. IsClean (state S.Store e.1) → (state S.Store e.1).committed ≡ (state S.Store conn).committed) }
@@ -55,17 +56,17 @@ fn desk_of<S: Alter + Drop>(
 }
 
 /// Loads the plan of a text, if it denotes one, into the desk of a database at a moment: the desk is made where the
-/// database has no table, else opened. The caller owes that no transaction is open.
+/// database has no table, else opened.
 ///
 /// The answer is the desk's, or the refusal of the one that could not be made or opened: `Damaged` where the database
-/// has tables that aren't a desk's with a plan's rows. The connection is given back.
+/// has tables that aren't a desk's with a plan's rows, `Store` where a transaction is open on the connection. The
+/// connection is given back.
 pub fn load_into<S: Alter + Drop>(
     alloc: Global,
     conn: Connection<S>,
     at: i64,
     draft: Option<PlanDraft>,
 ) -> (Reply, Connection<S>)
-    requires { conn.in_transaction ≡ false }
     ensures { IsAnswerToLoad (state S.Store conn) (state S.Store result.1) at draft (answer_of result.0) }
 {
     let mut desk = match desk_of(alloc, conn) {

@@ -1,5 +1,5 @@
 // The rows of a plan and of receipts that all tables hold.
-ghost use Rattle.std.specs.Prelude.{◌≡◌, false, true, IfErr, IfOk, IsErrOf, IsTrue, MatchBool, MatchOption, OnOk};
+ghost use Rattle.std.specs.Prelude.{◌≡◌, false, true, IfErr, IfOk, IsErrOf, IsTrue, MatchBool, MatchOption, None, OnOk};
 ghost use Rattle.sqlite.specs.Held.{state};
 ghost use Rattle.sqlite.specs.State.{HasCleanDisk, IsLive, IsUnchanged};
 ghost use Rattle.sqlite.specs.declared.error.Error.TheVariants.{SqliteFailure};
@@ -67,6 +67,7 @@ fn read_tables<S: Alter>(
     ensures idle { conn.old.in_transaction ≡ false → conn.new.in_transaction ≡ false }
     ensures reads { OnlyReads (state S.Store conn.old) (state S.Store conn.new) }
     ensures same { HasCleanDisk (state S.Store conn.new) → OnOk result (ShowsSame (state S.Store conn.old) (state S.Store conn.new)) }
+    ensures is_open { HasCleanDisk (state S.Store conn.new) → IfOk result (λ found. found ≡ None → IsTrue (state S.Store conn.new).is_open) }
     ensures rows { HasCleanDisk (state S.Store conn.new) → IsLive (state S.Store conn.old) → (state S.Store conn.old).now.schema ≡ schema_9 → IfOk result (λ found. MatchOption found (HasOtherRow (state S.Store conn.old).now.trees) (λ rows. AreRead tables.now (state S.Store conn.old).now.trees rows.items)) }
     ensures understood { HasCleanDisk (state S.Store conn.new) → (state S.Store conn.old).now.schema ≡ schema_9 → IfErr result IsNotOfTables }
 {
@@ -105,6 +106,7 @@ fn read_all<S: Alter>(
 ) -> Result<Option<StoredTables>, Error>
     ensures idle { conn.old.in_transaction ≡ false → conn.new.in_transaction ≡ false }
     ensures reads { OnlyReads (state S.Store conn.old) (state S.Store conn.new) }
+    ensures is_open { HasCleanDisk (state S.Store conn.new) → OnOk result (IsTrue (state S.Store conn.new).is_open) }
     ensures rows { HasCleanDisk (state S.Store conn.new) → IsLive (state S.Store conn.old) → (state S.Store conn.old).now.schema ≡ schema_9 → IfOk result (λ found. MatchOption found (HasOtherRow (state S.Store conn.old).now.trees) (λ tables. AreRead all_tables (state S.Store conn.old).now.trees tables.rows.items × AreReceiptsRead (state S.Store conn.old).now.trees tables.receipts.items)) }
     ensures understood { HasCleanDisk (state S.Store conn.new) → (state S.Store conn.old).now.schema ≡ schema_9 → IfErr result IsNotOfTables }
 {
@@ -128,17 +130,19 @@ fn has_meta<S: Alter>(conn: &Connection<S>) -> bool
 /// Reads all tables: the rows of a plan that they hold, each once, and those of receipts, no two of one tracker; or
 /// `None` where they hold a row that is no plan's and no receipt's.
 ///
-/// Nothing is written, and what was committed stays. Refused as `TransactionState` in a transaction; as
-/// `SqlInputError` where a table or a column lacks; as `DatabaseCorrupt` where a table's rowids don't rise, which no
-/// sound store shows; as `OutOfMemory` for want of memory; and for a fault of the store. What is answered holds where
-/// the tables are those that a plan has.
+/// Nothing is written, and what was committed stays. Where rows or `None` are answered, the store is open. Refused as
+/// `TransactionState` in a transaction; as `SqlInputError` where a table or a column lacks; as `DatabaseCorrupt` where a
+/// table's rowids don't rise, which no sound store shows; as `OutOfMemory` for want of memory; and for a fault of the
+/// store. What is answered holds where the tables are those that a plan has.
 pub fn read_rows<S: Alter>(
     alloc: Global,
     conn: &mut Connection<S>,
 ) -> Result<Option<StoredTables>, Error>
     ensures idle { conn.old.in_transaction ≡ false → conn.new.in_transaction ≡ false }
     ensures busy { conn.old.in_transaction ≡ true → IsErrOf result (SqliteFailure TransactionState) }
+    ensures live { conn.old.in_transaction ≡ false → IsLive (state S.Store conn.old) }
     ensures reads { OnlyReads (state S.Store conn.old) (state S.Store conn.new) }
+    ensures is_open { HasCleanDisk (state S.Store conn.new) → OnOk result (IsTrue (state S.Store conn.new).is_open) }
     ensures rows { HasCleanDisk (state S.Store conn.new) → IsTrue (state S.Store conn.new).is_open → (state S.Store conn.new).committed.schema ≡ schema_9 → IfOk result (λ found. MatchOption found (HasOtherRow (state S.Store conn.new).committed.trees) (λ tables. StoresEach tables.rows.items tables.receipts.items (state S.Store conn.new).committed)) }
     ensures understood { HasCleanDisk (state S.Store conn.new) → IsTrue (state S.Store conn.new).is_open → (state S.Store conn.new).committed.schema ≡ schema_9 → IfErr result IsNotOfTables }
 {

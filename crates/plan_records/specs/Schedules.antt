@@ -6,7 +6,7 @@ use Rattle.plan_drafts.specs.plan_model.specs.Plan.{IsSoundPlan}
 use Rattle.plan_records.specs.Answer.{Answer}
 use Rattle.plan_records.specs.Answer.{accepted, refused}
 use Rattle.plan_records.specs.Receipts.{AreReceipts}
-use Rattle.plan_records.specs.Run.{State, Call, CallStep, Usable, usable, to_be_reopened, Answers, Run, empty_state}
+use Rattle.plan_records.specs.Run.{State, Call, CallStep, Usable, usable, to_be_reopened, Answers, empty_state}
 
 -- what an opening answers: a desk with this plan and these receipts; that the tables are no plan's; or nothing, for want of memory, by a fault or by a stop
 pub data Opened : Type 0 where
@@ -61,9 +61,3 @@ pub data IsWithin : List Event → List Call → List Answer → Type 0 where
   was_out : {c : Call} {d : Option Usable} {events : List Event} {calls : List Call} {replies : List Answer} → IsWithin events calls replies → IsWithin (stopped c d ∷ events) calls replies
   between : {events : List Event} {calls : List Call} {replies : List Answer} → IsWithin events calls replies → IsWithin (stop ∷ events) calls replies
   opened : {x : Opened} {events : List Event} {calls : List Call} {replies : List Answer} → IsWithin events calls replies → IsWithin (opening x ∷ events) calls replies
-
--- what is stored is what a run over such calls leaves, and an opening doesn't find it damaged
-abbrev pub EverySchedule : Type 0
-EverySchedule =
-    (events : List Event) (w : World) → Schedule created events w
-    → IsDeskState w.stored × ((calls : List Call) × (replies : List Answer) × Run empty_state usable calls replies w.stored usable × IsWithin events calls replies)

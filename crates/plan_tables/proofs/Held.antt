@@ -24,6 +24,7 @@ use Rattle.plan_records.specs.Step.{Numbered as NumberedRequest, NumberedMayBeAc
 use Rattle.plan_reads.specs.plan_schema.specs.Stored.{Held, Stores, Turns}
 use Rattle.plan_tables.specs.Calls.{change_of, named_by, state_after, IsPreparedAt}
 use Rattle.plan_tables.specs.Desk.{DeskState, HasTables, HoldsState, IsKept, IsStepCommitted, state_of}
+use Rattle.plan_tables.specs.Stops.{MayCommitStep}
 use Rattle.plan_tables.specs.declared.calls.PreparedCall.{PreparedCall}
 use Rattle.plan_tables.specs.declared.calls.PreparedCall.TheVariants.{Plain, Numbered}
 use Rattle.plan_writes.specs.Within.{Begins, IsCommitted, IsUndone, LeavesMade, Rewrites, first_held}
@@ -57,11 +58,11 @@ module _ (s t : State) (change : Held → Held) (carries : Carries s t change) w
 
     module _ (c : Call) (named : List OpKey) (step : CallStep s c (accepted named) t) where
       -- and where a crash leaves the changes made
-      pub step_left : (trees : Trees) → IsTrue old.is_open → HoldsState s old.committed → LeavesMade (Rewrites change) old trees → IsStepCommitted s c trees
-      step_left trees is_open h left = (t, named, step, left.0, step_held old.committed left.0 (left.1 is_open).turns h, left.2)
+      step_left : (trees : Trees) → IsTrue old.is_open → HoldsState s old.committed → LeavesMade (Rewrites change) old trees → IsStepCommitted s c trees
+      step_left trees is_open h left = (t, named, step, (left.0, step_held old.committed left.0 (left.1 is_open).turns h, left.2))
 
       -- so a crash leaves what there was, or the tables after this step
-      pub step_survives : (new : StoreState) → (HasCleanDisk old → IsTrue old.is_open × HoldsState s old.committed) → Survives old new (LeavesMade (Rewrites change) old) → Survives old new (IsStepCommitted s c)
+      pub step_survives : (new : StoreState) → (HasCleanDisk old → IsTrue old.is_open → HasTables old → HoldsState s old.committed) → Survives old new (LeavesMade (Rewrites change) old) → Survives old new (MayCommitStep old s c)
       step_survives new held survives = record {
         clean = survives.clean;
         shield = survives.shield;
@@ -70,7 +71,7 @@ module _ (s t : State) (change : Held → Held) (carries : Carries s t change) w
         closes = survives.closes;
         crash = λ clean trees may. elim (survives.crash clean trees may) [
           | inl was ↦ inl was
-          | inr left ↦ inr (let was = held (omega (arith, clean, survives.clean)) in step_left trees was.0 was.1 left)
+          | inr left ↦ inr (λ is_open has. step_left trees is_open (held (omega (arith, clean, survives.clean)) is_open has) left)
         ];
       }
 

@@ -4,3 +4,4 @@ pub mod Answered
 pub mod Running
 pub mod InRange
 pub mod Opened
+pub mod Stopped

@@ -90,7 +90,7 @@ state_opened s rows receipts db is h = record {
 }
 
 -- what tables of a state hold, as rows of a plan and columns of receipts
-as_stored : (s : State) (db : Database) → HoldsState s db → StoresRows (IsRow s.plan) (IsRowIn s.receipts) db
+pub as_stored : (s : State) (db : Database) → HoldsState s db → StoresRows (IsRow s.plan) (IsRowIn s.receipts) db
 as_stored s db h = record { held = h.held; stores = h.stores; rows = h.rows; receipts = (hold_receipts s.receipts h.held).1 h.receipts }
 
 -- where the rows are those of no state, the tables hold none

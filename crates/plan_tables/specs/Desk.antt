@@ -70,9 +70,13 @@ pub record IsKept {S : Type 0} (g : Ghosts S) (d : DeskState S) : Type 0 where
   pub idle : d.conn.in_transaction ≡ false
   pub tables : IsClean (state g d.conn) → HasTables (state g d.conn) → HoldsState (state_of d) (state g d.conn).committed
 
+-- these are the trees of a database that holds the rows of this state, and no others
+abbrev pub TreesHold : State → Trees → Type 0
+TreesHold s trees = (db : Database) × HoldsState s db × (trees ≡ db.trees)
+
 -- these are the tables after some accepted step of this state by this call: the plan's and the receipts' together
 abbrev pub IsStepCommitted : State → Call → Trees → Type 0
-IsStepCommitted s c trees = (t : State) × (named : List OpKey) × CallStep s c (accepted named) t × (db : Database) × HoldsState t db × (trees ≡ db.trees)
+IsStepCommitted s c trees = (t : State) × (named : List OpKey) × CallStep s c (accepted named) t × TreesHold t trees
 
 -- a call that was prepared is carried out: these keys are named, and the desk has that plan and those receipts; or memory lacked, or the store failed, and both are as they were, and after a fault of the store the desk carries out nothing
 abbrev pub IsCarriedOut : {S : Type 0} → DeskState S → List OpKey → State → Answer → DeskState S → Type 0

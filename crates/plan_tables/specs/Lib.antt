@@ -1,3 +1,4 @@
+pub use Rattle.desk_schedules
 pub use Rattle.numbered_steps.specs.plan_core
 pub use Rattle.plan_writes.specs.plan_drafts
 pub use Rattle.numbered_steps.specs.plan_laws
@@ -13,3 +14,5 @@ pub mod Opening
 pub mod Faults
 pub mod Errors
 pub mod Runs
+pub mod Shut
+pub mod Stops

@@ -1,20 +1,22 @@
 // The desk: its plan and the receipts of trackers, and the store in which their rows stand.
-ghost use Rattle.std.specs.Prelude.{◌≡◌, ◌≢◌, true, false, IfOk, IfErr, IsTrue};
+ghost use Rattle.std.specs.Prelude.{◌≡◌, ◌≢◌, true, false, IfOk, IfErr, IsTrue, None, Some};
 ghost use Rattle.std.specs.FinMap.{get};
 ghost use Rattle.sqlite.specs.Held.{state};
-ghost use Rattle.sqlite.specs.State.{Survives};
+ghost use Rattle.sqlite.specs.State.{HasCleanDisk, Survives};
 ghost use Rattle.plan_reads.specs.table_rows.specs.Tables.{no_schema};
 ghost use Rattle.plan_basics.specs.declared.Refusal.{Refusal};
 ghost use Rattle.numbered_steps.specs.plan_core.specs.Provided.{StartsAreProvided};
 ghost use Rattle.plan_reads.specs.Reads.{OnlyReads};
 ghost use Rattle.plan_records.specs.Answer.{answer_of, refused};
-ghost use Rattle.plan_records.specs.Run.{Answers, empty_state, numbered, plain};
-ghost use Rattle.plan_records.specs.Schedules.{IsDeskState};
+ghost use Rattle.plan_records.specs.Run.{Answers, State, empty_state, numbered, plain};
+ghost use Rattle.plan_records.specs.Schedules.{found, nothing, opening, stopped, IsDeskState};
 ghost use Rattle.plan_records.specs.Step.{AnswersAgain};
 ghost use Rattle.plan_tables.specs.Calls.{change_of, named_by, state_after, IsPreparedAt};
-ghost use Rattle.plan_tables.specs.Desk.{state_of, usability, IsCarriedOut, IsClean, HasTables, HoldsNoState, HoldsState, IsStepCommitted};
+ghost use Rattle.plan_tables.specs.Desk.{state_of, usability, IsCarriedOut, IsClean, HasTables, HoldsNoState, HoldsState, TreesHold};
 ghost use Rattle.plan_tables.specs.Errors.{AreErrorRows};
 ghost use Rattle.plan_tables.specs.Faults.{IsOpeningRefusal};
+ghost use Rattle.plan_tables.specs.Shut.{may_have_shut, IsOpenAfter};
+ghost use Rattle.plan_tables.specs.Stops.{connection_after, AreLeftBy, AreLeftByMaking, MayCommitStep, StopsLeave};
 ghost use Rattle.plan_writes.specs.Within.{LeavesMade, Rewrites};
 ghost use Rattle.tracker_receipts.specs.Judging.{numbered_by};
 
@@ -57,23 +59,30 @@ impl<S: Alter + Drop> Model for Desk<S> {
 
 impl<S: Alter + Drop> Desk<S> {
     /// Makes the nine tables in a database that has none of them, and a desk over it at which nothing is loaded and no
-    /// receipt is kept. The caller owes that no transaction is open.
+    /// receipt is kept.
     ///
     /// Refused as `Damaged` where one of the tables' names is taken, and never in a database that has no table, no index
-    /// and no view; as `Memory` for want of memory, as `Store` for any other fault of the store. The connection is given
-    /// back, and the store holds what it held.
+    /// and no view; as `Memory` for want of memory, as `Store` where a transaction is open on the connection and for any
+    /// other fault of the store. The connection is given back, and the store holds what it held.
+    ///
+    /// Where the disk returns what was written, the store of the desk is open (`is_open`). A stop at any moment of it, of a
+    /// store that was open and had no table, leaves what there was, or the tables of such a desk (`stops`).
     pub fn create(
         alloc: Global,
         mut conn: Connection<S>,
     ) -> Result<Desk<S>, (Refusal, Connection<S>)>
-        requires { conn.in_transaction ≡ false }
         ensures empty { IfOk result (λ desk. state_of desk ≡ empty_state) }
         ensures usable { IfOk result (λ desk. desk.is_usable ≡ true) }
-        ensures tables { IfOk result (λ desk. IsClean (state S.Store desk.conn) → (state S.Store conn).committed.schema ≡ no_schema → HoldsState empty_state (state S.Store desk.conn).committed) }
+        ensures is_open { IfOk result (λ desk. HasCleanDisk (state S.Store desk.conn) → IsTrue (state S.Store desk.conn).is_open) }
+        ensures tables { IfOk result (λ desk. HasCleanDisk (state S.Store desk.conn) → (state S.Store conn).committed.schema ≡ no_schema → HoldsState empty_state (state S.Store desk.conn).committed) }
         ensures refused { IfErr result (λ e. IsOpeningRefusal e.0) }
         ensures damaged { IfErr result (λ e. e.0 ≡ Refusal.Damaged → IsClean (state S.Store e.1) → (state S.Store conn).committed.schema ≢ no_schema) }
         ensures unchanged { IfErr result (λ e. IsClean (state S.Store e.1) → (state S.Store e.1).committed ≡ (state S.Store conn).committed) }
+        ensures stops { IsTrue (state S.Store conn).is_open → (state S.Store conn).committed.schema ≡ no_schema → StopsLeave (state S.Store (connection_after result)) (AreLeftByMaking (state S.Store conn).committed.trees) }
     {
+        if !conn.is_autocommit() {
+            return Err((Refusal::Store, conn));
+        }
         let receipts = match Receipts::new(alloc) {
             Ok(receipts) => receipts,
             Err(AllocError) => return Err((Refusal::Memory, conn)),
@@ -91,22 +100,32 @@ impl<S: Alter + Drop> Desk<S> {
     }
 
     /// Opens the desk whose tables a database holds: its plan and its receipts are the sound plan and the well formed
-    /// receipts that have just their rows. The caller owes that no transaction is open.
+    /// receipts that have just their rows.
     ///
     /// Refused as `Damaged` where the tables hold the rows of no such plan and receipts: each column is compared, those too
     /// that follow from others, as a status or a latest start; no receipt is kept before a plan is loaded; and a table that
-    /// lacks is no plan's. As `Memory` for want of memory, as `Store` for any other fault of the store. Nothing is written,
-    /// and where it is refused the connection is given back.
+    /// lacks is no plan's. As `Memory` for want of memory, as `Store` where a transaction is open on the connection and for
+    /// any other fault of the store. Nothing is written, and where it is refused the connection is given back.
+    ///
+    /// Where the disk returns what was written, the store of the desk is open (`is_open`). Of trees that a desk, or a stop
+    /// at one, left, it finds just the state that they hold (`found`), and doesn't find them damaged (`undamaged`). A stop
+    /// at any moment of it leaves what there was (`stops`).
     pub fn open(alloc: Global, mut conn: Connection<S>) -> Result<Desk<S>, (Refusal, Connection<S>)>
-        requires { conn.in_transaction ≡ false }
         ensures sound { IfOk result (λ desk. IsDeskState (state_of desk)) }
         ensures usable { IfOk result (λ desk. desk.is_usable ≡ true) }
-        ensures tables { IfOk result (λ desk. IsClean (state S.Store desk.conn) → HasTables (state S.Store desk.conn) → HoldsState (state_of desk) (state S.Store desk.conn).committed) }
+        ensures is_open { IfOk result (λ desk. HasCleanDisk (state S.Store desk.conn) → IsTrue (state S.Store desk.conn).is_open) }
+        ensures tables { IfOk result (λ desk. HasCleanDisk (state S.Store desk.conn) → HasTables (state S.Store desk.conn) → HoldsState (state_of desk) (state S.Store desk.conn).committed) }
         ensures reads { IfOk result (λ desk. OnlyReads (state S.Store conn) (state S.Store desk.conn)) }
         ensures refused { IfErr result (λ e. IsOpeningRefusal e.0) }
         ensures damaged { IfErr result (λ e. e.0 ≡ Refusal.Damaged → IsClean (state S.Store e.1) → HasTables (state S.Store e.1) → HoldsNoState (state S.Store e.1).committed) }
         ensures unchanged { IfErr result (λ e. OnlyReads (state S.Store conn) (state S.Store e.1)) }
+        ensures found { IfOk result (λ desk. HasCleanDisk (state S.Store desk.conn) → (s : State) → IsDeskState s → TreesHold s (state S.Store conn).committed.trees → HasTables (state S.Store desk.conn) × AreLeftBy s None (opening (found (state_of desk))) (state S.Store desk.conn).committed.trees) }
+        ensures undamaged { IfErr result (λ e. e.0 ≡ Refusal.Damaged → IsClean (state S.Store e.1) → (s : State) → IsDeskState s → ¬ TreesHold s (state S.Store conn).committed.trees) }
+        ensures stops { IsTrue (state S.Store conn).is_open → (s : State) → TreesHold s (state S.Store conn).committed.trees → StopsLeave (state S.Store (connection_after result)) (AreLeftBy s None (opening nothing)) }
     {
+        if !conn.is_autocommit() {
+            return Err((Refusal::Store, conn));
+        }
         let (plan, receipts) = match stored_state(alloc, &mut conn) {
             Ok(found) => found,
             Err(refusal) => return Err((refusal, conn)),
@@ -170,9 +189,11 @@ impl<S: Alter + Drop> Desk<S> {
         requires usable { self.old.is_usable ≡ true }
         ensures reply { IsCarriedOut self.old (named_by call) (state_after (state_of self.old) call) (answer_of result) self.new }
         ensures clean { IsClean (state S.Store self.new.conn) → IsClean (state S.Store self.old.conn) }
-        ensures tables { IsClean (state S.Store self.new.conn) → HasTables (state S.Store self.old.conn) → HoldsState (state_of self.new) (state S.Store self.new.conn).committed }
-        ensures refused { IsClean (state S.Store self.new.conn) → (r : Refusal) → answer_of result ≡ refused r → (state S.Store self.new.conn).committed ≡ (state S.Store self.old.conn).committed }
-        ensures stops { Survives (state S.Store self.old.conn) (state S.Store self.new.conn) (LeavesMade (Rewrites (change_of call)) (state S.Store self.old.conn)) }
+        ensures is_open { HasCleanDisk (state S.Store self.new.conn) → may_have_shut (answer_of result) ≡ false → IsTrue (state S.Store self.new.conn).is_open }
+        ensures tables { HasCleanDisk (state S.Store self.new.conn) → IsOpenAfter (answer_of result) (state S.Store self.new.conn) → HasTables (state S.Store self.old.conn) → HoldsState (state_of self.new) (state S.Store self.new.conn).committed }
+        ensures refused { HasCleanDisk (state S.Store self.new.conn) → (r : Refusal) → answer_of result ≡ refused r → IsOpenAfter (refused r) (state S.Store self.new.conn) → (state S.Store self.new.conn).committed ≡ (state S.Store self.old.conn).committed }
+        ensures failed { (r : Refusal) → answer_of result ≡ refused r → IsTrue (may_have_shut (refused r)) }
+        ensures survives { Survives (state S.Store self.old.conn) (state S.Store self.new.conn) (LeavesMade (Rewrites (change_of call)) (state S.Store self.old.conn)) }
     {
         match write_call(&mut self.conn, &call) {
             Ok(()) => Reply::Accepted {
@@ -180,9 +201,9 @@ impl<S: Alter + Drop> Desk<S> {
             },
             Err(error) => match request_refusal(&error) {
                 Refusal::Memory => Reply::Refused(Refusal::Memory),
-                refusal => {
+                _ => {
                     self.is_usable = false;
-                    Reply::Refused(refusal)
+                    Reply::Refused(Refusal::Store)
                 }
             },
         }
@@ -192,17 +213,23 @@ impl<S: Alter + Drop> Desk<S> {
     /// neither. It is refused as `Reopen` after a fault of the store, else for the least number that applies; as `Memory`
     /// for want of memory, as `Store` for any other fault of the store.
     ///
-    /// Where the store is clean after it, the tables hold the rows of the plan and the receipts and no others (`tables`). A
-    /// stop at any moment of it, of a store that is open, leaves what there was, or the tables after an accepted step by it
-    /// (`stops`).
+    /// Where the disk returns what was written and the store was open, the tables hold the rows of the plan and the receipts
+    /// and no others (`tables`), and the store is open (`is_open`): after each answer but `Memory` and `Store`, and after
+    /// those where it is open all the same. Any other refusal leaves the connection as it was (`untouched`).
+    ///
+    /// A stop at any moment of it, of a store that is open, leaves what there was, or the tables after an accepted step by
+    /// it (`stops`).
     pub fn call(&mut self, request: &Request) -> Reply
         ensures answers { Answers (state_of self.old) (usability self.old.is_usable) (plain request.now) (answer_of result) (state_of self.new) (usability self.new.is_usable) }
         ensures sound { IsDeskState (state_of self.new) }
         ensures starts { StartsAreProvided self.old.plan request.now (answer_of result) self.new.plan }
         ensures clean { IsClean (state S.Store self.new.conn) → IsClean (state S.Store self.old.conn) }
-        ensures tables { IsClean (state S.Store self.new.conn) → HasTables (state S.Store self.old.conn) → HoldsState (state_of self.new) (state S.Store self.new.conn).committed }
-        ensures refused { IsClean (state S.Store self.new.conn) → (r : Refusal) → answer_of result ≡ refused r → (state S.Store self.new.conn).committed ≡ (state S.Store self.old.conn).committed }
-        ensures stops { IsTrue (state S.Store self.old.conn).is_open → HasTables (state S.Store self.old.conn) → Survives (state S.Store self.old.conn) (state S.Store self.new.conn) (IsStepCommitted (state_of self.old) (plain request.now)) }
+        ensures is_open { HasCleanDisk (state S.Store self.new.conn) → IsTrue (state S.Store self.old.conn).is_open → may_have_shut (answer_of result) ≡ false → IsTrue (state S.Store self.new.conn).is_open }
+        ensures tables { HasCleanDisk (state S.Store self.new.conn) → IsTrue (state S.Store self.old.conn).is_open → IsOpenAfter (answer_of result) (state S.Store self.new.conn) → HasTables (state S.Store self.old.conn) → HoldsState (state_of self.new) (state S.Store self.new.conn).committed }
+        ensures refused { HasCleanDisk (state S.Store self.new.conn) → (r : Refusal) → answer_of result ≡ refused r → IsOpenAfter (refused r) (state S.Store self.new.conn) → (state S.Store self.new.conn).committed ≡ (state S.Store self.old.conn).committed }
+        ensures untouched { (r : Refusal) → answer_of result ≡ refused r → may_have_shut (refused r) ≡ false → self.new.conn ≡ self.old.conn }
+        ensures survives { Survives (state S.Store self.old.conn) (state S.Store self.new.conn) (MayCommitStep (state S.Store self.old.conn) (state_of self.old) (plain request.now)) }
+        ensures stops { IsTrue (state S.Store self.old.conn).is_open → HasTables (state S.Store self.old.conn) → StopsLeave (state S.Store self.new.conn) (AreLeftBy (state_of self.old) (Some (usability self.old.is_usable)) (stopped (plain request.now) None)) }
     {
         if !self.is_usable {
             return Reply::Refused(Refusal::Reopen);
@@ -235,17 +262,18 @@ impl<S: Alter + Drop> Desk<S> {
         ensures sound { IsDeskState (state_of self.new) }
         ensures starts { StartsAreProvided self.old.plan request.now (answer_of result) self.new.plan }
         ensures clean { IsClean (state S.Store self.new.conn) → IsClean (state S.Store self.old.conn) }
-        ensures tables { IsClean (state S.Store self.new.conn) → HasTables (state S.Store self.old.conn) → HoldsState (state_of self.new) (state S.Store self.new.conn).committed }
-        ensures refused { IsClean (state S.Store self.new.conn) → (r : Refusal) → answer_of result ≡ refused r → (state S.Store self.new.conn).committed ≡ (state S.Store self.old.conn).committed }
+        ensures is_open { HasCleanDisk (state S.Store self.new.conn) → IsTrue (state S.Store self.old.conn).is_open → may_have_shut (answer_of result) ≡ false → IsTrue (state S.Store self.new.conn).is_open }
+        ensures tables { HasCleanDisk (state S.Store self.new.conn) → IsTrue (state S.Store self.old.conn).is_open → IsOpenAfter (answer_of result) (state S.Store self.new.conn) → HasTables (state S.Store self.old.conn) → HoldsState (state_of self.new) (state S.Store self.new.conn).committed }
+        ensures refused { HasCleanDisk (state S.Store self.new.conn) → (r : Refusal) → answer_of result ≡ refused r → IsOpenAfter (refused r) (state S.Store self.new.conn) → (state S.Store self.new.conn).committed ≡ (state S.Store self.old.conn).committed }
+        ensures untouched { (r : Refusal) → answer_of result ≡ refused r → may_have_shut (refused r) ≡ false → self.new.conn ≡ self.old.conn }
         ensures again { AnswersAgain (get self.old.receipts tracker.now) (numbered_by tracker.now number text.now request.now) (answer_of result) → self.new ≡ self.old }
-        ensures stops { IsTrue (state S.Store self.old.conn).is_open → HasTables (state S.Store self.old.conn) → Survives (state S.Store self.old.conn) (state S.Store self.new.conn) (IsStepCommitted (state_of self.old) (numbered (numbered_by tracker.now number text.now request.now))) }
+        ensures survives { Survives (state S.Store self.old.conn) (state S.Store self.new.conn) (MayCommitStep (state S.Store self.old.conn) (state_of self.old) (numbered (numbered_by tracker.now number text.now request.now))) }
+        ensures stops { IsTrue (state S.Store self.old.conn).is_open → HasTables (state S.Store self.old.conn) → StopsLeave (state S.Store self.new.conn) (AreLeftBy (state_of self.old) (Some (usability self.old.is_usable)) (stopped (numbered (numbered_by tracker.now number text.now request.now)) None)) }
     {
         if !self.is_usable {
             return Reply::Refused(Refusal::Reopen);
         }
-        let alloc = self.alloc;
         match prepare_numbered(
-            alloc,
             &mut self.plan,
             &self.receipts,
             tracker,

@@ -15,6 +15,7 @@ mod runs;
 mod writing;
 
 pub use desk::Desk;
+pub use desk_schedules::every_schedule;
 pub use errors::{ErrorRow, ErrorRows};
 pub use numbered_steps::{OccView, Occs, OpView, Ops, Plan, Ready};
 pub use runs::run_all;

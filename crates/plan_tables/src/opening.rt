@@ -1,6 +1,7 @@
 // The plan and the receipts whose rows the tables hold.
-ghost use Rattle.std.specs.Prelude.{◌≡◌, false, IfErr, IfOk, MatchOption};
+ghost use Rattle.std.specs.Prelude.{◌≡◌, false, IfErr, IfOk, IsTrue, MatchOption, OnOk};
 ghost use Rattle.sqlite.specs.Held.{state};
+ghost use Rattle.sqlite.specs.State.{HasCleanDisk, IsLive};
 ghost use Rattle.plan_basics.specs.declared.Refusal.{Refusal};
 ghost use Rattle.plan_reads.specs.Reads.{OnlyReads};
 ghost use Rattle.plan_reads.specs.Tables.{StoresEach};
@@ -23,7 +24,9 @@ use tracker_receipts::{ReceiptRow, Receipts, receipts_of};
 // The rows that the tables hold. Refused as `Damaged` where one of theirs is no row of a plan or of receipts.
 fn kept_tables<S: Alter>(alloc: Global, conn: &mut Connection<S>) -> Result<StoredTables, Refusal>
     ensures idle { conn.old.in_transaction ≡ false → conn.new.in_transaction ≡ false }
+    ensures live { conn.old.in_transaction ≡ false → IsLive (state S.Store conn.old) }
     ensures reads { OnlyReads (state S.Store conn.old) (state S.Store conn.new) }
+    ensures is_open { HasCleanDisk (state S.Store conn.new) → OnOk result (IsTrue (state S.Store conn.new).is_open) }
     ensures rows { IfOk result (λ tables. IsClean (state S.Store conn.new) → HasTables (state S.Store conn.new) → StoresEach tables.rows.items tables.receipts.items (state S.Store conn.new).committed) }
     ensures refused { IfErr result IsOpeningRefusal }
     ensures damaged { IfErr result (λ r. r ≡ Refusal.Damaged → IsClean (state S.Store conn.new) → HasTables (state S.Store conn.new) → HoldsNoState (state S.Store conn.new).committed) }
@@ -79,7 +82,9 @@ pub fn stored_state<S: Alter>(
     conn: &mut Connection<S>,
 ) -> Result<(Plan, Receipts), Refusal>
     ensures idle { conn.old.in_transaction ≡ false → conn.new.in_transaction ≡ false }
+    ensures live { conn.old.in_transaction ≡ false → IsLive (state S.Store conn.old) }
     ensures reads { OnlyReads (state S.Store conn.old) (state S.Store conn.new) }
+    ensures is_open { HasCleanDisk (state S.Store conn.new) → OnOk result (IsTrue (state S.Store conn.new).is_open) }
     ensures sound { IfOk result (λ found. IsDeskState (record { plan = found.0.plan; receipts = found.1 })) }
     ensures tables { IfOk result (λ found. IsClean (state S.Store conn.new) → HasTables (state S.Store conn.new) → HoldsState (record { plan = found.0.plan; receipts = found.1 }) (state S.Store conn.new).committed) }
     ensures refused { IfErr result IsOpeningRefusal }

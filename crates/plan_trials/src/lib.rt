@@ -5,20 +5,20 @@
 ghost use Rattle.std.specs.Prelude.{◌≡◌, ◌⊎◌, pos, IfErr, IfOk, OnOk};
 ghost use Rattle.plan_basics.specs.Refusals.{NoneRefuses};
 ghost use Rattle.plan_basics.specs.declared.Refusal.{Refusal};
-ghost use Rattle.plan_core.specs.plan_model.specs.Plan.{Plan, no_plan};
-ghost use Rattle.plan_core.specs.plan_model.specs.Ready.{IsChosen};
+ghost use Rattle.plan_drafts.specs.plan_model.specs.Plan.{Plan, no_plan};
+ghost use Rattle.plan_drafts.specs.plan_model.specs.Ready.{IsChosen};
 ghost use Rattle.plan_records.specs.Acceptance.{MayBeAccepted};
 ghost use Rattle.plan_records.specs.Answer.{accepted, answer_of, refused};
 ghost use Rattle.plan_records.specs.Step.{Step};
-ghost use Rattle.plan_core.specs.plan_drafts.specs.Drafts.{IsDraft};
-ghost use Rattle.plan_core.specs.plan_drafts.specs.PlanGraphs.{IsGraphFor};
-ghost use Rattle.plan_core.specs.plan_figures.specs.Afresh.{IsWorkedOut};
+ghost use Rattle.plan_drafts.specs.Drafts.{IsDraft};
+ghost use Rattle.plan_drafts.specs.PlanGraphs.{IsGraphFor};
+ghost use Rattle.plan_outcomes.specs.plan_figures.specs.Afresh.{IsWorkedOut};
 ghost use Rattle.plan_trials.specs.Trials.{IsAnswerAlone, load_at};
 
 use operation_graph::Graph;
 use plan_basics::{Moment, OpKey, Refusal};
-use plan_core::{Shown, WorkedOut, check_load, chosen_with, worked_out};
 use plan_drafts::DraftParts;
+use plan_outcomes::{Shown, WorkedOut, check_load, chosen_with, worked_out};
 use plan_records::{PlanDraft, Reply};
 use plan_status::SoundContents;
 use record_permits::granted;
@@ -115,7 +115,7 @@ fn named_alone(alloc: Global, at: i64, draft: Option<PlanDraft>) -> Result<Vec<O
 }
 
 /// What an empty plan answers to the load of a draft at a minute, `None` for a text that denotes none: as it does by
-/// `Plan::prepare` and `Plan::apply`, but no plan is left.
+/// `Plan::prepare` and `Plan::apply`, and as an empty desk does by `Desk::call`, but no plan is left.
 pub fn answer_alone(alloc: Global, at: i64, draft: Option<PlanDraft>) -> Reply
     ensures { IsAnswerAlone at draft (answer_of result) }
 {

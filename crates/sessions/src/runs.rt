@@ -1,7 +1,7 @@
 // Runs: what goes to both streams, and the exit status.
 use super::FAILED;
 use super::folders::{is_absent, removed, session_folder};
-use desk_commands::desk_run;
+use desk_runs::desk_run;
 use plan_basics::Watched;
 use sqlite::Connection;
 use std::fmt::Write;

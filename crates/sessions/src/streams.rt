@@ -1,7 +1,7 @@
 // Streams that fail.
 use super::folders::{removed, session_folder};
 use super::runs::words_in;
-use desk_commands::desk_run;
+use desk_runs::desk_run;
 use plan_basics::Watched;
 use std::io;
 use std::io::Write;

@@ -108,11 +108,6 @@ fn operation_in_error_is_handed_out(rt: HostRuntime) -> Result<(), &'static str>
 }
 
 #[test]
-fn tables_that_are_no_plans_are_not_opened(rt: HostRuntime) -> Result<(), &'static str> {
-    desks::tables_that_are_no_plans_are_not_opened(rt.alloc())
-}
-
-#[test]
 fn waiting_predecessors_are_stored(rt: HostRuntime) -> Result<(), &'static str> {
     desks::waiting_predecessors_are_stored(rt.alloc())
 }

@@ -10,6 +10,8 @@ mod night_plays;
 #[cfg(test)]
 mod session_plays;
 #[cfg(test)]
+mod stop_plays;
+#[cfg(test)]
 mod text_plays;
 
 fn main() {}

@@ -16,22 +16,22 @@ pub keeps_itself : (known : Option (List ℕ)) → Keeps known known
 keeps_itself None = tt
 keeps_itself (Some bytes) = refl
 
-module _ (known : Option (List ℕ)) (s t : Seen) (x : Told) where
+module _ (Stays : Told → Type 0) (known : Option (List ℕ)) (s t : Seen) (x : Told) (stays : Stays x) where
   -- the bytes of what is told are those of an exchange
   pub replied : (IsSo : List ℕ → Type 0) (bytes : List ℕ)
       → IfSome known (λ input. (found : Result Asked Rejection) × Answers input found × Replies found s x t)
-      → bytes ≡ reply_of x → IsSo bytes → Exchanges known s t IsSo
+      → bytes ≡ reply_of x → IsSo bytes → Exchanges Stays known s t IsSo
   replied IsSo bytes told is so = by known told
     where
-      by : (o : Option (List ℕ)) → IfSome o (λ input. (found : Result Asked Rejection) × Answers input found × Replies found s x t) → Exchanges o s t IsSo
+      by : (o : Option (List ℕ)) → IfSome o (λ input. (found : Result Asked Rejection) × Answers input found × Replies found s x t) → Exchanges Stays o s t IsSo
       by None h = tt
-      by (Some input) h = (bytes, (h.0, x, h.1, h.2, is), so)
+      by (Some input) h = (bytes, (h.0, x, h.1, h.2, is, stays), so)
 
   -- the reply was sent: whole, or up to a fault of the writer
   pub ends_sent : {U : Type 0} (r : Result U WireFault) (old new : Option (List ℕ)) (bytes : List ℕ)
       → IfSome known (λ input. (found : Result Asked Rejection) × Answers input found × Replies found s x t)
       → bytes ≡ reply_of x → OnOk r (Appends old new bytes) → AppendsBeginning old new bytes → IfErr r (λ f. f ≡ fault.Writer)
-      → Ends r known s t old new
+      → Ends Stays r known s t old new
   ends_sent (Ok u) old new bytes told is whole beginning is_writer = replied (Appends old new) bytes told is whole
   ends_sent (Err fault.Writer) old new bytes told is whole beginning is_writer = replied (AppendsBeginning old new) bytes told is beginning
   ends_sent (Err fault.Reader) old new bytes told is whole beginning is_writer = absurd cc
@@ -40,7 +40,7 @@ module _ (known : Option (List ℕ)) (s t : Seen) (x : Told) where
   -- there was no memory for the reply: nothing is written
   pub ends_unsent : {U : Type 0} (r : Result U WireFault) (old new : Option (List ℕ))
       → IfSome known (λ input. (found : Result Asked Rejection) × Answers input found × Replies found s x t)
-      → r ≡ Err fault.Memory → Keeps old new → Ends r known s t old new
+      → r ≡ Err fault.Memory → Keeps old new → Ends Stays r known s t old new
   ends_unsent (Ok u) old new told is keeps = absurd cc
   ends_unsent (Err fault.Writer) old new told is keeps = absurd cc
   ends_unsent (Err fault.Reader) old new told is keeps = absurd cc

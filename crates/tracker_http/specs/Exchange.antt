@@ -1,6 +1,7 @@
 -- An exchange: from the bytes of a connection and a desk to the bytes of the reply and the desk after it.
-use Rattle.std.specs.Prelude.{◌≡◌, ◌⊎◌, ℕ, List, Option, IfSome, Result, Ok, Err}
+use Rattle.std.specs.Prelude.{◌≡◌, ◌⊎◌, ℕ, Bool, false, List, Option, IfSome, IsTrue, Result, Ok, Err}
 use Rattle.std.specs.Io.KnownBytes.{Keeps, Appends}
+use Rattle.sqlite.specs.State.{State as StoreState, HasCleanDisk}
 use Rattle.exchange_heads.specs.Tests.{status_of as status_of_test}
 use Rattle.exchange_heads.specs.Tests as head
 use Rattle.exchange_heads.specs.declared.asking.Asked.{Asked}
@@ -13,6 +14,7 @@ use Rattle.plan_records.specs.Run.{State, Call, plain, numbered, Usable}
 use Rattle.plan_records.specs.Run as run
 use Rattle.plan_records.specs.declared.Request.{Request}
 use Rattle.plan_tables.specs.Desk.{DeskState, state_of, usability}
+use Rattle.plan_tables.specs.Shut.{may_have_shut}
 use Rattle.request_texts.specs.Requests.{ReadsAsRequest, ReadsAsReport}
 use Rattle.request_texts.specs.declared.NumberedRequest.{NumberedRequest}
 use Rattle.request_texts.specs.declared.WireFault.TheVariants as fault
@@ -68,21 +70,30 @@ abbrev pub Replies : Result Asked Rejection → Seen → Told → Seen → Type 
 Replies (Ok a) s x t = Tells a s x t
 Replies (Err test) s x t = (x ≡ told.Fault (status_of_test test)) × (t ≡ s)
 
--- the input of a connection leads to this output, and from this state of the desk to that one
-abbrev pub Exchange : List ℕ → Seen → List ℕ → Seen → Type 0
-Exchange input s output t = (found : Result Asked Rejection) × (x : Told) × head.Answers input found × Replies found s x t × (output ≡ reply_of x)
+-- what is told may have shut the store: an answer of the desk that may have
+abbrev pub told_may_have_shut : Told → Bool
+told_may_have_shut (told.Answer reply) = may_have_shut (answer_of reply)
+told_may_have_shut _ = false
+
+-- where the disk has returned what was written, a store that was open is, unless what is told may have shut it
+abbrev pub StaysOpen : StoreState → StoreState → Told → Type 0
+StaysOpen old new x = HasCleanDisk new → IsTrue old.is_open → told_may_have_shut x ≡ false → IsTrue new.is_open
+
+-- the input of a connection leads to this output, and from this state of the desk to that one; and of what is told this is so
+abbrev pub Exchange : (Told → Type 0) → List ℕ → Seen → List ℕ → Seen → Type 0
+Exchange IsSo input s output t = (found : Result Asked Rejection) × (x : Told) × head.Answers input found × Replies found s x t × (output ≡ reply_of x) × IsSo x
 
 -- where the input is known: it leads to an output of which this is so, and from this state of the desk to that one
-abbrev pub Exchanges : Option (List ℕ) → Seen → Seen → (List ℕ → Type 0) → Type 0
-Exchanges known s t IsSo = IfSome known (λ input. (output : List ℕ) × Exchange input s output t × IsSo output)
+abbrev pub Exchanges : (Told → Type 0) → Option (List ℕ) → Seen → Seen → (List ℕ → Type 0) → Type 0
+Exchanges IsSo known s t IsWritten = IfSome known (λ input. (output : List ℕ) × Exchange IsSo input s output t × IsWritten output)
 
--- how an exchange ends: by what the reader held, the desk before and after, and the writer's bytes before and after
-abbrev pub Ends : {U : Type 0} → Result U WireFault → Option (List ℕ) → Seen → Seen → Option (List ℕ) → Option (List ℕ) → Type 0
+-- how an exchange ends: by what the reader held, the desk before and after, and the writer's bytes before and after; of what is told this is so
+abbrev pub Ends : {U : Type 0} → (Told → Type 0) → Result U WireFault → Option (List ℕ) → Seen → Seen → Option (List ℕ) → Option (List ℕ) → Type 0
 -- the whole reply is written
-Ends (Ok _) known s t old new = Exchanges known s t (Appends old new)
+Ends IsSo (Ok _) known s t old new = Exchanges IsSo known s t (Appends old new)
 -- nothing is written, and nothing changes
-Ends (Err fault.Reader) known s t old new = (t ≡ s) × Keeps old new
+Ends IsSo (Err fault.Reader) known s t old new = (t ≡ s) × Keeps old new
 -- a beginning of the reply is written, and the request acted as the reply says
-Ends (Err fault.Writer) known s t old new = Exchanges known s t (AppendsBeginning old new)
+Ends IsSo (Err fault.Writer) known s t old new = Exchanges IsSo known s t (AppendsBeginning old new)
 -- nothing is written; the request acted as some reply says, or nothing changes
-Ends (Err fault.Memory) known s t old new = Keeps old new × ((t ≡ s) ⊎ Exchanges known s t (λ _. Unit {0}))
+Ends IsSo (Err fault.Memory) known s t old new = Keeps old new × ((t ≡ s) ⊎ Exchanges IsSo known s t (λ _. Unit {0}))

@@ -1,6 +1,9 @@
 // What the desk is asked, and what it tells.
-ghost use Rattle.std.specs.Prelude.{◌≡◌, IfOk, IfErr, OnErr};
-ghost use Rattle.tracker_http.specs.Exchange.{seen, TellsReport, TellsOperator, Tells};
+ghost use Rattle.std.specs.Prelude.{◌≡◌, IfOk, IfErr, OnErr, ⊤};
+ghost use Rattle.sqlite.specs.Held.{state};
+ghost use Rattle.sqlite.specs.State.{Survives};
+ghost use Rattle.plan_tables.specs.Desk.{state_of, HoldsState, IsClean};
+ghost use Rattle.tracker_http.specs.Exchange.{seen, StaysOpen, TellsReport, TellsOperator, Tells};
 
 use super::lists::{tell_occurrences, tell_ready};
 use super::told::Told;
@@ -18,6 +21,10 @@ fn tell_report<S: Alter + Drop>(
 ) -> Result<Told, WireFault>
     ensures told { IfOk result (λ told. TellsReport body.now (seen desk.old) told (seen desk.new)) }
     ensures memory { IfErr result (λ fault. fault ≡ WireFault.Memory) }
+    ensures stays_open { IfOk result (StaysOpen (state S.Store desk.old.conn) (state S.Store desk.new.conn)) }
+    ensures tables { HoldsState (state_of desk.old) (state S.Store desk.old.conn).committed → IsClean (state S.Store desk.new.conn) → HoldsState (state_of desk.new) (state S.Store desk.new.conn).committed }
+    ensures clean { IsClean (state S.Store desk.new.conn) → IsClean (state S.Store desk.old.conn) }
+    ensures survives { Survives (state S.Store desk.old.conn) (state S.Store desk.new.conn) (λ _. ⊤) }
     ensures unchanged { OnErr result (desk.new ≡ desk.old) }
 {
     let Some(report) = read_report(alloc, body)? else {
@@ -35,6 +42,10 @@ fn tell_operator<S: Alter + Drop>(
 ) -> Result<Told, WireFault>
     ensures told { IfOk result (λ told. TellsOperator body.now (seen desk.old) told (seen desk.new)) }
     ensures memory { IfErr result (λ fault. fault ≡ WireFault.Memory) }
+    ensures stays_open { IfOk result (StaysOpen (state S.Store desk.old.conn) (state S.Store desk.new.conn)) }
+    ensures tables { HoldsState (state_of desk.old) (state S.Store desk.old.conn).committed → IsClean (state S.Store desk.new.conn) → HoldsState (state_of desk.new) (state S.Store desk.new.conn).committed }
+    ensures clean { IsClean (state S.Store desk.new.conn) → IsClean (state S.Store desk.old.conn) }
+    ensures survives { Survives (state S.Store desk.old.conn) (state S.Store desk.new.conn) (λ _. ⊤) }
     ensures unchanged { OnErr result (desk.new ≡ desk.old) }
 {
     let Some(request) = read_operator(alloc, body)? else {
@@ -51,6 +62,10 @@ pub(crate) fn tell<S: Alter + Drop>(
 ) -> Result<Told, WireFault>
     ensures told { IfOk result (λ told. Tells asked.now (seen desk.old) told (seen desk.new)) }
     ensures memory { IfErr result (λ fault. fault ≡ WireFault.Memory) }
+    ensures stays_open { IfOk result (StaysOpen (state S.Store desk.old.conn) (state S.Store desk.new.conn)) }
+    ensures tables { HoldsState (state_of desk.old) (state S.Store desk.old.conn).committed → IsClean (state S.Store desk.new.conn) → HoldsState (state_of desk.new) (state S.Store desk.new.conn).committed }
+    ensures clean { IsClean (state S.Store desk.new.conn) → IsClean (state S.Store desk.old.conn) }
+    ensures survives { Survives (state S.Store desk.old.conn) (state S.Store desk.new.conn) (λ _. ⊤) }
     ensures unchanged { OnErr result (desk.new ≡ desk.old) }
 {
     match asked {

@@ -1,11 +1,14 @@
 // One exchange: a request is read, the desk answers it, the reply is written.
-ghost use Rattle.std.specs.Prelude.{◌≡◌, ◌↔◌, ◌⊎◌, Err, true, false, IfOk, IfErr, OnOk, OnErr, IfSome, Result};
+ghost use Rattle.std.specs.Prelude.{◌≡◌, ◌↔◌, ◌⊎◌, Err, true, false, IfOk, IfErr, OnOk, OnErr, IfSome, Result, ⊤};
+ghost use Rattle.sqlite.specs.Held.{state};
+ghost use Rattle.sqlite.specs.State.{Survives};
+ghost use Rattle.plan_tables.specs.Desk.{state_of, HoldsState, IsClean};
 ghost use Rattle.std.specs.Io.KnownBytes.{Appends};
 ghost use Rattle.exchange_heads.specs.Tests.{Answers};
 ghost use Rattle.exchange_heads.specs.declared.asking.Asked.{Asked};
 ghost use Rattle.exchange_heads.specs.declared.asking.Rejection.{Rejection};
 ghost use Rattle.plan_basics.specs.Watched.{inner_of, failed_of, AppendsBeginning};
-ghost use Rattle.tracker_http.specs.Exchange.{seen, Replies, Ends};
+ghost use Rattle.tracker_http.specs.Exchange.{seen, Replies, Ends, StaysOpen};
 
 use super::asking::tell;
 use super::told::Told;
@@ -27,6 +30,10 @@ fn told_to<R: Read, S: Alter + Drop>(
         (λ input. (found : Result Asked Rejection) × Answers input found × Replies found (seen desk.old) told (seen desk.new))) }
     ensures reader_fault { (result ≡ Err WireFault.Reader) ↔ (failed_of reader.new ≡ true) }
     ensures others { IfErr result (λ fault. (fault ≡ WireFault.Reader) ⊎ (fault ≡ WireFault.Memory)) }
+    ensures stays_open { IfOk result (StaysOpen (state S.Store desk.old.conn) (state S.Store desk.new.conn)) }
+    ensures tables { HoldsState (state_of desk.old) (state S.Store desk.old.conn).committed → IsClean (state S.Store desk.new.conn) → HoldsState (state_of desk.new) (state S.Store desk.new.conn).committed }
+    ensures clean { IsClean (state S.Store desk.new.conn) → IsClean (state S.Store desk.old.conn) }
+    ensures survives { Survives (state S.Store desk.old.conn) (state S.Store desk.new.conn) (λ _. ⊤) }
     ensures unchanged { OnErr result (desk.new ≡ desk.old) }
 {
     match read_exchange(alloc, reader) {
@@ -59,13 +66,20 @@ fn send<W: Write>(writer: &mut Watched<W>, reply: &[u8]) -> Result<(), WireFault
 /// `Reader` where the reader answered a fault: nothing is written, and nothing changes. `Writer` where the writer did:
 /// a beginning of the reply is written, and the request acted as the reply says. `Memory` for want of memory: nothing
 /// is written, and the request may have acted, which a tracker learns by repeating it.
+///
+/// Where the tables held what the desk holds and the store is clean afterwards, they hold what the desk holds then
+/// (`tables`). Where the disk returns what was written, a store that was open is, unless the reply is `Memory` or `Store`
+/// (`ends`).
 pub fn serve_one<R: Read, W: Write, S: Alter + Drop>(
     alloc: Global,
     reader: &mut Watched<R>,
     writer: &mut Watched<W>,
     desk: &mut Desk<S>,
 ) -> Result<(), WireFault>
-    ensures ends { Ends result (R.remaining (inner_of reader.old)) (seen desk.old) (seen desk.new) (W.contents (inner_of writer.old)) (W.contents (inner_of writer.new)) }
+    ensures ends { Ends (StaysOpen (state S.Store desk.old.conn) (state S.Store desk.new.conn)) result (R.remaining (inner_of reader.old)) (seen desk.old) (seen desk.new) (W.contents (inner_of writer.old)) (W.contents (inner_of writer.new)) }
+    ensures tables { HoldsState (state_of desk.old) (state S.Store desk.old.conn).committed → IsClean (state S.Store desk.new.conn) → HoldsState (state_of desk.new) (state S.Store desk.new.conn).committed }
+    ensures clean { IsClean (state S.Store desk.new.conn) → IsClean (state S.Store desk.old.conn) }
+    ensures survives { Survives (state S.Store desk.old.conn) (state S.Store desk.new.conn) (λ _. ⊤) }
     ensures reader_fault { (result ≡ Err WireFault.Reader) ↔ (failed_of reader.new ≡ true) }
     ensures writer_fault { (result ≡ Err WireFault.Writer) ↔ (failed_of writer.new ≡ true) }
 {

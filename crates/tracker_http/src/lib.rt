@@ -18,4 +18,6 @@ mod lists;
 mod told;
 
 pub use exchange::serve_one;
+pub use plan_basics::Refusal;
+pub use plan_tables::Desk;
 pub use request_texts::{WireFault, read_operator};

@@ -1,7 +1,7 @@
 use Rattle.std.proofs.Common.{rules, ◌≡◌, ◌≤ℤ◌, pos}
 use Rattle.plan_basics.specs.Minutes.{IsMoment}
-use Rattle.plan_core.specs.plan_outcomes.proofs.Refusing.{load_is_free, may_be_accepted}
-use Rattle.plan_core.specs.plan_model.specs.Plan.{no_plan}
+use Rattle.plan_outcomes.proofs.Refusing.{load_is_free, may_be_accepted}
+use Rattle.plan_drafts.specs.plan_model.specs.Plan.{no_plan}
 use Rattle.plan_trials.specs.Trials.{load_at}
 use Rattle.plan_trials.proofs.check.Goals as goal
 

@@ -2,9 +2,9 @@ use Rattle.std.proofs.Common.{◌≡◌, refl, rules, arith, subst, pos, FitsSig
 use Rattle.std.proofs.lemmas.Int.{ints}
 use Rattle.std.proofs.lemmas.Result.{IfOk-weaker}
 use Rattle.plan_basics.specs.Refusals.{NoneRefuses}
-use Rattle.plan_core.specs.plan_outcomes.proofs.Preparing.{has_draft}
-use Rattle.plan_core.specs.plan_model.specs.Plan.{Plan, no_plan}
-use Rattle.plan_core.specs.plan_model.specs.Ready.{IsChosen}
+use Rattle.plan_outcomes.proofs.Preparing.{has_draft}
+use Rattle.plan_drafts.specs.plan_model.specs.Plan.{Plan, no_plan}
+use Rattle.plan_drafts.specs.plan_model.specs.Ready.{IsChosen}
 use Rattle.plan_records.specs.Acceptance.{MayBeAccepted}
 use Rattle.plan_records.specs.Answer.{accepted}
 use Rattle.plan_records.specs.Step.{Step}

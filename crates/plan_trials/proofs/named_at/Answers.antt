@@ -1,7 +1,7 @@
 use Rattle.std.proofs.Common.{sym, subst, IfOk}
-use Rattle.plan_core.specs.plan_drafts.specs.PlanGraphs.{IsGraphFor}
-use Rattle.plan_core.specs.plan_model.specs.Ready.{IsChosen}
-use Rattle.plan_core.specs.plan_steps.specs.shown_records.specs.States.{ShownState}
+use Rattle.plan_drafts.specs.PlanGraphs.{IsGraphFor}
+use Rattle.plan_drafts.specs.plan_model.specs.Ready.{IsChosen}
+use Rattle.plan_outcomes.specs.plan_steps.specs.shown_records.specs.States.{ShownState}
 use Rattle.plan_trials.proofs.named_at.Goals as goal
 
 pub named_in-shown-requires : goal.named_in-shown-requires

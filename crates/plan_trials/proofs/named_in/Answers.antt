@@ -1,7 +1,7 @@
 use Rattle.std.proofs.Common.{sym, subst, IfOk}
-use Rattle.plan_core.specs.plan_model.specs.Contents.{Contents}
-use Rattle.plan_core.specs.plan_model.specs.Ready.{IsChosen}
-use Rattle.plan_core.specs.plan_figures.specs.Afresh.{IsWorkedOut}
+use Rattle.plan_drafts.specs.plan_model.specs.Contents.{Contents}
+use Rattle.plan_drafts.specs.plan_model.specs.Ready.{IsChosen}
+use Rattle.plan_outcomes.specs.plan_figures.specs.Afresh.{IsWorkedOut}
 use Rattle.plan_trials.proofs.named_in.Goals as goal
 
 pub named_by-requires : goal.named_by-requires

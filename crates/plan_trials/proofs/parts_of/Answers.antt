@@ -1,6 +1,6 @@
 use Rattle.std.proofs.Common.{sym, subst}
-use Rattle.plan_core.specs.plan_laws.proofs.Changing.{draft_is_sound}
-use Rattle.plan_core.specs.plan_model.specs.Valid.{IsSound}
+use Rattle.plan_outcomes.specs.plan_laws.proofs.Changing.{draft_is_sound}
+use Rattle.plan_drafts.specs.plan_model.specs.Valid.{IsSound}
 use Rattle.plan_trials.proofs.parts_of.Goals as goal
 
 pub of-requires : goal.of-requires

@@ -1,9 +1,9 @@
 use Rattle.std.proofs.Common.{◌≡◌, FitsSigned, codes, rules, to_z-of_z, w64}
 use Rattle.clap.specs.Matches.{found_of}
 use Rattle.plan_basics.specs.Watched.{inner_of}
-use Rattle.desk_commands.specs.Whys.{IsNoMinute}
+use Rattle.command_answers.specs.Given.{IsNoMinute}
 use Rattle.command_words.specs.Words.{text_given}
-use Rattle.desk_commands.specs.declared.endings.Fault.TheVariants as fault
+use Rattle.command_answers.specs.declared.endings.Fault.TheVariants as fault
 use Rattle.desk_commands.proofs.Loaded.{load_shown}
 use Rattle.desk_commands.proofs.Told.{of_them_too}
 use Rattle.desk_commands.proofs.loading.load.Goals as goal

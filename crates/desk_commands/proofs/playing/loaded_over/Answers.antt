@@ -2,7 +2,7 @@ use Rattle.std.proofs.Common.{FitsSigned, inr, to_z-of_z, w64}
 use Rattle.plan_basics.specs.declared.Refusal.{Refusal}
 use Rattle.plan_loads.specs.plan_tables.specs.Faults.{IsOpeningRefusal}
 use Rattle.desk_commands.specs.Turns.{IsLoadRefusal}
-use Rattle.desk_commands.proofs.Opened.{none_wider}
+use Rattle.command_answers.proofs.Opened.{none_wider}
 use Rattle.desk_commands.proofs.playing.loaded_over.Goals as goal
 
 pub returns-in-Ok-clause-loaded : goal.returns-in-Ok-clause-loaded

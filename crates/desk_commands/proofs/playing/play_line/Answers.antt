@@ -1,6 +1,6 @@
 use Rattle.plan_basics.specs.Watched.{inner_of}
 use Rattle.plan_loads.specs.plan_tables.specs.Desk.{state_of, usability}
-use Rattle.desk_commands.specs.Asked.{IsNoRequest}
+use Rattle.command_answers.specs.Given.{IsNoRequest}
 use Rattle.desk_commands.proofs.Played.{line_unread}
 use Rattle.desk_commands.proofs.Told.{no_request}
 use Rattle.desk_commands.proofs.playing.play_line.Goals as goal

@@ -2,7 +2,7 @@ use Rattle.std.proofs.Common.{FitsSigned, IfOk, to_z-of_z, w64}
 use Rattle.std.proofs.lemmas.Result.{IfOk-weaker}
 use Rattle.plan_basics.specs.Watched.{inner_of}
 use Rattle.desk_commands.specs.Whys.{IsWhyOfText, IsWhyPlanned}
-use Rattle.desk_commands.specs.declared.endings.Ending.{Ending}
+use Rattle.command_answers.specs.declared.endings.Ending.{Ending}
 use Rattle.desk_commands.proofs.reasons.why_of_file.Goals as goal
 
 pub returns-in-Ok-clause-shown : goal.returns-in-Ok-clause-shown

@@ -3,10 +3,10 @@ use Rattle.plan_basics.specs.Watched.{inner_of}
 use Rattle.plan_basics.specs.declared.keys.OpKey.{OpKey}
 use Rattle.plan_records.specs.Answer.{accepted}
 use Rattle.plan_loads.specs.plan_tables.specs.Desk.{state_of}
-use Rattle.desk_commands.specs.Opened.{IsWhyNoDesk}
+use Rattle.command_answers.specs.Opened.{IsWhyNoDesk}
 use Rattle.desk_commands.specs.Turns.{IsLoadRefusal, IsLoaded}
 use Rattle.desk_commands.specs.Whys.{IsWhyShown}
-use Rattle.desk_commands.proofs.Opened.{none_faults}
+use Rattle.command_answers.proofs.Opened.{none_faults}
 use Rattle.desk_commands.proofs.Reasoned.{why_planned, why_unplanned}
 use Rattle.desk_commands.proofs.reasons.why_planned.Goals as goal
 

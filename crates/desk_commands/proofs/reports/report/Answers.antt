@@ -2,10 +2,10 @@ use Rattle.std.proofs.Common.{◌≡◌, codes}
 use Rattle.clap.specs.Matches.{first_value, found_of}
 use Rattle.plan_basics.specs.Watched.{inner_of}
 use Rattle.plan_loads.specs.plan_tables.specs.Faults.{IsOpeningRefusal}
-use Rattle.desk_commands.specs.Asked.{AsksNoReport}
+use Rattle.command_answers.specs.Given.{AsksNoReport}
 use Rattle.command_words.specs.Words.{text_given}
-use Rattle.desk_commands.specs.declared.endings.Fault.TheVariants as fault
-use Rattle.desk_commands.proofs.Opened.{none_faults}
+use Rattle.command_answers.specs.declared.endings.Fault.TheVariants as fault
+use Rattle.command_answers.proofs.Opened.{none_faults}
 use Rattle.desk_commands.proofs.Told.{of_them_too, report_refused, report_shown}
 use Rattle.desk_commands.proofs.reports.report.Goals as goal
 

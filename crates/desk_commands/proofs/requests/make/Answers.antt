@@ -1,10 +1,10 @@
 use Rattle.std.proofs.Common.{◌≡◌, ◌∙◌, codes, refl, subst, Err}
 use Rattle.clap.specs.Matches.{found_of}
 use Rattle.plan_basics.specs.Watched.{inner_of}
-use Rattle.request_texts.specs.Requests.{ReadsAsRequest}
-use Rattle.desk_commands.specs.Asked.{IsNoRequest}
+use Rattle.command_answers.specs.request_texts.specs.Requests.{ReadsAsRequest}
+use Rattle.command_answers.specs.Given.{IsNoRequest}
 use Rattle.command_words.specs.Words.{text_given}
-use Rattle.desk_commands.specs.declared.endings.Fault.TheVariants as fault
+use Rattle.command_answers.specs.declared.endings.Fault.TheVariants as fault
 use Rattle.desk_commands.proofs.Told.{of_them, request_shown, unread}
 use Rattle.desk_commands.proofs.requests.make.Goals as goal
 

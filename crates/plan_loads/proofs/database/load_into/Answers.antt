@@ -1,4 +1,4 @@
-use Rattle.std.proofs.Common.{w64, FitsSigned, to_z-of_z}
+use Rattle.std.proofs.Common.{w64, FitsSigned, arith, to_z-of_z}
 use Rattle.sqlite.specs.Held.{state}
 use Rattle.plan_records.specs.Answer.{answer_of}
 use Rattle.plan_tables.specs.Desk.{state_of}
@@ -13,5 +13,5 @@ returns g c =
     let after = c.call-reply.new.self in
     rw c.close.ensures.conn
     (load_answered old (state g.S.Store desk.conn) (state g.S.Store after.conn) (state_of desk) (state_of after) c.args.at c.args.draft desk.is_usable after.is_usable
-    c.in-Ok.ensures.state c.in-Ok.ensures.usable c.in-Ok.ensures.made c.in-Ok.ensures.opened c.call-reply.ensures.clean
-    (answer_of c.call-reply.result) (simp to_z-of_z at c.call-reply.ensures.answers) c.call-reply.ensures.tables c.call-reply.ensures.refused)
+    c.in-Ok.ensures.state c.in-Ok.ensures.usable c.in-Ok.ensures.is_open c.in-Ok.ensures.made c.in-Ok.ensures.opened (λ clean. omega (arith, clean, c.call-reply.ensures.survives.clean))
+    (answer_of c.call-reply.result) (simp to_z-of_z at c.call-reply.ensures.answers) c.call-reply.ensures.is_open c.call-reply.ensures.tables c.call-reply.ensures.refused)

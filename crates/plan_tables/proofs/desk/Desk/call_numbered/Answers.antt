@@ -1,4 +1,4 @@
-use Rattle.std.proofs.Common.{◌≡◌, ◌⊎◌, rules, ap, sym, subst, ◌∙◌, true}
+use Rattle.std.proofs.Common.{◌≡◌, ◌⊎◌, rules, ap, sym, subst, ◌∙◌, true, None, Some}
 use Rattle.std.specs.FinMap.{get}
 use Rattle.sqlite.specs.Held.{state}
 use Rattle.sqlite.specs.State.{Survives}
@@ -9,13 +9,15 @@ use Rattle.numbered_steps.specs.plan_core.specs.State.{PlanState, plan_after}
 use Rattle.numbered_steps.specs.plan_laws.proofs.Receipts.{answer_keeps_receipts}
 use Rattle.plan_records.specs.Answer.{accepted, answer_of, refused}
 use Rattle.plan_records.specs.Run.{Answers, CallStep, numbered}
-use Rattle.plan_records.specs.Schedules.{IsDeskState}
+use Rattle.plan_records.specs.Schedules.{IsDeskState, stopped}
 use Rattle.plan_records.specs.Step.{AnswersAgain}
 use Rattle.plan_tables.specs.Calls.{change_of, state_after}
-use Rattle.plan_tables.specs.Desk.{DeskState, IsCarriedOut, IsKept, state_of, usability}
+use Rattle.plan_tables.specs.Desk.{DeskState, HasTables, IsCarriedOut, IsKept, state_of, usability}
+use Rattle.plan_tables.specs.Stops.{AreLeftBy, StopsLeave}
 use Rattle.plan_tables.specs.declared.calls.PreparedCall.TheVariants.{Numbered}
 use Rattle.plan_tables.proofs.Answered.{again_answers, carried_answers, carried_starts, never_again, none_starts, not_prepared}
 use Rattle.plan_tables.proofs.Held.{numbered_step, prepared_carries, step_survives}
+use Rattle.plan_tables.proofs.Stopped.{none_stops, step_stops}
 use Rattle.plan_writes.specs.Within.{LeavesMade, Rewrites}
 use Rattle.tracker_receipts.specs.Judging.{numbered_by}
 use Rattle.plan_tables.proofs.desk.Desk.call_numbered.Goals as goal
@@ -94,8 +96,11 @@ returns-in-Ok-New-clause-again g c again =
     let is = subst (λ (d : DeskState _). IsNumberedStepFor (record { plan = d.plan }) d.receipts n p) c.self.view_is told in
     absurd (never_again (get old.receipts n.tracker) n (answer_of c.carry_out.result) is.step.0 again)
 
-pub returns-in-Ok-New-clause-stops : goal.returns-in-Ok-New-clause-stops
-returns-in-Ok-New-clause-stops g c is_open has =
+pub returns-in-Ok-New-clause-tables : goal.returns-in-Ok-New-clause-tables
+returns-in-Ok-New-clause-tables g c clean was told has = c.carry_out.ensures.tables clean told (subst (λ (d : DeskState _). HasTables (state g.S.Store d.conn)) (sym c.self.view_is) has)
+
+pub returns-in-Ok-New-clause-survives : goal.returns-in-Ok-New-clause-survives
+returns-in-Ok-New-clause-survives g c =
     let old = c.args.self.now in
     let new = c.carry_out.new.self in
     let n = numbered_by c.args.tracker.now c.args.number c.args.text.now c.args.request.now in
@@ -105,9 +110,19 @@ returns-in-Ok-New-clause-stops g c is_open has =
     let told : IsNumberedStepFor c.self.inside.plan c.self.inside.receipts n p = subst (IfNew (IsNumberedStepFor c.self.inside.plan c.self.inside.receipts n)) c.in-Ok-New.field-0-is c.in-Ok-New.ensures.new in
     let is = subst (λ (d : DeskState _). IsNumberedStepFor (record { plan = d.plan }) d.receipts n p) c.self.view_is told in
     let carries = prepared_carries (state_of old) (Numbered p) kept.legal.0 (n, is) in
-    let stops = subst (λ (d : DeskState _). Survives (state g.S.Store d.conn) (state g.S.Store new.conn) (LeavesMade Makes (state g.S.Store d.conn))) c.self.view_is c.carry_out.ensures.stops in
+    let stops = subst (λ (d : DeskState _). Survives (state g.S.Store d.conn) (state g.S.Store new.conn) (LeavesMade Makes (state g.S.Store d.conn))) c.self.view_is c.carry_out.ensures.survives in
     step_survives (state_of old) (state_after (state_of old) (Numbered p)) (change_of (Numbered p)) carries (state g.S.Store old.conn) (numbered n) p.prepared.named (numbered_step (state_of old) n p is) (state g.S.Store new.conn)
-    (λ clean. (is_open, kept.tables (clean, is_open) has)) stops
+    (λ clean is_open has. kept.tables (clean, is_open) has) stops
+
+pub returns-in-Ok-New-clause-stops : goal.returns-in-Ok-New-clause-stops
+returns-in-Ok-New-clause-stops g c is_open has =
+    let old = c.args.self.now in
+    let n = numbered_by c.args.tracker.now c.args.number c.args.text.now c.args.request.now in
+    let kept = subst (IsKept g.S.Store) c.self.view_is c.self.invariant in
+    let usable : c.self.inside.is_usable ≡ true = search rules in
+    let was : old.is_usable ≡ true = sym (ap (λ (d : DeskState _). d.is_usable) c.self.view_is) ∙ usable in
+    step_stops (state g.S.Store old.conn) (λ trees may. g.met.S.Store.settled old.conn.store trees is_open may) (state_of old) (λ clean. kept.tables (clean, is_open) has)
+    (state g.S.Store c.carry_out.new.self.conn) is_open has old.is_usable (numbered n) was (returns-in-Ok-New-clause-survives g c)
 
 pub returns-in-Err-clause-answers : goal.returns-in-Err-clause-answers
 returns-in-Err-clause-answers g c =
@@ -124,3 +139,27 @@ pub returns-in-Err-clause-starts : goal.returns-in-Err-clause-starts
 returns-in-Err-clause-starts g c =
     none_starts c.args.self.now.plan c.prepare_numbered.new.plan.plan c.args.request.now (refused c.in-Err.refusal)
     (ap (λ (s : PlanState). s.plan) c.prepare_numbered.ensures.unchanged ∙ ap (λ (d : DeskState _). d.plan) c.self.view_is)
+
+pub returns-then-not-self-clause-stops : goal.returns-then-not-self-clause-stops
+returns-then-not-self-clause-stops g c is_open has =
+    let old = c.args.self.now in
+    let kept = subst (IsKept g.S.Store) c.self.view_is c.self.invariant in
+    none_stops (state g.S.Store old.conn) (λ trees may. g.met.S.Store.settled old.conn.store trees is_open may) (state_of old) (λ clean. kept.tables (clean, is_open) has) (usability old.is_usable) (numbered (numbered_by c.args.tracker.now c.args.number c.args.text.now c.args.request.now))
+
+pub returns-in-Ok-Again-clause-stops : goal.returns-in-Ok-Again-clause-stops
+returns-in-Ok-Again-clause-stops g c is_open has =
+    let old = c.args.self.now in
+    let call = numbered (numbered_by c.args.tracker.now c.args.number c.args.text.now c.args.request.now) in
+    let kept = subst (IsKept g.S.Store) c.self.view_is c.self.invariant in
+    let same = ap (λ (s : PlanState). (let d : DeskState _ = record { plan = s.plan; receipts = c.self.inside.receipts; is_usable = c.self.inside.is_usable; conn = c.self.inside.conn } in d)) c.prepare_numbered.ensures.unchanged ∙ c.self.view_is in
+    let stays = none_stops (state g.S.Store old.conn) (λ trees may. g.met.S.Store.settled old.conn.store trees is_open may) (state_of old) (λ clean. kept.tables (clean, is_open) has) (usability old.is_usable) call in
+    subst (λ (d : DeskState _). StopsLeave (state g.S.Store d.conn) (AreLeftBy (state_of old) (Some (usability old.is_usable)) (stopped call None))) (sym same) stays
+
+pub returns-in-Err-clause-stops : goal.returns-in-Err-clause-stops
+returns-in-Err-clause-stops g c is_open has =
+    let old = c.args.self.now in
+    let call = numbered (numbered_by c.args.tracker.now c.args.number c.args.text.now c.args.request.now) in
+    let kept = subst (IsKept g.S.Store) c.self.view_is c.self.invariant in
+    let same = ap (λ (s : PlanState). (let d : DeskState _ = record { plan = s.plan; receipts = c.self.inside.receipts; is_usable = c.self.inside.is_usable; conn = c.self.inside.conn } in d)) c.prepare_numbered.ensures.unchanged ∙ c.self.view_is in
+    let stays = none_stops (state g.S.Store old.conn) (λ trees may. g.met.S.Store.settled old.conn.store trees is_open may) (state_of old) (λ clean. kept.tables (clean, is_open) has) (usability old.is_usable) call in
+    subst (λ (d : DeskState _). StopsLeave (state g.S.Store d.conn) (AreLeftBy (state_of old) (Some (usability old.is_usable)) (stopped call None))) (sym same) stays

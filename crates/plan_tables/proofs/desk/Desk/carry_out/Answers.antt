@@ -29,14 +29,14 @@ invariant_of-self g c =
     }
 
 pub returns-in-Ok-clause-tables : goal.returns-in-Ok-clause-tables
-returns-in-Ok-clause-tables g c clean has =
+returns-in-Ok-clause-tables g c clean told has =
     let old : DeskState _ = record { plan = c.self.inside.plan.plan; receipts = c.self.inside.receipts; is_usable = c.self.inside.is_usable; conn = c.self.inside.conn } in
     let p = c.args.call in
     let is = subst (λ (d : DeskState _). IsPreparedAt (state_of d) p) (sym c.self.view_is) c.requires.prepared in
     let new = state g.S.Store c.write_call.new.conn in
     let t : State = record { plan = c.apply.new.plan.plan; receipts = c.apply.new.receipts } in
     let led = states_alike t (state_after (state_of old) p) c.apply.ensures.plan c.apply.ensures.receipts in
-    let done = c.in-Ok.ensures.ok clean.0 in
-    let late : HasCleanDisk (state g.S.Store old.conn) = omega (arith, clean.0, c.write_call.ensures.crash.clean) in
+    let done = c.in-Ok.ensures.ok clean in
+    let late : HasCleanDisk (state g.S.Store old.conn) = omega (arith, clean, c.write_call.ensures.crash.clean) in
     let had = subst (λ (d : DeskState _). HasTables (state g.S.Store d.conn)) (sym c.self.view_is) has in
     carried_held g.S.Store old c.self.invariant p is t led new done late had

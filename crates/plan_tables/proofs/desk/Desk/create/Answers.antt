@@ -6,6 +6,7 @@ use Rattle.plan_records.specs.Schedules.{IsDeskState}
 use Rattle.plan_tables.specs.Desk.{HoldsState}
 use Rattle.plan_tables.proofs.Answered.{states_alike}
 use Rattle.plan_tables.proofs.Held.{begun_so}
+use Rattle.plan_tables.proofs.Stopped.{making_stops, no_making_stops}
 use Rattle.plan_tables.proofs.desk.Desk.create.Goals as goal
 
 pub invariant_of-result : goal.invariant_of-result
@@ -24,9 +25,23 @@ invariant_of-result g c =
 
 pub returns-in-Ok-create_tables-clause-tables : goal.returns-in-Ok-create_tables-clause-tables
 returns-in-Ok-create_tables-clause-tables g c clean none =
-    begun_so (state g.S.Store c.args.conn).committed (state g.S.Store c.create_tables.new.conn).committed (c.in-Ok-create_tables.ensures.ok clean.0).3 none
+    begun_so (state g.S.Store c.args.conn).committed (state g.S.Store c.create_tables.new.conn).committed (c.in-Ok-create_tables.ensures.ok clean).3 none
 
 pub returns-in-Ok-create_tables-clause-empty : goal.returns-in-Ok-create_tables-clause-empty
 returns-in-Ok-create_tables-clause-empty g c =
     let s : State = record { plan = c.empty.result.plan; receipts = c.in-Ok.receipts } in
     states_alike s empty_state c.empty.ensures c.in-Ok.ensures
+
+pub returns-in-Ok-create_tables-clause-stops : goal.returns-in-Ok-create_tables-clause-stops
+returns-in-Ok-create_tables-clause-stops g c is_open none =
+    making_stops (state g.S.Store c.args.conn) (λ trees may. g.met.S.Store.settled c.args.conn.store trees is_open may) (state g.S.Store c.create_tables.new.conn) is_open none c.in-Ok-create_tables.ensures.crash
+
+pub returns-then-not-is_autocommit-clause-stops : goal.returns-then-not-is_autocommit-clause-stops
+returns-then-not-is_autocommit-clause-stops g c is_open none = no_making_stops (state g.S.Store c.args.conn) (λ trees may. g.met.S.Store.settled c.args.conn.store trees is_open may)
+
+pub returns-in-Err-clause-stops : goal.returns-in-Err-clause-stops
+returns-in-Err-clause-stops g c is_open none = no_making_stops (state g.S.Store c.args.conn) (λ trees may. g.met.S.Store.settled c.args.conn.store trees is_open may)
+
+pub returns-in-Err-create_tables-clause-stops : goal.returns-in-Err-create_tables-clause-stops
+returns-in-Err-create_tables-clause-stops g c is_open none =
+    making_stops (state g.S.Store c.args.conn) (λ trees may. g.met.S.Store.settled c.args.conn.store trees is_open may) (state g.S.Store c.create_tables.new.conn) is_open none c.in-Err-create_tables.ensures.crash

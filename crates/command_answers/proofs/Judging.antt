@@ -1,0 +1,29 @@
+-- What is shown of the faults of a text.
+use Rattle.std.proofs.Common.{◌≡◌, ◌↔◌, refl, ℕ, List, [], ◌∷◌, length, Option, Result, IfOk}
+use Rattle.std.specs.Io.KnownBytes.{Appends}
+use Rattle.std.proofs.KnownBytes.{Appends-trans}
+use Rattle.std.proofs.lemmas.Result.{IfOk-weaker}
+use Rattle.text_faults.specs.TextFaults.{TextDenotesSome}
+use Rattle.command_answers.specs.Judged.{AreFaultsShown, IsJudged, count_line, ending_of_count}
+use Rattle.command_answers.specs.declared.endings.Ending.{Ending}
+use Rattle.command_answers.specs.declared.endings.Fault.{Fault}
+
+-- a list is empty exactly where its length is zero
+pub by_length : {X : Type 0} (A : Type 0) (xs : List X) → ((xs ≡ []) ↔ A) → ((length xs ≡ 0) ↔ A)
+by_length A [] same = (λ _. same.0 refl, λ _. refl)
+by_length A (x ∷ xs) same = (λ is. absurd (cc), λ a. let is = same.1 a in absurd (cc))
+
+-- lines were shown, and then how many faults there are
+pub faults_shown : (told : List ℕ) (count : ℕ) (old between new : Option (List ℕ)) (r : Result Ending Fault)
+    → Appends old between told → IfOk r (λ e. Appends between new (count_line count) × (e ≡ ending_of_count count)) → IfOk r (AreFaultsShown count old new)
+faults_shown told count old between new r lines shown =
+    IfOk-weaker r (λ e. Appends between new (count_line count) × (e ≡ ending_of_count count)) (AreFaultsShown count old new)
+    (λ (e : Ending) (was : Appends between new (count_line count) × (e ≡ ending_of_count count)).
+    (told, Appends-trans old between new told (count_line count) lines was.0, was.1)) shown
+
+-- they are those of a text
+pub judged : (text : List ℕ) (count : ℕ) (old new : Option (List ℕ)) (r : Result Ending Fault)
+    → ((count ≡ 0) ↔ TextDenotesSome text) → IfOk r (AreFaultsShown count old new) → IfOk r (IsJudged text old new)
+judged text count old new r none shown =
+    IfOk-weaker r (AreFaultsShown count old new) (IsJudged text old new)
+    (λ (e : Ending) (was : AreFaultsShown count old new e). (count, was.0, was.1, was.2, none)) shown

@@ -1,0 +1,5 @@
+mod Appended
+mod Judging
+mod Minutes
+pub mod Opened
+pub mod Statuses

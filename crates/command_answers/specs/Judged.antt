@@ -1,0 +1,24 @@
+-- What the program shows of the faults of a plan's text.
+use Rattle.std.specs.Prelude.{◌≡◌, ◌↔◌, ◌==◌, if◌then◌else◌, ℕ, List, ◌++◌, Option, codes, decimal}
+use Rattle.std.specs.Io.KnownBytes.{Appends}
+use Rattle.text_faults.specs.TextFaults.{TextDenotesSome}
+use Rattle.command_answers.specs.Answers.{line}
+use Rattle.command_answers.specs.declared.endings.Ending.{Ending}
+use Rattle.command_answers.specs.declared.endings.Ending.TheVariants as ending
+
+-- the last line: how many faults there are
+abbrev pub count_line : ℕ → List ℕ
+count_line count = if count == 0 then line (codes "no faults") else line (decimal count ++ codes " faults")
+
+-- how the run ends then
+abbrev pub ending_of_count : ℕ → Ending
+ending_of_count count = if count == 0 then ending.Done else ending.Refused
+
+-- something was shown of so many faults, and then how many they are
+abbrev pub AreFaultsShown : ℕ → Option (List ℕ) → Option (List ℕ) → Ending → Type 0
+AreFaultsShown count old new e = (told : List ℕ) × Appends old new (told ++ count_line count) × (e ≡ ending_of_count count)
+
+-- a text was judged: something was shown of its faults, and then how many there are; none exactly where it denotes a plan
+abbrev pub IsJudged : List ℕ → Option (List ℕ) → Option (List ℕ) → Ending → Type 0
+IsJudged text old new e =
+    (count : ℕ) × (told : List ℕ) × Appends old new (told ++ count_line count) × (e ≡ ending_of_count count) × ((count ≡ 0) ↔ TextDenotesSome text)

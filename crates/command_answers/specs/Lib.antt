@@ -1,0 +1,7 @@
+pub use Rattle.request_texts
+pub mod Answers
+pub mod Given
+pub mod Judged
+pub mod Opened
+pub mod Statuses
+pub mod Words

@@ -1,0 +1,15 @@
+//! What the words of a command give, the files that they name, how answers are shown, and how a run ends; and `validate`,
+//! which takes no desk.
+#![tactic(auto)]
+
+mod answers;
+mod endings;
+mod files;
+mod given;
+mod validating;
+
+pub use answers::{tell, tell_no_desk, tell_refusal};
+pub use endings::{Ending, Fault, NoDesk};
+pub use files::{plan_of_file, text_of, text_of_file};
+pub use given::{Kind, kind_of, moment_if_given, moment_of, operation_of, request_of};
+pub use validating::validate;

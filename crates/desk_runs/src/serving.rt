@@ -1,0 +1,117 @@
+// `serve`: the desk of a database's file over HTTP, so many connections, one after another.
+use clap::ArgMatches;
+use command_words::value_of;
+use desk_commands::{Database, Ending, Fault, close_desk, stored_desk, tell_no_desk};
+use plan_basics::Watched;
+use sqlite::{Alter, Connection};
+use std::alloc::Global;
+use std::io;
+use std::io::Write;
+use std::net::{Ipv4Addr, TcpListener, TcpStream};
+use std::rt::HostRuntime;
+use std::time::Duration;
+use tracker_http::{Desk, WireFault, serve_one};
+
+/// How many seconds each read and each write waits for the client.
+const PATIENCE_SECONDS: u64 = 10;
+
+/// Serves the one exchange of a connection. A client that keeps a read or a write waiting longer than the patience is a
+/// fault of the reader or the writer.
+fn serve_connection<S: Alter + Drop>(
+    alloc: Global,
+    stream: &TcpStream,
+    desk: &mut Desk<S>,
+) -> Result<(), WireFault> {
+    let patience = Some(Duration::from_secs(PATIENCE_SECONDS));
+    if stream.set_read_timeout(patience).is_err() || stream.set_write_timeout(patience).is_err() {
+        return Err(WireFault::Reader);
+    }
+    serve_one(
+        alloc,
+        &mut Watched::new(stream),
+        &mut Watched::new(stream),
+        desk,
+    )
+}
+
+/// Serves exactly `connections` connections of a listener, one after another, each with one exchange. One that faults
+/// counts. The error is that of a connection that couldn't be had; what was served before stands.
+pub fn serve_listener<S: Alter + Drop>(
+    alloc: Global,
+    listener: &TcpListener,
+    desk: &mut Desk<S>,
+    connections: u64,
+) -> io::Result<()> {
+    for _ in 0..connections {
+        let (stream, _) = listener.accept()?;
+        // A connection that faults concerns its client alone, who learns of it by the reply that doesn't come.
+        let _ = serve_connection(alloc, &stream, desk);
+    }
+    Ok(())
+}
+
+/// The port of this machine itself that the words give, taken.
+fn taken_port(rt: &HostRuntime, given: &ArgMatches) -> Result<TcpListener, Fault> {
+    let port = given.get_one::<u16>("port").ok_or(Fault::Words)?;
+    TcpListener::bind(rt, (Ipv4Addr::LOCALHOST, port)).map_err(|_| Fault::Network)
+}
+
+/// Tells that the port is taken, and serves so many connections.
+fn serve_port<S: Alter + Drop, W: Write>(
+    alloc: Global,
+    listener: &TcpListener,
+    connections: u64,
+    desk: &mut Desk<S>,
+    out: &mut Watched<W>,
+) -> Result<(), Fault> {
+    writeln!(out, "listening")?;
+    out.flush()?;
+    serve_listener(alloc, listener, desk, connections).map_err(|_| Fault::Network)
+}
+
+/// Takes the port that the words give, tells so before the first connection, and serves so many connections.
+fn listen<S: Alter + Drop, W: Write>(
+    rt: &HostRuntime,
+    given: &ArgMatches,
+    desk: &mut Desk<S>,
+    out: &mut Watched<W>,
+) -> Result<(), Fault> {
+    let connections = given.get_one::<u32>("requests").ok_or(Fault::Words)?;
+    match taken_port(rt, given) {
+        Ok(listener) => serve_port(rt.alloc(), &listener, u64::from(connections), desk, out),
+        Err(fault) => Err(fault),
+    }
+}
+
+/// Serves the connections that the words give at a desk, and closes its database.
+fn serve_and_close<S: Alter + Drop, W: Write>(
+    rt: &HostRuntime,
+    given: &ArgMatches,
+    desk: Desk<S>,
+    out: &mut Watched<W>,
+) -> Result<Ending, Fault>
+where
+    Connection<S>: Database<S>,
+{
+    let mut desk = desk;
+    let served = listen(rt, given, &mut desk, out);
+    close_desk(desk)?;
+    served?;
+    Ok(Ending::Done)
+}
+
+/// `serve`: the database is opened before the port is taken. At its end it is closed, but where its store has failed:
+/// then the files are let go as they are.
+pub fn serve<S: Alter + Drop, W: Write>(
+    rt: &HostRuntime,
+    given: &ArgMatches,
+    out: &mut Watched<W>,
+) -> Result<Ending, Fault>
+where
+    Connection<S>: Database<S>,
+{
+    match stored_desk::<S>(rt, value_of(given, "db")) {
+        Ok(desk) => serve_and_close(rt, given, desk, out),
+        Err(none) => tell_no_desk(out, none),
+    }
+}

@@ -1,0 +1,189 @@
+// The script that is stopped: the tables are made, a night is loaded, and a tracker reports four times.
+use super::tables::tables_text;
+use plan_basics::Watched;
+use sqlite::{Alter, Connection, MemStore};
+use std::alloc::Global;
+use tracker_http::{Desk, serve_one};
+use wires::{After, NIGHT, Paper, Pieces, Report, post, reply};
+
+/// A step after the making of the tables: the load, whose number is 0, or a report of T1 on an operation; and the body of
+/// its reply.
+pub struct Step {
+    number: u64,
+    at: &'static str,
+    verb: &'static str,
+    op: &'static str,
+    told: &'static str,
+}
+
+/// The steps.
+pub const STEPS: [Step; 5] = [
+    Step {
+        number: 0,
+        at: "",
+        verb: "",
+        op: "",
+        told: "{\"named\":[]}",
+    },
+    Step {
+        number: 1,
+        at: "22:00",
+        verb: "started",
+        op: "005",
+        told: "{\"named\":[]}",
+    },
+    Step {
+        number: 2,
+        at: "22:10",
+        verb: "ended",
+        op: "005",
+        told: "{\"named\":[\"PAYROLL/2024-03-01T22:00/010\"]}",
+    },
+    Step {
+        number: 3,
+        at: "22:11",
+        verb: "started",
+        op: "010",
+        told: "{\"named\":[]}",
+    },
+    Step {
+        number: 4,
+        at: "22:40",
+        verb: "ended",
+        op: "010",
+        told: "{\"named\":[\"PAYROLL/2024-03-01T22:00/020\"]}",
+    },
+];
+
+impl Step {
+    /// The request that makes it.
+    pub fn request(&self, alloc: Global) -> Option<String> {
+        if self.number == 0 {
+            return post(alloc, "/operator", NIGHT);
+        }
+        let report = Report {
+            tracker: "T1",
+            number: self.number,
+            at: self.at,
+            verb: self.verb,
+            op: self.op,
+        };
+        report.request(alloc)
+    }
+}
+
+/// What a desk writes for a request; nothing where the exchange fails.
+pub fn written<S: Alter + Drop>(alloc: Global, desk: &mut Desk<S>, input: &str) -> Option<Vec<u8>> {
+    let mut reader = Watched::new(Pieces {
+        left: input.as_bytes(),
+        most: 8192,
+        after: After::End,
+    });
+    let mut writer = Watched::new(Paper {
+        bytes: Vec::new(alloc),
+        calls: u32::MAX,
+    });
+    match serve_one(alloc, &mut reader, &mut writer, desk) {
+        Ok(()) => Some(writer.into_inner().bytes),
+        Err(_) => None,
+    }
+}
+
+// Whether these bytes are the reply of this status and this body.
+fn is_reply(alloc: Global, bytes: &[u8], status: &str, body: &str) -> bool {
+    match reply(alloc, status, "", body.len(), body) {
+        Some(told) => bytes == told.as_bytes(),
+        None => false,
+    }
+}
+
+/// How a desk answers a step.
+#[derive(Clone, Copy, Debug, PartialEq)]
+pub enum Told {
+    /// As the step says.
+    Done,
+    /// That a plan is loaded already.
+    Loaded,
+    /// That its store failed.
+    Store,
+    /// That its store failed before, and it is to be opened again.
+    Reopen,
+    Otherwise,
+}
+
+/// Whether these bytes tell that the desk is to be opened again.
+pub fn is_reopen(alloc: Global, bytes: &[u8]) -> bool {
+    let body = "{\"name\":\"Reopen\",\"refusal\":27}";
+    is_reply(alloc, bytes, "503 Service Unavailable", body)
+}
+
+// Which answer these bytes are to a step.
+fn told_by(alloc: Global, step: &Step, bytes: &[u8]) -> Told {
+    let loaded = "{\"name\":\"Loaded\",\"refusal\":4}";
+    let store = "{\"name\":\"Store\",\"refusal\":26}";
+    if is_reply(alloc, bytes, "200 OK", step.told) {
+        Told::Done
+    } else if is_reply(alloc, bytes, "409 Conflict", loaded) {
+        Told::Loaded
+    } else if is_reply(alloc, bytes, "503 Service Unavailable", store) {
+        Told::Store
+    } else if is_reopen(alloc, bytes) {
+        Told::Reopen
+    } else {
+        Told::Otherwise
+    }
+}
+
+/// How a desk answers a step.
+pub fn make<S: Alter + Drop>(alloc: Global, desk: &mut Desk<S>, step: &Step) -> Told {
+    let input = match step.request(alloc) {
+        Some(input) => input,
+        None => return Told::Otherwise,
+    };
+    match written(alloc, desk, &input) {
+        Some(bytes) => told_by(alloc, step, &bytes),
+        None => Told::Otherwise,
+    }
+}
+
+// The desk over a connection, after a step that is answered as it says.
+fn after_step(
+    alloc: Global,
+    conn: Connection<MemStore>,
+    step: &Step,
+) -> Option<Connection<MemStore>> {
+    let mut desk = Desk::open(alloc, conn).ok()?;
+    let told = make(alloc, &mut desk, step);
+    if told == Told::Done {
+        Some(desk.close())
+    } else {
+        None
+    }
+}
+
+// The connection to a database in memory in which the tables are made.
+fn made(alloc: Global) -> Option<Connection<MemStore>> {
+    let conn = Connection::open_in_memory(alloc).ok()?;
+    Some(Desk::create(alloc, conn).ok()?.close())
+}
+
+/// The connection to the tables after all steps.
+pub fn whole(alloc: Global) -> Option<Connection<MemStore>> {
+    let mut conn = made(alloc)?;
+    for step in &STEPS {
+        conn = after_step(alloc, conn, step)?;
+    }
+    Some(conn)
+}
+
+/// The text of the tables once they are made, and after each step of a run without a stop.
+pub fn texts(alloc: Global) -> Option<Vec<Vec<u8>>> {
+    let mut texts = Vec::new(alloc);
+    let mut conn = made(alloc)?;
+    texts.push(tables_text(alloc, &mut conn).ok()?).ok()?;
+    for step in &STEPS {
+        conn = after_step(alloc, conn, step)?;
+        texts.push(tables_text(alloc, &mut conn).ok()?).ok()?;
+    }
+    Some(texts)
+}

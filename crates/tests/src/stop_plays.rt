@@ -1,0 +1,16 @@
+// Desks that are stopped, and tables that are damaged.
+
+#[test]
+fn damaged_tables_are_not_opened(rt: HostRuntime) -> Result<(), &'static str> {
+    stops::damaged_tables_are_not_opened(rt.alloc())
+}
+
+#[test]
+fn a_process_killed_at_each_call(rt: HostRuntime) -> Result<(), &'static str> {
+    stops::a_process_killed_at_each_call(rt.alloc())
+}
+
+#[test]
+fn the_power_cut_at_each_call(rt: HostRuntime) -> Result<(), &'static str> {
+    stops::the_power_cut_at_each_call(rt.alloc())
+}
