@@ -1,9 +1,9 @@
 // What comes of one stop: how the desk answers from then on, what is found when it is opened again, and how the script
 // ends.
-use super::disks::{End, FusedFiles, FusedStore, Stop, begun, connected_again, files_of};
+use super::disks::{End, FusedFiles, Stop, begun, connected_again, files_of};
 use super::script::{STEPS, Told, is_reopen, make, written};
 use super::tables::{lacks_all, tables_text};
-use sqlite::Connection;
+use sqlite::{Alter, Connection};
 use std::alloc::Global;
 use tracker_http::{Desk, Refusal};
 use wires::get;
@@ -25,22 +25,23 @@ struct Left {
     files: FusedFiles,
 }
 
-// How a run of the script ends.
-enum Ended {
+// How a run of the script ends over a connection: to its end, stopped in a step, or otherwise than it may.
+#[derive(Clone, Copy, Debug, PartialEq)]
+enum Ran {
     Whole,
-    Stopped(Left),
+    Stopped(usize),
     Wrong(&'static str),
 }
 
 // Whether a desk refuses a list, since it is to be opened again.
-fn is_list_refused(alloc: Global, desk: &mut Desk<FusedStore>, path: &str) -> Option<bool> {
+fn is_list_refused<S: Alter + Drop>(alloc: Global, desk: &mut Desk<S>, path: &str) -> Option<bool> {
     let input = get(alloc, path)?;
     let bytes = written(alloc, desk, &input)?;
     Some(is_reopen(alloc, &bytes))
 }
 
 // Whether a desk whose store failed refuses what is asked then: the steps from this one on, and both lists.
-fn refuses_all(alloc: Global, desk: &mut Desk<FusedStore>, at: usize) -> bool {
+fn refuses_all<S: Alter + Drop>(alloc: Global, desk: &mut Desk<S>, at: usize) -> bool {
     for step in STEPS.iter().skip(at) {
         if make(alloc, desk, step) != Told::Reopen {
             return false;
@@ -51,21 +52,16 @@ fn refuses_all(alloc: Global, desk: &mut Desk<FusedStore>, at: usize) -> bool {
 }
 
 // How the run ends at a desk whose store failed in this one of the steps after the making of the tables.
-fn stopped(alloc: Global, mut desk: Desk<FusedStore>, at: usize) -> Ended {
-    let refuses = refuses_all(alloc, &mut desk, at);
-    let files = files_of(desk.close());
-    if refuses {
-        Ended::Stopped(Left {
-            at: at.saturating_add(1),
-            files,
-        })
+fn stopped<S: Alter + Drop>(alloc: Global, desk: &mut Desk<S>, at: usize) -> Ran {
+    if refuses_all(alloc, desk, at) {
+        Ran::Stopped(at.saturating_add(1))
     } else {
-        Ended::Wrong("a desk whose store failed answers otherwise than Reopen")
+        Ran::Wrong("a desk whose store failed answers otherwise than Reopen")
     }
 }
 
 // Where a desk's store fails in the steps, if it does; or that a step is answered otherwise.
-fn failing_step(alloc: Global, desk: &mut Desk<FusedStore>) -> Result<Option<usize>, ()> {
+fn failing_step<S: Alter + Drop>(alloc: Global, desk: &mut Desk<S>) -> Result<Option<usize>, ()> {
     for (at, step) in STEPS.iter().enumerate() {
         match make(alloc, desk, step) {
             Told::Done => {}
@@ -76,32 +72,43 @@ fn failing_step(alloc: Global, desk: &mut Desk<FusedStore>) -> Result<Option<usi
     Ok(None)
 }
 
-// How the script ends at a desk over two new files.
-fn ended_at(alloc: Global, mut desk: Desk<FusedStore>) -> Ended {
-    match failing_step(alloc, &mut desk) {
-        Ok(None) => Ended::Whole,
+// How the script ends at a desk.
+fn ran_at<S: Alter + Drop>(alloc: Global, desk: &mut Desk<S>) -> Ran {
+    match failing_step(alloc, desk) {
+        Ok(None) => Ran::Whole,
         Ok(Some(at)) => stopped(alloc, desk, at),
-        Err(()) => Ended::Wrong("a step before the stop is answered otherwise"),
+        Err(()) => Ran::Wrong("a step before the stop is answered otherwise"),
     }
 }
 
-// How the script ends over a connection to two new files.
-fn ended_over(alloc: Global, conn: Connection<FusedStore>) -> Ended {
+// How the script ends over a connection without tables, which comes back.
+fn ran_over<S: Alter + Drop>(alloc: Global, conn: Connection<S>) -> (Connection<S>, Ran) {
     match Desk::create(alloc, conn) {
-        Ok(desk) => ended_at(alloc, desk),
-        Err((Refusal::Store, conn)) => Ended::Stopped(Left {
-            at: 0,
-            files: files_of(conn),
-        }),
-        Err(_) => Ended::Wrong("a stop in the making of the tables isn't told as Store"),
+        Ok(mut desk) => {
+            let ran = ran_at(alloc, &mut desk);
+            (desk.close(), ran)
+        }
+        Err((Refusal::Store, conn)) => (conn, Ran::Stopped(0)),
+        Err((_, conn)) => (
+            conn,
+            Ran::Wrong("a stop in the making of the tables isn't told as Store"),
+        ),
     }
 }
 
-// How the script ends on files that stop so.
-fn script_over(alloc: Global, stop: Stop) -> Ended {
-    match begun(alloc, stop) {
-        Ok(conn) => ended_over(alloc, conn),
-        Err(files) => Ended::Stopped(Left { at: 0, files }),
+// What is left where the script stops on files that stop so; or what comes of it otherwise.
+fn left_by(alloc: Global, stop: Stop) -> Result<Left, Outcome> {
+    let (files, ran) = match begun(alloc, stop) {
+        Ok(conn) => {
+            let (conn, ran) = ran_over(alloc, conn);
+            (files_of(conn), ran)
+        }
+        Err(files) => (files, Ran::Stopped(0)),
+    };
+    match ran {
+        Ran::Whole => Err(Outcome::NoStop),
+        Ran::Stopped(at) => Ok(Left { at, files }),
+        Ran::Wrong(what) => Err(Outcome::Otherwise(what)),
     }
 }
 
@@ -115,7 +122,7 @@ fn may_be_left(texts: &[Vec<u8>], at: usize, text: &[u8]) -> bool {
 }
 
 // The desk over what was left: made where there is no table, else opened.
-fn desk_over(alloc: Global, conn: Connection<FusedStore>, text: &[u8]) -> Option<Desk<FusedStore>> {
+fn desk_over<S: Alter + Drop>(alloc: Global, conn: Connection<S>, text: &[u8]) -> Option<Desk<S>> {
     if lacks_all(text) {
         Desk::create(alloc, conn).ok()
     } else {
@@ -124,7 +131,7 @@ fn desk_over(alloc: Global, conn: Connection<FusedStore>, text: &[u8]) -> Option
 }
 
 // Whether a desk answers the steps from this one on as they say; a load that is in already is refused.
-fn goes_on(alloc: Global, desk: &mut Desk<FusedStore>, first: usize) -> bool {
+fn goes_on<S: Alter + Drop>(alloc: Global, desk: &mut Desk<S>, first: usize) -> bool {
     for step in STEPS.iter().skip(first) {
         match make(alloc, desk, step) {
             Told::Done => {}
@@ -136,7 +143,12 @@ fn goes_on(alloc: Global, desk: &mut Desk<FusedStore>, first: usize) -> bool {
 }
 
 // What comes of the script where it goes on at a desk, from the step that was stopped.
-fn gone_on(alloc: Global, texts: &[Vec<u8>], mut desk: Desk<FusedStore>, at: usize) -> Outcome {
+fn gone_on<S: Alter + Drop>(
+    alloc: Global,
+    texts: &[Vec<u8>],
+    mut desk: Desk<S>,
+    at: usize,
+) -> Outcome {
     if !goes_on(alloc, &mut desk, at.saturating_sub(1)) {
         return Outcome::Otherwise("a step after the stop is answered otherwise");
     }
@@ -148,10 +160,10 @@ fn gone_on(alloc: Global, texts: &[Vec<u8>], mut desk: Desk<FusedStore>, at: usi
 }
 
 // What comes of a stop, over the connection to what it left.
-fn recovered(
+fn recovered<S: Alter + Drop>(
     alloc: Global,
     texts: &[Vec<u8>],
-    mut conn: Connection<FusedStore>,
+    mut conn: Connection<S>,
     at: usize,
 ) -> Outcome {
     let text = match tables_text(alloc, &mut conn) {
@@ -166,10 +178,9 @@ fn recovered(
 
 /// What comes of the script where the files stop so and stand so afterwards, by the texts of a run without a stop.
 pub fn outcome_of(alloc: Global, texts: &[Vec<u8>], stop: Stop, end: End) -> Outcome {
-    let Left { at, files } = match script_over(alloc, stop) {
-        Ended::Whole => return Outcome::NoStop,
-        Ended::Wrong(what) => return Outcome::Otherwise(what),
-        Ended::Stopped(left) => left,
+    let Left { at, files } = match left_by(alloc, stop) {
+        Ok(left) => left,
+        Err(outcome) => return outcome,
     };
     match connected_again(alloc, files, end) {
         Some(conn) => recovered(alloc, texts, conn, at),
