@@ -20,11 +20,10 @@ import shutil
 import sqlite3
 import subprocess
 import sys
-import tempfile
 from concurrent.futures import ProcessPoolExecutor
 from pathlib import Path
 
-from measure import HERE, PROGRAM, Unmeasured
+from measure import HERE, PROGRAM, Unmeasured, tried_in_a_folder
 from served import Cut, Served, reply_of, report_text, request_bytes, rows
 
 PLAN = """W,CPU1,A,,,,,,,
@@ -366,17 +365,15 @@ def build(folder):
     return str(refuser)
 
 
-def play_all(given):
-    with tempfile.TemporaryDirectory() as name:
-        folder = Path(name)
-        given.refuser = build(folder)
-        (folder / "plan.csv").write_text(PLAN)
-        lines = [json.dumps(asked) for asked, _ in UNTIL_TEN_ENDS[1:] + [FAILED]]
-        (folder / "asked.jsonl").write_text("".join(f"{line}\n" for line in lines))
-        for night, (lead, turns) in NIGHTS.items():
-            play_night(given, folder, night, lead, turns)
-        play_reports(given, folder)
-        play_reading(given, folder)
+def play_all(given, folder):
+    given.refuser = build(folder)
+    (folder / "plan.csv").write_text(PLAN)
+    lines = [json.dumps(asked) for asked, _ in UNTIL_TEN_ENDS[1:] + [FAILED]]
+    (folder / "asked.jsonl").write_text("".join(f"{line}\n" for line in lines))
+    for night, (lead, turns) in NIGHTS.items():
+        play_night(given, folder, night, lead, turns)
+    play_reports(given, folder)
+    play_reading(given, folder)
 
 
 def main():
@@ -386,11 +383,8 @@ def main():
     given = options.parse_args()
     given.program = str(given.program.resolve())
     given.workers, given.refused, given.wrong, given.is_opening_tried = os.cpu_count() or 1, 0, 0, False
-    try:
-        play_all(given)
-    except (Unmeasured, OSError) as fault:
-        print(f"nothing could be tried: {fault}")
-        return 2
+    if status := tried_in_a_folder(lambda folder: play_all(given, folder)):
+        return status
     print(f"{given.refused} growths refused, one a run; {given.wrong} answers otherwise than they have to be")
     return 1 if given.wrong or not given.refused else 0
 

@@ -31,6 +31,17 @@ class Unmeasured(Exception):
     """Nothing can be said: a program is absent, or doesn't do what is to be measured."""
 
 
+def tried_in_a_folder(play):
+    """Plays in a folder of its own, which is removed. The exit status: 2 where nothing could be tried, else 0."""
+    try:
+        with tempfile.TemporaryDirectory() as name:
+            play(Path(name))
+    except (Unmeasured, OSError) as fault:
+        print(f"nothing could be tried: {fault}")
+        return 2
+    return 0
+
+
 class Run:
     """One run of a program: seconds on the clock, seconds of processor, peak memory in megabytes, and what it wrote."""
 

@@ -15,10 +15,9 @@ import resource
 import shutil
 import subprocess
 import sys
-import tempfile
 from pathlib import Path
 
-from measure import PROGRAM, Unmeasured
+from measure import PROGRAM, tried_in_a_folder
 from served import Served, request_bytes
 
 HEAD = "W,PRT1,C,,,,,,,\n"
@@ -152,22 +151,22 @@ def try_texts(given, folders):
         judge(given, f"{name}, served", (0, one, b""), (0, other, b""))
 
 
+def try_all(given, folder):
+    folders = [folder / "small", folder / "large"]
+    for plan, lines in plans().items():
+        try_plan(given, folders, plan, lines)
+        print(f"{plan}: {given.tried} runs, {given.wrong} of them otherwise", flush=True)
+    try_texts(given, folders)
+
+
 def main():
     options = argparse.ArgumentParser(description=__doc__.split("\n")[0])
     options.add_argument("--kilobytes", type=int, default=1024)
     options.add_argument("--program", type=Path, default=PROGRAM)
     given = options.parse_args()
     given.program, given.tried, given.wrong = str(given.program.resolve()), 0, 0
-    try:
-        with tempfile.TemporaryDirectory() as name:
-            folders = [Path(name) / "small", Path(name) / "large"]
-            for plan, lines in plans().items():
-                try_plan(given, folders, plan, lines)
-                print(f"{plan}: {given.tried} runs, {given.wrong} of them otherwise", flush=True)
-            try_texts(given, folders)
-    except (Unmeasured, OSError) as fault:
-        print(f"nothing could be tried: {fault}")
-        return 2
+    if status := tried_in_a_folder(lambda folder: try_all(given, folder)):
+        return status
     print(f"{given.kilobytes} KB of stack: {given.tried} runs, {given.wrong} of them otherwise than with more")
     return 1 if given.wrong or not given.tried else 0
 
