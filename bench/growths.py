@@ -161,7 +161,8 @@ def tables_of(folder):
 
 def put_back(folder, kept):
     """The database as it was kept."""
-    for name in ("night.db", "night.db-wal", "refused"):
+    (folder / "refused").unlink(missing_ok=True)
+    for name in ("night.db", "night.db-wal"):
         (folder / name).unlink(missing_ok=True)
         if (kept / name).exists():
             shutil.copy(kept / name, folder / name)
