@@ -28,7 +28,7 @@ pub use hostile::{
 pub use lists::{lists_of_a_loaded_plan, no_list_before_a_plan_is_loaded};
 pub use numbered::{a_texts_length, numbered_requests};
 pub use numbers::{no_room_for_one_more_tracker, reports_are_numbered_and_repeated};
-pub use plays::{nights_at_once, nights_opened_again_after_each_turn};
+pub use plays::{nights_at_once, nights_opened_again_after_each_turn, two_chains_at_a_desk};
 pub use reported::{
     cut_by_its_writer, refused_before_a_plan_is_loaded, refused_for_a_workstation,
     samples_of_reports,

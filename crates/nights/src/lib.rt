@@ -47,6 +47,7 @@ pub use memory::{
 pub use playing::{Deviation, Player, after};
 pub use plays::{
     kept_as_worked_out_afresh, nights_at_once, nights_one_by_one, plans_as_full_as_may_be,
+    two_chains,
 };
 pub use requests::request;
 pub use rows::{

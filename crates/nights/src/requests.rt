@@ -50,7 +50,7 @@ fn text_of(alloc: Global, word: &str, rest: &str) -> Option<String> {
     match word {
         "load" => joined(alloc, rest),
         "load-crowd" => crowd(alloc, rest.parse().ok()?).ok(),
-        "load-chains" => chains(alloc).ok(),
+        "load-chains" => chains(alloc, rest.parse().ok()?).ok(),
         _ => filled(joined(alloc, rest)?).ok(),
     }
 }

@@ -63,6 +63,11 @@ fn nights_opened_again_after_each_turn(rt: HostRuntime) -> Result<(), &'static s
 }
 
 #[test]
+fn two_chains_at_a_desk(rt: HostRuntime) -> Result<(), &'static str> {
+    desks::two_chains_at_a_desk(rt.alloc())
+}
+
+#[test]
 fn cut_by_its_writer(rt: HostRuntime) -> Result<(), &'static str> {
     desks::cut_by_its_writer(rt.alloc())
 }
