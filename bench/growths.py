@@ -8,7 +8,8 @@ reports by `serve`; and the commands that only read, `validate`, `check`, `play`
 that of a run with memory, or tell that memory lacks: `refused 25 Memory`, `fault memory`, 503 with 25, or no reply; of a
 text a beginning may stand before that. Then the tables have to be those from before the request (after no reply, those
 before it or after it), and the request, made again with memory, has to be answered as it is without the refusal, and to
-leave the same tables. With --every N only each N-th growth is refused.
+leave the same tables. What the opening of a database asks for is refused in the first request over one; the others are
+tried from the end of their openings on. With --every N only each N-th growth is refused.
 
 It needs gcc. Exit status: 0 all is so, 1 it isn't, 2 nothing could be tried.
 """
@@ -16,6 +17,7 @@ import argparse
 import json
 import os
 import shutil
+import sqlite3
 import subprocess
 import sys
 import tempfile
@@ -51,6 +53,7 @@ N,BILLING,2024-03-01T22:00,10,CUSTFILE,S,F,,,
 BILLING_LAST = BILLING + "D,PAYROLL,2024-03-01T22:00,40,BILLING,2024-03-01T22:00,10,,,\n"
 PAYROLL = "".join(line for line in PLAN.splitlines(True) if line[0] in "OPD")
 FIRST_GROWTHS_MISSED = 3
+GROWTHS_AROUND = 200
 MOST_SHOWN = 20
 
 
@@ -140,12 +143,21 @@ def lacks_memory(ended, whole):
     if err == "fault memory\n":
         return status == 3 and whole.startswith(out)
     beginning, refusal, rest = out.partition("refused 25 Memory\n")
-    return status == 1 and not err and bool(refusal) and not rest and whole.startswith(beginning)
+    # the requests behind it are made of a plan without it, where more than one is made
+    goes_on = whole[:2] == "1 " and "refused 25" not in rest
+    return status == 1 and not err and bool(refusal) and (not rest or goes_on) and whole.startswith(beginning)
 
 
 def tables_of(folder):
-    """The rows of the tables; None where there is no database, or it has no tables."""
-    return rows(folder) if (folder / "night.db").exists() and (folder / "night.db").stat().st_size else None
+    """The rows of the tables; None where there is no database, or it has none of them."""
+    if not (folder / "night.db").exists():
+        return None
+    try:
+        return rows(folder)
+    except sqlite3.OperationalError as fault:
+        if str(fault) == "no such table: meta":
+            return None
+        raise
 
 
 def put_back(folder, kept):
@@ -181,6 +193,24 @@ def without_growth(given, folder, kept, command, growth):
     if again != whole or tables_of(folder) != after:
         raise Wrong(f"{words}: growth {growth}: again, with memory: {again}")
     return True, True
+
+
+def growths_of_opening(given, folder):
+    """How many growths a request asks for that is refused at once, less some that the ends of runs ask for."""
+    asked = words_of({"at": "1972-01-01T00:00", "do": "tick"})
+    least, most = 0, 1
+    while True:
+        (folder / "refused").unlink(missing_ok=True)
+        run(given, folder, asked, most)
+        if not (folder / "refused").exists():
+            break
+        least, most = most, 2 * most
+    while most - least > 1:
+        middle = (least + most) // 2
+        (folder / "refused").unlink(missing_ok=True)
+        run(given, folder, asked, middle)
+        least, most = (middle, most) if (folder / "refused").exists() else (least, middle)
+    return max(1, least - GROWTHS_AROUND)
 
 
 def exchange(desk, text):
@@ -248,7 +278,10 @@ def swept(given, folder, kept, command, way, first):
 
 def sweep(given, folder, name, command, way):
     """The same with the work parted among the processors."""
-    kept = folder
+    kept, first = folder, 1
+    if tables_of(folder) and command[0][0] not in ("validate", "check", "play"):
+        first = growths_of_opening(given, folder) if given.is_opening_tried else 1
+        given.is_opening_tried = True
     given.step = given.every * given.workers
     parts = []
     for at in range(given.workers):
@@ -258,7 +291,7 @@ def sweep(given, folder, name, command, way):
         for text in ("plan.csv", "asked.jsonl"):
             shutil.copy(folder / text, parts[-1] / text)
     with ProcessPoolExecutor(given.workers) as pool:
-        made = [pool.submit(swept, given, part, kept, command, way, 1 + at * given.every)
+        made = [pool.submit(swept, given, part, kept, command, way, first + at * given.every)
                 for at, part in enumerate(parts)]
         results = [it.result() for it in made]
     refused, lacking = sum(it[0] for it in results), sum(it[1] for it in results)
@@ -352,7 +385,7 @@ def main():
     options.add_argument("--program", type=Path, default=PROGRAM)
     given = options.parse_args()
     given.program = str(given.program.resolve())
-    given.workers, given.refused, given.wrong = os.cpu_count() or 1, 0, 0
+    given.workers, given.refused, given.wrong, given.is_opening_tried = os.cpu_count() or 1, 0, 0, False
     try:
         play_all(given)
     except (Unmeasured, OSError) as fault:
