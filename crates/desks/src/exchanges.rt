@@ -3,7 +3,7 @@ use super::FAILED;
 use super::benches::Bench;
 use plan_basics::{OpKey, Watched};
 use plan_tables::OpView;
-use sqlite::MemStore;
+use sqlite::{Alter, MemStore};
 use status_rules::{Mark, Status};
 use std::alloc::Global;
 use tracker_http::{WireFault, serve_one};
@@ -64,7 +64,12 @@ struct Told {
 }
 
 // What comes of a connection of this reader and this writer.
-fn ended(alloc: Global, bench: &mut Bench<MemStore>, pieces: Pieces<'_>, paper: Paper) -> Told {
+fn ended<S: Alter + Drop>(
+    alloc: Global,
+    bench: &mut Bench<S>,
+    pieces: Pieces<'_>,
+    paper: Paper,
+) -> Told {
     let mut reader = Watched::new(pieces);
     let mut writer = Watched::new(paper);
     let ended = serve_one(alloc, &mut reader, &mut writer, &mut bench.desk);
@@ -77,9 +82,9 @@ fn ended(alloc: Global, bench: &mut Bench<MemStore>, pieces: Pieces<'_>, paper: 
 }
 
 /// Makes an exchange at a desk; nothing where it ends otherwise than it is to.
-pub fn make_exchange(
+pub fn make_exchange<S: Alter + Drop>(
     alloc: Global,
-    bench: &mut Bench<MemStore>,
+    bench: &mut Bench<S>,
     exchange: &Exchange<'_>,
 ) -> Option<()> {
     let bytes = Vec::new(alloc);
@@ -93,9 +98,9 @@ pub fn make_exchange(
 }
 
 /// Sends an input to a desk, which is to get this reply.
-pub fn send(
+pub fn send<S: Alter + Drop>(
     alloc: Global,
-    bench: &mut Bench<MemStore>,
+    bench: &mut Bench<S>,
     input: &str,
     after: After,
     reply: &str,
@@ -104,7 +109,7 @@ pub fn send(
 }
 
 // Loads the night at a desk, as an operator.
-fn load(alloc: Global, bench: &mut Bench<MemStore>) -> Option<()> {
+fn load<S: Alter + Drop>(alloc: Global, bench: &mut Bench<S>) -> Option<()> {
     let input = post(alloc, "/operator", NIGHT)?;
     let reply = accepted(alloc)?;
     send(alloc, bench, &input, After::End, &reply)
@@ -129,7 +134,7 @@ fn is_so(view: Option<OpView>, five: Option<(Mark, Status)>) -> bool {
 }
 
 // Whether operation 5 of PAYROLL has this mark and this status, or isn't there.
-fn has_five(bench: &Bench<MemStore>, five: Option<(Mark, Status)>) -> bool {
+fn has_five<S: Alter + Drop>(bench: &Bench<S>, five: Option<(Mark, Status)>) -> bool {
     match OpKey::from_text(b"PAYROLL/2024-03-01T22:00/005") {
         Some(key) => is_so(bench.plan().view_op(&key), five),
         None => false,
@@ -137,8 +142,8 @@ fn has_five(bench: &Bench<MemStore>, five: Option<(Mark, Status)>) -> bool {
 }
 
 /// What came of exchanges; and then operation 5 of PAYROLL has this mark and this status, or isn't there.
-pub fn and_five(
-    bench: &Bench<MemStore>,
+pub fn and_five<S: Alter + Drop>(
+    bench: &Bench<S>,
     came: Result<(), &'static str>,
     five: Option<(Mark, Status)>,
 ) -> Result<(), &'static str> {

@@ -1,7 +1,7 @@
 // Requests that fail a test of their form, and bodies that are no requests.
 use super::benches::Bench;
 use super::exchanges::{and_five, loaded, send};
-use sqlite::MemStore;
+use sqlite::Alter;
 use status_rules::{Mark, Status};
 use std::alloc::Global;
 use wires::{After, START, accepted, fault, post, reply};
@@ -62,16 +62,16 @@ const HEADS: [Head; 13] = [
 ];
 
 // A head that is rejected so, and no more is read: the reader would answer a fault.
-fn rejected(alloc: Global, bench: &mut Bench<MemStore>, head: &Head) -> Option<()> {
+fn rejected<S: Alter + Drop>(alloc: Global, bench: &mut Bench<S>, head: &Head) -> Option<()> {
     let (input, status, more) = *head;
     let reply = fault(alloc, status, more)?;
     send(alloc, bench, input, After::Fault, &reply)
 }
 
 // These heads are rejected so.
-fn each_head(
+fn each_head<S: Alter + Drop>(
     alloc: Global,
-    bench: &mut Bench<MemStore>,
+    bench: &mut Bench<S>,
     rows: &[Head],
 ) -> Result<(), &'static str> {
     for head in rows {
@@ -88,7 +88,7 @@ pub fn heads_that_are_rejected(alloc: Global) -> Result<(), &'static str> {
 }
 
 // A request that is rejected as bad, and no more is read.
-fn bad(alloc: Global, bench: &mut Bench<MemStore>, input: &str) -> Option<()> {
+fn bad<S: Alter + Drop>(alloc: Global, bench: &mut Bench<S>, input: &str) -> Option<()> {
     let reply = fault(alloc, "400 Bad Request", "")?;
     send(alloc, bench, input, After::Fault, &reply)
 }
@@ -106,7 +106,7 @@ const CHANGES: &str = "} => ,\"more\":1}
 started => hold";
 
 // The start rejected where a part of its body stands as another.
-fn bad_change(alloc: Global, bench: &mut Bench<MemStore>, row: &str) -> Option<()> {
+fn bad_change<S: Alter + Drop>(alloc: Global, bench: &mut Bench<S>, row: &str) -> Option<()> {
     let (part, other) = row.split_once(" => ")?;
     let body = changed(alloc, part, other)?;
     let input = post(alloc, "/report", &body)?;
@@ -114,7 +114,7 @@ fn bad_change(alloc: Global, bench: &mut Bench<MemStore>, row: &str) -> Option<(
 }
 
 // The bodies that are no reports are rejected.
-fn each_change(alloc: Global, bench: &mut Bench<MemStore>) -> Result<(), &'static str> {
+fn each_change<S: Alter + Drop>(alloc: Global, bench: &mut Bench<S>) -> Result<(), &'static str> {
     for row in CHANGES.lines() {
         bad_change(alloc, bench, row).ok_or(row)?;
     }
@@ -129,34 +129,34 @@ pub fn bodies_that_are_no_reports(alloc: Global) -> Result<(), &'static str> {
 }
 
 // Nothing is sent.
-fn nothing(alloc: Global, bench: &mut Bench<MemStore>) -> Option<()> {
+fn nothing<S: Alter + Drop>(alloc: Global, bench: &mut Bench<S>) -> Option<()> {
     let reply = fault(alloc, "400 Bad Request", "")?;
     send(alloc, bench, "", After::End, &reply)
 }
 
 // The body of a report as a request of an operator.
-fn report_of_operator(alloc: Global, bench: &mut Bench<MemStore>) -> Option<()> {
+fn report_of_operator<S: Alter + Drop>(alloc: Global, bench: &mut Bench<S>) -> Option<()> {
     let body = START.body(alloc)?;
     let input = post(alloc, "/operator", &body)?;
     bad(alloc, bench, &input)
 }
 
 // A body of brackets as a report.
-fn brackets(alloc: Global, bench: &mut Bench<MemStore>) -> Option<()> {
+fn brackets<S: Alter + Drop>(alloc: Global, bench: &mut Bench<S>) -> Option<()> {
     let body = "[".repeat(alloc, 200).ok()?;
     let input = post(alloc, "/report", &body)?;
     bad(alloc, bench, &input)
 }
 
 // A head with so many fields, too many of them.
-fn with_fields(alloc: Global, bench: &mut Bench<MemStore>, count: usize) -> Option<()> {
+fn with_fields<S: Alter + Drop>(alloc: Global, bench: &mut Bench<S>, count: usize) -> Option<()> {
     let fields = "A: b\r\n".repeat(alloc, count).ok()?;
     let head = format!(in alloc; "GET /occurrences HTTP/1.1\r\n{fields}\r\n").ok()?;
     bad(alloc, bench, &head)
 }
 
 // These are rejected.
-fn others(alloc: Global, bench: &mut Bench<MemStore>) -> Result<(), &'static str> {
+fn others<S: Alter + Drop>(alloc: Global, bench: &mut Bench<S>) -> Result<(), &'static str> {
     nothing(alloc, bench).ok_or("nothing is sent")?;
     report_of_operator(alloc, bench).ok_or("the body of a report")?;
     brackets(alloc, bench).ok_or("200 brackets")?;
@@ -172,7 +172,7 @@ pub fn nothing_and_too_much(alloc: Global) -> Result<(), &'static str> {
 }
 
 // The start at a moment before all plans, which is refused as past.
-fn past(alloc: Global, bench: &mut Bench<MemStore>) -> Option<()> {
+fn past<S: Alter + Drop>(alloc: Global, bench: &mut Bench<S>) -> Option<()> {
     let at = "\"at\":\"2024-03-01T22:00\"";
     let body = changed(alloc, at, "\"at\":\"1971-12-31T23:59\"")?;
     let input = post(alloc, "/report", &body)?;
@@ -182,7 +182,7 @@ fn past(alloc: Global, bench: &mut Bench<MemStore>) -> Option<()> {
 }
 
 // The start, which is taken whatever the case of the field's name.
-fn another_name(alloc: Global, bench: &mut Bench<MemStore>) -> Option<()> {
+fn another_name<S: Alter + Drop>(alloc: Global, bench: &mut Bench<S>) -> Option<()> {
     let input = START.request(alloc)?;
     let input = input
         .replace(alloc, "Content-Length", "content-LENGTH")
@@ -192,7 +192,10 @@ fn another_name(alloc: Global, bench: &mut Bench<MemStore>) -> Option<()> {
 }
 
 // The first is refused, and the second taken.
-fn past_and_taken(alloc: Global, bench: &mut Bench<MemStore>) -> Result<(), &'static str> {
+fn past_and_taken<S: Alter + Drop>(
+    alloc: Global,
+    bench: &mut Bench<S>,
+) -> Result<(), &'static str> {
     past(alloc, bench).ok_or("a moment before all plans")?;
     another_name(alloc, bench).ok_or("content-LENGTH")
 }

@@ -2,7 +2,7 @@
 use super::FAILED;
 use super::benches::Bench;
 use super::exchanges::{and_five, loaded, send};
-use sqlite::MemStore;
+use sqlite::Alter;
 use status_rules::{Mark, Status};
 use std::alloc::Global;
 use wires::{After, get, reply};
@@ -38,7 +38,7 @@ const BEFORE_A_LOAD: [Row; 3] = [
 ];
 
 // A path is told so, and no more is read than the head: the reader would answer a fault.
-fn list(alloc: Global, bench: &mut Bench<MemStore>, row: &Row) -> Option<()> {
+fn list<S: Alter + Drop>(alloc: Global, bench: &mut Bench<S>, row: &Row) -> Option<()> {
     let (path, status, length, body) = *row;
     let input = get(alloc, path)?;
     let reply = reply(alloc, status, "", length, body)?;
@@ -46,7 +46,11 @@ fn list(alloc: Global, bench: &mut Bench<MemStore>, row: &Row) -> Option<()> {
 }
 
 // Each path of these rows is told so.
-fn each_list(alloc: Global, bench: &mut Bench<MemStore>, rows: &[Row]) -> Result<(), &'static str> {
+fn each_list<S: Alter + Drop>(
+    alloc: Global,
+    bench: &mut Bench<S>,
+    rows: &[Row],
+) -> Result<(), &'static str> {
     for row in rows {
         list(alloc, bench, row).ok_or(row.0)?;
     }

@@ -5,7 +5,7 @@ use super::players::AtOnce;
 use nights::{after, request};
 use plan_basics::{OpKey, Refusal, TrackerName};
 use plan_records::Reply;
-use sqlite::MemStore;
+use sqlite::{Alter, MemStore};
 use std::alloc::{AllocError, Global};
 
 // Whether these operations of the night are named.
@@ -29,7 +29,12 @@ fn is_told(reply: &Reply, told: &str) -> bool {
 }
 
 // What is replied to a tracker that asks this by a number.
-fn reply(alloc: Global, bench: &mut Bench<MemStore>, numbered: &str, asked: &str) -> Option<Reply> {
+fn reply<S: Alter + Drop>(
+    alloc: Global,
+    bench: &mut Bench<S>,
+    numbered: &str,
+    asked: &str,
+) -> Option<Reply> {
     let (tracker, number) = numbered.split_once(' ')?;
     let tracker = TrackerName::from_text(tracker.as_bytes())?;
     let number = number.parse().ok()?;
@@ -38,7 +43,7 @@ fn reply(alloc: Global, bench: &mut Bench<MemStore>, numbered: &str, asked: &str
 }
 
 // Whether a turn is answered as it says.
-fn is_answered(alloc: Global, bench: &mut Bench<MemStore>, turn: &str) -> Option<bool> {
+fn is_answered<S: Alter + Drop>(alloc: Global, bench: &mut Bench<S>, turn: &str) -> Option<bool> {
     let (numbered, turn) = turn.split_once(": ")?;
     let (asked, told) = turn.split_once(" => ")?;
     let reply = reply(alloc, bench, numbered, asked)?;
@@ -46,11 +51,11 @@ fn is_answered(alloc: Global, bench: &mut Bench<MemStore>, turn: &str) -> Option
 }
 
 // The desk after a tracker's turn, closed and opened again; or the turn that is answered otherwise.
-fn after_turn(
+fn after_turn<S: Alter + Drop>(
     alloc: Global,
-    mut bench: Bench<MemStore>,
+    mut bench: Bench<S>,
     turn: &'static str,
-) -> Result<Bench<MemStore>, &'static str> {
+) -> Result<Bench<S>, &'static str> {
     if is_answered(alloc, &mut bench, turn) == Some(true) {
         Bench::opened(alloc, bench.close()).ok().ok_or(turn)
     } else {
@@ -59,9 +64,9 @@ fn after_turn(
 }
 
 // Plays these turns at a desk; or the first that is answered otherwise.
-fn play_turns(
+fn play_turns<S: Alter + Drop>(
     alloc: Global,
-    mut bench: Bench<MemStore>,
+    mut bench: Bench<S>,
     turns: &'static str,
 ) -> Result<(), &'static str> {
     for turn in turns.lines() {
@@ -84,7 +89,11 @@ fn statements(alloc: Global, trackers: u32, text: &str) -> Result<String, AllocE
 }
 
 // The desk that is opened after a text has changed the tables of this one.
-fn changed(alloc: Global, bench: Bench<MemStore>, sql: &str) -> Result<Bench<MemStore>, Refusal> {
+fn changed<S: Alter + Drop>(
+    alloc: Global,
+    bench: Bench<S>,
+    sql: &str,
+) -> Result<Bench<S>, Refusal> {
     let mut conn = bench.close();
     match conn.execute_batch(sql) {
         Ok(_) => Bench::opened(alloc, conn),
@@ -124,9 +133,9 @@ pub fn numbered_requests(alloc: Global) -> Result<(), &'static str> {
 }
 
 // Whether the first tracker's tick, of a text of so many bytes, is answered so.
-fn is_text_told(
+fn is_text_told<S: Alter + Drop>(
     alloc: Global,
-    bench: &mut Bench<MemStore>,
+    bench: &mut Bench<S>,
     length: usize,
     told: &str,
 ) -> Option<bool> {
@@ -138,7 +147,7 @@ fn is_text_told(
 }
 
 // Whether a text of a byte more is refused, and then the longest is taken.
-fn are_lengths_told(alloc: Global, mut bench: Bench<MemStore>) -> bool {
+fn are_lengths_told<S: Alter + Drop>(alloc: Global, mut bench: Bench<S>) -> bool {
     is_text_told(alloc, &mut bench, 65_537, "refused Limit") == Some(true)
         && is_text_told(alloc, &mut bench, 65_536, "names") == Some(true)
 }

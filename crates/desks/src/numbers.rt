@@ -1,7 +1,7 @@
 // The numbers of trackers, over connections.
 use super::benches::Bench;
 use super::exchanges::{and_five, loaded, send};
-use sqlite::MemStore;
+use sqlite::Alter;
 use status_rules::{Mark, Status};
 use std::alloc::Global;
 use wires::{After, Report, accepted, reply};
@@ -87,7 +87,7 @@ const TURNS: [Turn; 9] = [
 ];
 
 // A turn of the first tracker is answered so.
-fn numbered(alloc: Global, bench: &mut Bench<MemStore>, turn: &Turn) -> Option<()> {
+fn numbered<S: Alter + Drop>(alloc: Global, bench: &mut Bench<S>, turn: &Turn) -> Option<()> {
     let (number, at, verb, op, status, length, body) = *turn;
     let report = Report {
         tracker: "T1",
@@ -102,9 +102,9 @@ fn numbered(alloc: Global, bench: &mut Bench<MemStore>, turn: &Turn) -> Option<(
 }
 
 // The turns are answered so.
-fn each_turn(
+fn each_turn<S: Alter + Drop>(
     alloc: Global,
-    bench: &mut Bench<MemStore>,
+    bench: &mut Bench<S>,
     rows: &[Turn],
 ) -> Result<(), &'static str> {
     for turn in rows {
@@ -134,7 +134,7 @@ fn of_five(alloc: Global, tracker: u32, number: u64, verb: &str) -> Option<Strin
 }
 
 // The first report of a tracker, which is accepted: operation 5 is started and interrupted in turn.
-fn first(alloc: Global, bench: &mut Bench<MemStore>, tracker: u32) -> Option<()> {
+fn first<S: Alter + Drop>(alloc: Global, bench: &mut Bench<S>, tracker: u32) -> Option<()> {
     let verb = if tracker % 2 == 0 {
         "started"
     } else {
@@ -146,7 +146,7 @@ fn first(alloc: Global, bench: &mut Bench<MemStore>, tracker: u32) -> Option<()>
 }
 
 // The first reports of 64 trackers are accepted.
-fn firsts(alloc: Global, bench: &mut Bench<MemStore>) -> Option<()> {
+fn firsts<S: Alter + Drop>(alloc: Global, bench: &mut Bench<S>) -> Option<()> {
     for tracker in 0..64 {
         first(alloc, bench, tracker)?;
     }
@@ -154,9 +154,9 @@ fn firsts(alloc: Global, bench: &mut Bench<MemStore>) -> Option<()> {
 }
 
 // A start that the 65th tracker reports by this number, and that is refused so.
-fn refused(
+fn refused<S: Alter + Drop>(
     alloc: Global,
-    bench: &mut Bench<MemStore>,
+    bench: &mut Bench<S>,
     number: u64,
     length: usize,
     body: &str,
@@ -167,7 +167,7 @@ fn refused(
 }
 
 // 64 trackers are taken, and no other.
-fn trackers(alloc: Global, bench: &mut Bench<MemStore>) -> Result<(), &'static str> {
+fn trackers<S: Alter + Drop>(alloc: Global, bench: &mut Bench<S>) -> Result<(), &'static str> {
     firsts(alloc, bench).ok_or("a tracker's first report")?;
     let limit = "{\"name\":\"Limit\",\"refusal\":20}";
     refused(alloc, bench, 1, 29, limit).ok_or(limit)?;

@@ -4,7 +4,7 @@ use nights::Player;
 use plan_basics::Refusal;
 use plan_records::{Reply, Request};
 use plan_tables::Plan;
-use sqlite::MemStore;
+use sqlite::{Alter, MemStore};
 use std::alloc::Global;
 
 /// A desk at which all requests are made at once.
@@ -41,12 +41,12 @@ pub struct Reopened {
 }
 
 // The desk after a request, which adds its reply, closed and opened again.
-fn after_call(
+fn after_call<S: Alter + Drop>(
     alloc: Global,
-    mut bench: Bench<MemStore>,
+    mut bench: Bench<S>,
     request: &Request,
     replies: &mut Vec<Reply>,
-) -> Result<Bench<MemStore>, Refusal> {
+) -> Result<Bench<S>, Refusal> {
     let reply = bench.call(request);
     match replies.push(reply) {
         Ok(()) => Bench::opened(alloc, bench.close()),
@@ -55,12 +55,12 @@ fn after_call(
 }
 
 // The desk after requests, each of which adds its reply; it is closed and opened again after each.
-fn after_calls(
+fn after_calls<S: Alter + Drop>(
     alloc: Global,
-    mut bench: Bench<MemStore>,
+    mut bench: Bench<S>,
     requests: &[Request],
     replies: &mut Vec<Reply>,
-) -> Result<Bench<MemStore>, Refusal> {
+) -> Result<Bench<S>, Refusal> {
     for request in requests {
         bench = after_call(alloc, bench, request, replies)?;
     }

@@ -6,12 +6,12 @@ use nights::request;
 use plan_basics::{Refusal, Watched, WsName};
 use plan_records::Reply;
 use plan_reports::{ReportFault, error_report, late_report, occurrence_report, ready_report};
-use sqlite::MemStore;
+use sqlite::{Alter, MemStore};
 use std::alloc::Global;
 use std::io::Write;
 
 // Whether a turn is accepted.
-fn is_accepted(alloc: Global, bench: &mut Bench<MemStore>, turn: &str) -> bool {
+fn is_accepted<S: Alter + Drop>(alloc: Global, bench: &mut Bench<S>, turn: &str) -> bool {
     match request(alloc, turn) {
         Some(request) => matches!(bench.call(&request), Reply::Accepted { .. }),
         None => false,
@@ -19,7 +19,7 @@ fn is_accepted(alloc: Global, bench: &mut Bench<MemStore>, turn: &str) -> bool {
 }
 
 // Whether these turns are accepted, one a line.
-fn are_accepted(alloc: Global, bench: &mut Bench<MemStore>, turns: &str) -> bool {
+fn are_accepted<S: Alter + Drop>(alloc: Global, bench: &mut Bench<S>, turns: &str) -> bool {
     for turn in turns.lines() {
         if !is_accepted(alloc, bench, turn) {
             return false;
@@ -39,9 +39,9 @@ fn bench_after(alloc: Global, turns: &str) -> Option<Bench<MemStore>> {
 }
 
 // Writes what is ready at a workstation.
-fn write_ready<W: Write>(
+fn write_ready<W: Write, S: Alter + Drop>(
     alloc: Global,
-    bench: &Bench<MemStore>,
+    bench: &Bench<S>,
     name: &str,
     writer: &mut Watched<W>,
 ) -> Result<(), ReportFault> {
@@ -52,9 +52,9 @@ fn write_ready<W: Write>(
 }
 
 // Writes the report of this name: `occurrences`, `errors`, `late`, or a workstation's name for what is ready there.
-fn write_report<W: Write>(
+fn write_report<W: Write, S: Alter + Drop>(
     alloc: Global,
-    bench: &Bench<MemStore>,
+    bench: &Bench<S>,
     name: &str,
     writer: &mut Watched<W>,
 ) -> Result<(), ReportFault> {
@@ -67,7 +67,7 @@ fn write_report<W: Write>(
 }
 
 // Whether the report of this name is this text.
-fn is_report(alloc: Global, bench: &Bench<MemStore>, name: &str, text: &str) -> bool {
+fn is_report<S: Alter + Drop>(alloc: Global, bench: &Bench<S>, name: &str, text: &str) -> bool {
     let mut writer = Watched::new(Vec::new(alloc));
     let is_written = write_report(alloc, bench, name, &mut writer).is_ok();
     is_written && writer.into_inner().as_slice() == text.as_bytes()
@@ -97,7 +97,7 @@ pub fn samples_of_reports(alloc: Global) -> Result<(), &'static str> {
 }
 
 // What the report of this name is refused as, if it is refused and nothing is written.
-fn refusal(alloc: Global, bench: &Bench<MemStore>, name: &str) -> Option<Refusal> {
+fn refusal<S: Alter + Drop>(alloc: Global, bench: &Bench<S>, name: &str) -> Option<Refusal> {
     let mut writer = Watched::new(Vec::new(alloc));
     let reported = write_report(alloc, bench, name, &mut writer);
     let is_empty = writer.into_inner().is_empty();
@@ -108,9 +108,9 @@ fn refusal(alloc: Global, bench: &Bench<MemStore>, name: &str) -> Option<Refusal
 }
 
 // Whether each of these reports is refused before a plan is loaded.
-fn are_refused(
+fn are_refused<S: Alter + Drop>(
     alloc: Global,
-    bench: &Bench<MemStore>,
+    bench: &Bench<S>,
     names: &'static str,
 ) -> Result<(), &'static str> {
     for name in names.split_whitespace() {
@@ -132,7 +132,7 @@ pub fn refused_before_a_plan_is_loaded(alloc: Global) -> Result<(), &'static str
 const OPEN_AND_OLD: &str = "21:00 load OPEN OLD | names -";
 
 // Whether the ready list of a workstation that isn't there is refused, and that of one that is isn't.
-fn is_unknown_refused(alloc: Global, bench: &Bench<MemStore>) -> bool {
+fn is_unknown_refused<S: Alter + Drop>(alloc: Global, bench: &Bench<S>) -> bool {
     refusal(alloc, bench, "CPU2") == Some(Refusal::UnknownWorkstation)
         && refusal(alloc, bench, "CPU1").is_none()
 }
@@ -146,7 +146,7 @@ pub fn refused_for_a_workstation(alloc: Global) -> Result<(), &'static str> {
 }
 
 // Whether a ready list fails as its writer's once these twenty bytes are written.
-fn is_cut_at_twenty(alloc: Global, bench: &Bench<MemStore>, front: &[u8; 20]) -> bool {
+fn is_cut_at_twenty<S: Alter + Drop>(alloc: Global, bench: &Bench<S>, front: &[u8; 20]) -> bool {
     let mut room = [0; 20];
     let mut writer = Watched::new(&mut room[..]);
     let reported = write_report(alloc, bench, "CPU1", &mut writer);

@@ -2,13 +2,13 @@
 use super::FAILED;
 use super::benches::Bench;
 use super::exchanges::{Exchange, and_five, loaded, make_exchange, send};
-use sqlite::MemStore;
+use sqlite::Alter;
 use status_rules::{Mark, Status};
 use std::alloc::Global;
 use wires::{After, START, accepted, fault, post, reply};
 
 // The start is reported in pieces of so many bytes, and accepted.
-fn in_pieces(alloc: Global, bench: &mut Bench<MemStore>, most: usize) -> Option<()> {
+fn in_pieces<S: Alter + Drop>(alloc: Global, bench: &mut Bench<S>, most: usize) -> Option<()> {
     let input = START.request(alloc)?;
     let reply = accepted(alloc)?;
     let mut pieces = Exchange::new(&input, After::Fault, &reply);
@@ -17,7 +17,7 @@ fn in_pieces(alloc: Global, bench: &mut Bench<MemStore>, most: usize) -> Option<
 }
 
 // The start is reported and accepted, in pieces of each of these sizes; each after the first is a repetition.
-fn in_each(alloc: Global, bench: &mut Bench<MemStore>, sizes: &[usize]) -> Option<()> {
+fn in_each<S: Alter + Drop>(alloc: Global, bench: &mut Bench<S>, sizes: &[usize]) -> Option<()> {
     for most in sizes {
         in_pieces(alloc, bench, *most)?;
     }
@@ -32,13 +32,13 @@ pub fn a_start_is_reported_in_pieces(alloc: Global) -> Result<(), &'static str> 
 }
 
 // The front of a report, which is no request.
-fn cut_short(alloc: Global, bench: &mut Bench<MemStore>, front: &str) -> Option<()> {
+fn cut_short<S: Alter + Drop>(alloc: Global, bench: &mut Bench<S>, front: &str) -> Option<()> {
     let reply = fault(alloc, "400 Bad Request", "")?;
     send(alloc, bench, front, After::End, &reply)
 }
 
 // The report of the start, cut after each byte but the last, is no request.
-fn each_cut_short(alloc: Global, bench: &mut Bench<MemStore>) -> Option<()> {
+fn each_cut_short<S: Alter + Drop>(alloc: Global, bench: &mut Bench<S>) -> Option<()> {
     let report = START.request(alloc)?;
     for end in 0..report.len() {
         cut_short(alloc, bench, report.get(..end)?)?;
@@ -54,21 +54,21 @@ pub fn a_report_cut_after_each_byte(alloc: Global) -> Result<(), &'static str> {
 }
 
 // A tick of an operator gets this reply.
-fn tick(alloc: Global, bench: &mut Bench<MemStore>, reply: &str) -> Option<()> {
+fn tick<S: Alter + Drop>(alloc: Global, bench: &mut Bench<S>, reply: &str) -> Option<()> {
     let body = "{\"at\":\"2024-03-01T21:00\",\"do\":\"tick\"}";
     let input = post(alloc, "/operator", body)?;
     send(alloc, bench, &input, After::End, reply)
 }
 
 // A tick is refused, since no plan is loaded.
-fn refused_tick(alloc: Global, bench: &mut Bench<MemStore>) -> Option<()> {
+fn refused_tick<S: Alter + Drop>(alloc: Global, bench: &mut Bench<S>) -> Option<()> {
     let body = "{\"name\":\"NotLoaded\",\"refusal\":3}";
     let refused = reply(alloc, "409 Conflict", "", 32, body)?;
     tick(alloc, bench, &refused)
 }
 
 // A tick is accepted.
-fn accepted_tick(alloc: Global, bench: &mut Bench<MemStore>) -> Option<()> {
+fn accepted_tick<S: Alter + Drop>(alloc: Global, bench: &mut Bench<S>) -> Option<()> {
     let accepted = accepted(alloc)?;
     tick(alloc, bench, &accepted)
 }

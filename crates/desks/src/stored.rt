@@ -5,7 +5,7 @@ use super::players::AtOnce;
 use nights::after;
 use plan_basics::Refusal;
 use plan_tables::{ErrorRow, ErrorRows};
-use sqlite::{Connection, MemStore, Row};
+use sqlite::{Alter, Connection, Row};
 use std::alloc::Global;
 
 // Whether a row has these numbers in its two columns.
@@ -19,7 +19,7 @@ fn are_pairs(rows: &[Row], pairs: &[(i64, i64)]) -> bool {
 }
 
 // Whether a query of the desk's tables shows these numbers.
-fn shows(bench: Bench<MemStore>, sql: &str, pairs: &[(i64, i64)]) -> bool {
+fn shows<S: Alter + Drop>(bench: Bench<S>, sql: &str, pairs: &[(i64, i64)]) -> bool {
     let mut conn = bench.close();
     match conn.query_all(sql, &[]) {
         Ok(rows) => are_pairs(&rows, pairs),
@@ -52,7 +52,7 @@ fn is_second_run(row: &ErrorRow) -> bool {
 }
 
 // Whether the second run alone is left of these rows.
-fn are_second_run(rows: &mut ErrorRows<'_, MemStore>) -> bool {
+fn are_second_run<S: Alter + Drop>(rows: &mut ErrorRows<'_, S>) -> bool {
     let first = rows.next();
     let last = rows.next();
     match (first, last) {
@@ -62,7 +62,7 @@ fn are_second_run(rows: &mut ErrorRows<'_, MemStore>) -> bool {
 }
 
 // Whether the second run alone is in error, with the code that was reported.
-fn has_one_error(bench: &Bench<MemStore>) -> bool {
+fn has_one_error<S: Alter + Drop>(bench: &Bench<S>) -> bool {
     match bench.desk.errors() {
         Ok(mut rows) => are_second_run(&mut rows),
         Err(_) => false,
@@ -70,7 +70,7 @@ fn has_one_error(bench: &Bench<MemStore>) -> bool {
 }
 
 // Whether the rows of a desk are handed out, of which none is asked for.
-fn hands_out(bench: &Bench<MemStore>) -> bool {
+fn hands_out<S: Alter + Drop>(bench: &Bench<S>) -> bool {
     bench.desk.errors().is_ok()
 }
 
@@ -86,12 +86,12 @@ pub fn operation_in_error_is_handed_out(alloc: Global) -> Result<(), &'static st
 }
 
 // Whether no desk is opened over these tables, since they are damaged.
-fn is_damaged(opened: Result<Bench<MemStore>, Refusal>) -> bool {
+fn is_damaged<S: Alter + Drop>(opened: Result<Bench<S>, Refusal>) -> bool {
     matches!(opened, Err(Refusal::Damaged))
 }
 
 // Whether no desk is made over a database that has a table of the name of one of the desk's.
-fn is_name_taken(alloc: Global, mut conn: Connection<MemStore>) -> bool {
+fn is_name_taken<S: Alter + Drop>(alloc: Global, mut conn: Connection<S>) -> bool {
     match conn.execute_batch("CREATE TABLE need (id INTEGER PRIMARY KEY)") {
         Ok(_) => is_damaged(Bench::created(alloc, conn)),
         Err(_) => false,

@@ -1,14 +1,14 @@
 // Readers and writers that fail.
 use super::benches::Bench;
 use super::exchanges::{Exchange, and_five, loaded, make_exchange};
-use sqlite::MemStore;
+use sqlite::Alter;
 use status_rules::{Mark, Status};
 use std::alloc::Global;
 use tracker_http::WireFault;
 use wires::{After, START, accepted};
 
 // A reader's fault after the front of a report, of which a byte is read a call: it is told, and nothing is written.
-fn reader_fault(alloc: Global, bench: &mut Bench<MemStore>, front: &str) -> Option<()> {
+fn reader_fault<S: Alter + Drop>(alloc: Global, bench: &mut Bench<S>, front: &str) -> Option<()> {
     let mut failing = Exchange::new(front, After::Fault, "");
     failing.most = 1;
     failing.fault = Some(WireFault::Reader);
@@ -16,7 +16,7 @@ fn reader_fault(alloc: Global, bench: &mut Bench<MemStore>, front: &str) -> Opti
 }
 
 // The reader's fault at each read but the last is told.
-fn reader_faults(alloc: Global, bench: &mut Bench<MemStore>) -> Option<()> {
+fn reader_faults<S: Alter + Drop>(alloc: Global, bench: &mut Bench<S>) -> Option<()> {
     let report = START.request(alloc)?;
     for end in 0..report.len() {
         reader_fault(alloc, bench, report.get(..end)?)?;
@@ -32,7 +32,7 @@ pub fn a_reader_that_fails_at_each_read(alloc: Global) -> Result<(), &'static st
 }
 
 // The start, whose reply is begun where the writer fails after so many calls, and whole where only its flush does.
-fn writer_fault(alloc: Global, bench: &mut Bench<MemStore>, calls: u32) -> Option<()> {
+fn writer_fault<S: Alter + Drop>(alloc: Global, bench: &mut Bench<S>, calls: u32) -> Option<()> {
     let input = START.request(alloc)?;
     let reply = accepted(alloc)?;
     let mut failing = Exchange::new(&input, After::End, &reply);
@@ -43,14 +43,14 @@ fn writer_fault(alloc: Global, bench: &mut Bench<MemStore>, calls: u32) -> Optio
 }
 
 // The start again, to a writer that takes the reply.
-fn repeated(alloc: Global, bench: &mut Bench<MemStore>) -> Option<()> {
+fn repeated<S: Alter + Drop>(alloc: Global, bench: &mut Bench<S>) -> Option<()> {
     let input = START.request(alloc)?;
     let reply = accepted(alloc)?;
     make_exchange(alloc, bench, &Exchange::new(&input, After::End, &reply))
 }
 
 // A writer that fails at each of its calls is told; the start acts once, and is then repeated.
-fn writer_faults(alloc: Global, bench: &mut Bench<MemStore>) -> Option<()> {
+fn writer_faults<S: Alter + Drop>(alloc: Global, bench: &mut Bench<S>) -> Option<()> {
     for calls in 0..8 {
         writer_fault(alloc, bench, calls)?;
     }
