@@ -19,6 +19,7 @@ mod reads;
 mod reported;
 mod reports;
 mod samples;
+mod scarce;
 mod stored;
 mod wire_faults;
 mod written;
@@ -42,6 +43,7 @@ pub use reported::{
 pub use reports::{
     a_report_cut_after_each_byte, a_start_is_reported_in_pieces, a_tick_of_an_operator,
 };
+pub use scarce::{reports_in_want_of_memory, why_in_want_of_memory};
 pub use stored::{
     name_of_a_table_is_taken, operation_in_error_is_handed_out, waiting_predecessors_are_stored,
 };
