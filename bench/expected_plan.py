@@ -1,5 +1,5 @@
-"""Whether a text denotes a plan: docs/PROFILE.md, "The text of a plan" and "Limits", read a second time and written in
-Python, apart from the desk's own code."""
+"""Whether a text denotes a plan, and whether one denotes an addition: docs/PROFILE.md, "The text of a plan" and "Limits",
+read a second time and written in Python, apart from the desk's own code."""
 import re
 from collections import Counter
 
@@ -92,14 +92,41 @@ def are_disjoint(intervals):
         one[0] != other[0] or one[2] <= other[1] for one, other in zip(ordered, ordered[1:]))
 
 
-def denotes_plan(text):
+def kinds_of(text):
+    """The fields of the records of each kind, or None where a record has no form."""
     kinds = {kind: [] for kind in FORMS}
     for record in records_of(text):
         found = values_of(record)
         if not found:
-            return False
+            return None
         kinds[found[0]].append(found[1])
-    keys = {kind: [tuple(fields[:KEY_FIELDS[kind]]) for fields in kinds[kind]] for kind in FORMS}
+    return kinds
+
+
+def keys_of(kinds):
+    return {kind: [tuple(fields[:KEY_FIELDS[kind]]) for fields in kinds[kind]] for kind in FORMS}
+
+
+def denotes_addition(text):
+    kinds = kinds_of(text)
+    if not kinds or kinds["W"] or kinds["I"] or kinds["X"]:
+        return False
+    keys = keys_of(kinds)
+    own = set(keys["O"])
+    ends = [(key[:3], key[3:]) for key in keys["D"]]
+    named = {key[:3] for key in keys["N"]} | {end for pair in ends for end in pair if end[:2] in own}
+    return (all(len(set(found)) == len(found) for found in keys.values())
+            and len(keys["O"]) == 1 and {key[:2] for key in keys["P"]} == own
+            and {key[:2] for key in keys["N"]} <= own and named <= set(keys["P"])
+            and all(one[:2] in own or other[:2] in own for one, other in ends)
+            and max(Counter(key[:3] for key in keys["N"]).values(), default=0) <= MOST_NEEDS)
+
+
+def denotes_plan(text):
+    kinds = kinds_of(text)
+    if not kinds:
+        return False
+    keys = keys_of(kinds)
     defined = {kind: set(keys[kind]) for kind in FORMS}
     pairs = [(key[:3], key[3:]) for key in keys["D"]]
     return (all(len(defined[kind]) == len(keys[kind]) for kind in FORMS)

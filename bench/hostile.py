@@ -1,5 +1,6 @@
 #!/usr/bin/env python3
-"""Throws at `plandesk serve` what no client should send, and texts of plans at `check` and of requests at `do`.
+"""Throws at `plandesk serve` what no client should send and texts of additions, and texts of plans at `check` and of
+requests at `do`.
 
     hostile.py [--rounds N] [--texts N] [--seed N] [--program PATH]
 
@@ -8,7 +9,8 @@ clients that go away at once. Over all rounds each request is cut at each length
 `expected.py` says of its form, byte for byte but for what the plan says; none may end the desk or hold it for good; and
 at the end of a round the tables, as the C library reads them, have to be those of the accepted requests alone, which
 are sent again as they are to a desk over a copy of the tables from before. A plan's text has to be accepted where
-`expected_plan.py` says that it denotes a plan, and else be refused 21; a request's text has to be a fault just where
+`expected_plan.py` says that it denotes a plan, and else be refused 21; that of an addition has to be refused 21 just where
+it says that it denotes none; a request's text has to be a fault just where
 `expected.py` says that it is none, and to change the tables only where it is accepted.
 
 Exit status: 0 all is so, 1 it isn't, 2 nothing could be tried.
@@ -29,14 +31,14 @@ from collections import Counter
 from pathlib import Path
 
 from expected import MOST_BODY_BYTES, MOST_HEAD_BYTES, REPORTS, is_operation, is_operators_request, status_of
-from expected_plan import denotes_plan
+from expected_plan import denotes_addition, denotes_plan
 from measure import HERE, PROGRAM, Unmeasured
 from served import Cut, Served, load, received, reply_of, request_bytes, rows
 
 NIGHT = HERE.parent / "examples" / "night"
 EVENING = "2024-03-01T19:30"
 MUTANTS_EACH = 4
-PATIENCE_SECONDS = 10
+EXCHANGE_SECONDS = 10
 MOST_SHOWN = 20
 REFUSALS = dict(enumerate(
     "Past MomentRange NotLoaded Loaded UnknownOperation UnknownOccurrence UnknownWorkstation UnknownResource WrongStatus "
@@ -53,13 +55,20 @@ HEADS = [
 ]
 
 
+ADDITIONS = [
+    b"O,EXTRA,2024-03-01T22:00,5,2024-03-02T05:00,,,,,\nP,EXTRA,2024-03-01T22:00,10,CPU1,30,0,0,,\n",
+    b"O,MORE,2024-03-01T22:00,5,2024-03-02T05:00,,,,,\nP,MORE,2024-03-01T22:00,10,CPU1,30,1,0,2024-03-01T23:00,\n"
+    b"P,MORE,2024-03-01T22:00,20,CPU1,30,0,0,,2024-03-02T04:00\nN,MORE,2024-03-01T22:00,10,TAPE-1,S,F,,,\n"
+    b"N,MORE,2024-03-01T22:00,20,TAPE-1,X,K,,,\nD,MORE,2024-03-01T22:00,10,MORE,2024-03-01T22:00,20,,,\n"
+    b"D,MORE,2024-03-01T22:00,20,REPORTS,2024-03-02T01:00,20,,,\n"]
+
+
 def bodies_of_a_night():
     """The night's requests in their order, as an operator's and, where they are reports, most as a tracker's; before
     them a request of each other kind."""
     operation, extra = "REPORTS/2024-03-02T01:00/020", "EXTRA/2024-03-01T22:00"
     before = [{"do": "load", "records": (NIGHT / "night.csv").read_text()},
-              {"do": "add", "records": "O,EXTRA,2024-03-01T22:00,5,2024-03-02T05:00,,,,,\n"
-                                       "P,EXTRA,2024-03-01T22:00,10,CPU1,30,0,0,,\n"},
+              {"do": "add", "records": ADDITIONS[0].decode()},
               {"do": "depend", "from": f"{extra}/010", "to": operation}]
     before += [{"do": verb, "op": f"{extra}/010"} for verb in ("nop", "unnop", "hold", "release", "complete", "rerun")]
     before += [{"do": "unknown", "op": operation}, {"do": "delete", "occ": extra},
@@ -276,18 +285,33 @@ def play(given, folder, start, turn, told):
         desk.kill()
 
 
+def dripped(stream, text):
+    """Sends a text a byte each half a second, and returns what is written to a client that does, once it is let go."""
+    stream.settimeout(0.5)
+    for code in text:
+        try:
+            stream.sendall(bytes([code]))
+            return stream.recv(65536)
+        except TimeoutError:
+            continue
+        except ConnectionError:
+            return b""
+    return b"all was taken"
+
+
 def keep_still(given, folder, told):
-    """Clients that send nothing, a part of a head, or a part of a body, and wait: each is let go, and the next is served."""
+    """Clients that send nothing, a part of a head, or a part of a body, and wait, or send byte after byte: each is let go
+    once its time is over, and the next is served."""
     text = request_bytes("POST", "/operator", '{"at":"2024-03-01T19:30","do":"tick"}')
     desk = Served(given.program, folder)
     try:
-        for sent in (b"", text[:30], text[:-5]):
+        for sent, more in ((b"", b""), (text[:30], b""), (text[:-5], b""), (b"", text), (text[:-30], b" " * 60)):
             begun = time.monotonic()
             with desk.connect() as stream:
                 stream.sendall(sent)
-                written = received(stream)
+                written = dripped(stream, more) if more else received(stream)
             taken = time.monotonic() - begun
-            told.judge(not written and PATIENCE_SECONDS - 1 < taken < PATIENCE_SECONDS + 2,
+            told.judge(not written and EXCHANGE_SECONDS - 1 < taken < EXCHANGE_SECONDS + 2,
                        f"let go after {taken:.1f} seconds", sent, written)
             told.judge(desk.ask("GET", "/ready/X")[0] == 409, "the next client is served", sent, None)
             told.ways["kept still"] += 1
@@ -356,6 +380,27 @@ def check_plans(given, folder, told):
         told.ways["plans accepted" if got[0] == 0 else "plans refused"] += 1
 
 
+def add_texts(given, folder, told):
+    """Texts of additions, mutated, at one desk, to which they are operators' requests."""
+    chance = random.Random(f"{given.seed}/additions")
+    shutil.copy(folder / "loaded.db", folder / "night.db")
+    (folder / "night.db-wal").unlink(missing_ok=True)
+    desk = Served(given.program, folder)
+    try:
+        for turn in range(given.texts):
+            one = ADDITIONS[turn // 2 % 2]
+            text = rewritten(chance, one) if turn % 2 else mutated(chance, one, ADDITIONS)
+            text = text.decode(errors="replace")
+            is_addition = denotes_addition(text.encode())
+            got = desk.ask("POST", "/operator", json.dumps({"at": EVENING, "do": "add", "records": text}))
+            is_bad = got == (409, b'{"name":"BadPlan","refusal":21}')
+            told.judge(is_bad != is_addition and is_answer(*got, "operator"),
+                       "the text denotes an addition" if is_addition else "the text denotes no addition", text, got)
+            told.ways[f"additions answered {got[0]}" if is_addition else "texts that are no additions"] += 1
+    finally:
+        desk.kill()
+
+
 def do_texts(given, folder, told):
     """One operator's request after the other, mutated, by `do`, if the program has it."""
     if b"\n  do " not in run([given.program, "--help"], folder)[1]:
@@ -392,13 +437,14 @@ def try_all(given, folder, told):
     keep_still(given, folder, told)
     serve_so_many(given, folder, told)
     check_plans(given, folder, told)
+    add_texts(given, folder, told)
     do_texts(given, folder, told)
 
 
 def main():
     words = argparse.ArgumentParser(description=__doc__.splitlines()[0])
     words.add_argument("--rounds", type=int, default=180, help="rounds, of some 600 inputs each")
-    words.add_argument("--texts", type=int, default=1000, help="texts of plans, and of requests for `do`")
+    words.add_argument("--texts", type=int, default=1000, help="texts of plans, of additions, and of requests for `do`")
     words.add_argument("--seed", type=int, default=1, help="what chance draws the inputs from")
     words.add_argument("--program", type=Path, default=PROGRAM)
     given = words.parse_args()

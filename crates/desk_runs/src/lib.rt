@@ -4,6 +4,7 @@
 
 mod desk;
 mod serving;
+mod timed;
 
 pub use desk::{desk_run, tell_fault};
 pub use desk_commands::{Desk, Fault};

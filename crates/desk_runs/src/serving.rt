@@ -1,43 +1,39 @@
 // `serve`: the desk of a database's file over HTTP, so many connections, one after another.
+use super::timed::TimedStream;
 use clap::ArgMatches;
 use command_words::value_of;
 use desk_commands::{Database, Ending, Fault, close_desk, stored_desk, tell_no_desk};
 use plan_basics::Watched;
 use sqlite::{Alter, Connection};
-use std::alloc::Global;
 use std::io;
 use std::io::Write;
 use std::net::{Ipv4Addr, TcpListener, TcpStream};
 use std::rt::HostRuntime;
-use std::time::Duration;
+use std::time::Instant;
 use tracker_http::{Desk, WireFault, serve_one};
 
-/// How many seconds each read and each write waits for the client.
-const PATIENCE_SECONDS: u64 = 10;
-
-/// Serves the one exchange of a connection. A client that keeps a read or a write waiting longer than the patience is a
-/// fault of the reader or the writer.
+/// Serves the one exchange of a connection. A client that keeps it longer than its time is a fault of the reader or the
+/// writer.
 fn serve_connection<S: Alter + Drop>(
-    alloc: Global,
+    rt: &HostRuntime,
     stream: &TcpStream,
     desk: &mut Desk<S>,
 ) -> Result<(), WireFault> {
-    let patience = Some(Duration::from_secs(PATIENCE_SECONDS));
-    if stream.set_read_timeout(patience).is_err() || stream.set_write_timeout(patience).is_err() {
+    let Ok(begun) = Instant::now(rt) else {
         return Err(WireFault::Reader);
-    }
+    };
     serve_one(
-        alloc,
-        &mut Watched::new(stream),
-        &mut Watched::new(stream),
+        rt.alloc(),
+        &mut Watched::new(TimedStream::new(rt, stream, begun)),
+        &mut Watched::new(TimedStream::new(rt, stream, begun)),
         desk,
     )
 }
 
-/// Serves exactly `connections` connections of a listener, one after another, each with one exchange. One that faults
-/// counts. The error is that of a connection that couldn't be had; what was served before stands.
+/// Serves exactly `connections` connections of a listener, one after another, each with one exchange, which has ten seconds
+/// in all. One that faults counts. The error is that of a connection that couldn't be had; what was served before stands.
 pub fn serve_listener<S: Alter + Drop>(
-    alloc: Global,
+    rt: &HostRuntime,
     listener: &TcpListener,
     desk: &mut Desk<S>,
     connections: u64,
@@ -45,7 +41,7 @@ pub fn serve_listener<S: Alter + Drop>(
     for _ in 0..connections {
         let (stream, _) = listener.accept()?;
         // A connection that faults concerns its client alone, who learns of it by the reply that doesn't come.
-        let _ = serve_connection(alloc, &stream, desk);
+        let _ = serve_connection(rt, &stream, desk);
     }
     Ok(())
 }
@@ -58,7 +54,7 @@ fn taken_port(rt: &HostRuntime, given: &ArgMatches) -> Result<TcpListener, Fault
 
 /// Tells that the port is taken, and serves so many connections.
 fn serve_port<S: Alter + Drop, W: Write>(
-    alloc: Global,
+    rt: &HostRuntime,
     listener: &TcpListener,
     connections: u64,
     desk: &mut Desk<S>,
@@ -66,7 +62,7 @@ fn serve_port<S: Alter + Drop, W: Write>(
 ) -> Result<(), Fault> {
     writeln!(out, "listening")?;
     out.flush()?;
-    serve_listener(alloc, listener, desk, connections).map_err(|_| Fault::Network)
+    serve_listener(rt, listener, desk, connections).map_err(|_| Fault::Network)
 }
 
 /// Takes the port that the words give, tells so before the first connection, and serves so many connections.
@@ -78,7 +74,7 @@ fn listen<S: Alter + Drop, W: Write>(
 ) -> Result<(), Fault> {
     let connections = given.get_one::<u32>("requests").ok_or(Fault::Words)?;
     match taken_port(rt, given) {
-        Ok(listener) => serve_port(rt.alloc(), &listener, u64::from(connections), desk, out),
+        Ok(listener) => serve_port(rt, &listener, u64::from(connections), desk, out),
         Err(fault) => Err(fault),
     }
 }

@@ -1,6 +1,7 @@
 // What connections bring, and what is to come of them.
 use super::FAILED;
 use super::benches::Bench;
+use super::readers::Counting;
 use plan_basics::{OpKey, Watched};
 use plan_tables::OpView;
 use sqlite::{Alter, MemStore};
@@ -10,13 +11,14 @@ use tracker_http::{WireFault, serve_one};
 use wires::{After, NIGHT, Paper, Pieces, accepted, post};
 
 /// A connection: its whole input, of which a read gives at most so many bytes, and what the reader answers after it;
-/// how many calls the writer takes; the fault in which it is to end, if any; the reply, and whether it is to be written
-/// whole or only begun.
+/// how many reads are to be made, where that is told; how many calls the writer takes; the fault in which it is to end,
+/// if any; the reply, and whether it is to be written whole or only begun.
 #[derive(Clone, Copy)]
 pub struct Exchange<'t> {
     pub input: &'t str,
     pub most: usize,
     pub after: After,
+    pub reads: Option<usize>,
     pub calls: u32,
     pub fault: Option<WireFault>,
     pub reply: &'t str,
@@ -30,6 +32,7 @@ impl<'t> Exchange<'t> {
             input,
             most: 8192,
             after,
+            reads: None,
             calls: u32::MAX,
             fault: None,
             reply,
@@ -49,16 +52,19 @@ impl<'t> Exchange<'t> {
     // Whether it ended as it is to.
     fn is_told(&self, told: &Told) -> bool {
         told.fault == self.fault
+            && told.reads == self.reads.unwrap_or(told.reads)
             && told.has_writer_failed == (self.fault == Some(WireFault::Writer))
             && self.reply.as_bytes().starts_with(&told.written)
             && (told.written.len() == self.reply.len()) == self.is_whole
     }
 }
 
-// What came of a connection: its fault, if any; whether the writer is known to have failed; and what was written.
+// What came of a connection: its fault, if any; how many reads were made; whether the writer is known to have failed; and
+// what was written.
 #[derive(Drop)]
 struct Told {
     fault: Option<WireFault>,
+    reads: usize,
     has_writer_failed: bool,
     written: Vec<u8>,
 }
@@ -70,12 +76,13 @@ fn ended<S: Alter + Drop>(
     pieces: Pieces<'_>,
     paper: Paper,
 ) -> Told {
-    let mut reader = Watched::new(pieces);
+    let mut reader = Watched::new(Counting::new(pieces));
     let mut writer = Watched::new(paper);
     let ended = serve_one(alloc, &mut reader, &mut writer, &mut bench.desk);
     let has_writer_failed = writer.failed();
     Told {
         fault: ended.err(),
+        reads: reader.into_inner().reads,
         has_writer_failed,
         written: writer.into_inner().bytes,
     }

@@ -14,9 +14,12 @@ mod numbered;
 mod numbers;
 mod players;
 mod plays;
+mod readers;
+mod reads;
 mod reported;
 mod reports;
 mod samples;
+mod scarce;
 mod stored;
 mod wire_faults;
 mod written;
@@ -28,7 +31,11 @@ pub use hostile::{
 pub use lists::{lists_of_a_loaded_plan, no_list_before_a_plan_is_loaded};
 pub use numbered::{a_texts_length, numbered_requests};
 pub use numbers::{no_room_for_one_more_tracker, reports_are_numbered_and_repeated};
-pub use plays::{nights_at_once, nights_opened_again_after_each_turn};
+pub use plays::{nights_at_once, nights_opened_again_after_each_turn, two_chains_at_a_desk};
+pub use reads::{
+    heads_as_long_as_may_be_and_longer, no_read_behind_a_head_or_a_body,
+    no_read_behind_a_test_that_fails,
+};
 pub use reported::{
     cut_by_its_writer, refused_before_a_plan_is_loaded, refused_for_a_workstation,
     samples_of_reports,
@@ -36,6 +43,7 @@ pub use reported::{
 pub use reports::{
     a_report_cut_after_each_byte, a_start_is_reported_in_pieces, a_tick_of_an_operator,
 };
+pub use scarce::{reports_in_want_of_memory, why_in_want_of_memory};
 pub use stored::{
     name_of_a_table_is_taken, operation_in_error_is_handed_out, waiting_predecessors_are_stored,
 };

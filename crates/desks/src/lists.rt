@@ -10,7 +10,8 @@ use wires::{After, get, reply};
 const SETP: &str =
     "[{\"duration\":10,\"held\":false,\"latest\":\"2024-03-02T02:59\",\"op\":\"PAYROLL/2024-03-01T22:00/005\",\"priority\":5,\"status\":\"A\"}]";
 
-const OCCURRENCES: &str =
+/// The occurrences of the loaded night.
+pub const OCCURRENCES: &str =
     "[{\"deadline\":\"2024-03-02T05:00\",\"occ\":\"PAYROLL/2024-03-01T22:00\",\"priority\":5,\"status\":\"W\"}]";
 
 const UNKNOWN: &str = "{\"name\":\"UnknownWorkstation\",\"refusal\":7}";

@@ -1,13 +1,13 @@
 // All nights, at desks.
 use super::players::{AtOnce, Reopened};
-use nights::{Deviation, play_all};
+use nights::{Deviation, play_all, two_chains};
 use std::alloc::Global;
 
 // All nights went as they say; or the line at which one went otherwise.
 fn are_all(played: Result<u32, Deviation<'static>>) -> Result<(), &'static str> {
     match played {
-        Ok(73) => Ok(()),
-        Ok(_) => Err("73 nights"),
+        Ok(74) => Ok(()),
+        Ok(_) => Err("74 nights"),
         Err(deviation) => Err(deviation.line),
     }
 }
@@ -20,4 +20,12 @@ pub fn nights_at_once(alloc: Global) -> Result<(), &'static str> {
 /// All nights, at desks that are closed and opened again after each request.
 pub fn nights_opened_again_after_each_turn(alloc: Global) -> Result<(), &'static str> {
     are_all(play_all::<Reopened>(alloc))
+}
+
+/// Two chains of 255 operations each, at a desk.
+pub fn two_chains_at_a_desk(alloc: Global) -> Result<(), &'static str> {
+    match two_chains::<AtOnce>(alloc) {
+        Ok(()) => Ok(()),
+        Err(deviation) => Err(deviation.line),
+    }
 }

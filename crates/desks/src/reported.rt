@@ -28,8 +28,8 @@ fn are_accepted<S: Alter + Drop>(alloc: Global, bench: &mut Bench<S>, turns: &st
     true
 }
 
-// A desk at which these turns were made, each of them accepted.
-fn bench_after(alloc: Global, turns: &str) -> Option<Bench<MemStore>> {
+/// A desk at which these turns were made, each of them accepted.
+pub fn bench_after(alloc: Global, turns: &str) -> Option<Bench<MemStore>> {
     let mut bench = Bench::empty(alloc).ok()?;
     if are_accepted(alloc, &mut bench, turns) {
         Some(bench)
@@ -39,7 +39,7 @@ fn bench_after(alloc: Global, turns: &str) -> Option<Bench<MemStore>> {
 }
 
 // Writes what is ready at a workstation.
-fn write_ready<W: Write, S: Alter + Drop>(
+fn write_ready<S: Alter + Drop, W: Write>(
     alloc: Global,
     bench: &Bench<S>,
     name: &str,
@@ -51,8 +51,8 @@ fn write_ready<W: Write, S: Alter + Drop>(
     }
 }
 
-// Writes the report of this name: `occurrences`, `errors`, `late`, or a workstation's name for what is ready there.
-fn write_report<W: Write, S: Alter + Drop>(
+/// Writes the report of this name: `occurrences`, `errors`, `late`, or a workstation's name for what is ready there.
+pub fn write_report<S: Alter + Drop, W: Write>(
     alloc: Global,
     bench: &Bench<S>,
     name: &str,

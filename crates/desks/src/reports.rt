@@ -7,12 +7,18 @@ use status_rules::{Mark, Status};
 use std::alloc::Global;
 use wires::{After, START, accepted, fault, post, reply};
 
-// The start is reported in pieces of so many bytes, and accepted.
+// How many reads give so many bytes, at most so many a read.
+fn reads_of(length: usize, most: usize) -> Option<usize> {
+    length.checked_add(most)?.checked_sub(1)?.checked_div(most)
+}
+
+// The start is reported in pieces of so many bytes, and accepted; nothing is read behind the last.
 fn in_pieces<S: Alter + Drop>(alloc: Global, bench: &mut Bench<S>, most: usize) -> Option<()> {
     let input = START.request(alloc)?;
     let reply = accepted(alloc)?;
     let mut pieces = Exchange::new(&input, After::Fault, &reply);
     pieces.most = most;
+    pieces.reads = Some(reads_of(input.len(), most)?);
     make_exchange(alloc, bench, &pieces)
 }
 
@@ -31,10 +37,13 @@ pub fn a_start_is_reported_in_pieces(alloc: Global) -> Result<(), &'static str> 
     and_five(&bench, came, Some((Mark::Running, Status::Started)))
 }
 
-// The front of a report, which is no request.
+// The front of a report, of which a byte is read a call, is no request. Nothing is read behind the end.
 fn cut_short<S: Alter + Drop>(alloc: Global, bench: &mut Bench<S>, front: &str) -> Option<()> {
     let reply = fault(alloc, "400 Bad Request", "")?;
-    send(alloc, bench, front, After::End, &reply)
+    let mut cut = Exchange::new(front, After::End, &reply);
+    cut.most = 1;
+    cut.reads = Some(front.len().saturating_add(1));
+    make_exchange(alloc, bench, &cut)
 }
 
 // The report of the start, cut after each byte but the last, is no request.

@@ -11,8 +11,8 @@ pub struct Sample {
 
 const LOADED: &str = "21:00 load STATIONS RUNS PRINTING CHAIN LAST FILE KEEPS | names -";
 
-// The second run ended in error when the bills were in.
-const FAILED: &str = "21:00 load STATIONS RUNS PRINTING CHAIN LAST FILE KEEPS | names -
+/// The second run ended in error when the bills were in.
+pub const FAILED_RUN: &str = "21:00 load STATIONS RUNS PRINTING CHAIN LAST FILE KEEPS | names -
 22:00 started 5 | names -
 22:10 ended 5 | names 10
 22:40 ended 10 | names 20
@@ -60,7 +60,7 @@ END 0
     },
     Sample {
         what: "occurrences when one failed",
-        turns: FAILED,
+        turns: FAILED_RUN,
         report: "occurrences",
         text: "OCCURRENCES AT 2024-03-01T23:00
 BILLING          2024-03-01T22:00 5 W 2024-03-02T03:00     1     0
@@ -80,7 +80,7 @@ END 1
     },
     Sample {
         what: "errors when one failed",
-        turns: FAILED,
+        turns: FAILED_RUN,
         report: "errors",
         text: "ERRORS AT 2024-03-01T23:00
 PAYROLL          2024-03-01T22:00  20 CPU1 S0C7

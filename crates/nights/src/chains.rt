@@ -8,7 +8,7 @@ use std::alloc::Global;
 /// Each line is a request, made after those above it, and how many records it may look at: four, and four for each entry of
 /// the ready lists before and after and for each operation whose row changes and each pair that it is in; a load, a dependency
 /// and a deletion, four for each operation and each pair of the plan that they leave, and four.
-const LOOKS: &str = "22:00 load-chains | 40724
+const LOOKS: &str = "22:00 load-chains 20 | 40724
 22:00 tick | 164
 22:00 started J01.1 | 168
 22:00 ended J01.1 | 180

@@ -1,34 +1,100 @@
-// Which rows of the tables a request changes, as words.
-use super::names::{occurrence, operation, resource};
-use super::words::{cut, listed};
-use plan_records::{Changes, RowKey};
+// The rows of the tables that a request changes, each as a line: its table and its columns, with bars between.
+use super::words::listed;
+use plan_basics::{OpKey, minute_text};
+use plan_records::{Changes, OperationRow, PlanRow};
+use special_resources::{Mode, Need};
+use std::alloc::Global;
 
-// The key that a word names: its table, and behind the colon its columns.
-fn key(word: &str) -> Option<RowKey> {
-    let (table, columns) = cut(word, ":").unwrap_or((word, ""));
-    match table {
-        "meta" => Some(RowKey::Meta),
-        "occurrence" => Some(RowKey::Occurrence(occurrence(columns)?)),
-        "operation" => Some(RowKey::Operation(operation(columns)?)),
-        "pair" => {
-            let (before, after) = cut(columns, ">")?;
-            Some(RowKey::Dependency(operation(before)?, operation(after)?))
+// The columns of an operation that requests set: its mark, the code beside it, and whether it is held and to be passed.
+fn set_columns(alloc: Global, row: &OperationRow) -> Option<String> {
+    let mark = row.mark.text();
+    let code = str::from_utf8(row.mark.code_text()).ok()?;
+    let (held, nop) = (u8::from(row.held), u8::from(row.nop));
+    format!(in alloc; "{mark}|{code}|{held}|{nop}").ok()
+}
+
+// The columns of an operation that follow from others: its status, its latest start, and for how many it waits.
+fn derived_columns(alloc: Global, row: &OperationRow) -> Option<String> {
+    let status = char::from(row.status.letter());
+    let moment = minute_text(row.latest);
+    let latest = str::from_utf8(&moment).ok()?;
+    let waiting = row.waiting;
+    format!(in alloc; "{status}|{latest}|{waiting}").ok()
+}
+
+fn operation_line(alloc: Global, row: &OperationRow) -> Option<String> {
+    let set = set_columns(alloc, row)?;
+    let derived = derived_columns(alloc, row)?;
+    let OperationRow {
+        op,
+        ws,
+        duration,
+        r1,
+        r2,
+        not_before,
+        deadline,
+        ..
+    } = row;
+    format!(in alloc;
+        "operation|{op}|{ws}|{duration}|{r1}|{r2}|{not_before}|{deadline}|{set}|{derived}"
+    ).ok()
+}
+
+fn need_line(alloc: Global, op: &OpKey, need: &Need) -> Option<String> {
+    let name = need.name;
+    let mode = match need.mode {
+        Mode::Shared => 'S',
+        Mode::Exclusive => 'X',
+    };
+    let keep = if need.keep { 'K' } else { 'F' };
+    format!(in alloc; "need|{op}|{name}|{mode}|{keep}").ok()
+}
+
+// The line of a row; none for one of a workstation, an interval or a resource, which no step changes.
+fn line_of(alloc: Global, row: &PlanRow) -> Option<String> {
+    match row {
+        PlanRow::Meta {
+            version,
+            loaded,
+            clock,
+        } => {
+            let loaded = u8::from(*loaded);
+            format!(in alloc; "meta|{version}|{loaded}|{clock}").ok()
         }
-        "need" => {
-            let (name, file) = cut(columns, "+")?;
-            Some(RowKey::Need(operation(name)?, resource(file)?))
+        PlanRow::Occurrence {
+            occurrence,
+            priority,
+            deadline,
+            status,
+        } => {
+            let status = char::from(status.letter());
+            format!(in alloc; "occurrence|{occurrence}|{priority}|{deadline}|{status}").ok()
         }
-        _ => None,
+        PlanRow::Operation(row) => operation_line(alloc, row),
+        PlanRow::Dependency {
+            predecessor,
+            successor,
+        } => format!(in alloc; "dependency|{predecessor}|{successor}").ok(),
+        PlanRow::Need { op, need } => need_line(alloc, op, need),
+        PlanRow::Workstation { .. } | PlanRow::Interval { .. } | PlanRow::Resource { .. } => None,
     }
 }
 
-/// Whether the rows of these keys are new or differ, in this order, and none is gone.
-pub fn are_changes(changes: &Changes, told: &str) -> Option<bool> {
-    let words = listed(told)?;
-    for (row, word) in changes.rows.iter().zip(words.split_whitespace()) {
-        if row.key() != key(word)? {
+// Whether this is the line of a row.
+fn is_line(alloc: Global, row: &PlanRow, told: &str) -> bool {
+    match line_of(alloc, row) {
+        Some(line) => line.as_str() == told,
+        None => false,
+    }
+}
+
+/// Whether the rows of these lines are new or differ, in this order, and none is gone.
+pub fn are_changes(alloc: Global, changes: &Changes, told: &str) -> Option<bool> {
+    let lines = listed(told)?;
+    for (row, line) in changes.rows.iter().zip(lines.lines()) {
+        if !is_line(alloc, row, line) {
             return None;
         }
     }
-    Some(words.split_whitespace().count() == changes.rows.len() && changes.gone.is_empty())
+    Some(lines.lines().count() == changes.rows.len() && changes.gone.is_empty())
 }

@@ -53,12 +53,12 @@ fn push_chain(text: &mut String, number: u8) -> Result<(), AllocError> {
     Ok(())
 }
 
-/// A plan of 20 occurrences, J01 to J20, each a chain of 255 operations on SETP, where an operator reports starts and 20
-/// servers stand ready for the night.
-pub fn chains(alloc: Global) -> Result<String, AllocError> {
+/// A plan of so many occurrences, J01, J02 and so on, each a chain of 255 operations on SETP, where an operator reports
+/// starts and 20 servers stand ready for the night.
+pub fn chains(alloc: Global, count: u8) -> Result<String, AllocError> {
     let mut text = String::from_str(alloc, "W,SETP,S,,,,,,,\n")?;
     writeln!(text, "I,SETP,2024-03-01T22:00,2024-03-02T06:00,20,0,0,,,")?;
-    for number in 1..21 {
+    for number in 1..=count {
         push_chain(&mut text, number)?;
     }
     Ok(text)

@@ -1,134 +1,169 @@
-// Calls with room for ever more bytes: later and later growths are the first one refused.
-use super::small_day::{Outcome, first, load, reading};
-use super::taking::Held;
-use plan_basics::{OpKey, Refusal};
-use plan_core::{Plan, Prepared};
-use plan_records::Request;
-use std::alloc::{AllocError, Global};
+// Nights of plans in want of memory. Each turn is asked of two plans. Of the one while all memory is taken, and again each time
+// that a block more is given back: until it is answered as it says it is refused for want of memory, and the plan stays as it
+// was. Of the other it is prepared with memory, and carried out while all is taken.
+use super::looks::{is_like, is_told};
+use super::memory::applied_without;
+use super::players::{OneByOne, step};
+use super::playing::{Player, after, after_lines};
+use super::requests::request;
+use super::words::cut;
+use plan_basics::Refusal;
+use plan_core::Plan;
+use plan_records::{Reply, Request};
+use std::alloc::Global;
+use taken_memory::{Outcome, SPARES, swept};
 
-/// Blocks that are given back one by one while all other memory is taken, so that the room grows step by step.
-const SPARES: usize = 800;
+/// Each night has a line with its beginning, and its turns.
+const NIGHTS: &str = "-
+21:00 load STATIONS RUNS PRINTING CHAIN LAST FILE KEEPS | names -
+21:00 load STATIONS RUNS PRINTING CHAIN LAST FILE KEEPS | refused 4
+22:00 started 5 | names -
+22:10 ended 5 | names 10
+22:20 interrupted 10 | refused 10
+22:40 ended 10 | names 20
+22:45 add BILLS | names -
+22:50 delete PAYROLL | refused 17
+23:00 error 20 S0C7 | names -
+23:05 rerun 20 | names BILLING.10
 
-/// Bytes of a spare block: more than the allocator keeps aside for quick use, so that neighbours that are given back become
-/// one.
-const SPARE: usize = 144;
+LOADED
+22:00 started 5 | names -
+22:10 ended 5 | names 10
+22:11 started 10 | names -
+22:40 ended 10 | names 20
 
-fn spare_blocks(alloc: Global) -> Result<Vec<Vec<u8>>, AllocError> {
-    let mut spares = Vec::with_capacity(alloc, SPARES)?;
-    for _ in 0..SPARES {
-        spares.push(Vec::with_capacity(alloc, SPARE)?)?;
+BILLS_IN
+23:40 ended 20 | names BILLING.10
+23:50 ended 40 | names -
+
+LOADED
+21:00 add BILLS BILLS_LAST | names -
+21:00 delete PAYROLL | names -
+21:00 delete PAYROLL | refused 9
+21:00 add RUNS PRINTING CHAIN LAST KEEPS | refused 18
+
+LOADED
+21:00 depend 5 on 40 | refused 19
+21:00 add BILLS | names -
+21:00 depend BILLING.10 on 40 | names -";
+
+// What comes of a turn's reply.
+fn outcome(reply: &Reply, turn: &str) -> Outcome {
+    match reply {
+        Reply::Refused(Refusal::Memory) => Outcome::WithoutMemory,
+        _ if is_told(reply, turn) == Some(true) => Outcome::Done,
+        _ => Outcome::Otherwise,
     }
-    Ok(spares)
 }
 
-/// How often it was done, how often it was refused for want of memory, and how often it came to anything else.
-#[derive(Clone, Copy)]
-struct Times {
-    done: u64,
-    refused: u64,
-    other: u64,
+// What comes of a turn that is asked of a plan. Where it is refused for want of memory, the plan shows what it showed before.
+fn tried(plan: &mut Plan, before: &Plan, request: &Request, turn: &str) -> Outcome {
+    let reply = step(plan, request);
+    match outcome(&reply, turn) {
+        Outcome::WithoutMemory if is_like(plan, before) != Some(true) => Outcome::Otherwise,
+        came => came,
+    }
 }
 
-impl Times {
-    const NONE: Times = Times {
-        done: 0,
-        refused: 0,
-        other: 0,
-    };
+// Whether a turn that a plan is asked in want of memory is answered as it says in the end; and if it is carried out, not
+// before.
+fn is_told_at_last(
+    alloc: Global,
+    plan: &mut Plan,
+    before: &Plan,
+    request: &Request,
+    turn: &str,
+) -> bool {
+    let sweep = swept(alloc, SPARES, || tried(plan, before, request, turn));
+    if turn.contains("| names") {
+        sweep.is_done_after(0)
+    } else {
+        sweep.last == Outcome::Done
+    }
+}
 
-    fn count(&mut self, outcome: Outcome) {
-        match outcome {
-            Outcome::Done => self.done = self.done.saturating_add(1),
-            Outcome::WithoutMemory => self.refused = self.refused.saturating_add(1),
-            _ => self.other = self.other.saturating_add(1),
+// Whether a request that is carried out without memory is answered as a turn says.
+fn is_told_without(alloc: Global, plan: &mut Plan, request: &Request, turn: &str) -> bool {
+    match applied_without(alloc, plan, request) {
+        Some(reply) => is_told(&reply, turn) == Some(true),
+        None => false,
+    }
+}
+
+// Whether both plans answer a request as a turn says, and show the same afterwards.
+fn is_made(alloc: Global, one: &mut Plan, other: &mut Plan, request: &Request, turn: &str) -> bool {
+    is_told_at_last(alloc, one, other, request, turn)
+        && is_told_without(alloc, other, request, turn)
+        && is_like(one, other) == Some(true)
+}
+
+// Whether both plans answer a turn as it says.
+fn is_turn_made(alloc: Global, one: &mut Plan, other: &mut Plan, turn: &str) -> bool {
+    match request(alloc, turn) {
+        Some(request) => is_made(alloc, one, other, &request, turn),
+        None => false,
+    }
+}
+
+// Makes the turns of both plans; or the turn that is answered otherwise.
+fn make_turns<'a>(
+    alloc: Global,
+    one: &mut Plan,
+    other: &mut Plan,
+    turns: &'a str,
+) -> Result<(), &'a str> {
+    for turn in turns.lines() {
+        if !is_turn_made(alloc, one, other, turn) {
+            return Err(turn);
         }
     }
+    Ok(())
+}
 
-    // More than five times each, and nothing else.
-    fn are_both(&self) -> bool {
-        self.done > 5 && self.refused > 5 && self.other == 0
+// Makes the turns of a plan, and of another after the same beginning.
+fn play_beside<'a>(
+    alloc: Global,
+    plan: &mut Plan,
+    name: &'a str,
+    turns: &'a str,
+) -> Result<(), &'a str> {
+    match after::<OneByOne>(alloc, name, &[]) {
+        Ok(other) => make_turns(alloc, plan, &mut other.into_plan(), turns),
+        Err(line) => Err(line),
     }
 }
 
-/// How often what is tried was done, as one spare block after the other is given back.
-fn growth_by_growth<F: FnMut() -> Outcome>(spares: &mut Vec<Vec<u8>>, mut tried: F) -> Times
-    requires { F.IsAlwaysCallable tried }
-{
-    let mut times = Times::NONE;
-    for _ in 0..SPARES {
-        drop(spares.pop());
-        times.count(tried());
-    }
-    times
-}
-
-/// Whether what is tried, while all memory but the spare blocks is taken, is refused more than five times, and done more than
-/// five times.
-fn is_refused_and_done<F: FnMut() -> Outcome>(alloc: Global, tried: F) -> bool
-    requires { F.IsAlwaysCallable tried }
-{
-    match spare_blocks(alloc) {
-        Ok(mut spares) => {
-            let held = Held::all(alloc);
-            let times = growth_by_growth(&mut spares, tried);
-            held.give_back() && times.are_both()
-        }
+// Whether a plan shows the same as one that was never in want of memory, after a beginning and some turns.
+fn is_like_with_memory(alloc: Global, plan: &Plan, name: &str, turns: &str) -> bool {
+    match after_lines::<OneByOne>(alloc, name, turns) {
+        Ok(other) => is_like(plan, other.plan()) == Some(true),
         Err(_) => false,
     }
 }
 
-/// Imports are refused as long as there is too little memory, and then they are done.
-pub fn imports_are_refused_growth_by_growth(alloc: Global) -> bool {
-    is_refused_and_done(alloc, || reading(alloc))
-}
-
-// What comes of a load that is prepared: it names the first operation alone.
-fn naming(prepared: &Prepared, first: &OpKey) -> Outcome {
-    if prepared.named() == [*first].as_slice() {
-        Outcome::Done
+// Plays a night in want of memory.
+fn play<'a>(alloc: Global, plan: &mut Plan, name: &'a str, turns: &'a str) -> Result<(), &'a str> {
+    play_beside(alloc, plan, name, turns)?;
+    if is_like_with_memory(alloc, plan, name, turns) {
+        Ok(())
     } else {
-        Outcome::OtherNames
+        Err(name)
     }
 }
 
-// What comes of a load that is only prepared.
-fn preparing(plan: &mut Plan, request: &Request, first: &OpKey) -> Outcome {
-    match plan.prepare(request) {
-        Ok(prepared) => naming(&prepared, first),
-        Err(Refusal::Memory) => Outcome::WithoutMemory,
-        Err(_) => Outcome::OtherFault,
+// Plays a night after its beginning.
+fn play_after<'a>(alloc: Global, night: &'a str) -> Result<(), &'a str> {
+    let (name, turns) = cut(night, "\n").ok_or(night)?;
+    match after::<OneByOne>(alloc, name, &[]) {
+        Ok(player) => play(alloc, &mut player.into_plan(), name, turns),
+        Err(line) => Err(line),
     }
 }
 
-// The same, where an empty plan stays empty.
-fn loading(plan: &mut Plan, request: &Request, first: &OpKey) -> Outcome {
-    let outcome = preparing(plan, request, first);
-    if plan.is_loaded() || plan.clock().minute() != 0 {
-        return Outcome::PlanChanged;
+/// Five nights in want of memory; or the turn that is answered otherwise, or leaves another plan.
+pub fn nights_in_want_of_memory(alloc: Global) -> Result<(), &'static str> {
+    for night in NIGHTS.split("\n\n") {
+        play_after(alloc, night)?;
     }
-    outcome
-}
-
-fn loads_growth_by_growth(
-    alloc: Global,
-    plan: &mut Plan,
-    request: &Request,
-    first: &OpKey,
-) -> bool {
-    is_refused_and_done(alloc, || loading(plan, request, first))
-}
-
-fn loads_of_first(alloc: Global, request: &Request) -> bool {
-    match first() {
-        Some(first) => loads_growth_by_growth(alloc, &mut Plan::empty(alloc), request, &first),
-        None => false,
-    }
-}
-
-/// Loads are refused as long as there is too little memory, the plan unchanged, and then they are prepared.
-pub fn loads_are_refused_growth_by_growth(alloc: Global) -> bool {
-    match load(alloc) {
-        Some(request) => loads_of_first(alloc, &request),
-        None => false,
-    }
+    Ok(())
 }

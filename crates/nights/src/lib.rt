@@ -1,7 +1,7 @@
 //! Worked nights, as texts that read like an operator's log: requests in turn, each with its answer, and what the plan
 //! shows afterwards. They are played by whatever answers requests (`Player`): a plan in memory here, in three ways, or a
 //! desk. And which rows requests change, plans from rows, how many records requests look at, why operations don't go on, and
-//! calls without memory. Only crates of tests stand on this one.
+//! plans in want of memory. Only crates of tests stand on this one.
 #![tactic(auto)]
 
 mod additions;
@@ -14,6 +14,7 @@ mod commands;
 mod crowds;
 mod days;
 mod growths;
+mod imports;
 mod kept_rows;
 mod latest;
 mod looks;
@@ -32,13 +33,13 @@ mod rows;
 mod sections;
 mod small_day;
 mod steps;
-mod taking;
 mod told;
 mod topics;
 mod words;
 
 pub use chains::looks_at_a_plan_of_chains;
-pub use growths::{imports_are_refused_growth_by_growth, loads_are_refused_growth_by_growth};
+pub use growths::nights_in_want_of_memory;
+pub use imports::imports_are_refused_growth_by_growth;
 pub use memory::{
     a_draft_without_memory_is_refused, a_load_without_memory_changes_nothing,
     a_run_without_memory_changes_nothing, an_addition_without_memory_is_refused,
@@ -47,6 +48,7 @@ pub use memory::{
 pub use playing::{Deviation, Player, after};
 pub use plays::{
     kept_as_worked_out_afresh, nights_at_once, nights_one_by_one, plans_as_full_as_may_be,
+    two_chains,
 };
 pub use requests::request;
 pub use rows::{

@@ -1,13 +1,11 @@
 // Want of memory, met on purpose: each call that can want memory, without any. What comes after all memory is taken is
 // refused, and what the calls leave is looked at.
-use super::small_day::{
-    Outcome, adding, drafting, first, is_day, is_untouched, load, reading, records,
-};
-use super::taking::Held;
+use super::small_day::{adding, drafting, first, is_day, is_untouched, load, reading, records};
 use plan_basics::{OpKey, Refusal};
 use plan_core::Plan;
 use plan_records::{Reply, Request};
 use std::alloc::Global;
+use taken_memory::{Held, Outcome};
 
 /// An import without memory answers so, and with memory it is done.
 pub fn an_import_without_memory_answers_so(alloc: Global) -> bool {
@@ -89,15 +87,35 @@ fn refused_without(alloc: Global, plan: &mut Plan, request: &Request) -> Option<
     if held.give_back() { refusal } else { None }
 }
 
-// Whether a request is prepared, and while all memory is taken then applied, and names the first operation alone.
-fn is_applied_without(alloc: Global, plan: &mut Plan, request: &Request) -> bool {
+/// The reply to a request that is prepared, and carried out while all memory is taken; nothing where any is left.
+pub fn applied_without(alloc: Global, plan: &mut Plan, request: &Request) -> Option<Reply> {
     match plan.prepare(request) {
         Ok(prepared) => {
             let held = Held::all(alloc);
             let named = plan.apply(prepared);
-            held.give_back() && name_first(&named)
+            if held.give_back() {
+                Some(Reply::Accepted { named })
+            } else {
+                None
+            }
         }
-        Err(_) => false,
+        Err(refusal) => Some(Reply::Refused(refusal)),
+    }
+}
+
+// Whether a reply accepts, and names the first operation alone.
+fn accepts_first(reply: &Reply) -> bool {
+    match reply {
+        Reply::Accepted { named } => name_first(named),
+        Reply::Refused(_) => false,
+    }
+}
+
+// Whether a request that is carried out without memory names the first operation alone.
+fn is_applied_without(alloc: Global, plan: &mut Plan, request: &Request) -> bool {
+    match applied_without(alloc, plan, request) {
+        Some(reply) => accepts_first(&reply),
+        None => false,
     }
 }
 
@@ -126,7 +144,7 @@ fn run_refused_without(alloc: Global, plan: &mut Plan, requests: &[Request]) -> 
 // Whether there is one reply, which accepts, and names the first operation alone.
 fn accept_first(replies: &[Reply]) -> bool {
     match replies {
-        [Reply::Accepted { named }] => name_first(named),
+        [reply] => accepts_first(reply),
         _ => false,
     }
 }

@@ -258,6 +258,9 @@ NUMBER_255: the printing has the number 255
 P,PAYROLL,2024-03-01T22:00,255,PRT1,20,0,0,,
 D,PAYROLL,2024-03-01T22:00,30,PAYROLL,2024-03-01T22:00,255,,,
 
+TO_NO_OPERATION: the printing comes before an operation that is not there
+D,PAYROLL,2024-03-01T22:00,40,PAYROLL,2024-03-01T22:00,50,,,
+
 SEVENTEEN: an occurrence with one operation, of an application ID of 17 characters
 O,PAYROLLPAYROLLPAY,2024-03-01T22:00,5,2024-03-02T05:00,,,,,
 P,PAYROLLPAYROLLPAY,2024-03-01T22:00,40,PRT1,20,0,0,,

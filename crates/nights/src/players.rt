@@ -33,8 +33,8 @@ pub struct OneByOne {
     plan: Plan,
 }
 
-// One request, prepared and applied.
-fn step(plan: &mut Plan, request: &Request) -> Reply {
+/// The reply to a request, which is prepared and applied.
+pub fn step(plan: &mut Plan, request: &Request) -> Reply {
     match plan.prepare(request) {
         Ok(prepared) => Reply::Accepted {
             named: plan.apply(prepared),

@@ -53,6 +53,13 @@ why PAYROLL/2024-03-01T22:00/020 E 2024-03-01T23:00
 status E
 END 1
 
+BILLS_IN: what is to run again finds its file with the bills, which share it
+23:00 error 20 S0C7 | names -
+23:05 rerun 20 | names BILLING.10
+why PAYROLL/2024-03-01T22:00/020 R 2024-03-01T23:05
+CUSTFILE held by BILLING/2024-03-01T22:00/010 shared
+END 1
+
 BILLS_IN: once the file is free it is started
 22:50 hold 30 | names -
 23:40 ended 20 | names BILLING.10

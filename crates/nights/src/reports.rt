@@ -1,6 +1,6 @@
 // Nights of loads, moments and reports.
 
-/// Sixteen nights, one after another.
+/// Seventeen nights, one after another.
 pub const REPORTS: &str = "FAILING: an operation ends and the next fails
 keys DAILY.10 DAILY.20 / DAILY
 22:00 load ALWAYS_OPEN DAILY TWO_RUNS | names DAILY.10
@@ -138,7 +138,19 @@ keys 5 10 20 30 255 / PAYROLL
 21:00 load STATIONS RUNS CHAIN KEEPS FILE PRINTING LAST SEVENTEEN | refused 21
 21:00 load STATIONS RUNS CHAIN KEEPS FILE_OF_NINE_FIELDS PRINTING LAST | refused 21
 21:00 load STATIONS RUNS CHAIN KEEPS FILE PRINTING LAST LAST | refused 21
+21:00 load STATIONS RUNS CHAIN KEEPS FILE PRINTING LAST TO_NO_OPERATION | refused 21
 21:00 load STATIONS RUNS CHAIN KEEPS FILE NUMBER_255 | names -
 shows AWWWW W
+
+LINE_ENDS: the night's text with CR LF at the end of each line
+keys 5 10 20 30 40 / PAYROLL
+21:00 load-cr-lf STATIONS RUNS PRINTING CHAIN LAST FILE KEEPS | names -
+shows AWWWW W
+latest 5 02:59
+latest 10 03:09
+latest 20 03:39
+latest 30 04:39
+latest 40 04:40
+like LOADED
 
 ";

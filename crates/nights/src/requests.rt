@@ -24,7 +24,9 @@ pub fn request(alloc: Global, turn: &str) -> Option<Request> {
 fn what(alloc: Global, word: &str, rest: &str) -> Option<What> {
     match word {
         "tick" => tick(rest),
-        "load" | "load-crowd" | "load-chains" | "load-filled" => load(alloc, word, rest),
+        "load" | "load-cr-lf" | "load-crowd" | "load-chains" | "load-filled" => {
+            load(alloc, word, rest)
+        }
         "add" => add(alloc, rest),
         "open" => open(alloc, rest),
         "open-times" => open_times(alloc, rest),
@@ -49,8 +51,9 @@ fn tick(rest: &str) -> Option<What> {
 fn text_of(alloc: Global, word: &str, rest: &str) -> Option<String> {
     match word {
         "load" => joined(alloc, rest),
+        "load-cr-lf" => joined(alloc, rest)?.replace(alloc, "\n", "\r\n").ok(),
         "load-crowd" => crowd(alloc, rest.parse().ok()?).ok(),
-        "load-chains" => chains(alloc).ok(),
+        "load-chains" => chains(alloc, rest.parse().ok()?).ok(),
         _ => filled(joined(alloc, rest)?).ok(),
     }
 }

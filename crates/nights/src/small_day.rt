@@ -1,10 +1,12 @@
 // A day of two operations, and what comes of its import, its build and its load.
+use super::imports::reading_plan;
 use plan_basics::{OpKey, Refusal, Watched};
 use plan_core::Plan;
-use plan_import::{ImportFault, read_plan};
+use plan_import::read_plan;
 use plan_records::{Addition, PlanDraft, Record, Request, What};
 use std::alloc::{AllocError, Global};
 use std::array;
+use taken_memory::Outcome;
 
 const DAY: &str = "W,CPU1,A,,,,,,,
 I,CPU1,1972-01-01T00:00,2071-12-31T23:59,2,0,0,,,
@@ -17,25 +19,9 @@ D,DAILY,2024-03-01T22:00,10,DAILY,2024-03-01T22:00,20,,,
 /// The minute of 2024-03-01T22:00.
 const EVENING: i64 = 27_437_640;
 
-/// What comes of a try.
-#[derive(Clone, Copy, PartialEq, Eq)]
-pub enum Outcome {
-    Done,
-    WithoutMemory,
-    DenotesNothing,
-    OtherFault,
-    OtherNames,
-    PlanChanged,
-}
-
 /// What comes of reading the day's text.
 pub fn reading(alloc: Global) -> Outcome {
-    match read_plan(alloc, &mut Watched::new(DAY.as_bytes())) {
-        Ok(Some(_)) => Outcome::Done,
-        Ok(None) => Outcome::DenotesNothing,
-        Err(ImportFault::Memory) => Outcome::WithoutMemory,
-        Err(ImportFault::Reader) => Outcome::OtherFault,
-    }
+    reading_plan(alloc, DAY.as_bytes())
 }
 
 // The fields of a line without quotes.
@@ -57,31 +43,23 @@ pub fn records(alloc: Global, without: usize) -> Result<Vec<Record>, AllocError>
     Ok(all)
 }
 
-// What comes of a refusal to build or to load.
-fn refused(refusal: Refusal) -> Outcome {
-    if refusal == Refusal::Memory {
-        Outcome::WithoutMemory
-    } else {
-        Outcome::OtherFault
+// What comes of building something.
+fn outcome<T: Drop>(built: Result<Option<T>, Refusal>) -> Outcome {
+    match built {
+        Ok(Some(_)) => Outcome::Done,
+        Err(Refusal::Memory) => Outcome::WithoutMemory,
+        _ => Outcome::Otherwise,
     }
 }
 
 /// What comes of building a plan's draft of records.
 pub fn drafting(records: Vec<Record>) -> Outcome {
-    match PlanDraft::build(records) {
-        Ok(Some(_)) => Outcome::Done,
-        Ok(None) => Outcome::DenotesNothing,
-        Err(refusal) => refused(refusal),
-    }
+    outcome(PlanDraft::build(records))
 }
 
 /// What comes of building an addition of records.
 pub fn adding(records: Vec<Record>) -> Outcome {
-    match Addition::build(records) {
-        Ok(Some(_)) => Outcome::Done,
-        Ok(None) => Outcome::DenotesNothing,
-        Err(refusal) => refused(refusal),
-    }
+    outcome(Addition::build(records))
 }
 
 /// The load of the day in the evening.

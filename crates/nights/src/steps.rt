@@ -1,4 +1,4 @@
-// Which rows of the tables a request changes.
+// What a request makes of the rows of the tables.
 use super::changes::are_changes;
 use super::players::OneByOne;
 use super::playing::after_lines;
@@ -8,44 +8,85 @@ use plan_core::Plan;
 use plan_records::Request;
 use std::alloc::Global;
 
-/// Each step has a line with its beginning, its turns, of which the last is what is asked after the others, and the keys of
-/// the rows that this changes, in their order.
+/// Each step has a line with its beginning, its turns, of which the last is what is asked after the others, and a line for
+/// each row that this changes, in their order: its table and its columns. Those of an operation are its key, workstation,
+/// duration, R1, R2, not-before, deadline, mark, code, held, no-operation, status, latest start, and for how many it waits.
 const STEPS: &str = "LOADED
 22:00 started 5 | names -
-changes meta occurrence:PAYROLL operation:5
+changes
+meta|1|1|2024-03-01T22:00
+occurrence|PAYROLL/2024-03-01T22:00|5|2024-03-02T05:00|S
+operation|PAYROLL/2024-03-01T22:00/005|SETP|10|0|0|1972-01-01T00:00|2024-03-02T05:00|running||0|0|S|2024-03-02T02:59|0
 
 LOADED
 22:00 started 5 | names -
 22:10 ended 5 | names 10
-changes meta operation:5 operation:10
+changes
+meta|1|1|2024-03-01T22:10
+operation|PAYROLL/2024-03-01T22:00/005|SETP|10|0|0|1972-01-01T00:00|2024-03-02T05:00|done||0|0|C|2024-03-02T02:59|0
+operation|PAYROLL/2024-03-01T22:00/010|CPU1|30|0|0|1972-01-01T00:00|2024-03-02T05:00|named||0|0|S|2024-03-02T03:09|0
 
 LOADED
 22:00 started 5 | names -
 22:10 ended 5 | names 10
 22:40 ended 10 | names 20
 22:45 add BILLS | names -
-changes meta occurrence:BILLING operation:BILLING.10 need:BILLING.10+CUSTFILE
+changes
+meta|1|1|2024-03-01T22:45
+occurrence|BILLING/2024-03-01T22:00|5|2024-03-02T03:00|W
+operation|BILLING/2024-03-01T22:00/010|CPU1|30|0|0|1972-01-01T00:00|2024-03-02T03:00|none||0|0|A|2024-03-02T02:30|0
+need|BILLING/2024-03-01T22:00/010|CUSTFILE|S|F
+
+BILLS_IN
+23:00 error 20 S0C7 | names -
+changes
+meta|1|1|2024-03-01T23:00
+occurrence|PAYROLL/2024-03-01T22:00|5|2024-03-02T05:00|E
+operation|PAYROLL/2024-03-01T22:00/020|CPU1|60|0|0|1972-01-01T00:00|2024-03-02T05:00|error|S0C7|0|0|E|2024-03-02T03:39|0
 
 BILLS_IN
 23:40 ended 20 | names BILLING.10
-changes meta occurrence:BILLING operation:BILLING.10 operation:20 operation:30 operation:40
+changes
+meta|1|1|2024-03-01T23:40
+occurrence|BILLING/2024-03-01T22:00|5|2024-03-02T03:00|S
+operation|BILLING/2024-03-01T22:00/010|CPU1|30|0|0|1972-01-01T00:00|2024-03-02T03:00|named||0|0|S|2024-03-02T02:30|0
+operation|PAYROLL/2024-03-01T22:00/020|CPU1|60|0|0|1972-01-01T00:00|2024-03-02T05:00|done||0|0|C|2024-03-02T03:39|0
+operation|PAYROLL/2024-03-01T22:00/030|DUMM|1|0|0|1972-01-01T00:00|2024-03-02T05:00|none||0|0|C|2024-03-02T04:39|0
+operation|PAYROLL/2024-03-01T22:00/040|PRT1|20|0|0|1972-01-01T00:00|2024-03-02T05:00|none||0|0|*|2024-03-02T04:40|0
 
 LOADED
 21:00 add BILLS BILLS_LAST | names -
-changes occurrence:BILLING operation:BILLING.10 operation:5 operation:10 operation:20 operation:30 operation:40 pair:40>BILLING.10 need:BILLING.10+CUSTFILE
+changes
+occurrence|BILLING/2024-03-01T22:00|5|2024-03-02T03:00|W
+operation|BILLING/2024-03-01T22:00/010|CPU1|30|0|0|1972-01-01T00:00|2024-03-02T03:00|none||0|0|W|2024-03-02T02:30|1
+operation|PAYROLL/2024-03-01T22:00/005|SETP|10|0|0|1972-01-01T00:00|2024-03-02T05:00|none||0|0|A|2024-03-02T00:29|0
+operation|PAYROLL/2024-03-01T22:00/010|CPU1|30|0|0|1972-01-01T00:00|2024-03-02T05:00|none||0|0|W|2024-03-02T00:39|1
+operation|PAYROLL/2024-03-01T22:00/020|CPU1|60|0|0|1972-01-01T00:00|2024-03-02T05:00|none||0|0|W|2024-03-02T01:09|1
+operation|PAYROLL/2024-03-01T22:00/030|DUMM|1|0|0|1972-01-01T00:00|2024-03-02T05:00|none||0|0|W|2024-03-02T02:09|1
+operation|PAYROLL/2024-03-01T22:00/040|PRT1|20|0|0|1972-01-01T00:00|2024-03-02T05:00|none||0|0|W|2024-03-02T02:10|1
+dependency|PAYROLL/2024-03-01T22:00/040|BILLING/2024-03-01T22:00/010
+need|BILLING/2024-03-01T22:00/010|CUSTFILE|S|F
 
 ADDED_WITH_PAIR
 21:00 delete BILLING | names -
-changes occurrence:BILLING operation:BILLING.10 operation:5 operation:10 operation:20 operation:30 operation:40
+changes
+occurrence|BILLING/2024-03-01T22:00|5|2024-03-02T03:00|D
+operation|BILLING/2024-03-01T22:00/010|CPU1|30|0|0|1972-01-01T00:00|2024-03-02T03:00|deleted||0|0|D|2024-03-02T02:30|1
+operation|PAYROLL/2024-03-01T22:00/005|SETP|10|0|0|1972-01-01T00:00|2024-03-02T05:00|none||0|0|A|2024-03-02T02:59|0
+operation|PAYROLL/2024-03-01T22:00/010|CPU1|30|0|0|1972-01-01T00:00|2024-03-02T05:00|none||0|0|W|2024-03-02T03:09|1
+operation|PAYROLL/2024-03-01T22:00/020|CPU1|60|0|0|1972-01-01T00:00|2024-03-02T05:00|none||0|0|W|2024-03-02T03:39|1
+operation|PAYROLL/2024-03-01T22:00/030|DUMM|1|0|0|1972-01-01T00:00|2024-03-02T05:00|none||0|0|W|2024-03-02T04:39|1
+operation|PAYROLL/2024-03-01T22:00/040|PRT1|20|0|0|1972-01-01T00:00|2024-03-02T05:00|none||0|0|W|2024-03-02T04:40|1
 
 LOADED
 21:00 tick | names -
-changes -";
+changes
+-";
 
-// Whether a request changes the rows that are named, and no others.
-fn changes_rows(plan: &mut Plan, request: &Request, changed: &str) -> bool {
+// Whether a request changes the rows of these lines, and no others.
+fn changes_rows(alloc: Global, plan: &mut Plan, request: &Request, changed: &str) -> bool {
     match plan.prepare(request) {
-        Ok(prepared) => are_changes(prepared.changes(), changed) == Some(true),
+        Ok(prepared) => are_changes(alloc, prepared.changes(), changed) == Some(true),
         Err(_) => false,
     }
 }
@@ -53,7 +94,7 @@ fn changes_rows(plan: &mut Plan, request: &Request, changed: &str) -> bool {
 // Whether what a turn asks changes them.
 fn turn_changes(alloc: Global, plan: &mut Plan, turn: &str, changed: &str) -> bool {
     match request(alloc, turn) {
-        Some(request) => changes_rows(plan, &request, changed),
+        Some(request) => changes_rows(alloc, plan, &request, changed),
         None => false,
     }
 }
@@ -66,15 +107,15 @@ fn changes_after(alloc: Global, name: &str, before: &str, turn: &str, changed: &
     }
 }
 
-// Whether the step changes the rows that it names, and no others.
+// Whether the step changes the rows of its lines, and no others.
 fn is_so(alloc: Global, step: &str) -> Option<bool> {
     let (name, step) = cut(step, "\n")?;
-    let (turns, changed) = cut(step, "\nchanges ")?;
+    let (turns, changed) = cut(step, "\nchanges\n")?;
     let (before, turn) = turns.rsplit_once('\n').unwrap_or(("", turns));
     Some(changes_after(alloc, name, before, turn, changed))
 }
 
-/// Seven requests, each of which changes the rows that are named, and no others; or the step of which that isn't so.
+/// Eight requests, each of which makes of some rows what is told, and changes no others; or the step of which that isn't so.
 pub fn rows_that_a_request_changes(alloc: Global) -> Result<(), &'static str> {
     for step in STEPS.split("\n\n") {
         if is_so(alloc, step) != Some(true) {

@@ -142,10 +142,12 @@ pub fn is_full(alloc: Global, text: Result<String, AllocError>, mark: &str, time
     }
 }
 
-/// The records of a text denote no plan, and something is wrong with the text.
+/// Neither the records of a text nor the text denotes a plan, and something is wrong with the text.
 pub fn is_too_full(alloc: Global, text: Result<String, AllocError>) -> bool {
     match text {
-        Ok(text) => denotes_no_plan(alloc, &text),
+        Ok(text) => {
+            denotes_no_plan(alloc, &text) && is(&plan_of_text(alloc, text.as_bytes()), "")
+        }
         Err(_) => false,
     }
 }

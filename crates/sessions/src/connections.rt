@@ -30,11 +30,16 @@ fn empty_desk(alloc: Global) -> Option<Desk<MemStore>> {
 }
 
 // Serves so many connections at a desk at which this is asked first.
-fn serve_after(alloc: Global, listener: &TcpListener, request: &Request, count: u64) -> Option<()> {
-    match empty_desk(alloc) {
+fn serve_after(
+    rt: &HostRuntime,
+    listener: &TcpListener,
+    request: &Request,
+    count: u64,
+) -> Option<()> {
+    match empty_desk(rt.alloc()) {
         Some(mut desk) => {
             desk.call(request);
-            serve_listener(alloc, listener, &mut desk, count).ok()
+            serve_listener(rt, listener, &mut desk, count).ok()
         }
         None => None,
     }
@@ -83,7 +88,7 @@ fn served(rt: &HostRuntime, sent: &[&str]) -> Option<Vec<TcpStream>> {
     let request = load(rt.alloc())?;
     let listener = TcpListener::bind(rt, (Ipv4Addr::LOCALHOST, 0u16)).ok()?;
     let clients = clients_of(rt, listener.local_addr().ok()?, sent)?;
-    serve_after(rt.alloc(), &listener, &request, sent.len() as u64)?;
+    serve_after(rt, &listener, &request, sent.len() as u64)?;
     Some(clients)
 }
 

@@ -25,6 +25,12 @@ $ report --db @night.db --kind ready
 $ report --db @night.db --kind ready --ws SETUP
 !fault words
 =2
+$ report --db @night.db --kind nothing
+!error: invalid value 'nothing' for '--kind <KIND>'
+!  [possible values: ready, occurrences, errors, late]
+!
+!For more information, try '--help'.
+=2
 $ do --db @night.db --request {"at":"2024-03-01T21:59","do":"started","op":"PAYROLL/2024-03-01T22:00/005"}
 refused 13 Closed
 =1

@@ -1,11 +1,11 @@
 // Tables that are damaged: no desk is opened over them, and they stay as they are.
 use super::FAILED;
 use super::script::whole;
-use super::tables::tables_text;
 use sqlite::types::ValueRef;
 use sqlite::{Connection, MemStore};
 use std::alloc::{AllocError, Global};
 use tracker_http::{Desk, Refusal};
+use wires::tables_text;
 
 // Changes of the tables after the script, each of which damages them.
 const DAMAGES: &str = "UPDATE operation SET status = 'R' WHERE num = 20

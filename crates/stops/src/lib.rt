@@ -8,7 +8,6 @@ mod disks;
 mod outcomes;
 mod script;
 mod sweep;
-mod tables;
 
 pub use damages::damaged_tables_are_not_opened;
 pub use sweep::{a_process_killed_at_each_call, the_power_cut_at_each_call};

@@ -2,11 +2,10 @@
 // ends.
 use super::disks::{End, FusedFiles, Stop, begun, connected_again, files_of};
 use super::script::{STEPS, Told, is_reopen, make, written};
-use super::tables::{lacks_all, tables_text};
 use sqlite::{Alter, Connection};
 use std::alloc::Global;
 use tracker_http::{Desk, Refusal};
-use wires::get;
+use wires::{get, lacks_all, tables_text};
 
 /// What comes of a stop.
 #[derive(Clone, Copy, Debug, PartialEq)]

@@ -1,10 +1,9 @@
 // The script that is stopped: the tables are made, a night is loaded, and a tracker reports four times.
-use super::tables::tables_text;
 use plan_basics::Watched;
 use sqlite::{Alter, Connection, MemStore};
 use std::alloc::Global;
 use tracker_http::{Desk, serve_one};
-use wires::{After, NIGHT, Paper, Pieces, Report, post, reply};
+use wires::{After, NIGHT, Paper, Pieces, Report, post, reply, tables_text};
 
 /// A step after the making of the tables: the load, whose number is 0, or a report of T1 on an operation; and the body of
 /// its reply.

@@ -63,6 +63,26 @@ fn nights_opened_again_after_each_turn(rt: HostRuntime) -> Result<(), &'static s
 }
 
 #[test]
+fn two_chains_at_a_desk(rt: HostRuntime) -> Result<(), &'static str> {
+    desks::two_chains_at_a_desk(rt.alloc())
+}
+
+#[test]
+fn heads_as_long_as_may_be_and_longer(rt: HostRuntime) -> Result<(), &'static str> {
+    desks::heads_as_long_as_may_be_and_longer(rt.alloc())
+}
+
+#[test]
+fn no_read_behind_a_head_or_a_body(rt: HostRuntime) -> Result<(), &'static str> {
+    desks::no_read_behind_a_head_or_a_body(rt.alloc())
+}
+
+#[test]
+fn no_read_behind_a_test_that_fails(rt: HostRuntime) -> Result<(), &'static str> {
+    desks::no_read_behind_a_test_that_fails(rt.alloc())
+}
+
+#[test]
 fn cut_by_its_writer(rt: HostRuntime) -> Result<(), &'static str> {
     desks::cut_by_its_writer(rt.alloc())
 }

@@ -13,5 +13,7 @@ mod session_plays;
 mod stop_plays;
 #[cfg(test)]
 mod text_plays;
+#[cfg(test)]
+mod want_plays;
 
 fn main() {}

@@ -1,5 +1,5 @@
 // Worked nights in memory: each is played by `Plan::run`, one by one by `prepare` and `apply`, and beside plans that are made
-// of its rows. What is told of operations that don't go on. Calls without memory.
+// of its rows. What is told of operations that don't go on.
 use std::test::Fail;
 
 #[test]
@@ -55,39 +55,4 @@ fn nothing_of_what_is_not_in_the_plan(rt: HostRuntime) -> Result<(), &'static st
 #[test]
 fn row_given_twice_is_of_no_plan(rt: HostRuntime) {
     assert!(rt; nights::row_given_twice_is_of_no_plan(rt.alloc()));
-}
-
-#[test]
-fn an_import_without_memory_answers_so(rt: HostRuntime) {
-    assert!(rt; nights::an_import_without_memory_answers_so(rt.alloc()));
-}
-
-#[test]
-fn a_draft_without_memory_is_refused(rt: HostRuntime) {
-    assert!(rt; nights::a_draft_without_memory_is_refused(rt.alloc()));
-}
-
-#[test]
-fn an_addition_without_memory_is_refused(rt: HostRuntime) {
-    assert!(rt; nights::an_addition_without_memory_is_refused(rt.alloc()));
-}
-
-#[test]
-fn a_load_without_memory_changes_nothing(rt: HostRuntime) {
-    assert!(rt; nights::a_load_without_memory_changes_nothing(rt.alloc()));
-}
-
-#[test]
-fn a_run_without_memory_changes_nothing(rt: HostRuntime) {
-    assert!(rt; nights::a_run_without_memory_changes_nothing(rt.alloc()));
-}
-
-#[test]
-fn imports_are_refused_growth_by_growth(rt: HostRuntime) {
-    assert!(rt; nights::imports_are_refused_growth_by_growth(rt.alloc()));
-}
-
-#[test]
-fn loads_are_refused_growth_by_growth(rt: HostRuntime) {
-    assert!(rt; nights::loads_are_refused_growth_by_growth(rt.alloc()));
 }

@@ -1,8 +1,11 @@
-//! Requests and replies over HTTP as texts, readers that hand them out in pieces, and writers that fail. For plays alone.
+//! Requests and replies over HTTP as texts, readers that hand them out in pieces, and writers that fail; and what the tables of
+//! a desk hold, as one text. For plays alone.
 #![tactic(auto)]
 
 mod streams;
+mod tables;
 mod texts;
 
-pub use streams::{After, Paper, Pieces};
+pub use streams::{After, Paper, Pieces, is_written};
+pub use tables::{lacks_all, tables_text};
 pub use texts::{NIGHT, Report, START, accepted, fault, get, post, reply};

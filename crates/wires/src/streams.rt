@@ -64,3 +64,11 @@ impl Write for Paper {
         self.count()
     }
 }
+
+/// Whether this text, and nothing else, was written into a room of zeros.
+pub fn is_written(room: &[u8], text: &str) -> bool {
+    match room.strip_prefix(text.as_bytes()) {
+        Some(rest) => rest.iter().all(|byte| *byte == 0),
+        None => false,
+    }
+}

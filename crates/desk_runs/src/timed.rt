@@ -1,0 +1,59 @@
+// The stream of one exchange, whose waits for the client have ten seconds in all.
+use std::io;
+use std::io::{Read, Write};
+use std::net::TcpStream;
+use std::time::{Clock, Duration, Instant};
+
+/// How many seconds an exchange has in all.
+const EXCHANGE_SECONDS: u64 = 10;
+
+/// A connection's stream. Each read and each write waits for the client no longer than what is left of the exchange's
+/// time; where nothing is left, it answers a fault.
+#[derive(Drop)]
+pub struct TimedStream<'a, C: Clock> {
+    clock: &'a C,
+    stream: &'a TcpStream,
+    begun: Instant,
+}
+
+impl<'a, C: Clock> TimedStream<'a, C> {
+    /// The stream for an exchange that began at this instant of the clock.
+    pub fn new(clock: &'a C, stream: &'a TcpStream, begun: Instant) -> TimedStream<'a, C> {
+        TimedStream {
+            clock,
+            stream,
+            begun,
+        }
+    }
+
+    // What is left of the exchange's time, more than nothing; the error is that nothing is.
+    fn left(&self) -> io::Result<Duration> {
+        let taken = self.begun.elapsed(self.clock)?;
+        let left = Duration::from_secs(EXCHANGE_SECONDS).saturating_sub(taken);
+        if left.is_zero() {
+            return Err(io::Error::from(io::ErrorKind::TimedOut));
+        }
+        Ok(left)
+    }
+}
+
+impl<C: Clock> Read for TimedStream<'_, C> {
+    fn read(&mut self, buf: &mut [u8]) -> io::Result<usize> {
+        self.stream.set_read_timeout(Some(self.left()?))?;
+        let mut stream = self.stream;
+        stream.read(buf)
+    }
+}
+
+impl<C: Clock> Write for TimedStream<'_, C> {
+    fn write(&mut self, buf: &[u8]) -> io::Result<usize> {
+        self.stream.set_write_timeout(Some(self.left()?))?;
+        let mut stream = self.stream;
+        stream.write(buf)
+    }
+
+    fn flush(&mut self) -> io::Result<()> {
+        let mut stream = self.stream;
+        stream.flush()
+    }
+}

@@ -1,0 +1,66 @@
+// Want of memory: calls without any, and calls that are made again and again while all memory is given back block by block.
+
+#[test]
+fn an_import_without_memory_answers_so(rt: HostRuntime) {
+    assert!(rt; nights::an_import_without_memory_answers_so(rt.alloc()));
+}
+
+#[test]
+fn a_draft_without_memory_is_refused(rt: HostRuntime) {
+    assert!(rt; nights::a_draft_without_memory_is_refused(rt.alloc()));
+}
+
+#[test]
+fn an_addition_without_memory_is_refused(rt: HostRuntime) {
+    assert!(rt; nights::an_addition_without_memory_is_refused(rt.alloc()));
+}
+
+#[test]
+fn a_load_without_memory_changes_nothing(rt: HostRuntime) {
+    assert!(rt; nights::a_load_without_memory_changes_nothing(rt.alloc()));
+}
+
+#[test]
+fn a_run_without_memory_changes_nothing(rt: HostRuntime) {
+    assert!(rt; nights::a_run_without_memory_changes_nothing(rt.alloc()));
+}
+
+#[test]
+fn imports_are_refused_growth_by_growth(rt: HostRuntime) -> Result<(), &'static str> {
+    nights::imports_are_refused_growth_by_growth(rt.alloc())
+}
+
+#[test]
+fn nights_in_want_of_memory(rt: HostRuntime) -> Result<(), &'static str> {
+    nights::nights_in_want_of_memory(rt.alloc())
+}
+
+#[test]
+fn a_failed_run_is_run_again(rt: HostRuntime) -> Result<(), &'static str> {
+    wants::a_failed_run_is_run_again(rt.alloc())
+}
+
+#[test]
+fn a_night_to_its_end(rt: HostRuntime) -> Result<(), &'static str> {
+    wants::a_night_to_its_end(rt.alloc())
+}
+
+#[test]
+fn a_night_is_deleted(rt: HostRuntime) -> Result<(), &'static str> {
+    wants::a_night_is_deleted(rt.alloc())
+}
+
+#[test]
+fn reports_of_a_tracker(rt: HostRuntime) -> Result<(), &'static str> {
+    wants::reports_of_a_tracker(rt.alloc())
+}
+
+#[test]
+fn reports_in_want_of_memory(rt: HostRuntime) -> Result<(), &'static str> {
+    desks::reports_in_want_of_memory(rt.alloc())
+}
+
+#[test]
+fn why_in_want_of_memory(rt: HostRuntime) -> Result<(), &'static str> {
+    desks::why_in_want_of_memory(rt.alloc())
+}

@@ -1,0 +1,82 @@
+// What a tracker sends over HTTP, and what it gets.
+use plan_basics::Watched;
+use sqlite::Alter;
+use std::alloc::Global;
+use taken_memory::Outcome;
+use tracker_http::{Desk, WireFault, serve_one};
+use wires::{After, Pieces, get, is_written, post, reply};
+
+/// A request, its reply, and the one that tells that memory lacks.
+#[derive(Drop)]
+pub struct Exchange {
+    input: String,
+    reply: String,
+    without_memory: String,
+}
+
+// The reader of an input.
+fn pieces(input: &str) -> Pieces<'_> {
+    Pieces {
+        left: input.as_bytes(),
+        most: 8192,
+        after: After::End,
+    }
+}
+
+impl Exchange {
+    /// The report of this body, whose reply has this status and this body.
+    pub fn report(alloc: Global, body: &str, status: &str, told: &str) -> Option<Exchange> {
+        let lacks = "{\"name\":\"Memory\",\"refusal\":25}";
+        Some(Exchange {
+            input: post(alloc, "/report", body)?,
+            reply: reply(alloc, status, "", told.len(), told)?,
+            without_memory: reply(alloc, "503 Service Unavailable", "", lacks.len(), lacks)?,
+        })
+    }
+
+    // What comes of it where it ends so, and this is written.
+    fn outcome(&self, ended: Result<(), WireFault>, room: &[u8]) -> Outcome {
+        match ended {
+            Ok(()) if is_written(room, &self.reply) => Outcome::Done,
+            Ok(()) if is_written(room, &self.without_memory) => Outcome::WithoutMemory,
+            Err(WireFault::Memory) if is_written(room, "") => Outcome::WithoutMemory,
+            _ => Outcome::Otherwise,
+        }
+    }
+
+    /// What comes of it at a desk. The writer takes no memory.
+    pub fn make<S: Alter + Drop>(&self, alloc: Global, desk: &mut Desk<S>) -> Outcome {
+        let mut room = [0; 512];
+        let mut reader = Watched::new(pieces(&self.input));
+        let mut writer = Watched::new(&mut room[..]);
+        let ended = serve_one(alloc, &mut reader, &mut writer, desk);
+        self.outcome(ended, &room)
+    }
+}
+
+// Adds the reply to a request without a body.
+fn add_list<S: Alter + Drop>(
+    alloc: Global,
+    desk: &mut Desk<S>,
+    path: &str,
+    writer: &mut Watched<Vec<u8>>,
+) -> Option<()> {
+    let input = get(alloc, path)?;
+    let mut reader = Watched::new(pieces(&input));
+    serve_one(alloc, &mut reader, writer, desk).ok()
+}
+
+/// What a desk lists: its occurrences, and what is ready at each workstation.
+pub fn lists<S: Alter + Drop>(alloc: Global, desk: &mut Desk<S>) -> Option<Vec<u8>> {
+    let mut writer = Watched::new(Vec::new(alloc));
+    for path in [
+        "/occurrences",
+        "/ready/CPU1",
+        "/ready/SETP",
+        "/ready/PRT1",
+        "/ready/DUMM",
+    ] {
+        add_list(alloc, desk, path, &mut writer)?;
+    }
+    Some(writer.into_inner())
+}

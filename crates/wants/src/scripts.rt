@@ -1,0 +1,63 @@
+// The scripts. Each turn is a line:
+//
+//     create                          a desk is made over a database without tables
+//     close                           the desk is closed
+//     open                            it is opened again
+//     BODY | names KEY ..             what an operator asks of the desk, and the operations that are named, or the refusal
+//     BODY | refused NAME
+//     /report BODY | STATUS | REPLY   what a tracker sends over HTTP, and its reply
+//
+// NIGHT stands for the body that loads the night at 21:00. A turn behind `+ ` is made with memory.
+
+/// The second run fails, when the bills are in that wait for its file, and is to run again: the bills go first.
+pub const FAILED_RUN: &str = r#"create
+NIGHT | names
+NIGHT | refused Loaded
+{"at":"2024-03-01T22:00","do":"started","op":"PAYROLL/2024-03-01T22:00/005"} | names
+{"at":"2024-03-01T22:10","do":"ended","op":"PAYROLL/2024-03-01T22:00/005"} | names PAYROLL/2024-03-01T22:00/010
+{"at":"2024-03-01T22:20","do":"interrupted","op":"PAYROLL/2024-03-01T22:00/010"} | refused WrongWorkstation
+{"at":"2024-03-01T22:40","do":"ended","op":"PAYROLL/2024-03-01T22:00/010"} | names PAYROLL/2024-03-01T22:00/020
+{"at":"2024-03-01T22:45","do":"add","records":"O,BILLING,2024-03-01T22:00,5,2024-03-02T03:00,,,,,\nP,BILLING,2024-03-01T22:00,10,CPU1,30,0,0,,\nN,BILLING,2024-03-01T22:00,10,CUSTFILE,S,F,,,\n"} | names
+{"at":"2024-03-01T22:50","do":"delete","occ":"PAYROLL/2024-03-01T22:00"} | refused Running
+{"at":"2024-03-01T23:00","do":"error","op":"PAYROLL/2024-03-01T22:00/020","code":"S0C7"} | names
+{"at":"2024-03-01T23:05","do":"rerun","op":"PAYROLL/2024-03-01T22:00/020"} | names BILLING/2024-03-01T22:00/010
+close
+open"#;
+
+/// The second run ends when the bills are in, and then the printing.
+pub const WHOLE_NIGHT: &str = r#"+ create
++ NIGHT | names
++ {"at":"2024-03-01T22:00","do":"started","op":"PAYROLL/2024-03-01T22:00/005"} | names
++ {"at":"2024-03-01T22:10","do":"ended","op":"PAYROLL/2024-03-01T22:00/005"} | names PAYROLL/2024-03-01T22:00/010
++ {"at":"2024-03-01T22:40","do":"ended","op":"PAYROLL/2024-03-01T22:00/010"} | names PAYROLL/2024-03-01T22:00/020
++ {"at":"2024-03-01T22:45","do":"add","records":"O,BILLING,2024-03-01T22:00,5,2024-03-02T03:00,,,,,\nP,BILLING,2024-03-01T22:00,10,CPU1,30,0,0,,\nN,BILLING,2024-03-01T22:00,10,CUSTFILE,S,F,,,\n"} | names
+{"at":"2024-03-01T23:40","do":"ended","op":"PAYROLL/2024-03-01T22:00/020"} | names BILLING/2024-03-01T22:00/010
+{"at":"2024-03-01T23:50","do":"ended","op":"PAYROLL/2024-03-01T22:00/040"} | names"#;
+
+/// The bills are to come after the printing: by the pair with which they come in, and by one that is added. The night is deleted
+/// then, and doesn't come in again.
+pub const DELETED_NIGHT: &str = r#"+ create
++ NIGHT | names
+{"at":"2024-03-01T21:00","do":"add","records":"O,BILLING,2024-03-01T22:00,5,2024-03-02T03:00,,,,,\nP,BILLING,2024-03-01T22:00,10,CPU1,30,0,0,,\nP,BILLING,2024-03-01T22:00,20,CPU1,30,0,0,,\nN,BILLING,2024-03-01T22:00,10,CUSTFILE,S,F,,,\nD,PAYROLL,2024-03-01T22:00,40,BILLING,2024-03-01T22:00,10,,,\n"} | names
+{"at":"2024-03-01T21:00","do":"depend","from":"PAYROLL/2024-03-01T22:00/040","to":"BILLING/2024-03-01T22:00/020"} | names
+{"at":"2024-03-01T21:00","do":"depend","from":"PAYROLL/2024-03-01T22:00/040","to":"PAYROLL/2024-03-01T22:00/005"} | refused Cycle
+{"at":"2024-03-01T21:00","do":"delete","occ":"PAYROLL/2024-03-01T22:00"} | names
+{"at":"2024-03-01T21:00","do":"delete","occ":"PAYROLL/2024-03-01T22:00"} | refused WrongStatus
+{"at":"2024-03-01T21:00","do":"add","records":"O,PAYROLL,2024-03-01T22:00,5,2024-03-02T05:00,,,,,\nP,PAYROLL,2024-03-01T22:00,5,SETP,10,0,0,,\n"} | refused Duplicate"#;
+
+/// A tracker reports its first two operations, repeats its last report, sends numbers that aren't the next, and repeats that
+/// report once more when the desk was closed and opened.
+pub const REPORTS: &str = r#"+ create
++ NIGHT | names
+/report {"tracker":"T1","number":1,"at":"2024-03-01T22:00","do":"started","op":"PAYROLL/2024-03-01T22:00/005"} | 200 OK | {"named":[]}
+/report {"tracker":"T1","number":2,"at":"2024-03-01T22:10","do":"ended","op":"PAYROLL/2024-03-01T22:00/005"} | 200 OK | {"named":["PAYROLL/2024-03-01T22:00/010"]}
+/report {"tracker":"T1","number":3,"at":"2024-03-01T22:11","do":"started","op":"PAYROLL/2024-03-01T22:00/010"} | 200 OK | {"named":[]}
+/report {"tracker":"T1","number":4,"at":"2024-03-01T22:40","do":"ended","op":"PAYROLL/2024-03-01T22:00/010"} | 200 OK | {"named":["PAYROLL/2024-03-01T22:00/020"]}
+/report {"tracker":"T1","number":4,"at":"2024-03-01T22:40","do":"ended","op":"PAYROLL/2024-03-01T22:00/010"} | 200 OK | {"named":["PAYROLL/2024-03-01T22:00/020"]}
+/report {"tracker":"T1","number":4,"at":"2024-03-01T22:40","do":"ended","op":"PAYROLL/2024-03-01T22:00/020"} | 409 Conflict | {"name":"Reused","refusal":24}
+/report {"tracker":"T1","number":6,"at":"2024-03-01T22:41","do":"ended","op":"PAYROLL/2024-03-01T22:00/020"} | 409 Conflict | {"name":"Gap","refusal":23}
+/report {"tracker":"T1","number":3,"at":"2024-03-01T22:11","do":"started","op":"PAYROLL/2024-03-01T22:00/010"} | 409 Conflict | {"name":"Old","refusal":22}
+/report {"tracker":"T1","number":0,"at":"2024-03-01T22:41","do":"ended","op":"PAYROLL/2024-03-01T22:00/020"} | 409 Conflict | {"name":"Old","refusal":22}
+close
+open
+/report {"tracker":"T1","number":4,"at":"2024-03-01T22:40","do":"ended","op":"PAYROLL/2024-03-01T22:00/010"} | 200 OK | {"named":["PAYROLL/2024-03-01T22:00/020"]}"#;
