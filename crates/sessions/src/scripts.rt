@@ -171,7 +171,7 @@ $ play --plan @absent --at 22:00 --requests @absent
 
 /// The program's version, by either option.
 pub const VERSION: &str = r#"$ --version
-plandesk 0.13.0
+plandesk 0.14.0
 $ -V
-plandesk 0.13.0
+plandesk 0.14.0
 "#;
