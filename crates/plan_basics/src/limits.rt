@@ -22,6 +22,9 @@ pub const MOST_PAIRS: usize = 100_000;
 /// How many special resources an operation may need. (This project's own.)
 pub const MOST_NEEDS: usize = 16;
 
+/// The greatest quantity of a special resource, and the greatest amount that a shared need takes of it. (This project's own.)
+pub const MOST_QUANTITY: u32 = 999_999;
+
 /// How many parallel servers an open interval may have. (This project's own.)
 pub const MOST_SERVERS: u8 = 99;
 

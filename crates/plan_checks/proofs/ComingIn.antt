@@ -10,7 +10,7 @@ use Rattle.std.specs.List.{AllWithin, HoldsAt}
 use Rattle.std.specs.List.Sorted.{IsStrictlySortedBy}
 use Rattle.std.specs.Map.{keys_of}
 use Rattle.std.proofs.lemmas.List.Elements.{All-contains}
-use Rattle.plan_basics.specs.Keys.{occurrence_cmp, operation_cmp_total, operation_cmp-IsAntisymmetric}
+use Rattle.plan_basics.specs.Keys.{Name, occurrence_cmp, operation_cmp_total, operation_cmp-IsAntisymmetric}
 use Rattle.plan_basics.specs.declared.keys.OccKey.{OccKey}
 use Rattle.plan_basics.specs.declared.keys.OpKey.{OpKey}
 use Rattle.plan_model.specs.Contents.{Contents, IsPairOf, Occurrences, Operation}
@@ -19,6 +19,7 @@ use Rattle.plan_records.specs.Acceptance.{IsNew}
 use Rattle.plan_records.specs.plan_drafts.specs.Contents.{AreAdditionParts, added_of}
 use Rattle.plan_records.specs.plan_drafts.specs.Drafts.{IsOwn}
 use Rattle.plan_records.specs.plan_drafts.specs.declared.contents.AdditionParts.{AdditionParts}
+use Rattle.plan_model.specs.special_resources.specs.Holders.{Usage}
 use Rattle.plan_model.specs.special_resources.specs.Holdings.{usage_of}
 use Rattle.plan_model.specs.special_resources.specs.Needs.{AreInNameOrder, usages_of}
 use Rattle.plan_model.specs.special_resources.specs.declared.Need.{Need}
@@ -28,7 +29,7 @@ use Rattle.plan_records.specs.plan_drafts.proofs.Lists.{all_by_members, all_told
 use Rattle.plan_records.specs.plan_drafts.proofs.MadeAdditions.{sole_got, sole_key}
 use Rattle.plan_records.specs.plan_drafts.proofs.Tables.{from_set, get_row, in_set, is_found, row_found, rows_apart, some_is}
 use Rattle.plan_checks.proofs.Searching.{row_known}
-use Rattle.plan_checks.specs.Additions.{HasResources, IsKnown}
+use Rattle.plan_checks.specs.Additions.{IsKnown}
 
 -- ---- an index that is looked up
 
@@ -146,13 +147,13 @@ operations_told parts are same Q b test =
       λ may. told.1 (λ row has. may row.0 row.1 (get_row operation_cmp_total operation_cmp-IsAntisymmetric rows row.0 row.1 (rows_apart operation_cmp_total operation_cmp-IsAntisymmetric rows are.operations) has)),
     )
 
--- the special resources of an operation are in the plan where that of each need in the list is
-pub resources_told : (P : Contents) (op : Operation) (needs : List Need) → op.needs ≡ usages_of needs → AreInNameOrder needs → (b : Bool)
-    → IsTestOfEach (λ need. contains_key P.resources need.name ≡ true) needs b → Decides b (HasResources P op)
-resources_told P op needs same sorted b test =
-    let told = each_told refl (λ (need : Need). contains_key P.resources need.name ≡ true) b test in (
+-- what is so of each need in the list is so of each special resource that the operation needs
+pub needs_told : (op : Operation) (needs : List Need) → op.needs ≡ usages_of needs → AreInNameOrder needs → (Q : Name → Usage → Type 0) (b : Bool)
+    → IsTestOfEach (λ need. Q need.name (usage_of need)) needs b → Decides b ((r : Name) (usage : Usage) → get op.needs r ≡ Some usage → Q r usage)
+needs_told op needs same sorted Q b test =
+    let told = each_told refl (λ (need : Need). Q need.name (usage_of need)) b test in (
       λ yes r usage is.
           let n = need_by_usage needs sorted r usage (subst (λ u. get u r ≡ Some usage) same is) in
-          subst (λ z. contains_key P.resources z ≡ true) n.2 (told.0 yes n.0 n.1),
+          subst (Q r) n.3 (subst (λ z. Q z (usage_of n.0)) n.2 (told.0 yes n.0 n.1)),
       λ has. told.1 (λ need listed. has need.name (usage_of need) (subst (λ u. get u need.name ≡ Some (usage_of need)) (sym same) (usage_by_need needs sorted need listed))),
     )

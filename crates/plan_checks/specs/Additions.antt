@@ -5,6 +5,7 @@ use Rattle.plan_basics.specs.declared.limits.TheConstants.{MOST_OCCURRENCES, MOS
 use Rattle.plan_basics.specs.Keys.{Name}
 use Rattle.plan_basics.specs.declared.keys.OpKey.{OpKey}
 use Rattle.plan_model.specs.Contents.{Contents, Operation, AddedParts}
+use Rattle.plan_model.specs.declared.Stock.{Stock}
 use Rattle.plan_model.specs.Status.{HasStatus, IsWaitingOrReady}
 use Rattle.plan_records.specs.Acceptance.{IsNew, IsOld}
 use Rattle.plan_figures.specs.Reports.{IsOfStatus}
@@ -43,6 +44,14 @@ HasWorkstation P op = contains_key P.workstations op.workstation ≡ true
 -- the special resources that the operation needs are in the plan
 abbrev pub HasResources : Contents → Operation → Type 0
 HasResources P op = (r : Name) (usage : Usage) → get op.needs r ≡ Some usage → contains_key P.resources r ≡ true
+
+-- the plan has so much of the special resource, if it has it
+pub record HasSoMuch (P : Contents) (r : Name) (amount : ℕ) : Type 0 where
+  pub enough : (stock : Stock) → get P.resources r ≡ Some stock → amount ≤ stock.quantity
+
+-- each need of the operation is of no more than there is
+pub record NeedsFit (P : Contents) (op : Operation) : Type 0 where
+  pub fit : (r : Name) (usage : Usage) → get op.needs r ≡ Some usage → HasSoMuch P r usage.claim.amount
 
 -- with an occurrence more, and with n operations and e pairs in all, the plan holds no more than it may
 pub record HasRoomFor (P : Contents) (n e : ℕ) : Type 0 where

@@ -1,14 +1,15 @@
 // What stands in the way of an occurrence that is to be added.
-ghost use Rattle.std.specs.Prelude.{◌≡◌, ◌⊎◌, Decides, IfErr, MatchOption, OnOk};
+ghost use Rattle.std.specs.Prelude.{◌≡◌, ◌⊎◌, Decides, IfErr, MatchOption, OnOk, length};
 ghost use Rattle.plan_basics.specs.Refusals.{from_on, IsLeastRefusal, NoneRefuses};
 ghost use Rattle.plan_basics.specs.declared.Refusal.{Refusal};
+ghost use Rattle.plan_model.specs.Valid.{AmountsFit};
 ghost use Rattle.plan_records.specs.Acceptance.{IsOld, MayBeAdded};
 ghost use Rattle.plan_records.specs.plan_drafts.specs.Contents.{added_of, AreAdditionParts};
-ghost use Rattle.plan_checks.specs.Additions.{IsOldWith, IsOpenPair, MayPrecede, MaySucceed};
+ghost use Rattle.plan_checks.specs.Additions.{HasRoomFor, IsOldWith, IsOpenPair, MayPrecede, MaySucceed};
 
 use super::growth::{grown_keys, grown_pairs, has_room};
 use super::known::{
-    are_ends_known, are_resources_known, are_workstations_known, is_new_occurrence,
+    amounts_fit, are_ends_known, are_resources_known, are_workstations_known, is_new_occurrence,
 };
 use plan_basics::{OpKey, Refusal};
 use plan_figures::Outline;
@@ -65,7 +66,22 @@ fn are_pairs_open(outline: &Outline<'_>, parts: &AdditionParts) -> bool
     true
 }
 
-// With what is added, no path of pairs returns to its start, and the plan holds no more than it may.
+// Whether the plan has room for an occurrence more, with operations of these keys and these pairs in all, and as much of each
+// special resource as is needed.
+fn is_within_limits(
+    outline: &Outline<'_>,
+    parts: &AdditionParts,
+    keys: &[OpKey],
+    pairs: &[(OpKey, OpKey)],
+) -> bool
+    requires { AreAdditionParts parts.now }
+    ensures { Decides result (HasRoomFor outline.now (length keys.now) (length pairs.now) × AmountsFit outline.now.resources (added_of parts.now).operations) }
+{
+    has_room(&outline.beside(), keys, pairs) && amounts_fit(outline, parts)
+}
+
+// With what is added, no path of pairs returns to its start, the plan holds no more than it may, and no need is of more than
+// there is.
 fn check_grown(alloc: Global, outline: &Outline<'_>, parts: &AdditionParts) -> Result<(), Refusal>
     requires addition { AreAdditionParts parts.now }
     requires known { MayBeAdded outline.now (added_of parts.now) Refusal.UnknownOperation }
@@ -78,7 +94,7 @@ fn check_grown(alloc: Global, outline: &Outline<'_>, parts: &AdditionParts) -> R
     let pairs = grown_pairs(alloc, &beside, parts)?;
     if graph_of(alloc, &keys, &pairs)?.is_none() {
         Err(Refusal::Cycle)
-    } else if !has_room(&beside, &keys, &pairs) {
+    } else if !is_within_limits(outline, parts, &keys, &pairs) {
         Err(Refusal::Limit)
     } else {
         Ok(())
@@ -86,7 +102,7 @@ fn check_grown(alloc: Global, outline: &Outline<'_>, parts: &AdditionParts) -> R
 }
 
 /// An occurrence may be added that isn't in the plan, whose operations find all that they name, precede only what waits or is
-/// ready, and close no path, where there is room. The error is the first that applies, by number, or `Memory`.
+/// ready, and close no path, where there is room and as much of each special resource as they need. The error is the first that applies, by number, or `Memory`.
 pub fn check_added(alloc: Global, outline: &Outline<'_>, addition: &Addition) -> Result<(), Refusal>
     ensures ok { OnOk result (NoneRefuses (MayBeAdded outline.now addition.now)) }
     ensures refused { IfErr result (λ r. (r ≡ Refusal.Memory) ⊎ IsLeastRefusal (MayBeAdded outline.now addition.now) r) }

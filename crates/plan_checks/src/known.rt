@@ -4,11 +4,12 @@ ghost use Rattle.std.specs.FinMap.{contains_key};
 ghost use Rattle.plan_basics.specs.declared.Refusal.{Refusal};
 ghost use Rattle.plan_records.specs.Acceptance.{MayBeAdded};
 ghost use Rattle.plan_records.specs.plan_drafts.specs.Contents.{added_of, AreAdditionParts};
-ghost use Rattle.plan_checks.specs.Additions.{HasResources, HasWorkstation, IsKnown, IsKnownPair};
+ghost use Rattle.plan_model.specs.Valid.{AmountsFit};
+ghost use Rattle.plan_checks.specs.Additions.{HasResources, HasSoMuch, HasWorkstation, IsKnown, IsKnownPair, NeedsFit};
 
 use plan_basics::{OpKey, ResName};
 use plan_figures::Outline;
-use plan_model::OperationRecord;
+use plan_model::{Need, OperationRecord};
 use plan_records::{AdditionParts, row_place};
 
 // Whether an operation is added, or is of another occurrence of the plan.
@@ -90,6 +91,38 @@ pub fn are_resources_known(outline: &Outline<'_>, parts: &AdditionParts) -> bool
         .operations
         .iter()
         .all(|row| has_resources(outline, &row.1))
+}
+
+// Whether the plan has as much of the special resource as the need is of, if it has it.
+fn is_within_stock(outline: &Outline<'_>, need: &Need) -> bool
+    ensures { Decides result (HasSoMuch outline.now need.now.name need.now.amount) }
+{
+    match outline.beside().resource(&need.name) {
+        Some(stock) => need.amount <= stock.quantity,
+        None => true,
+    }
+}
+
+// Whether each need of the operation is of no more than there is.
+fn needs_fit(outline: &Outline<'_>, operation: &OperationRecord) -> bool
+    ensures { Decides result (NeedsFit outline.now operation.now) }
+{
+    operation
+        .needs
+        .as_slice()
+        .iter()
+        .all(|need| is_within_stock(outline, need))
+}
+
+/// Whether the needs of the operations that are added are of no more than there is.
+pub fn amounts_fit(outline: &Outline<'_>, parts: &AdditionParts) -> bool
+    requires { AreAdditionParts parts.now }
+    ensures { Decides result (AmountsFit outline.now.resources (added_of parts.now).operations) }
+{
+    parts
+        .operations
+        .iter()
+        .all(|row| needs_fit(outline, &row.1))
 }
 
 /// Whether the plan has no occurrence of the key of what is added.

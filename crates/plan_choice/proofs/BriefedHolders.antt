@@ -7,7 +7,7 @@ use Rattle.std.proofs.lemmas.List.Sums.{count_by_more_no, count_by_more_yes}
 use Rattle.std.proofs.lemmas.Option.{get_or_from_slice_get, same_Some, slice_get_within}
 use Rattle.plan_basics.specs.Keys.{Name}
 use Rattle.plan_basics.specs.declared.keys.OpKey.{OpKey}
-use Rattle.special_resources.specs.declared.Mode.{Mode}
+use Rattle.special_resources.specs.declared.Claim.{Claim}
 use Rattle.status_rules.specs.Classes.{is_ready}
 use Rattle.status_rules.specs.Table.{marked_status}
 use Rattle.status_rules.specs.declared.Mark.{Mark}
@@ -62,8 +62,8 @@ module _ (P : Contents) (op : Operation) (b : Brief) (is : IsBriefOf P op b) whe
   known_there h = ap takes is.attribute ∙ (and_parts (takes (Some b.attribute)) (holds_resource true (marked_status b.mark)) h).0
 
   -- what it tells holds nothing does so
-  pub holds_nothing : may_hold b ≡ false → (r : Name) (mode : Mode) → ¬ IsHeldBy P op r mode
-  holds_nothing none r mode by =
+  pub holds_nothing : may_hold b ≡ false → (r : Name) (claim : Claim) → ¬ IsHeldBy P op r claim
+  holds_nothing none r claim by =
       let known : takes (Some b.attribute) ≡ true = ap takes (sym is.attribute) ∙ by.known in
       let holds : holds_resource true (marked_status b.mark) ≡ true = ap (λ m. holds_resource true (marked_status m)) is.mark ∙ holds_kept by.keep (marked_status op.mark) by.holds in
       true≢false (sym (and_from (takes (Some b.attribute)) (holds_resource true (marked_status b.mark)) known holds) ∙ none)

@@ -8,7 +8,7 @@ use Rattle.plan_basics.specs.declared.Attr.TheVariants.{Automatic}
 use Rattle.plan_basics.specs.declared.keys.OpKey.{OpKey}
 use Rattle.special_resources.specs.Holders.{Usage}
 use Rattle.special_resources.specs.Holdings.{Held}
-use Rattle.special_resources.specs.declared.Mode.{Mode}
+use Rattle.special_resources.specs.declared.Claim.{Claim}
 use Rattle.status_rules.specs.Table.{marked_status}
 use Rattle.status_rules.specs.declared.Mark.TheVariants as mark
 use Rattle.ready_list.specs.Choice.{is_among}
@@ -42,9 +42,9 @@ module _ (P : Contents) (os : List OpKey) (k : OpKey) (op : Operation) (is : get
   abbrev after : Contents
   after = named (os ++ k ∷ []) P
 
-  -- whether o holds r in this mode is decided by what is held
-  abbrev TellsHolding : Held → OpKey → Name → Mode → Type 0
-  TellsHolding held o r mode = (get held (r, o) ≡ Some mode) ↔ ((keep : Bool) × Holds after o r (record { mode = mode; keep = keep }))
+  -- whether o holds r so is decided by what is held
+  abbrev TellsHolding : Held → OpKey → Name → Claim → Type 0
+  TellsHolding held o r claim = (get held (r, o) ≡ Some claim) ↔ ((keep : Bool) × Holds after o r (record { claim = claim; keep = keep }))
 
   -- another operation is the same in both
   same_row : (o : OpKey) → eq_by_cmp operation_cmp o k ≡ false → get after.operations o ≡ get before.operations o
@@ -73,26 +73,26 @@ module _ (P : Contents) (os : List OpKey) (k : OpKey) (op : Operation) (is : get
 
   module _ (old new : Held) (held : AreHeldIn before old) (taken : HaveTaken old k op.needs mark.Named new) where
     none_yet : (r : Name) → get old (r, k) ≡ None
-    none_yet r = none_of (get old (r, k)) (λ mode e. let h = (held k r mode).0 e in holds_nothing r _ h.1)
+    none_yet r = none_of (get old (r, k)) (λ claim e. let h = (held k r claim).0 e in holds_nothing r _ h.1)
 
-    its_own : (r : Name) (mode : Mode) → TellsHolding new k r mode
-    its_own r mode =
-        let own = taken.own r (none_yet r) mode in (
+    its_own : (r : Name) (claim : Claim) → TellsHolding new k r claim
+    its_own r claim =
+        let own = taken.own r (none_yet r) claim in (
           λ e. let h = own.0 e in (h.0, holds_needs r _ h.1),
           λ h. own.1 (h.0, needs_held r _ h.1, refl),
         )
 
-    of_another : (o : OpKey) → eq_by_cmp operation_cmp o k ≡ false → o ≢ k → (r : Name) (mode : Mode) → TellsHolding new o r mode
-    of_another o apart differs r mode = (
-      λ e. let h = (held o r mode).0 (sym (taken.others o r differs) ∙ e) in (h.0, held_alike before after refl o (same_row o apart) r _ h.1),
-      λ h. taken.others o r differs ∙ (held o r mode).1 (h.0, held_alike after before refl o (sym (same_row o apart)) r _ h.1),
+    of_another : (o : OpKey) → eq_by_cmp operation_cmp o k ≡ false → o ≢ k → (r : Name) (claim : Claim) → TellsHolding new o r claim
+    of_another o apart differs r claim = (
+      λ e. let h = (held o r claim).0 (sym (taken.others o r differs) ∙ e) in (h.0, held_alike before after refl o (same_row o apart) r _ h.1),
+      λ h. taken.others o r differs ∙ (held o r claim).1 (h.0, held_alike after before refl o (sym (same_row o apart)) r _ h.1),
     )
 
-    by_key : (o : OpKey) (b : Bool) → eq_by_cmp operation_cmp o k ≡ b → (r : Name) (mode : Mode) → TellsHolding new o r mode
-    by_key o true e r mode = subst (λ z. TellsHolding new z r mode) (sym (same_key o k e)) (its_own r mode)
-    by_key o false e r mode =
-        of_another o e (λ same. true≢false (sym ((eq_by_cmp_equiv operation_cmp_total).refl k) ∙ ap (λ z. eq_by_cmp operation_cmp z k) (sym same) ∙ e)) r mode
+    by_key : (o : OpKey) (b : Bool) → eq_by_cmp operation_cmp o k ≡ b → (r : Name) (claim : Claim) → TellsHolding new o r claim
+    by_key o true e r claim = subst (λ z. TellsHolding new z r claim) (sym (same_key o k e)) (its_own r claim)
+    by_key o false e r claim =
+        of_another o e (λ same. true≢false (sym ((eq_by_cmp_equiv operation_cmp_total).refl k) ∙ ap (λ z. eq_by_cmp operation_cmp z k) (sym same) ∙ e)) r claim
 
     -- once it is named, it holds what it takes
     pub named_held : AreHeldIn after new
-    named_held o r mode = by_key o (eq_by_cmp operation_cmp o k) refl r mode
+    named_held o r claim = by_key o (eq_by_cmp operation_cmp o k) refl r claim

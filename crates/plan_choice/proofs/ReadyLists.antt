@@ -85,7 +85,8 @@ pub record AreReadyBelow (P : Contents) (rows : List (OpKey × Operation)) (n : 
   pub every : (j : ℕ) (o : OpKey) (op : Operation) → j < n → slice_get rows j ≡ Some (o, op) → IsReady P o → (e : ReadyEntry) × Contains entries e × (e.key.op ≡ o)
   pub once : AllPairs (λ a b. a.key ≢ b.key) entries
 
-below_cases : (j n : ℕ) → j < n + 1 → (j < n) ⊎ (j ≡ n)
+-- below the next number: below the number, or the number itself
+pub below_cases : (j n : ℕ) → j < n + 1 → (j < n) ⊎ (j ≡ n)
 below_cases j n h = elim (cases_lt j n) [ inl l ↦ inl l | inr g ↦ inr (omega (arith, h, g)) ]
 
 module _ (P : Contents) (rows : List (OpKey × Operation)) (sorted : IsStrictlySortedBy operation_cmp (keys_of_rows rows))

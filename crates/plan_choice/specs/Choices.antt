@@ -2,7 +2,7 @@
 use Rattle.std.specs.Prelude.{◌≡◌, ◌↔◌, Bool, List, ℤ, Contains, Some, slice_get}
 use Rattle.std.specs.FinMap.{entries, get, keys}
 use Rattle.plan_basics.specs.Keys.{Name}
-use Rattle.special_resources.specs.declared.Mode.{Mode}
+use Rattle.special_resources.specs.declared.Claim.{Claim}
 use Rattle.special_resources.specs.Holdings.{Held}
 use Rattle.plan_basics.specs.declared.Refusal.{Refusal}
 use Rattle.plan_basics.specs.declared.Refusal.TheVariants as refusal
@@ -34,9 +34,9 @@ pub record AreReadyEntries (P : Contents) (entries : List ReadyEntry) : Type 0 w
 abbrev pub AreGivenOut : Contents → List NamedWorkstation → List Capacity → Type 0
 AreGivenOut P rows taken = AreByPlace rows taken (λ w capacity. capacity ≡ given_out P w)
 
--- these are the holders of special resources, each in its mode
+-- these are the holders of special resources, and how each holds
 abbrev pub AreHeldIn : Contents → Held → Type 0
-AreHeldIn P held = (o : OpKey) (r : Name) (mode : Mode) → (get held (r, o) ≡ Some mode) ↔ ((keep : Bool) × Holds P o r (record { mode = mode; keep = keep }))
+AreHeldIn P held = (o : OpKey) (r : Name) (claim : Claim) → (get held (r, o) ≡ Some claim) ↔ ((keep : Bool) × Holds P o r (record { claim = claim; keep = keep }))
 
 -- the plan has these workstations and special resources, this is given out at the operation's workstation, and this is held
 pub record HasTaken (P : Contents) (c : Contents) (op : Operation) (taken : Capacity) (held : Held) : Type 0 where

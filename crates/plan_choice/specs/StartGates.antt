@@ -5,7 +5,7 @@ use Rattle.std.specs.FinMap.{entries, get}
 use Rattle.std.specs.FinMap as map
 use Rattle.plan_basics.specs.contracts.keys.OpKey as operation_key
 use Rattle.special_resources.specs.Holdings.{Held}
-use Rattle.special_resources.specs.contracts.Mode as mode
+use Rattle.special_resources.specs.contracts.Claim as claim
 use Rattle.status_rules.specs.declared.Mark.TheVariants.{Named}
 use Rattle.shown_records.specs.plan_status.specs.plan_model.specs.Contents.{Contents, Operation}
 use Rattle.shown_records.specs.plan_status.specs.plan_model.specs.Valid.{IsValid}
@@ -71,7 +71,7 @@ Answers g e false h = PassesOver g e h
 
 -- what is held is stored by resource and operation
 abbrev held_code : Coded Held
-held_code = map.code (coded× (coded_list coded_ℕ) (operation_key.the_row).coded) (mode.the_row).coded
+held_code = map.code (coded× (coded_list coded_ℕ) (operation_key.the_row).coded) (claim.the_row).coded
 
 -- what counts is stored as its five parts
 abbrev pub counted_code : Coded Counted

@@ -6,15 +6,16 @@ use Rattle.plan_basics.specs.Refusals.{number_of}
 use Rattle.plan_basics.specs.declared.Refusal.{Refusal}
 use Rattle.plan_basics.specs.declared.limits.TheConstants.{MOST_FIXED, MOST_OPERATIONS}
 use Rattle.plan_basics.specs.declared.keys.OpKey.{OpKey}
-use Rattle.special_resources.specs.Holders.{SharesWithHolders, Usage}
+use Rattle.special_resources.specs.Holders.{FitsBeside, Usage}
 use Rattle.special_resources.specs.Holdings.{Held, HoldsIn, usage_of}
 use Rattle.special_resources.specs.Needs.{Usages}
-use Rattle.special_resources.specs.declared.Mode.{Mode}
+use Rattle.special_resources.specs.declared.Claim.{Claim}
 use Rattle.special_resources.specs.declared.Need.{Need}
 use Rattle.status_rules.specs.Table.{marked_status}
 use Rattle.status_rules.specs.declared.Mark.{Mark}
 use Rattle.shown_records.specs.plan_status.specs.plan_model.specs.Holdings.{holds_resource, holds_server, takes}
 use Rattle.shown_records.specs.plan_status.specs.plan_model.specs.Contents.{Contents, Operation, Resources, attribute_at}
+use Rattle.shown_records.specs.plan_status.specs.plan_model.specs.declared.Stock.{Stock}
 use Rattle.shown_records.specs.plan_status.specs.plan_model.specs.Starts.{MayStart}
 use Rattle.workstations.specs.declared.Capacity.{Capacity}
 use Rattle.plan_choice.specs.Choices.{IsStartLine}
@@ -47,9 +48,9 @@ MeetsLinesBelow P o op m r = (lower : Refusal) → IsStartLine lower → number_
 
 -- ---- special resources
 
--- r is available, and where another than o holds it, both share it
+-- r is available; where another than o holds it, both share it, and there is enough of it for all
 abbrev pub CanUse : Resources → Held → OpKey → Name → Usage → Type 0
-CanUse resources held o r usage = (get resources r ≡ Some true) × SharesWithHolders (HoldsIn held) o r usage
+CanUse resources held o r usage = (stock : Stock) × (get resources r ≡ Some stock) × (stock.available ≡ true) × FitsBeside stock.quantity (HoldsIn held) o r usage
 
 -- o can use the resource of its need
 abbrev pub CanMeetNeed : Resources → Held → OpKey → Need → Type 0
@@ -62,6 +63,6 @@ CanMeetNeeds resources held o needs = (r : Name) (usage : Usage) → get needs r
 -- what o, with this mark, takes of what it needs and doesn't hold before; nothing else changes
 pub record HaveTaken (before : Held) (o : OpKey) (needs : Usages) (mark : Mark) (after : Held) : Type 0 where
   pub others : (p : OpKey) (r : Name) → p ≢ o → get after (r, p) ≡ get before (r, p)
-  pub kept : (r : Name) (mode : Mode) → get before (r, o) ≡ Some mode → get after (r, o) ≡ Some mode
-  pub own : (r : Name) → get before (r, o) ≡ None → (mode : Mode) → (get after (r, o) ≡ Some mode)
-      ↔ ((keep : Bool) × (get needs r ≡ Some (record { mode = mode; keep = keep })) × (holds_resource keep (marked_status mark) ≡ true))
+  pub kept : (r : Name) (claim : Claim) → get before (r, o) ≡ Some claim → get after (r, o) ≡ Some claim
+  pub own : (r : Name) → get before (r, o) ≡ None → (claim : Claim) → (get after (r, o) ≡ Some claim)
+      ↔ ((keep : Bool) × (get needs r ≡ Some (record { claim = claim; keep = keep })) × (holds_resource keep (marked_status mark) ≡ true))

@@ -31,7 +31,7 @@ pub fn take_marked(
     let needs = operation.needs.as_slice();
     holdings.reserve(needs.len())?;
     for need in needs {
-        if mark.holds_resource(need.keep) && holdings.mode_of(&need.name, *key).is_none() {
+        if mark.holds_resource(need.keep) && holdings.claim_of(&need.name, *key).is_none() {
             holdings.take(need, *key);
         }
     }

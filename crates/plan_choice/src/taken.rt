@@ -11,7 +11,7 @@ ghost use Rattle.plan_choice.specs.BriefedTakings.{takes_server_briefed};
 ghost use Rattle.plan_choice.specs.Choices.{AreGivenOut, HasTaken, IsStartLine};
 ghost use Rattle.plan_choice.specs.Takings.{CanMeetNeed, CanMeetNeeds, CanStart, IsAtMost, MeetsLinesBelow, most_given_out, with_one_more};
 
-use plan_basics::{Attr, Moment, OpKey, Refusal, ResName};
+use plan_basics::{Attr, Moment, OpKey, Refusal};
 use shown_records::{Beside, Brief, OperationRecord, Seen, ValidContents, attribute_of};
 use special_resources::{Holdings, Need};
 use std::alloc::{AllocError, Global};
@@ -87,18 +87,14 @@ pub fn given_out_of(
     Ok(given)
 }
 
-// Whether a special resource is available.
-fn is_available(beside: &Beside<'_>, name: &ResName) -> bool
-    ensures { IsTrue result ↔ (get beside.now.contents.now.resources name.now ≡ Some true) }
-{
-    beside.resource(name).unwrap_or(false)
-}
-
 // Whether the resource of a need is available, and no holding of another operation stands in the way.
 fn has_resource(beside: &Beside<'_>, key: &OpKey, need: &Need, holdings: &Holdings) -> bool
     ensures { IsTrue result ↔ CanMeetNeed beside.now.contents.now.resources holdings.now.held key.now need.now }
 {
-    is_available(beside, &need.name) && holdings.fits(need, *key)
+    match beside.resource(&need.name) {
+        Some(stock) => stock.available && holdings.fits(need, stock.quantity, *key),
+        None => false,
+    }
 }
 
 // Whether each special resource that an operation needs is available, and no holding of another operation stands in the way.
@@ -121,8 +117,8 @@ fn has_resources(
 /// Why an operation of the plan may not start at a moment, but for its status, where `taken` is given out at its workstation
 /// and `holdings` are held. The first that applies refuses it: `Held` (it is held), `TooEarly` (before its not-before),
 /// `Closed` (no interval contains the moment), `NoServer` (all servers are taken), `NoFixed` (R1 or R2 lacks),
-/// `ResourceBusy` (a special resource isn't available, another operation holds it exclusively, or another holds it at all
-/// and the need is exclusive). Where the operation stands at this place, its workstation isn't searched for.
+/// `ResourceBusy` (a special resource isn't available, another operation holds it exclusively, another holds it at all and
+/// the need is exclusive, or what others hold leaves less of it than is needed). Where the operation stands at this place, its workstation isn't searched for.
 pub fn check_start(
     seen: &Seen<'_>,
     place: usize,

@@ -6,7 +6,8 @@ use Rattle.std.specs.List.Sorted.{IsStrictlySortedBy}
 use Rattle.std.specs.Map.{keys_of}
 use Rattle.std.proofs.lemmas.Option.{get_or_from_slice_get}
 use Rattle.plan_model.proofs.Entries.{rows_in_order}
-use Rattle.plan_drafts.proofs.OneRow.{from_set, insert_known, keys-set}
+use Rattle.plan_model.specs.Revise.{revise}
+use Rattle.plan_drafts.proofs.OneRow.{from_set, insert_known, keys-set, made_at}
 use Rattle.plan_drafts.proofs.RowPlaces.{get_at}
 
 module _ {K X : Type 0} {R : K → K → Ordering} (o : IsTotalOrder R) (exact : IsAntisymmetric R)
@@ -50,6 +51,14 @@ module _ {K X : Type 0} {R : K → K → Ordering} (o : IsTotalOrder R) (exact :
 
     pub put_is : (x : X) → from_entries {R = R} (set rows i (k, x)) ≡ insert (from_entries rows) k x
     put_is x = from_set R o exact k (λ _. x) rows sorted i found.0 at ∙ sym (insert_known R o exact k x found.0 (from_entries rows) (get_at R o exact rows sorted i k found.0 at))
+
+    -- a row there that has the same key, and its value made anew
+    module _ (row : K × X) (f : X → X) (puts : row ≡ (k, f found.0)) where
+      pub anew_in_order : IsStrictlySortedBy R (keys_of (set rows i row))
+      anew_in_order = subst (λ (r : K × X). IsStrictlySortedBy R (keys_of (set rows i r))) (sym puts) (put_in_order (f found.0))
+
+      pub made_anew : from_entries {R = R} (set rows i row) ≡ revise (made_at R o exact k f) (from_entries rows)
+      made_anew = ap (λ (r : K × X). from_entries {R = R} (set rows i r)) puts ∙ from_set R o exact k f rows sorted i found.0 at
 
     -- a row there that has the same key
     module _ (row : K × X) (x : X) (puts : row ≡ (k, x)) where

@@ -1,5 +1,5 @@
 -- The kinds of items that a plan has: what is read of each, and what it is known by.
-use Rattle.std.proofs.Common.{◌≡◌, ◌≢◌, ◌⊎◌, inl, inr, refl, sym, subst, ap, ◌∙◌, ℕ, Bool, true, List, map, length, All, Contains, Option, Some, None}
+use Rattle.std.proofs.Common.{◌≡◌, ◌≢◌, ◌⊎◌, inl, inr, refl, sym, subst, ap, ◌∙◌, ℕ, true, List, map, length, All, Contains, Option, Some, None}
 use Rattle.std.specs.List.{AllPairs, filter_map}
 use Rattle.std.specs.declared.cmp.Ordering.{Ordering}
 use Rattle.std.specs.Cmp.{IsTotalOrder}
@@ -12,6 +12,7 @@ use Rattle.plan_basics.specs.Keys.{Name}
 use Rattle.plan_basics.specs.Intervals.{OpenInterval}
 use Rattle.plan_model.specs.special_resources.specs.declared.Need.{Need}
 use Rattle.plan_model.specs.declared.Occurrence.{Occurrence}
+use Rattle.plan_model.specs.declared.Stock.{Stock}
 use Rattle.plan_items.specs.declared.Item.{Item}
 use Rattle.plan_items.specs.declared.Item.TheVariants as item
 use Rattle.plan_items.specs.declared.OperationItem.{OperationItem}
@@ -30,7 +31,7 @@ workstations_in items = filter_map as_workstation items
 abbrev pub intervals_in : List Item → List (Name × OpenInterval)
 intervals_in items = filter_map as_interval items
 
-abbrev pub resources_in : List Item → List (Name × Bool)
+abbrev pub resources_in : List Item → List (Name × Stock)
 resources_in items = filter_map as_resource items
 
 abbrev pub occurrences_in : List Item → List (OccKey × Occurrence)
@@ -53,7 +54,7 @@ pub record IsKind {Y Q : Type 0} (read : Item → Option Y) (item_of : Y → Ite
 
 module _ {Y Q : Type 0} {read : Item → Option Y} {item_of : Y → Item} {known : Y → Q} {tag : Q → RowKey} (kind : IsKind read item_of known tag) where
   -- an item of which something is read is of the kind
-  of_kind : (a : Item) (y : Y) → read a ≡ Some y → (a ≡ item_of y) × (key_of a ≡ tag (known y))
+  pub of_kind : (a : Item) (y : Y) → read a ≡ Some y → (a ≡ item_of y) × (key_of a ≡ tag (known y))
   of_kind a y e = elim (kind.told a) [
     | inl (z, is, said, tagged) ↦ let same = same_Some z y (sym said ∙ e) in (is ∙ ap item_of same, tagged ∙ ap (λ x. tag (known x)) same)
     | inr (none, never) ↦ absurd (none-some y (sym none ∙ e))
@@ -134,8 +135,8 @@ operations = record { told = elim [ item.Operation o ↦ inl (o, refl, refl, ref
 pub pairs : IsKind as_pair (λ y. item.Dependency y.0 y.1) (λ y. y) (λ q. key.Dependency q.0 q.1)
 pairs = record { told = elim [ item.Dependency p o ↦ inl ((p, o), refl, refl, refl) | _ ↦ inr (refl, λ q e. cc) ]; exact = λ p q e. same_parts p q (cc) (cc) }
 
-pub resources : IsKind as_resource (λ y. item.Resource y.0 y.1) (λ y. y.0) (λ q. key.Resource q)
-resources = record { told = elim [ item.Resource n b ↦ inl ((n, b), refl, refl, refl) | _ ↦ inr (refl, λ q e. cc) ]; exact = λ p q e. cc }
+pub resources : IsKind as_resource (λ y. item.Resource y.0 y.1.available y.1.quantity) (λ y. y.0) (λ q. key.Resource q)
+resources = record { told = elim [ item.Resource n b q ↦ inl ((n, record { available = b; quantity = q }), refl, refl, refl) | _ ↦ inr (refl, λ q e. cc) ]; exact = λ p q e. cc }
 
 pub needs : IsKind as_need (λ y. item.Need y.0 y.1) need_key (λ q. key.Need q.0 q.1)
 needs = record { told = elim [ item.Need o n ↦ inl ((o, n), refl, refl, refl) | _ ↦ inr (refl, λ q e. cc) ]; exact = λ p q e. same_parts p q (cc) (cc) }
@@ -151,7 +152,7 @@ combined (item.Interval n x) b w i c o p r d = apart_from intervals (item.Interv
 combined (item.Occurrence n q x) b w i c o p r d = apart_from occurrences (item.Occurrence n q x) b (n, record { priority = q; deadline = x }) refl c
 combined (item.Operation x) b w i c o p r d = apart_from operations (item.Operation x) b x refl o
 combined (item.Dependency x y) b w i c o p r d = apart_from pairs (item.Dependency x y) b (x, y) refl p
-combined (item.Resource n a) b w i c o p r d = apart_from resources (item.Resource n a) b (n, a) refl r
+combined (item.Resource n a q) b w i c o p r d = apart_from resources (item.Resource n a q) b (n, record { available = a; quantity = q }) refl r
 combined (item.Need x n) b w i c o p r d = apart_from needs (item.Need x n) b (x, n) refl d
 
 -- items are known apart where those of each kind are

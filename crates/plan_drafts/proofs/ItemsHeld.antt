@@ -63,7 +63,7 @@ held_by_plan P draft items are = record {
     stand : (i : Item) → StandsIn P i → Stands (entered P) i
     stand (item.Workstation n x) h = λ may. absurd may
     stand (item.Interval n x) h = λ may. absurd may
-    stand (item.Resource n x) h = λ may. absurd may
+    stand (item.Resource n x q) h = λ may. absurd may
     stand _ h = λ may. h
 
     part : (k : RowKey) → IsItemOf (entered P) k → IsItemOfPlan P k

@@ -27,6 +27,7 @@ pub mod PairEdges
 pub mod Pairs
 pub mod PlacePaths
 pub mod RowPlaces
+pub mod Stocks
 pub mod Tables
 pub mod Terms
 pub mod Unique

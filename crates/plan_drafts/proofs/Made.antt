@@ -1,12 +1,12 @@
 -- Rows of what items say are those of a draft, the plan of these items.
-use Rattle.std.proofs.Common.{◌≡◌, ◌≢◌, Bool, refl, sym, subst, ap, ◌∙◌, true, List, map, length, All, Contains, Some, option_map, arith, ◌≤◌}
+use Rattle.std.proofs.Common.{◌≡◌, ◌≢◌, refl, sym, subst, ap, ◌∙◌, true, List, map, length, All, Contains, Some, option_map, arith, ◌≤◌}
 use Rattle.std.specs.List.{AllPairs}
 use Rattle.std.specs.FinMap.{get, contains_key, len}
 use Rattle.std.specs.FinSet as set
 use Rattle.std.specs.Map.{keys_of}
 use Rattle.std.proofs.lemmas.List.Elements.{All-contains, All-weaker}
 use Rattle.std.proofs.lemmas.List.Sorted.{length_permutation}
-use Rattle.plan_basics.specs.declared.limits.TheConstants.{MOST_OCCURRENCES, MOST_OPERATIONS, MOST_PAIRS, MOST_RESOURCES, MOST_WORKSTATIONS}
+use Rattle.plan_basics.specs.declared.limits.TheConstants.{MOST_OCCURRENCES, MOST_OPERATIONS, MOST_PAIRS, MOST_QUANTITY, MOST_RESOURCES, MOST_WORKSTATIONS}
 use Rattle.plan_basics.specs.declared.Attr.{Attr}
 use Rattle.plan_basics.specs.declared.keys.OpKey.{OpKey}
 use Rattle.plan_basics.specs.Keys.{Name, name_cmp_total, name_cmp-IsAntisymmetric, occurrence_cmp_total, occurrence_cmp-IsAntisymmetric, operation_cmp_total, operation_cmp-IsAntisymmetric}
@@ -19,6 +19,7 @@ use Rattle.plan_model.specs.special_resources.specs.Needs.{usages_of}
 use Rattle.plan_model.specs.Contents.{Contents, IsPairOf}
 use Rattle.plan_model.specs.Valid.{IsValid, IsAcyclic, IsWithinLimits}
 use Rattle.plan_model.specs.declared.Occurrence.{Occurrence}
+use Rattle.plan_model.specs.declared.Stock.{Stock}
 use Rattle.plan_items.specs.declared.Item.{Item}
 use Rattle.plan_items.specs.declared.Item.TheVariants as item
 use Rattle.plan_items.specs.declared.OperationItem.{OperationItem}
@@ -28,7 +29,7 @@ use Rattle.plan_drafts.specs.declared.RowKey.TheVariants as key
 use Rattle.plan_drafts.specs.Contents.{Rows, held_by}
 use Rattle.plan_drafts.specs.Drafts.{IsDraft}
 use Rattle.plan_drafts.specs.Records.{key_of, StandsIn, IsItemOfPlan, AreItems}
-use Rattle.plan_drafts.specs.PlanItems.{Fits, IsNeedIn, IsPairIn, IsOpening, CanOpen, intervals_of, opened_in, AreRowsOfItems, as_workstation, as_interval, as_resource, keys_said, needs_of, row_of, terms_of}
+use Rattle.plan_drafts.specs.PlanItems.{Fits, IsNeedIn, IsWithinStock, IsPairIn, IsOpening, CanOpen, intervals_of, opened_in, AreRowsOfItems, as_workstation, as_interval, as_resource, keys_said, needs_of, row_of, terms_of}
 use Rattle.plan_drafts.specs.AdditionItems.{IsNeedOf}
 use Rattle.plan_drafts.proofs.Lists.{pairs_from_differ, in_map, from_map, in_filter, all_by_members, keys_permuted}
 use Rattle.plan_drafts.proofs.Tables.{some_is, is_found, sorted_apart, len_set}
@@ -113,10 +114,10 @@ module _ (items : List Item) (c : Rows) (legal_items : All items_of.IsItem items
   workstation_is row has = opened_with (intervals_of row.0 (intervals_in items)) (own_legal (intervals_in items) row.0 legal) (opening_of row has) row.1
 
   -- ---- special resources
-  resource_at : (row : Name × Bool) → Contains (resources_in items) row → get P.resources row.0 ≡ Some row.1
+  resource_at : (row : Name × Stock) → Contains (resources_in items) row → get P.resources row.0 ≡ Some row.1
   resource_at = said_found name_cmp_total name_cmp-IsAntisymmetric (resources_in items) c.resources made.resources made.in_order.resources
 
-  resource_from : (r : Name) (available : Bool) → get P.resources r ≡ Some available → Contains (resources_in items) (r, available)
+  resource_from : (r : Name) (stock : Stock) → get P.resources r ≡ Some stock → Contains (resources_in items) (r, stock)
   resource_from = found_said name_cmp_total name_cmp-IsAntisymmetric (resources_in items) c.resources made.resources
 
   -- a special resource that an operation uses is there
@@ -124,8 +125,15 @@ module _ (items : List Item) (c : Rows) (legal_items : All items_of.IsItem items
   used_there o r usage e =
       let n = usage_said (needs_in items) o r usage e in
       let within = All-contains (IsNeedIn (keys_said (operations_in items)) (keys_of (resources_in items))) (needs_in items) (o, n.0) made.items_are.needs.within n.1 in
-      let row = from_map (λ (row : Name × Bool). row.0) (resources_in items) n.0.name within.resource in
+      let row = from_map (λ (row : Name × Stock). row.0) (resources_in items) n.0.name within.resource in
       subst (λ z. contains_key P.resources z ≡ true) (row.2 ∙ n.2) (some_is (get P.resources row.0.0) row.0.1 (resource_at row.0 row.1))
+
+  -- it uses no more than there is
+  amount_within : (o : OpKey) (r : Name) (usage : Usage) → get (usages_of (needs_of o (needs_in items))) r ≡ Some usage → (stock : Stock) → get P.resources r ≡ Some stock → usage.claim.amount ≤ stock.quantity
+  amount_within o r usage e stock there =
+      let n = usage_said (needs_in items) o r usage e in
+      let within = All-contains (IsWithinStock (resources_in items)) (needs_in items) (o, n.0) made.items_are.amounts n.1 in
+      subst (λ (u : Usage). u.claim.amount ≤ stock.quantity) n.3 (within.within stock (subst (λ z. Contains (resources_in items) (z, stock)) (sym n.2) (resource_from r stock there)))
 
   -- ---- each item is in the plan
   stands : (i : Item) → Contains items i → StandsIn P i
@@ -134,7 +142,7 @@ module _ (items : List Item) (c : Rows) (legal_items : All items_of.IsItem items
       let said = in_filter as_interval items (item.Interval n x) (n, x) has refl in
       let there = workstation_there n (All-contains (λ (y : Name × OpenInterval). Contains (keys_of (workstations_in items)) y.0) (intervals_in items) (n, x) made.items_are.workstations.no_others said) in
       ((opened there.0).1, there.3, interval_at there.0 there.1 x (subst (λ w. Contains (intervals_of w (intervals_in items)) x) (sym there.2) (in_own name_cmp_total name_cmp-IsAntisymmetric (intervals_in items) n x said)))
-  stands (item.Resource n a) has = resource_at (n, a) (in_filter as_resource items (item.Resource n a) (n, a) has refl)
+  stands (item.Resource n a q) has = let x : Stock = record { available = a; quantity = q } in resource_at (n, x) (in_filter as_resource items (item.Resource n a q) (n, x) has refl)
   stands other has = made_parts.stands parts other has tt
 
   -- ---- each item of the plan is the key of one
@@ -149,7 +157,7 @@ module _ (items : List Item) (c : Rows) (legal_items : All items_of.IsItem items
   described (key.Resource r) e =
       let found = is_found (get P.resources r) e in
       key_out kinds.resources items r
-      (in_map (λ (y : Name × Bool). y.0) (resources_in items) (r, found.0) (resource_from r found.0 found.1))
+      (in_map (λ (y : Name × Stock). y.0) (resources_in items) (r, found.0) (resource_from r found.0 found.1))
   described k e = made_parts.described parts k e
 
   pub are_items : AreItems (StandsIn P) (IsItemOfPlan P) items
@@ -159,10 +167,10 @@ module _ (items : List Item) (c : Rows) (legal_items : All items_of.IsItem items
   name_legal : (row : Name × Attr) → Contains (workstations_in items) row → IsName 4 row.0
   name_legal row has = read_stands kinds.workstations items_of.IsItem items legal_items row has
 
-  resource_legal : (r : Name) → contains_key P.resources r ≡ true → IsResourceName r
-  resource_legal r e =
-      let found = is_found (get P.resources r) e in
-      read_stands kinds.resources items_of.IsItem items legal_items (r, found.0) (resource_from r found.0 found.1)
+  resource_legal : (r : Name) (stock : Stock) → get P.resources r ≡ Some stock → IsResourceName r × (1 ≤ stock.quantity) × (stock.quantity ≤ MOST_QUANTITY)
+  resource_legal r stock there =
+      let is = read_stands kinds.resources items_of.IsItem items legal_items (r, stock) (resource_from r stock there) in
+      (is.0, is.1.0, is.1.1)
 
   pair_in : (p o : OpKey) → IsPairOf P.pairs p o → IsPairIn (keys_said (operations_in items)) (p, o)
   pair_in p o e = All-contains (IsPairIn (keys_said (operations_in items))) (pairs_in items) (p, o) made.items_are.pairs.within (pair_from parts (p, o) e)
@@ -202,6 +210,7 @@ module _ (items : List Item) (c : Rows) (legal_items : All items_of.IsItem items
     occurrences = made_parts.occurrences_are parts;
     have_workstations = each_row parts (λ o op. contains_key P.workstations op.workstation ≡ true) (λ said has. let there = workstation_there said.workstation (fits said has).workstation in some_is (get P.workstations said.workstation) _ there.3);
     have_resources = each_row parts (λ o op. (r : Name) (usage : Usage) → get op.needs r ≡ Some usage → contains_key P.resources r ≡ true) (λ said has. used_there said.key);
+    amounts = each_row parts (λ o op. (r : Name) (usage : Usage) → get op.needs r ≡ Some usage → (stock : Stock) → get P.resources r ≡ Some stock → usage.claim.amount ≤ stock.quantity) (λ said has. amount_within said.key);
     pairs = λ p o e. (end_there parts p (pair_in p o e).first, end_there parts o (pair_in p o e).second);
     acyclic = acyclic;
     limits = limits;

@@ -14,7 +14,7 @@ use Rattle.plan_basics.specs.declared.keys.OpKey.{OpKey}
 use Rattle.plan_basics.specs.Keys.{Name, operation_cmp, operation_cmp_total, operation_cmp-IsAntisymmetric}
 use Rattle.plan_basics.specs.Names.{IsResourceName}
 use Rattle.plan_model.specs.special_resources.specs.declared.Need.{Need}
-use Rattle.plan_model.specs.special_resources.specs.Holders.{Usage}
+use Rattle.plan_model.specs.special_resources.specs.Holders.{Usage, IsAmount}
 use Rattle.plan_model.specs.special_resources.specs.Holdings.{usage_of}
 use Rattle.plan_model.specs.special_resources.specs.Needs.{usages_of}
 use Rattle.plan_model.specs.Contents.{Operation, Occurrences, AddedParts, IsPairOf}
@@ -151,15 +151,16 @@ module _ {items : List Item} {terms : OperationItem → Occurrence} {occurrences
       let is = read_stands kinds.occurrences items_of.IsItem items parts.legal (k, x) (parts.occurrence_from k x e) in
       record { key = is.0; priority = (omega arith, omega arith); deadline = is.2 }
 
-  resource_legal : (o : OpKey) (r : Name) (usage : Usage) → get (usages_of (needs_of o (needs_in items))) r ≡ Some usage → IsResourceName r
-  resource_legal o r usage e =
+  usage_legal : (o : OpKey) (r : Name) (usage : Usage) → get (usages_of (needs_of o (needs_in items))) r ≡ Some usage → IsResourceName r × IsAmount usage.claim.mode usage.claim.amount
+  usage_legal o r usage e =
       let n = usage_said (needs_in items) o r usage e in
-      subst IsResourceName n.2 (read_stands kinds.needs items_of.IsItem items parts.legal (o, n.0) n.1).1
+      let is = read_stands kinds.needs items_of.IsItem items parts.legal (o, n.0) n.1 in
+      (subst IsResourceName n.2 is.1, subst (λ (u : Usage). IsAmount u.claim.mode u.claim.amount) n.3 is.2)
 
   operation_legal : (said : OperationItem) → Contains (operations_in items) said → IsOperation said.key (row said).1
   operation_legal said has =
       in_range (needs_in items) needs_apart (terms said) said (read_stands kinds.operations items_of.IsItem items parts.legal said has) (parts.few_needs said has)
-      (occurrence_legal said.key.occurrence (terms said) (parts.terms_at said has)).deadline (resource_legal said.key)
+      (occurrence_legal said.key.occurrence (terms said) (parts.terms_at said has)).deadline (usage_legal said.key)
 
   pub occurrences_are : AreOccurrences S.occurrences S.operations
   occurrences_are = record {

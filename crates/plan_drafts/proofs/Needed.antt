@@ -1,5 +1,5 @@
 -- Where items are those of a plan, they can be loaded, kind by kind.
-use Rattle.std.proofs.Common.{◌≡◌, ◌≢◌, refl, sym, subst, ap, ◌∙◌, arith, ℕ, ◌≤◌, true, List, map, length, Contains, Option, Some, None, option_map}
+use Rattle.std.proofs.Common.{◌≡◌, ◌≢◌, refl, sym, subst, ap, ◌∙◌, arith, ℕ, ◌≤◌, true, List, map, length, All, Contains, Option, Some, None, option_map}
 use Rattle.std.specs.Cmp.{nat_cmp_total, both_ways}
 use Rattle.std.specs.FinMap.{get, contains_key, len, nat_cmp-IsAntisymmetric}
 use Rattle.std.specs.FinSet as set
@@ -20,7 +20,7 @@ use Rattle.plan_items.specs.declared.OperationItem.{OperationItem}
 use Rattle.plan_drafts.specs.declared.RowKey.TheVariants as key
 use Rattle.plan_drafts.specs.Drafts.{IsDraft}
 use Rattle.plan_drafts.specs.Records.{entered, StandsIn, IsItemOfPlan, AreItems}
-use Rattle.plan_drafts.specs.PlanItems.{intervals_of, IsOpening, CanOpen, AreWorkstations, AreResources, Fits, AreOccurrenceRows, AreOperations, occurrence_of, IsNeedIn, AreNeeds, IsPairIn, ArePairs, CanBeLoaded, keys_said}
+use Rattle.plan_drafts.specs.PlanItems.{intervals_of, IsOpening, CanOpen, AreWorkstations, AreResources, Fits, AreOccurrenceRows, AreOperations, occurrence_of, IsNeedIn, AreNeeds, IsWithinStock, IsPairIn, ArePairs, CanBeLoaded, keys_said}
 use Rattle.plan_drafts.proofs.Lists.{Differ, differ_map, length_map, in_map, from_map, all_by_members}
 use Rattle.plan_drafts.proofs.Tables.{some_is, map_count, set_count, in_set, from_set}
 use Rattle.plan_drafts.proofs.Pairs.{pair_cmp_total, pair_cmp-IsAntisymmetric}
@@ -115,6 +115,11 @@ module _ (P : Contents) (draft : IsDraft P) (items : List Item) (are : AreItems 
     distinct = read_distinct kinds.resources items are.distinct;
   }
 
+  amounts_fit : All (IsWithinStock (resources_in items)) (needs_in items)
+  amounts_fit = all_by_members (IsWithinStock (resources_in items)) (needs_in items) (λ y has.
+      let is = need_is held y has in
+      record { within = λ stock said. draft.valid.amounts y.0 is.0 is.1 y.1.name (usage_of y.1) is.2 stock (read_stands kinds.resources (StandsIn P) items are.stand (y.1.name, stock) said) })
+
   -- ---- occurrences, operations, needs and pairs
   are_occurrences : AreOccurrenceRows (occurrences_in items)
   are_occurrences = record {
@@ -174,4 +179,4 @@ module _ (P : Contents) (draft : IsDraft P) (items : List Item) (are : AreItems 
   }
 
   pub needed : CanBeLoaded items
-  needed = record { workstations = are_workstations; resources = are_resources; occurrences = are_occurrences; operations = are_operations; needs = are_needs; pairs = are_pairs }
+  needed = record { workstations = are_workstations; resources = are_resources; occurrences = are_occurrences; operations = are_operations; needs = are_needs; amounts = amounts_fit; pairs = are_pairs }

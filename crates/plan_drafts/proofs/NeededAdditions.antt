@@ -32,7 +32,7 @@ module _ (s : AddedParts) (addition : IsAddition s) (items : List Item) (are : A
   may : (i : Item) → StandsInAdded s i → MayComeIn i
   may (item.Workstation w t) h = h
   may (item.Interval w x) h = h
-  may (item.Resource r a) h = h
+  may (item.Resource r a q) h = h
   may _ h = tt
 
   are_needs : AreNewNeeds (keys_said (operations_in items)) (needs_in items)

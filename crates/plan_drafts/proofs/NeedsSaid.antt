@@ -12,7 +12,7 @@ use Rattle.plan_basics.specs.Keys.{Name, name_cmp_total, name_cmp-IsAntisymmetri
 use Rattle.plan_basics.specs.Minutes.{IsMoment}
 use Rattle.plan_basics.specs.Names.{IsResourceName}
 use Rattle.plan_model.specs.special_resources.specs.declared.Need.{Need}
-use Rattle.plan_model.specs.special_resources.specs.Holders.{Usage}
+use Rattle.plan_model.specs.special_resources.specs.Holders.{Usage, IsAmount}
 use Rattle.plan_model.specs.special_resources.specs.Holdings.{usage_of}
 use Rattle.plan_model.specs.special_resources.specs.Needs.{entry_of, usages_of}
 use Rattle.plan_model.specs.Contents.{Operation, Operations}
@@ -122,7 +122,7 @@ module _ (needs ordered : List (OpKey × Need)) (same : IsPermutation needs orde
 -- ---- an operation as its record says, where this is in range
 pub in_range :
     (needs : List (OpKey × Need)) → NeedsDiffer needs → (terms : Occurrence) (said : OperationItem) → IsOperationItem said → length (needs_of said.key needs) ≤ MOST_NEEDS → IsMoment terms.deadline →
-    ((r : Name) (usage : Usage) → get (usages_of (needs_of said.key needs)) r ≡ Some usage → IsResourceName r) → IsOperation said.key (operation_of terms needs said)
+    ((r : Name) (usage : Usage) → get (usages_of (needs_of said.key needs)) r ≡ Some usage → IsResourceName r × IsAmount usage.claim.mode usage.claim.amount) → IsOperation said.key (operation_of terms needs said)
 in_range needs apart terms said is few moment named =
     let count = usages_count needs apart said.key in
     record {

@@ -1,5 +1,5 @@
 -- Records denote one plan at most, and one addition at most.
-use Rattle.std.proofs.Common.{◌≡◌, sym, subst, ap, ◌∙◌, ℕ, Bool, true, List, Some, unwrap_or}
+use Rattle.std.proofs.Common.{◌≡◌, sym, subst, ap, ◌∙◌, ℕ, true, List, Some, unwrap_or}
 use Rattle.std.specs.declared.cmp.Ordering.{Ordering}
 use Rattle.std.specs.Cmp.{nat_cmp_total, both_ways}
 use Rattle.std.specs.FinMap.{FinMap, get, nat_cmp-IsAntisymmetric}
@@ -12,6 +12,7 @@ use Rattle.plan_model.specs.workstations.specs.Workstations.{Workstation}
 use Rattle.plan_model.specs.special_resources.specs.Holders.{Usage}
 use Rattle.plan_model.specs.Contents.{Contents, Operation, AddedParts}
 use Rattle.plan_model.specs.declared.Occurrence.{Occurrence}
+use Rattle.plan_model.specs.declared.Stock.{Stock}
 use Rattle.plan_items.specs.declared.Item.{Item}
 use Rattle.plan_drafts.specs.declared.RowKey.TheVariants as key
 use Rattle.plan_drafts.specs.Records.{entered, StandsInAdded, StandsIn, IsItemOf, IsItemOfPlan, AreItems, OnePlan, OnePlanOfItems, OneAddition}
@@ -95,7 +96,7 @@ same_added {s = s} {t = t} a b =
 
 -- ---- special resources and workstations
 module _ (items : List Item) (P Q : Contents) (a : AreItems (StandsIn P) (IsItemOfPlan P) items) (b : AreItems (StandsIn Q) (IsItemOfPlan Q) items) where
-  same_resource : (r : Name) (x : Bool) → get P.resources r ≡ Some x → get Q.resources r ≡ Some x
+  same_resource : (r : Name) (x : Stock) → get P.resources r ≡ Some x → get Q.resources r ≡ Some x
   same_resource r x e =
       let y = read_in kinds.resources items r (a.all (key.Resource r) (some_is (get P.resources r) x e)) in
       agree P.resources Q.resources y.2 x (read_stands kinds.resources (StandsIn P) items a.stand y.0 y.1) (read_stands kinds.resources (StandsIn Q) items b.stand y.0 y.1) e

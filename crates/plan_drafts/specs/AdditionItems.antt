@@ -20,7 +20,7 @@ use Rattle.plan_drafts.specs.PlanItems.{as_occurrence, as_operation, as_pair, as
 abbrev pub MayComeIn : Item → Type 0
 MayComeIn (item.Workstation name attribute) = ⊥
 MayComeIn (item.Interval workstation interval) = ⊥
-MayComeIn (item.Resource name available) = ⊥
+MayComeIn (item.Resource name available quantity) = ⊥
 MayComeIn _ = Unit {0}
 
 -- an operation of that occurrence, which has no more of these needs than it may have

@@ -1,5 +1,5 @@
 -- Rows in order, and what a plan or an addition holds of them.
-use Rattle.std.specs.Prelude.{Bool, List}
+use Rattle.std.specs.Prelude.{List}
 use Rattle.std.specs.List.Sorted.{IsStrictlySortedBy}
 use Rattle.std.specs.Map.{keys_of}
 use Rattle.std.specs.FinMap as map
@@ -9,6 +9,7 @@ use Rattle.plan_basics.specs.declared.keys.OpKey.{OpKey}
 use Rattle.plan_basics.specs.Keys.{Name, name_cmp, occurrence_cmp, operation_cmp}
 use Rattle.plan_model.specs.workstations.specs.Timetables.{NamedWorkstation}
 use Rattle.plan_model.specs.declared.Occurrence.{Occurrence}
+use Rattle.plan_model.specs.declared.Stock.{Stock}
 use Rattle.plan_model.specs.Contents.{Contents, Operation, AddedParts, pair_cmp}
 use Rattle.plan_drafts.specs.declared.contents.PlanContents.TheInside.{Inside}
 use Rattle.plan_drafts.specs.declared.contents.AdditionParts.{AdditionParts}
@@ -17,7 +18,7 @@ use Rattle.plan_drafts.specs.Drafts.{IsAddition}
 -- rows of each kind
 pub record Rows : Type 0 where
   pub workstations : List NamedWorkstation
-  pub resources : List (Name × Bool)
+  pub resources : List (Name × Stock)
   pub occurrences : List (OccKey × Occurrence)
   pub operations : List (OpKey × Operation)
   pub pairs : List (OpKey × OpKey)

@@ -1,5 +1,5 @@
 -- What lists of items say of a plan, kind by kind.
-use Rattle.std.specs.Prelude.{◌≡◌, ◌≢◌, ◌≤◌, List, length, map, All, Contains, Option, Some, None, cond, unwrap_or, Bool, false}
+use Rattle.std.specs.Prelude.{◌≡◌, ◌≢◌, ◌≤◌, List, length, map, All, Contains, Option, Some, None, cond, unwrap_or, false}
 use Rattle.std.specs.List.{AllPairs, filter_map}
 use Rattle.std.specs.declared.cmp.Ordering.{Ordering}
 use Rattle.std.specs.FinSet.{from_list}
@@ -18,6 +18,7 @@ use Rattle.plan_model.specs.workstations.specs.Timetables.{NamedWorkstation, wor
 use Rattle.plan_model.specs.status_rules.specs.declared.Mark.TheVariants.{Unmarked}
 use Rattle.plan_model.specs.Contents.{Contents, Operation, pair_cmp}
 use Rattle.plan_model.specs.declared.Occurrence.{Occurrence}
+use Rattle.plan_model.specs.declared.Stock.{Stock}
 use Rattle.plan_items.specs.declared.Item.{Item}
 use Rattle.std.specs.List.Sorted.{IsPermutation, IsStrictlySortedBy}
 use Rattle.std.specs.Map.{keys_of}
@@ -51,9 +52,9 @@ abbrev pub as_pair : Item → Option (OpKey × OpKey)
 as_pair (item.Dependency predecessor successor) = Some (predecessor, successor)
 as_pair _ = None
 
--- the special resource that an item says, and whether it is available
-abbrev pub as_resource : Item → Option (Name × Bool)
-as_resource (item.Resource name available) = Some (name, available)
+-- the special resource that an item says, with whether it is available and how much of it there is
+abbrev pub as_resource : Item → Option (Name × Stock)
+as_resource (item.Resource name available quantity) = Some (name, record { available = available; quantity = quantity })
 as_resource _ = None
 
 -- the need that an item says, with its operation
@@ -150,7 +151,7 @@ pub record AreWorkstationsInOrder (said : List (Name × Attr)) (intervals : List
   pub in_order : IsStrictlySortedBy name_cmp (keys_of ordered)
 
 -- no more special resources than a plan may hold, and no two have one name
-pub record AreResources (said : List (Name × Bool)) : Type 0 where
+pub record AreResources (said : List (Name × Stock)) : Type 0 where
   pub few : length said ≤ MOST_RESOURCES
   pub distinct : AllPairs (λ a b. a.0 ≢ b.0) said
 
@@ -192,6 +193,10 @@ pub record AreNeeds (keys : List OpKey) (names : List Name) (said : List (OpKey 
   pub within : All (IsNeedIn keys names) said
   pub distinct : AllPairs (λ a b. need_key a ≢ need_key b) said
 
+-- a need of no more than there is of its resource
+pub record IsWithinStock (resources : List (Name × Stock)) (said : OpKey × Need) : Type 0 where
+  pub within : (stock : Stock) → Contains resources (said.1.name, stock) → said.1.amount ≤ stock.quantity
+
 -- a pair of operations of the list
 pub record IsPairIn (keys : List OpKey) (p : OpKey × OpKey) : Type 0 where
   pub first : Contains keys p.0
@@ -205,7 +210,7 @@ pub record ArePairs (keys : List OpKey) (pairs : List (OpKey × OpKey)) : Type 0
   pub acyclic : IsAcyclic (from_list {R = pair_cmp} pairs)
 
 -- the special resources by name
-pub record AreResourcesInOrder (said ordered : List (Name × Bool)) : Type 0 where
+pub record AreResourcesInOrder (said ordered : List (Name × Stock)) : Type 0 where
   pub are : AreResources said
   pub same : IsPermutation said ordered
   pub in_order : IsStrictlySortedBy name_cmp (keys_of ordered)
@@ -239,6 +244,7 @@ pub record CanBeLoaded (items : List Item) : Type 0 where
   pub occurrences : AreOccurrenceRows (filter_map as_occurrence items)
   pub operations : AreOperations (keys_of (filter_map as_workstation items)) (filter_map as_occurrence items) (filter_map as_need items) (filter_map as_operation items)
   pub needs : AreNeeds (keys_said (filter_map as_operation items)) (keys_of (filter_map as_resource items)) (filter_map as_need items)
+  pub amounts : All (IsWithinStock (filter_map as_resource items)) (filter_map as_need items)
   pub pairs : ArePairs (keys_said (filter_map as_operation items)) (filter_map as_pair items)
 
 -- rows in order of what the items say

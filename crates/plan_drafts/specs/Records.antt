@@ -4,6 +4,7 @@ use Rattle.std.specs.List.{AllPairs, AllZip}
 use Rattle.std.specs.FinMap.{get, len, contains_key}
 use Rattle.std.specs.declared.alloc.Global.{Global}
 use Rattle.plan_model.specs.workstations.specs.Workstations.{Workstation}
+use Rattle.plan_model.specs.special_resources.specs.Holdings.{usage_of}
 use Rattle.plan_model.specs.Contents.{Contents, Operation, AddedParts, HasAttribute, IsPairOf}
 use Rattle.plan_model.specs.declared.Occurrence.{Occurrence}
 use Rattle.plan_items.specs.declared.Item.{Item}
@@ -22,7 +23,7 @@ records_of records = map fields_of records
 abbrev pub key_of : Item → RowKey
 key_of (item.Workstation name attribute) = key.Workstation name
 key_of (item.Interval workstation interval) = key.Interval workstation interval.from
-key_of (item.Resource name available) = key.Resource name
+key_of (item.Resource name available quantity) = key.Resource name
 key_of (item.Occurrence c priority deadline) = key.Occurrence c
 key_of (item.Operation o) = key.Operation o.key
 key_of (item.Dependency p o) = key.Dependency p o
@@ -41,7 +42,7 @@ abbrev pub StandsInAdded : AddedParts → Item → Type 0
 StandsInAdded s (item.Occurrence c priority deadline) = get s.occurrences c ≡ Some (record { priority = priority; deadline = deadline })
 StandsInAdded s (item.Operation said) = (op : Operation) × (c : Occurrence) × (get s.operations said.key ≡ Some op) × (get s.occurrences said.key.occurrence ≡ Some c) × IsAsSaid said c op
 StandsInAdded s (item.Dependency p o) = IsPairOf s.pairs p o
-StandsInAdded s (item.Need o need) = (op : Operation) × (get s.operations o ≡ Some op) × (get op.needs need.name ≡ Some (record { mode = need.mode; keep = need.keep }))
+StandsInAdded s (item.Need o need) = (op : Operation) × (get s.operations o ≡ Some op) × (get op.needs need.name ≡ Some (usage_of need))
 StandsInAdded s _ = ⊥
 
 -- the occurrences of a plan, with their operations and pairs
@@ -52,7 +53,7 @@ entered P = record { occurrences = P.occurrences; operations = P.operations; pai
 abbrev pub StandsIn : Contents → Item → Type 0
 StandsIn P (item.Workstation name attribute) = HasAttribute P name attribute
 StandsIn P (item.Interval name interval) = (w : Workstation) × (get P.workstations name ≡ Some w) × (get w.intervals interval.from ≡ Some interval)
-StandsIn P (item.Resource name available) = get P.resources name ≡ Some available
+StandsIn P (item.Resource name available quantity) = get P.resources name ≡ Some (record { available = available; quantity = quantity })
 StandsIn P other = StandsInAdded (entered P) other
 
 -- what an addition holds

@@ -23,6 +23,8 @@ table_of (key.Occurrence c) = 4
 table_of (key.Operation o) = 5
 table_of (key.Dependency p s) = 6
 table_of (key.Need o r) = 7
+table_of (key.Quantity r) = 8
+table_of (key.Amount o r) = 9
 
 -- in one table
 abbrev pub key_cmp : RowKey → RowKey → Ordering
@@ -33,6 +35,8 @@ key_cmp (key.Occurrence a) (key.Occurrence b) = occurrence_cmp a b
 key_cmp (key.Operation a) (key.Operation b) = operation_cmp a b
 key_cmp (key.Dependency p s) (key.Dependency q t) = ordering_then (operation_cmp p q) (operation_cmp s t)
 key_cmp (key.Need a m) (key.Need b n) = ordering_then (operation_cmp a b) (name_cmp m n)
+key_cmp (key.Quantity a) (key.Quantity b) = name_cmp a b
+key_cmp (key.Amount a m) (key.Amount b n) = ordering_then (operation_cmp a b) (name_cmp m n)
 key_cmp a b = Equal
 
 -- by table, then key
@@ -49,6 +53,8 @@ derived_at (key.Occurrence a) (key.Occurrence b) = refl
 derived_at (key.Operation a) (key.Operation b) = refl
 derived_at (key.Dependency p q) (key.Dependency s t) = refl
 derived_at (key.Need a m) (key.Need b n) = refl
+derived_at (key.Quantity a) (key.Quantity b) = refl
+derived_at (key.Amount a m) (key.Amount b n) = refl
 derived_at a b = refl
 
 -- the order that is derived is this one
@@ -69,6 +75,8 @@ row_cmp-IsAntisymmetric (key.Occurrence a) (key.Occurrence b) e = ap key.Occurre
 row_cmp-IsAntisymmetric (key.Operation a) (key.Operation b) e = ap key.Operation (operation_cmp-IsAntisymmetric a b e)
 row_cmp-IsAntisymmetric (key.Dependency p q) (key.Dependency s t) e = ap (λ x. key.Dependency x.0 x.1) (by_two-IsAntisymmetric operation_cmp-IsAntisymmetric operation_cmp-IsAntisymmetric (p, q) (s, t) e)
 row_cmp-IsAntisymmetric (key.Need a m) (key.Need b n) e = ap (λ x. key.Need x.0 x.1) (by_two-IsAntisymmetric operation_cmp-IsAntisymmetric name_cmp-IsAntisymmetric (a, m) (b, n) e)
+row_cmp-IsAntisymmetric (key.Quantity a) (key.Quantity b) e = ap key.Quantity (name_cmp-IsAntisymmetric a b e)
+row_cmp-IsAntisymmetric (key.Amount a m) (key.Amount b n) e = ap (λ x. key.Amount x.0 x.1) (by_two-IsAntisymmetric operation_cmp-IsAntisymmetric name_cmp-IsAntisymmetric (a, m) (b, n) e)
 row_cmp-IsAntisymmetric a b e = absurd (cc)
 
 pub derived_exact : IsAntisymmetric derived.ghosts.cmp

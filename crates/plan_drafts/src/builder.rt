@@ -11,10 +11,10 @@ use super::contents::PlanContents;
 use super::in_order::{occurrences_in_order, operations_in_order, pairs_in_order};
 use super::intervals::workstations_in_order;
 use super::key_order::keys;
-use super::needs::{are_needs_in, needs_in_order, resources_in_order};
+use super::needs::{amounts_fit, are_needs_in, needs_in_order, resources_in_order};
 use plan_basics::{Attr, Interval, OccKey, OpKey, ResName, WsName};
 use plan_items::{Item, OperationItem, read_item};
-use plan_model::{Graph, Need, Occurrence};
+use plan_model::{Graph, Need, Occurrence, Stock};
 use std::alloc::{AllocError, Global};
 
 /// The ten fields of one record of a plan's text.
@@ -89,11 +89,21 @@ fn pair_of(item: &Item) -> Option<(OpKey, OpKey)>
     }
 }
 
-fn resource_of(item: &Item) -> Option<(ResName, bool)>
+fn resource_of(item: &Item) -> Option<(ResName, Stock)>
     ensures { result ≡ as_resource item.now }
 {
     match *item {
-        Item::Resource { name, available } => Some((name, available)),
+        Item::Resource {
+            name,
+            available,
+            quantity,
+        } => Some((
+            name,
+            Stock {
+                available,
+                quantity,
+            },
+        )),
         _ => None,
     }
 }
@@ -140,7 +150,7 @@ pub fn pairs(alloc: Global, items: &[Item]) -> Result<Vec<(OpKey, OpKey)>, Alloc
     items.iter().filter_map(pair_of).collect(alloc)
 }
 
-fn resources(alloc: Global, items: &[Item]) -> Result<Vec<(ResName, bool)>, AllocError>
+fn resources(alloc: Global, items: &[Item]) -> Result<Vec<(ResName, Stock)>, AllocError>
     ensures { IfOk result (λ v. v.items ≡ filter_map as_resource items.now) }
 {
     items.iter().filter_map(resource_of).collect(alloc)
@@ -185,6 +195,9 @@ pub fn parts_of_plan(alloc: Global, items: &[Item]) -> Result<Option<DraftParts>
     };
     let keys = keys(alloc, &operations)?;
     if !are_needs_in(&keys, &resources, &needs) {
+        return Ok(None);
+    }
+    if !amounts_fit(&resources, &needs) {
         return Ok(None);
     }
     let Some(joined) = pairs_in_order(alloc, &keys, pairs(alloc, items)?)? else {

@@ -5,7 +5,8 @@ ghost use Rattle.std.specs.FinSet as set;
 ghost use Rattle.std.specs.List.Sorted.{IsStrictlySortedBy};
 ghost use Rattle.std.specs.Map.{keys_of};
 ghost use Rattle.plan_basics.specs.Keys.{name_cmp, occurrence_cmp, operation_cmp};
-ghost use Rattle.plan_model.specs.Contents.{pair_cmp, Operation};
+ghost use Rattle.plan_model.specs.Contents.{pair_cmp, with_availability, Operation};
+ghost use Rattle.plan_model.specs.Revise.{revise};
 ghost use Rattle.plan_model.specs.Ready.{with_mark};
 ghost use Rattle.plan_moves.specs.Markings.{with_marking};
 ghost use Rattle.plan_model.specs.declared.Occurrence.{Occurrence as OccurrenceValue};
@@ -17,7 +18,7 @@ use super::places::{
     row_place, row_place_lately, row_place_near, workstation_place, workstation_place_near,
 };
 use plan_basics::{OccKey, OpKey, ResName, WsName};
-use plan_model::{Mark, Occurrence, OperationRecord, Workstation};
+use plan_model::{Mark, Occurrence, OperationRecord, Stock, Workstation};
 use plan_moves::Marking;
 use std::alloc::{AllocError, Global};
 use std::marker::Model;
@@ -27,8 +28,8 @@ use std::marker::Model;
 #[derive(Debug, Drop)]
 pub struct PlanContents {
     workstations: Vec<Workstation>,
-    // Each with whether it is available.
-    resources: Vec<(ResName, bool)>,
+    // Each with whether it is available and how much of it there is.
+    resources: Vec<(ResName, Stock)>,
     // Each with its priority and deadline.
     occurrences: Vec<(OccKey, Occurrence)>,
     operations: Vec<(OpKey, OperationRecord)>,
@@ -75,6 +76,13 @@ fn mark_row(row: &mut (OpKey, OperationRecord), mark: &Mark)
     row.1.mark = *mark;
 }
 
+// The special resource of a row is available from now on, or not.
+fn put_available(row: &mut (ResName, Stock), available: bool)
+    ensures { row.new ≡ (row.old.0, record row.old.1 { available = available }) }
+{
+    row.1.available = available;
+}
+
 // The operation of a row has this marking from now on.
 fn put_marking(row: &mut (OpKey, OperationRecord), marking: &Marking)
     ensures { row.new ≡ (row.old.0, with_marking marking.now row.old.1) }
@@ -88,7 +96,7 @@ impl PlanContents {
     /// The contents of these rows.
     pub fn of_rows(
         workstations: Vec<Workstation>,
-        resources: Vec<(ResName, bool)>,
+        resources: Vec<(ResName, Stock)>,
         occurrences: Vec<(OccKey, Occurrence)>,
         operations: Vec<(OpKey, OperationRecord)>,
         pairs: Vec<(OpKey, OpKey)>,
@@ -145,8 +153,8 @@ impl PlanContents {
         &self.workstations
     }
 
-    /// Its special resources by name, each with whether it is available.
-    pub fn resources(&self) -> &[(ResName, bool)]
+    /// Its special resources by name, each with whether it is available and how much of it there is.
+    pub fn resources(&self) -> &[(ResName, Stock)]
         ensures rows { result.now ≡ entries self.now.resources }
         ensures in_order { IsStrictlySortedBy name_cmp (keys_of result.now) }
     {
@@ -283,8 +291,8 @@ impl PlanContents {
         }
     }
 
-    /// Whether the special resource of a name is available, if there is one.
-    pub fn resource(&self, name: &ResName) -> Option<bool>
+    /// Whether the special resource of a name is available and how much of it there is, if there is one.
+    pub fn resource(&self, name: &ResName) -> Option<Stock>
         ensures { result ≡ get self.now.resources name.now }
     {
         match row_place(&self.resources, name) {
@@ -370,13 +378,13 @@ impl PlanContents {
         self.workstations[place] = workstation;
     }
 
-    /// A special resource that it has is available from now on, or not.
+    /// A special resource that it has is available from now on, or not. There is as much of it as before.
     pub fn set_available(&mut self, name: &ResName, available: bool)
         requires { contains_key self.old.resources name.now ≡ true }
-        ensures { self.new ≡ record self.old { resources = insert self.old.resources name.now available } }
+        ensures { self.new ≡ record self.old { resources = revise (with_availability name.now available) self.old.resources } }
     {
         let place = known_row(&self.resources, name);
-        self.resources[place] = (*name, available);
+        put_available(&mut self.resources[place], available);
     }
 
     /// One more pair. One that is there already stays.

@@ -70,7 +70,7 @@ impl PlanDraft {
     /// The draft that the records of a text denote; `None` where they denote none. There is at least one workstation, of
     /// any attribute, each with intervals or without; intervals of one workstation may touch, but not overlap. There may be
     /// special resources. There is at least one occurrence, each with its operations, and an operation may need R1, R2 and
-    /// special resources; pairs may lead from one occurrence to another, but no path of pairs returns to its start. How
+    /// special resources, of each no more than there is; pairs may lead from one occurrence to another, but no path of pairs returns to its start. How
     /// many there may be of each is in `plan_basics::limits`. The records may come in any order. The error is always
     /// `Memory`.
     pub fn build(records: Vec<Record>) -> Result<Option<PlanDraft>, Refusal>

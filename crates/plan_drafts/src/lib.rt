@@ -26,7 +26,7 @@ pub use graphs::{graph_among, graph_of, is_acyclic};
 pub use key_order::{ExactKey, in_key_order, keys};
 pub use places::row_place;
 use plan_basics::{Moment, OccKey, OpKey, ResName, WsName};
-pub use plan_model::{Mark, Need, OccStatus, Occurrence, OperationRecord, Status};
+pub use plan_model::{Mark, Mode, Need, OccStatus, Occurrence, OperationRecord, Status, Stock};
 use std::cmp::Ordering;
 
 /// A row's key columns. Ordered by table, in the order of the variants, then by the columns.
@@ -40,6 +40,8 @@ pub enum RowKey {
     Operation(OpKey),
     Dependency(OpKey, OpKey),
     Need(OpKey, ResName),
+    Quantity(ResName),
+    Amount(OpKey, ResName),
 }
 
 impl RowKey {

@@ -1,25 +1,26 @@
 // Special resources of a plan, and needs of them, put in order.
 ghost use Rattle.std.specs.Prelude.{◌≡◌, ◌↔◌, ◌≢◌, ◌<◌, ◌≤◌, map, length, All, Contains, IsTrue, IfOk, MatchOption};
+ghost use Rattle.std.specs.FinMap.{from_entries, get};
 ghost use Rattle.std.specs.List.{AllPairs};
 ghost use Rattle.std.specs.List.Sorted.{IsStrictlySortedBy};
 ghost use Rattle.std.specs.Map.{keys_of};
 ghost use Rattle.plan_basics.specs.declared.limits.TheConstants.{MOST_NEEDS};
 ghost use Rattle.plan_basics.specs.Keys.{name_cmp, operation_cmp};
 ghost use Rattle.plan_model.specs.special_resources.specs.Needs.{AreInNameOrder, usages_of};
-ghost use Rattle.plan_drafts.specs.PlanItems.{AreResources, AreResourcesInOrder, AreNeedsInOrder, IsNeedIn, need_cmp, need_key, needs_of};
+ghost use Rattle.plan_drafts.specs.PlanItems.{AreResources, AreResourcesInOrder, AreNeedsInOrder, IsNeedIn, IsWithinStock, need_cmp, need_key, needs_of};
 
 use super::in_order::is_among;
 use super::key_order::in_key_order;
 use super::places::row_place;
 use plan_basics::limits::MOST_RESOURCES;
 use plan_basics::{OpKey, ResName};
-use plan_model::{Need, Needs};
+use plan_model::{Need, Needs, Stock};
 use std::alloc::AllocError;
 
 // The special resources by name, where they are no more than a plan may hold, and none is repeated.
 pub fn resources_in_order(
-    said: Vec<(ResName, bool)>,
-) -> Result<Option<Vec<(ResName, bool)>>, AllocError>
+    said: Vec<(ResName, Stock)>,
+) -> Result<Option<Vec<(ResName, Stock)>>, AllocError>
     ensures { IfOk result (λ found. MatchOption found (¬ AreResources said.items) (λ v. AreResourcesInOrder said.items v.items)) }
 {
     if said.len() > MOST_RESOURCES {
@@ -69,7 +70,7 @@ pub fn own_needs(needs: &[(OpKey, Need)], key: &OpKey) -> Option<Needs>
 }
 
 // Whether a name is that of one of these special resources.
-fn is_resource(resources: &[(ResName, bool)], name: &ResName) -> bool
+fn is_resource(resources: &[(ResName, Stock)], name: &ResName) -> bool
     requires { IsStrictlySortedBy name_cmp (keys_of resources.now) }
     ensures { IsTrue result ↔ Contains (keys_of resources.now) name.now }
 {
@@ -77,7 +78,7 @@ fn is_resource(resources: &[(ResName, bool)], name: &ResName) -> bool
 }
 
 // Whether a need is of one of these operations, and of one of these resources.
-fn is_need_in(keys: &[OpKey], resources: &[(ResName, bool)], said: &(OpKey, Need)) -> bool
+fn is_need_in(keys: &[OpKey], resources: &[(ResName, Stock)], said: &(OpKey, Need)) -> bool
     requires keys { IsStrictlySortedBy operation_cmp keys.now }
     requires names { IsStrictlySortedBy name_cmp (keys_of resources.now) }
     ensures { IsTrue result ↔ IsNeedIn keys.now (keys_of resources.now) said.now }
@@ -86,10 +87,38 @@ fn is_need_in(keys: &[OpKey], resources: &[(ResName, bool)], said: &(OpKey, Need
 }
 
 // Whether each need is of one of these operations, and of one of these resources.
-pub fn are_needs_in(keys: &[OpKey], resources: &[(ResName, bool)], needs: &[(OpKey, Need)]) -> bool
+pub fn are_needs_in(keys: &[OpKey], resources: &[(ResName, Stock)], needs: &[(OpKey, Need)]) -> bool
     requires keys { IsStrictlySortedBy operation_cmp keys.now }
     requires names { IsStrictlySortedBy name_cmp (keys_of resources.now) }
     ensures { IsTrue result ↔ All (IsNeedIn keys.now (keys_of resources.now)) needs.now }
 {
     needs.iter().all(|said| is_need_in(keys, resources, said))
+}
+
+// What there is of a special resource, if it is one of these.
+fn stock_of(resources: &[(ResName, Stock)], name: &ResName) -> Option<Stock>
+    requires { IsStrictlySortedBy name_cmp (keys_of resources.now) }
+    ensures { result ≡ get {R = name_cmp} (from_entries resources.now) name.now }
+{
+    let place = row_place(resources, name)?;
+    Some(resources[place].1)
+}
+
+// Whether a need is of no more than there is of its resource.
+fn amount_fits(resources: &[(ResName, Stock)], said: &(OpKey, Need)) -> bool
+    requires { IsStrictlySortedBy name_cmp (keys_of resources.now) }
+    ensures { IsTrue result ↔ IsWithinStock resources.now said.now }
+{
+    match stock_of(resources, &said.1.name) {
+        Some(stock) => said.1.amount <= stock.quantity,
+        None => true,
+    }
+}
+
+// Whether each need is of no more than there is of its resource.
+pub fn amounts_fit(resources: &[(ResName, Stock)], needs: &[(OpKey, Need)]) -> bool
+    requires { IsStrictlySortedBy name_cmp (keys_of resources.now) }
+    ensures { IsTrue result ↔ All (IsWithinStock resources.now) needs.now }
+{
+    needs.iter().all(|said| amount_fits(resources, said))
 }

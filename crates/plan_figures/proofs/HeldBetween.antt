@@ -7,7 +7,7 @@ use Rattle.plan_basics.specs.Keys.{Name, operation_cmp, operation_cmp_total, ope
 use Rattle.plan_basics.specs.declared.keys.OpKey.{OpKey}
 use Rattle.special_resources.specs.Holders.{Usage}
 use Rattle.special_resources.specs.Holdings.{Held}
-use Rattle.special_resources.specs.declared.Mode.{Mode}
+use Rattle.special_resources.specs.declared.Claim.{Claim}
 use Rattle.status_rules.specs.Table.{marked_status}
 use Rattle.plan_choice.specs.plan_model.proofs.Entries.{entries_in_order}
 use Rattle.plan_choice.specs.plan_model.specs.Contents.{Contents, Operation, attribute_at}
@@ -23,7 +23,7 @@ use Rattle.plan_figures.proofs.Remarked.{attribute_same, row_after}
 
 -- where nothing that o holds changes
 still_held : (P : Contents) (o : OpKey) (held now : Held) → ((r : Name) → get now (r, o) ≡ get held (r, o)) → HoldsJust P o held → HoldsJust P o now
-still_held P o held now same by r mode = (λ e. (by r mode).0 (sym (same r) ∙ e), λ h. same r ∙ (by r mode).1 h)
+still_held P o held now same by r claim = (λ e. (by r claim).0 (sym (same r) ∙ e), λ h. same r ∙ (by r claim).1 h)
 
 module _ (P Q : Contents) (alike : IsRemarkedPlan P Q) where
   -- ---- one operation
@@ -37,9 +37,9 @@ module _ (P Q : Contents) (alike : IsRemarkedPlan P Q) where
 
   -- one that is the same in both holds the same
   held_alike : (o : OpKey) → get Q.operations o ≡ get P.operations o → (held : Held) → HoldsJust P o held → HoldsJust Q o held
-  held_alike o same held by r mode = (
-    λ e. let h = (by r mode).0 e in (h.0, holds_alike o same r _ h.1),
-    λ h. (by r mode).1 (h.0, holds_alike_back o same r _ h.1),
+  held_alike o same held by r claim = (
+    λ e. let h = (by r claim).0 e in (h.0, holds_alike o same r _ h.1),
+    λ h. (by r claim).1 (h.0, holds_alike_back o same r _ h.1),
   )
 
   module _ (o : OpKey) (old new : Operation) (was : get P.operations o ≡ Some old) (is : get Q.operations o ≡ Some new) (remarked : IsRemarked old new) where
@@ -69,8 +69,8 @@ module _ (P Q : Contents) (alike : IsRemarkedPlan P Q) where
 
     -- where its workstation's operations take nothing, it holds nothing
     pub none_held : takes (attribute_at P old.workstation) ≡ false → (held : Held) → HoldsJust P o held → HoldsJust Q o held
-    none_held none held by r mode = (
-      λ e. let h = (by r mode).0 e in absurd (true≢false (sym (known_before r _ h.1) ∙ none)),
+    none_held none held by r claim = (
+      λ e. let h = (by r claim).0 e in absurd (true≢false (sym (known_before r _ h.1) ∙ none)),
       λ h. absurd (true≢false (sym (known_after r _ h.1) ∙ none)),
     )
 
@@ -79,44 +79,44 @@ module _ (P Q : Contents) (alike : IsRemarkedPlan P Q) where
       between = retaken.0
 
       -- what it holds of what its new mark doesn't hold is freed
-      freed_first : (r : Name) (mode : Mode) (usage : Usage) → get new.needs r ≡ Some usage → get between (r, o) ≡ Some mode → holds_resource usage.keep (marked_status new.mark) ≡ true
-      freed_first r mode usage needed got = at (holds_resource usage.keep (marked_status new.mark)) refl
+      freed_first : (r : Name) (claim : Claim) (usage : Usage) → get new.needs r ≡ Some usage → get between (r, o) ≡ Some claim → holds_resource usage.keep (marked_status new.mark) ≡ true
+      freed_first r claim usage needed got = at (holds_resource usage.keep (marked_status new.mark)) refl
         where
           at : (b : Bool) → holds_resource usage.keep (marked_status new.mark) ≡ b → holds_resource usage.keep (marked_status new.mark) ≡ true
           at true e = e
-          at false e = absurd (none-some mode (sym (retaken.1.freed r usage needed e) ∙ got))
+          at false e = absurd (none-some claim (sym (retaken.1.freed r usage needed e) ∙ got))
 
       -- what is held in between was held before, as it is needed
-      held_before : (r : Name) (mode : Mode) → get between (r, o) ≡ Some mode → (keep : Bool) × (get new.needs r ≡ Some (record { mode = mode; keep = keep }))
-      held_before r mode got = at (get new.needs r) refl
+      held_before : (r : Name) (claim : Claim) → get between (r, o) ≡ Some claim → (keep : Bool) × (get new.needs r ≡ Some (record { claim = claim; keep = keep }))
+      held_before r claim got = at (get new.needs r) refl
         where
-          by_old : get held (r, o) ≡ Some mode → (keep : Bool) × (get new.needs r ≡ Some (record { mode = mode; keep = keep }))
-          by_old e = let h = (by r mode).0 e in (h.0, needed_before r _ h.1)
+          by_old : get held (r, o) ≡ Some claim → (keep : Bool) × (get new.needs r ≡ Some (record { claim = claim; keep = keep }))
+          by_old e = let h = (by r claim).0 e in (h.0, needed_before r _ h.1)
 
-          at : (needed : Option Usage) → get new.needs r ≡ needed → (keep : Bool) × (get new.needs r ≡ Some (record { mode = mode; keep = keep }))
+          at : (needed : Option Usage) → get new.needs r ≡ needed → (keep : Bool) × (get new.needs r ≡ Some (record { claim = claim; keep = keep }))
           at None e = by_old (sym (retaken.1.kept r (λ usage is'. absurd (none-some usage (sym e ∙ is')))) ∙ got)
-          at (Some u) e = by_old (sym (retaken.1.kept r (λ usage is'. freed_first r mode usage is' got)) ∙ got)
+          at (Some u) e = by_old (sym (retaken.1.kept r (λ usage is'. freed_first r claim usage is' got)) ∙ got)
 
-      held_now : (r : Name) (mode : Mode) (x : Option Mode) → get between (r, o) ≡ x → get now (r, o) ≡ Some mode → (keep : Bool) × Holds Q o r (record { mode = mode; keep = keep })
-      held_now r mode None e got =
-          let t = (retaken.2.own r e mode).0 got in
+      held_now : (r : Name) (claim : Claim) (x : Option Claim) → get between (r, o) ≡ x → get now (r, o) ≡ Some claim → (keep : Bool) × Holds Q o r (record { claim = claim; keep = keep })
+      held_now r claim None e got =
+          let t = (retaken.2.own r e claim).0 got in
           (t.0, (new, is, (t.1, known_in_both ∙ known, t.2)))
-      held_now r mode (Some first) e got =
-          let same : first ≡ mode = same_Some first mode (sym (retaken.2.kept r first e) ∙ got) in
-          let there : get between (r, o) ≡ Some mode = e ∙ ap Some same in
-          let needed = held_before r mode there in
-          (needed.0, (new, is, (needed.1, known_in_both ∙ known, freed_first r mode _ needed.1 there)))
+      held_now r claim (Some first) e got =
+          let same : first ≡ claim = same_Some first claim (sym (retaken.2.kept r first e) ∙ got) in
+          let there : get between (r, o) ≡ Some claim = e ∙ ap Some same in
+          let needed = held_before r claim there in
+          (needed.0, (new, is, (needed.1, known_in_both ∙ known, freed_first r claim _ needed.1 there)))
 
-      taken_now : (r : Name) (mode : Mode) (x : Option Mode) → get between (r, o) ≡ x → (keep : Bool) × Holds Q o r (record { mode = mode; keep = keep }) → get now (r, o) ≡ Some mode
-      taken_now r mode None e h = (retaken.2.own r e mode).1 (h.0, needed_after r _ h.1, marked_after r _ h.1)
-      taken_now r mode (Some first) e h =
+      taken_now : (r : Name) (claim : Claim) (x : Option Claim) → get between (r, o) ≡ x → (keep : Bool) × Holds Q o r (record { claim = claim; keep = keep }) → get now (r, o) ≡ Some claim
+      taken_now r claim None e h = (retaken.2.own r e claim).1 (h.0, needed_after r _ h.1, marked_after r _ h.1)
+      taken_now r claim (Some first) e h =
           let needed = held_before r first e in
-          let same : ◌≡◌ {A = Usage} (record { mode = first; keep = needed.0 }) (record { mode = mode; keep = h.0 }) = same_Some _ _ (sym needed.1 ∙ needed_after r _ h.1) in
-          retaken.2.kept r first e ∙ ap (λ (u : Usage). Some u.mode) same
+          let same : ◌≡◌ {A = Usage} (record { claim = first; keep = needed.0 }) (record { claim = claim; keep = h.0 }) = same_Some _ _ (sym needed.1 ∙ needed_after r _ h.1) in
+          retaken.2.kept r first e ∙ ap (λ (u : Usage). Some u.claim) same
 
       -- released and taken, it holds what its new mark holds
       pub held_anew : HoldsJust Q o now
-      held_anew r mode = (held_now r mode (get between (r, o)) refl, taken_now r mode (get between (r, o)) refl)
+      held_anew r claim = (held_now r claim (get between (r, o)) refl, taken_now r claim (get between (r, o)) refl)
 
   -- ---- one place after another
 
@@ -170,8 +170,8 @@ module _ (P Q : Contents) (alike : IsRemarkedPlan P Q) where
 
       at : (x : Option Operation) → get Q.operations o ≡ x → HoldsJust Q o held
       at (Some op) e = let place = row_of Q o op e in let within = slice_get_within (entries Q.operations) place.0 (o, op) place.1 in so_far.changed place.0 o op place.1 (omega (arith, within, past))
-      at None e = λ r mode.
+      at None e = λ r claim.
           let by = so_far.others o (λ i op there. absurd (none-some op (sym e ∙ row_found Q i o op there))) in (
-            λ got. let h = (by r mode).0 got in absurd (nothing_before e h.1.0 h.1.1),
+            λ got. let h = (by r claim).0 got in absurd (nothing_before e h.1.0 h.1.1),
             λ h. absurd (none-some h.1.0 (sym e ∙ h.1.1)),
           )

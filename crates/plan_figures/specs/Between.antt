@@ -4,7 +4,7 @@ use Rattle.std.specs.FinMap.{entries, get}
 use Rattle.plan_basics.specs.Keys.{Name}
 use Rattle.plan_basics.specs.declared.keys.OpKey.{OpKey}
 use Rattle.special_resources.specs.Holdings.{Held}
-use Rattle.special_resources.specs.declared.Mode.{Mode}
+use Rattle.special_resources.specs.declared.Claim.{Claim}
 use Rattle.plan_choice.specs.plan_model.specs.Contents.{Contents, Operation}
 use Rattle.plan_choice.specs.plan_model.specs.Holdings.{Holds, is_serving}
 use Rattle.plan_choice.specs.plan_drafts.specs.Places.{AreByPlace}
@@ -41,7 +41,7 @@ AreGivenBetween P Q m given = AreByPlace (entries P.workstations) given (λ w ca
 
 -- o holds what it holds in P, and nothing else
 abbrev pub HoldsJust : Contents → OpKey → Held → Type 0
-HoldsJust P o held = (r : Name) (mode : Mode) → (get held (r, o) ≡ Some mode) ↔ ((keep : Bool) × Holds P o r (record { mode = mode; keep = keep }))
+HoldsJust P o held = (r : Name) (claim : Claim) → (get held (r, o) ≡ Some claim) ↔ ((keep : Bool) × Holds P o r (record { claim = claim; keep = keep }))
 
 -- the operations at the places below m hold what they hold in Q, and all else what they hold in P
 pub record AreHeldBetween (P Q : Contents) (m : ℕ) (held : Held) : Type 0 where

@@ -13,7 +13,7 @@ fn release_marked(holdings: &mut Holdings, key: &OpKey, operation: &OperationRec
     ensures { HaveReleased holdings.old.held key.now operation.now.needs mark.now holdings.new.held }
 {
     for need in operation.needs.as_slice() {
-        if !mark.holds_resource(need.keep) && holdings.mode_of(&need.name, *key).is_some() {
+        if !mark.holds_resource(need.keep) && holdings.claim_of(&need.name, *key).is_some() {
             holdings.release(&need.name, *key);
         }
     }

@@ -4,9 +4,9 @@ use Rattle.plan_basics.specs.declared.limits.TheConstants.{HIGHEST_PRIORITY, LON
 use Rattle.plan_items.specs.declared.Item.{Item}
 use Rattle.plan_items.specs.declared.Item.TheVariants as item
 use Rattle.plan_items.specs.Items.{Fields, Says}
-use Rattle.plan_items.proofs.PartLaws.{one_attribute, one_availability, one_interval, one_occurrence, one_number, one_operation, one_not_before, one_deadline, one_need}
+use Rattle.plan_items.proofs.PartLaws.{one_attribute, one_availability, one_interval, one_occurrence, one_number, one_operation, one_not_before, one_deadline, one_quantity, one_need}
 use Rattle.plan_basics.proofs.MinuteLaws.{one_moment}
-use Rattle.plan_items.proofs.KindLaws.{text_at, kind_letter, said_kind, interval_said, occurrence_said, operation_said, dependency_said, need_said}
+use Rattle.plan_items.proofs.KindLaws.{text_at, kind_letter, said_kind, interval_said, resource_said, occurrence_said, operation_said, dependency_said, need_said}
 
 -- two items of one record have one letter
 same_letter : (fields : Fields) (a b : Item) → Says fields a → Says fields b → kind_letter a ≡ kind_letter b
@@ -24,10 +24,13 @@ one_item fields (item.Interval w x) (item.Interval v y) h k =
     let workstation = sym p.0 ∙ q.0 in
     let interval = one_interval (text_at fields 2) (text_at fields 3) (text_at fields 4) (text_at fields 5) (text_at fields 6) x y p.1 q.1 in
     λ i. item.Interval (workstation i) (interval i)
-one_item fields (item.Resource n a) (item.Resource m b) h k =
-    let name = sym (ap (λ f. text_at f 1) h.1) ∙ ap (λ f. text_at f 1) k.1 in
-    let available = one_availability a b (sym (ap (λ f. text_at f 2) h.1) ∙ ap (λ f. text_at f 2) k.1) in
-    λ i. item.Resource (name i) (available i)
+one_item fields (item.Resource n a x) (item.Resource m b y) h k =
+    let p = resource_said fields n a x h in
+    let q = resource_said fields m b y k in
+    let name = sym p.0 ∙ q.0 in
+    let available = one_availability a b (sym p.1 ∙ q.1) in
+    let quantity = one_quantity (text_at fields 3) x y p.2 q.2 in
+    λ i. item.Resource (name i) (available i) (quantity i)
 one_item fields (item.Occurrence a x d) (item.Occurrence b y e) h k =
     let p = occurrence_said fields a x d h in
     let q = occurrence_said fields b y e k in
@@ -56,6 +59,6 @@ one_item fields (item.Need a x) (item.Need b y) h k =
     let p = need_said fields a x h in
     let q = need_said fields b y k in
     let operation = one_operation (text_at fields 1) (text_at fields 2) (text_at fields 3) a b p.0 q.0 in
-    let need = one_need (text_at fields 4) (text_at fields 5) (text_at fields 6) x y p.1 q.1 in
+    let need = one_need (text_at fields 4) (text_at fields 5) (text_at fields 6) (text_at fields 7) x y p.1 q.1 in
     λ i. item.Need (operation i) (need i)
 one_item fields a b h k = absurd (omega (arith, same_letter fields a b h k))

@@ -1,22 +1,25 @@
 -- What the fields of a record are, kind by kind.
-use Rattle.std.proofs.Common.{◌≡◌, ℕ, suc, ◌+◌, ◌≤◌, ◌<◌, List, [], ◌∷◌, ◌++◌, length, drop, get_or, replicate, Vec, Global, refl, ap, sym, subst, arith, ◌∙◌, add-zero}
+use Rattle.std.proofs.Common.{◌≡◌, ℕ, Bool, suc, ◌+◌, ◌≤◌, ◌<◌, List, [], ◌∷◌, ◌++◌, length, drop, get_or, replicate, Vec, Global, refl, ap, sym, subst, arith, ◌∙◌, add-zero}
 use Rattle.std.specs.Prelude.{codes, decimal}
 use Rattle.std.proofs.Math.Seq.{drop-cons}
 use Rattle.std.proofs.lemmas.List.{length-map}
 use Rattle.std.proofs.Common.{Option, Some, None, MatchOption, inl, inr}
 use Rattle.std.proofs.lemmas.List.{drop_all}
-use Rattle.plan_basics.specs.declared.limits.TheConstants.{HIGHEST_PRIORITY, LONGEST_DURATION, LOWEST_PRIORITY, MOST_FIXED, SHORTEST_DURATION}
+use Rattle.plan_basics.specs.declared.limits.TheConstants.{HIGHEST_PRIORITY, LONGEST_DURATION, LOWEST_PRIORITY, MOST_FIXED, MOST_QUANTITY, SHORTEST_DURATION}
 use Rattle.plan_basics.specs.declared.keys.OccKey.{OccKey}
 use Rattle.plan_basics.specs.declared.keys.OpKey.{OpKey}
-use Rattle.plan_basics.specs.Names.{IsName}
+use Rattle.plan_basics.specs.Names.{IsName, IsResourceName}
 use Rattle.plan_basics.specs.Keys.{Name, IsOperationKey}
 use Rattle.plan_basics.specs.Minutes.{IsMoment, IsMomentText}
 use Rattle.plan_basics.specs.Intervals.{OpenInterval}
+use Rattle.special_resources.specs.Holders.{IsAmount}
+use Rattle.special_resources.specs.declared.Mode.{Mode}
+use Rattle.special_resources.specs.declared.Mode.TheVariants.{Shared, Exclusive}
 use Rattle.special_resources.specs.declared.Need.{Need}
 use Rattle.plan_items.specs.declared.OperationItem.{OperationItem}
 use Rattle.plan_items.specs.declared.Item.{Item}
 use Rattle.plan_items.specs.declared.Item.TheVariants as item
-use Rattle.plan_items.specs.Parts.{mode_letter, keep_letter, IsNumberText, IsMomentOrEmpty, IsNotBefore, IsOccurrenceAt, IsOperationAt, IsIntervalAt, IsNeedAt}
+use Rattle.plan_items.specs.Parts.{available_letter, mode_letter, keep_letter, IsWithin, IsNumberText, IsMomentOrEmpty, IsNotBefore, IsQuantityText, IsAmountText, IsOccurrenceAt, IsOperationAt, IsIntervalAt, IsNeedAt}
 use Rattle.plan_items.specs.Items.{Fields, fields_of, Says}
 
 abbrev pub text_at : Fields → ℕ → List ℕ
@@ -49,7 +52,7 @@ whole fields front rest fits h e =
 abbrev pub kind_letter : Item → ℕ
 kind_letter (item.Workstation n a) = 87
 kind_letter (item.Interval w x) = 73
-kind_letter (item.Resource n a) = 88
+kind_letter (item.Resource n a q) = 88
 kind_letter (item.Occurrence k p d) = 79
 kind_letter (item.Operation o) = 80
 kind_letter (item.Dependency p s) = 68
@@ -59,11 +62,11 @@ kind_letter (item.Need o n) = 78
 pub said_kind : (fields : Fields) (x : Item) → Says fields x → text_at fields 0 ≡ kind_letter x ∷ []
 said_kind fields (item.Workstation n a) h = ap (λ f. text_at f 0) h.1
 said_kind fields (item.Interval w x) h = ap (λ f. text_at f 0) h.1.4
-said_kind fields (item.Resource n a) h = ap (λ f. text_at f 0) h.1
+said_kind fields (item.Resource n a q) h = ap (λ f. text_at f 0) h.1.2
 said_kind fields (item.Occurrence k p d) h = ap (λ f. text_at f 0) h.1.4
 said_kind fields (item.Operation o) h = ap (λ f. text_at f 0) h.1.6
 said_kind fields (item.Dependency p s) h = ap (λ f. text_at f 0) h.1.4
-said_kind fields (item.Need o n) h = ap (λ f. text_at f 0) h.1.2
+said_kind fields (item.Need o n) h = ap (λ f. text_at f 0) h.1.4
 
 one_letter : (t : List ℕ) (a b : ℕ) → t ≡ a ∷ [] → t ≡ b ∷ [] → a ≡ b
 one_letter t a b e f = cc
@@ -78,6 +81,15 @@ in_range app arrival number key h = ((h.0.0, h.0.2.0), omega (arith, h.1.0.0), o
 not_before_in_range : (t : List ℕ) (m : ℕ) → IsNotBefore t m → IsMoment m
 not_before_in_range t m (inl e) = omega (arith, e.1)
 not_before_in_range t m (inr h) = h.0
+
+quantity_in_range : (t : List ℕ) (n : ℕ) → IsQuantityText t n → IsWithin 1 MOST_QUANTITY n
+quantity_in_range t n (inl e) = (omega (arith, e.1), omega (arith, e.1))
+quantity_in_range t n (inr h) = h.0
+
+amount_in_range : (mode : Mode) (t : List ℕ) (n : ℕ) → IsAmountText mode t n → IsAmount mode n
+amount_in_range Exclusive t n h = h.1
+amount_in_range Shared t n (inl e) = (omega (arith, e.1), omega (arith, e.1))
+amount_in_range Shared t n (inr h) = h.0
 
 deadline_in_range : (t : List ℕ) (m : Option ℕ) → IsMomentOrEmpty t m → MatchOption m (Unit {0}) IsMoment
 deadline_in_range t None e = tt
@@ -94,6 +106,12 @@ module _ (fields : Fields) (ten : length fields ≡ 10) where
       h.2,
       whole fields (codes "I" ∷ w ∷ text_at fields 2 ∷ text_at fields 3 ∷ decimal x.servers ∷ decimal x.r1 ∷ decimal x.r2 ∷ []) (replicate 3 []) (omega arith) (k, (e, (refl, (refl, (h.3, (h.4, (h.5, tt))))))) rest,
     ),
+  )
+
+  pub made_resource : text_at fields 0 ≡ codes "X" → (r : Name) (available : Bool) (quantity : ℕ) → IsResourceName r → text_at fields 1 ≡ r → text_at fields 2 ≡ available_letter available → IsQuantityText (text_at fields 3) quantity → drop 4 fields ≡ replicate 6 [] → Says fields (item.Resource r available quantity)
+  made_resource k r available quantity legal e a q rest = (
+    (legal, quantity_in_range (text_at fields 3) quantity q),
+    (text_at fields 3, q, whole fields (codes "X" ∷ r ∷ available_letter available ∷ text_at fields 3 ∷ []) (replicate 6 []) (omega arith) (k, (e, (a, (refl, tt)))) rest),
   )
 
   pub made_occurrence : text_at fields 0 ≡ codes "O" → (key : OccKey) (p d : ℕ) → IsOccurrenceAt (text_at fields 1) (text_at fields 2) key → IsNumberText LOWEST_PRIORITY HIGHEST_PRIORITY (text_at fields 3) p → IsMomentText (text_at fields 4) d → drop 5 fields ≡ replicate 5 [] → Says fields (item.Occurrence key p d)
@@ -136,13 +154,15 @@ module _ (fields : Fields) (ten : length fields ≡ 10) where
     ),
   )
 
-  pub made_need : text_at fields 0 ≡ codes "N" → (o : OpKey) (need : Need) → IsOperationAt (text_at fields 1) (text_at fields 2) (text_at fields 3) o → IsNeedAt (text_at fields 4) (text_at fields 5) (text_at fields 6) need → drop 7 fields ≡ replicate 3 [] → Says fields (item.Need o need)
+  pub made_need : text_at fields 0 ≡ codes "N" → (o : OpKey) (need : Need) → IsOperationAt (text_at fields 1) (text_at fields 2) (text_at fields 3) o → IsNeedAt (text_at fields 4) (text_at fields 5) (text_at fields 6) (text_at fields 7) need → drop 8 fields ≡ replicate 2 [] → Says fields (item.Need o need)
   made_need k o need h n rest = (
-    (in_range (text_at fields 1) (text_at fields 2) (text_at fields 3) o h, n.0),
+    (in_range (text_at fields 1) (text_at fields 2) (text_at fields 3) o h, n.0, amount_in_range need.mode (text_at fields 7) need.amount n.4),
     (
       text_at fields 2,
+      text_at fields 7,
       h.0.2,
-      whole fields (codes "N" ∷ o.occurrence.app ∷ text_at fields 2 ∷ decimal o.number ∷ need.name ∷ mode_letter need.mode ∷ keep_letter need.keep ∷ []) (replicate 3 []) (omega arith) (k, (h.0.1, (refl, (h.1.1, (n.1, (n.2, (n.3, tt))))))) rest,
+      n.4,
+      whole fields (codes "N" ∷ o.occurrence.app ∷ text_at fields 2 ∷ decimal o.number ∷ need.name ∷ mode_letter need.mode ∷ keep_letter need.keep ∷ text_at fields 7 ∷ []) (replicate 2 []) (omega arith) (k, (h.0.1, (refl, (h.1.1, (n.1, (n.2, (n.3, (refl, tt)))))))) rest,
     ),
   )
 
@@ -155,6 +175,11 @@ module _ (fields : Fields) where
   interval_said w x h =
       let e = h.1.4 in
       (ap (λ f. text_at f 1) e, (h.0.1, moment_at 2 h.1.0 x.from (ap (λ f. text_at f 2) e) h.1.2, moment_at 3 h.1.1 x.end (ap (λ f. text_at f 3) e) h.1.3, ap (λ f. text_at f 4) e, ap (λ f. text_at f 5) e, ap (λ f. text_at f 6) e))
+
+  pub resource_said : (r : Name) (available : Bool) (quantity : ℕ) → Says fields (item.Resource r available quantity) → (text_at fields 1 ≡ r) × (text_at fields 2 ≡ available_letter available) × IsQuantityText (text_at fields 3) quantity
+  resource_said r available quantity h =
+      let e = h.1.2 in
+      (ap (λ f. text_at f 1) e, ap (λ f. text_at f 2) e, subst (λ (u : List ℕ). IsQuantityText u quantity) (sym (ap (λ f. text_at f 3) e)) h.1.1)
 
   pub occurrence_said : (key : OccKey) (p d : ℕ) → Says fields (item.Occurrence key p d) → IsOccurrenceAt (text_at fields 1) (text_at fields 2) key × IsNumberText LOWEST_PRIORITY HIGHEST_PRIORITY (text_at fields 3) p × IsMomentText (text_at fields 4) d
   occurrence_said key p d h =
@@ -184,17 +209,21 @@ module _ (fields : Fields) where
         operation_key_said 4 5 6 s h.1.1 h.0.1 (ap (λ f. text_at f 4) e) (ap (λ f. text_at f 5) e) h.1.3 (ap (λ f. text_at f 6) e),
       )
 
-  pub need_said : (o : OpKey) (need : Need) → Says fields (item.Need o need) → IsOperationAt (text_at fields 1) (text_at fields 2) (text_at fields 3) o × IsNeedAt (text_at fields 4) (text_at fields 5) (text_at fields 6) need
+  pub need_said : (o : OpKey) (need : Need) → Says fields (item.Need o need) → IsOperationAt (text_at fields 1) (text_at fields 2) (text_at fields 3) o × IsNeedAt (text_at fields 4) (text_at fields 5) (text_at fields 6) (text_at fields 7) need
   need_said o need h =
-      let e = h.1.2 in (
-        operation_key_said 1 2 3 o h.1.0 h.0.0 (ap (λ f. text_at f 1) e) (ap (λ f. text_at f 2) e) h.1.1 (ap (λ f. text_at f 3) e),
-        (h.0.1, ap (λ f. text_at f 4) e, ap (λ f. text_at f 5) e, ap (λ f. text_at f 6) e),
+      let e = h.1.4 in (
+        operation_key_said 1 2 3 o h.1.0 h.0.0 (ap (λ f. text_at f 1) e) (ap (λ f. text_at f 2) e) h.1.2 (ap (λ f. text_at f 3) e),
+        (h.0.1, ap (λ f. text_at f 4) e, ap (λ f. text_at f 5) e, ap (λ f. text_at f 6) e, subst (λ (u : List ℕ). IsAmountText need.mode u need.amount) (sym (ap (λ f. text_at f 7) e)) h.1.3),
       )
 
   -- nothing is said where a field has no such part
   pub no_interval : text_at fields 0 ≡ codes "I" → ((x : OpenInterval) → ¬ IsIntervalAt (text_at fields 2) (text_at fields 3) (text_at fields 4) (text_at fields 5) (text_at fields 6) x) → (x : Item) → ¬ Says fields x
   no_interval k none (item.Interval w x) h = none x (interval_said w x h).1
   no_interval k none x h = absurd (omega (arith, same_kind fields 73 x k h))
+
+  pub no_quantity : text_at fields 0 ≡ codes "X" → ((n : ℕ) → ¬ IsQuantityText (text_at fields 3) n) → (x : Item) → ¬ Says fields x
+  no_quantity k none (item.Resource r a q) h = none q (resource_said r a q h).2
+  no_quantity k none x h = absurd (omega (arith, same_kind fields 88 x k h))
 
   pub no_last : text_at fields 0 ≡ codes "O" → ((d : ℕ) → ¬ IsMomentText (text_at fields 4) d) → (x : Item) → ¬ Says fields x
   no_last k none (item.Occurrence key p d) h = none d (occurrence_said key p d h).2

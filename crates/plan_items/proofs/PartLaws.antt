@@ -1,8 +1,8 @@
 -- The parts of a record: what their readers answer, and that a text spells one of each at most.
-use Rattle.std.proofs.Common.{◌≡◌, ℕ, ◌<◌, ◌^◌, List, [], length, Bool, true, false, Option, Some, None, IsSome, IfSome, inl, inr, refl, sym, ap, subst, arith, ◌∙◌, ◌==◌, ◌↔◌}
+use Rattle.std.proofs.Common.{◌≡◌, ℕ, ◌<◌, ◌^◌, List, [], length, Bool, true, false, Option, Some, None, IsSome, IfSome, inl, inr, ◌⊎◌, refl, sym, ap, subst, arith, ◌∙◌, ◌==◌, ◌↔◌}
 use Rattle.std.proofs.lemmas.List.{length-append}
-use Rattle.std.proofs.lemmas.Fmt.{decimal_injective}
-use Rattle.plan_basics.specs.declared.limits.TheConstants.{GREATEST_NUMBER, LEAST_NUMBER, MOST_FIXED, MOST_SERVERS}
+use Rattle.std.proofs.lemmas.Fmt.{decimal_injective, decimal_nonempty}
+use Rattle.plan_basics.specs.declared.limits.TheConstants.{GREATEST_NUMBER, LEAST_NUMBER, MOST_FIXED, MOST_QUANTITY, MOST_SERVERS}
 use Rattle.plan_basics.specs.Minutes.{IsMomentText}
 use Rattle.plan_basics.specs.Intervals.{OpenInterval, IsInterval, interval_by}
 use Rattle.std.proofs.Common.{get_or}
@@ -14,7 +14,7 @@ use Rattle.plan_basics.specs.declared.keys.OpKey.{OpKey}
 use Rattle.special_resources.specs.declared.Mode.{Mode}
 use Rattle.special_resources.specs.declared.Mode.TheVariants as mode
 use Rattle.special_resources.specs.declared.Need.{Need}
-use Rattle.plan_items.specs.Parts.{IsReading, available_letter, mode_letter, keep_letter, IsNumberText, IsMomentOrEmpty, IsNotBefore, IsOccurrenceAt, IsOperationAt, IsIntervalAt, IsNeedAt}
+use Rattle.plan_items.specs.Parts.{IsReading, available_letter, mode_letter, keep_letter, IsNumberText, IsMomentOrEmpty, IsNotBefore, IsQuantityText, IsAmountText, IsOccurrenceAt, IsOperationAt, IsIntervalAt, IsNeedAt}
 use Rattle.plan_basics.proofs.MinuteLaws.{one_moment}
 
 -- what a reader answers, by when it answers something and what
@@ -31,14 +31,26 @@ pub deadline_unread : (t : List ℕ) → (length t == 0) ≡ false → ((m : ℕ
 deadline_unread t filled none None e = let bad = rw e at filled in absurd (cc)
 deadline_unread t filled none (Some m) h = none m h
 
-not_before_spelt : (t : List ℕ) (m : ℕ) → (length t == 0) ≡ false → IsNotBefore t m → IsMomentText t m
-not_before_spelt t m filled (inl e) = let bad = rw e.0 at filled in absurd (cc)
-not_before_spelt t m filled (inr h) = h
+-- an empty field means the number e, and another field one that it spells
+module _ (t : List ℕ) (e : ℕ) (Spells : ℕ → Type 0) where
+  abbrev pub IsSpeltOrEmpty : ℕ → Type 0
+  IsSpeltOrEmpty n = ((t ≡ []) × (n ≡ e)) ⊎ Spells n
 
--- where the field isn't empty, a not-before is a moment
-pub not_before_read : (t : List ℕ) → (length t == 0) ≡ false → (r : Option ℕ) → IsReading (IsMomentText t) r → IsReading (IsNotBefore t) r
-not_before_read t filled None h = λ m s. h m (not_before_spelt t m filled s)
-not_before_read t filled (Some m) h = inr h
+  spelt : (n : ℕ) → (length t == 0) ≡ false → IsSpeltOrEmpty n → Spells n
+  spelt n filled (inl h) = let bad = rw h.0 at filled in absurd (cc)
+  spelt n filled (inr h) = h
+
+  -- where the field isn't empty, what is read is what it spells
+  pub filled_read : (length t == 0) ≡ false → (r : Option ℕ) → IsReading Spells r → IsReading IsSpeltOrEmpty r
+  filled_read filled None h = λ n s. h n (spelt n filled s)
+  filled_read filled (Some n) h = inr h
+
+  -- it means one number, since an empty field spells none
+  pub one_or_empty : ((n : ℕ) → t ≡ [] → ¬ Spells n) → ((m n : ℕ) → Spells m → Spells n → m ≡ n) → (m n : ℕ) → IsSpeltOrEmpty m → IsSpeltOrEmpty n → m ≡ n
+  one_or_empty none one m n (inl h) (inl k) = h.1 ∙ sym k.1
+  one_or_empty none one m n (inl h) (inr k) = absurd (none n h.0 k)
+  one_or_empty none one m n (inr h) (inl k) = absurd (none m k.0 h)
+  one_or_empty none one m n (inr h) (inr k) = one m n h k
 
 -- the text of a moment isn't empty
 pub moment_filled : (m : ℕ) → ¬ IsMomentText [] m
@@ -95,21 +107,32 @@ one_keeping true true e = refl
 one_keeping false false e = refl
 one_keeping a b e = absurd (omega (arith, ap (λ t. get_or t 0 0) e))
 
-pub one_need : (name mode_text keep_text : List ℕ) (a b : Need) → IsNeedAt name mode_text keep_text a → IsNeedAt name mode_text keep_text b → a ≡ b
-one_need name mode_text keep_text a b h k =
+-- an empty text is that of no number
+pub empty_number : (least most : ℕ) (t : List ℕ) (n : ℕ) → most < 2 ^ 64 → t ≡ [] → ¬ IsNumberText least most t n
+empty_number least most t n small e h =
+    let some = decimal_nonempty n (omega (arith, h.0.1)) in
+    absurd (omega (arith, some, ap (length {A = ℕ}) (sym e ∙ h.1)))
+
+pub one_quantity : (t : List ℕ) (m n : ℕ) → IsQuantityText t m → IsQuantityText t n → m ≡ n
+one_quantity t = one_or_empty t MOST_QUANTITY (IsNumberText 1 MOST_QUANTITY t) (λ n. empty_number 1 MOST_QUANTITY t n (omega arith)) (λ m n. one_number 1 MOST_QUANTITY t m n (omega arith))
+
+one_amount : (mode : Mode) (t : List ℕ) (m n : ℕ) → IsAmountText mode t m → IsAmountText mode t n → m ≡ n
+one_amount mode.Exclusive t m n h k = h.1 ∙ sym k.1
+one_amount mode.Shared t m n h k = one_or_empty t 1 (IsNumberText 1 MOST_QUANTITY t) (λ n. empty_number 1 MOST_QUANTITY t n (omega arith)) (λ m n. one_number 1 MOST_QUANTITY t m n (omega arith)) m n h k
+
+pub one_need : (name mode_text keep_text amount_text : List ℕ) (a b : Need) → IsNeedAt name mode_text keep_text amount_text a → IsNeedAt name mode_text keep_text amount_text b → a ≡ b
+one_need name mode_text keep_text amount_text a b h k =
     let same_name = sym h.1 ∙ k.1 in
     let same_mode = one_mode a.mode b.mode (sym h.2 ∙ k.2) in
     let same_keep = one_keeping a.keep b.keep (sym h.3 ∙ k.3) in
-    λ i. record { name = same_name i; mode = same_mode i; keep = same_keep i }
+    let same_amount = one_amount b.mode amount_text a.amount b.amount (subst (λ m. IsAmountText m amount_text a.amount) same_mode h.4) k.4 in
+    λ i. record { name = same_name i; mode = same_mode i; amount = same_amount i; keep = same_keep i }
 
 empty_moment : (t : List ℕ) (m : ℕ) → t ≡ [] → ¬ IsMomentText t m
 empty_moment t m e h = moment_filled m (subst (λ (u : List ℕ). IsMomentText u m) e h)
 
 pub one_not_before : (t : List ℕ) (m n : ℕ) → IsNotBefore t m → IsNotBefore t n → m ≡ n
-one_not_before t m n (inl e) (inl f) = e.1 ∙ sym f.1
-one_not_before t m n (inl e) (inr k) = absurd (empty_moment t n e.0 k)
-one_not_before t m n (inr h) (inl f) = absurd (empty_moment t m f.0 h)
-one_not_before t m n (inr h) (inr k) = one_moment t m n h k
+one_not_before t = one_or_empty t 0 (IsMomentText t) (λ m. empty_moment t m) (one_moment t)
 
 pub one_deadline : (t : List ℕ) (x y : Option ℕ) → IsMomentOrEmpty t x → IsMomentOrEmpty t y → x ≡ y
 one_deadline t None None e f = refl

@@ -2,7 +2,7 @@
 use Rattle.std.specs.Prelude.{◌≡◌, ◌⊎◌, ℕ, ◌≤◌, Bool, true, false, List, [], Option, Some, None, MatchOption, codes, decimal}
 use Rattle.plan_basics.specs.declared.keys.OccKey.{OccKey}
 use Rattle.plan_basics.specs.declared.keys.OpKey.{OpKey}
-use Rattle.plan_basics.specs.declared.limits.TheConstants.{LEAST_NUMBER, GREATEST_NUMBER}
+use Rattle.plan_basics.specs.declared.limits.TheConstants.{LEAST_NUMBER, GREATEST_NUMBER, MOST_QUANTITY}
 use Rattle.plan_basics.specs.Names.{IsName, IsResourceName}
 use Rattle.plan_basics.specs.Minutes.{IsMomentText}
 use Rattle.plan_basics.specs.Intervals.{OpenInterval, IsInterval}
@@ -46,6 +46,15 @@ IsMomentOrEmpty text (Some m) = IsMomentText text m
 abbrev pub IsNotBefore : List ℕ → ℕ → Type 0
 IsNotBefore text m = ((text ≡ []) × (m ≡ 0)) ⊎ IsMomentText text m
 
+-- an empty quantity means the greatest one; else the text of one
+abbrev pub IsQuantityText : List ℕ → ℕ → Type 0
+IsQuantityText text n = ((text ≡ []) × (n ≡ MOST_QUANTITY)) ⊎ IsNumberText 1 MOST_QUANTITY text n
+
+-- an exclusive need has an empty amount and takes the whole; an empty amount of a shared one means 1, else it is the text of one
+abbrev pub IsAmountText : Mode → List ℕ → ℕ → Type 0
+IsAmountText Exclusive text n = (text ≡ []) × (n ≡ 0)
+IsAmountText Shared text n = ((text ≡ []) × (n ≡ 1)) ⊎ IsNumberText 1 MOST_QUANTITY text n
+
 -- an occurrence's key: application and input arrival
 abbrev pub IsOccurrenceAt : List ℕ → List ℕ → OccKey → Type 0
 IsOccurrenceAt app arrival key = IsName 16 key.app × (app ≡ key.app) × IsMomentText arrival key.arrival
@@ -58,6 +67,6 @@ IsOperationAt app arrival number key = IsOccurrenceAt app arrival key.occurrence
 abbrev pub IsIntervalAt : List ℕ → List ℕ → List ℕ → List ℕ → List ℕ → OpenInterval → Type 0
 IsIntervalAt from end servers r1 r2 x = IsInterval x × IsMomentText from x.from × IsMomentText end x.end × (servers ≡ decimal x.servers) × (r1 ≡ decimal x.r1) × (r2 ≡ decimal x.r2)
 
--- a need of a special resource: its name, the mode, and whether an error keeps it
-abbrev pub IsNeedAt : List ℕ → List ℕ → List ℕ → Need → Type 0
-IsNeedAt name mode keep need = IsResourceName need.name × (name ≡ need.name) × (mode ≡ mode_letter need.mode) × (keep ≡ keep_letter need.keep)
+-- a need of a special resource: its name, the mode, whether an error keeps it, and the amount
+abbrev pub IsNeedAt : List ℕ → List ℕ → List ℕ → List ℕ → Need → Type 0
+IsNeedAt name mode keep amount need = IsResourceName need.name × (name ≡ need.name) × (mode ≡ mode_letter need.mode) × (keep ≡ keep_letter need.keep) × IsAmountText need.mode amount need.amount

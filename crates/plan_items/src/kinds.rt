@@ -5,10 +5,10 @@ ghost use Rattle.plan_items.specs.Items.{fields_of, Says};
 
 use super::fields::{are_empty_from, field};
 use super::letters::{read_attribute, read_available};
-use super::numbers::{number_within, small_number_within};
+use super::numbers::{short_number_within, small_number_within};
 use super::parts::{
     read_deadline, read_interval, read_moment, read_need, read_not_before, read_occurrence_key,
-    read_operation_key,
+    read_operation_key, read_quantity,
 };
 use super::{Item, OperationItem};
 use plan_basics::limits::{
@@ -51,17 +51,22 @@ pub fn read_interval_item(fields: &[Vec<u8>; 10]) -> Option<Item>
     })
 }
 
-// A special resource: its name and whether it is available.
+// A special resource: its name, whether it is available, and its quantity.
 pub fn read_resource(fields: &[Vec<u8>; 10]) -> Option<Item>
     requires { slice_index_or (fields_of fields.now) 0 [] ≡ codes "X" }
     ensures { IsReading (Says (fields_of fields.now)) result }
 {
-    if !are_empty_from(fields, 3) {
+    if !are_empty_from(fields, 4) {
         return None;
     }
     let name = ResName::from_text(field(fields, 1))?;
     let available = read_available(field(fields, 2))?;
-    Some(Item::Resource { name, available })
+    let quantity = read_quantity(field(fields, 3))?;
+    Some(Item::Resource {
+        name,
+        available,
+        quantity,
+    })
 }
 
 // An occurrence: its key, priority and deadline.
@@ -89,7 +94,7 @@ pub fn read_operation(fields: &[Vec<u8>; 10]) -> Option<Item>
 {
     let key = read_operation_key(field(fields, 1), field(fields, 2), field(fields, 3))?;
     let workstation = WsName::from_text(field(fields, 4))?;
-    let duration = number_within(field(fields, 5), SHORTEST_DURATION, LONGEST_DURATION)?;
+    let duration = short_number_within(field(fields, 5), SHORTEST_DURATION, LONGEST_DURATION)?;
     let r1 = small_number_within(field(fields, 6), 0, MOST_FIXED)?;
     let r2 = small_number_within(field(fields, 7), 0, MOST_FIXED)?;
     let not_before = read_not_before(field(fields, 8))?;
@@ -126,10 +131,15 @@ pub fn read_need_item(fields: &[Vec<u8>; 10]) -> Option<Item>
     requires { slice_index_or (fields_of fields.now) 0 [] ≡ codes "N" }
     ensures { IsReading (Says (fields_of fields.now)) result }
 {
-    if !are_empty_from(fields, 7) {
+    if !are_empty_from(fields, 8) {
         return None;
     }
     let operation = read_operation_key(field(fields, 1), field(fields, 2), field(fields, 3))?;
-    let need = read_need(field(fields, 4), field(fields, 5), field(fields, 6))?;
+    let need = read_need(
+        field(fields, 4),
+        field(fields, 5),
+        field(fields, 6),
+        field(fields, 7),
+    )?;
     Some(Item::Need { operation, need })
 }

@@ -7,11 +7,11 @@
 //! |---|---|
 //! | W | workstation, attribute (`A`, `S`, `C` or `N`) |
 //! | I | workstation, first minute, end, servers, R1, R2 |
-//! | X | special resource, `Y` or `N` (available) |
+//! | X | special resource, `Y` or `N` (available), quantity or empty |
 //! | O | application, input arrival, priority, deadline |
 //! | P | application, input arrival, number, workstation, duration, R1, R2, not-before or empty, deadline or empty |
 //! | D | predecessor: application, input arrival, number; successor: the same three |
-//! | N | application, input arrival, number, special resource, `S` or `X` (mode), `K` or `F` (keep or free on error) |
+//! | N | application, input arrival, number, special resource, `S` or `X` (mode), `K` or `F` (keep or free on error), amount or empty |
 //!
 //! Whole numbers are decimal digits without sign and without leading zeros, where `0` itself is one. Moments are
 //! written `YYYY-MM-DDTHH:MM`. The notions are those of IBM OPC/ESA, Planning and Scheduling the Workload; the format
@@ -50,10 +50,12 @@ pub enum Item {
         workstation: WsName,
         interval: Interval,
     },
-    /// A special resource, and whether it is available.
+    /// A special resource, whether it is available, and how much of it there is, 1 to 999,999. An empty quantity means
+    /// 999,999.
     Resource {
         name: ResName,
         available: bool,
+        quantity: u32,
     },
     /// An occurrence, with its priority, 1 (low) to 9 (urgent), and its deadline.
     Occurrence {
@@ -68,7 +70,8 @@ pub enum Item {
         predecessor: OpKey,
         successor: OpKey,
     },
-    /// An operation's need of a special resource.
+    /// An operation's need of a special resource. Its amount is 1 to 999,999 where it is shared, and an empty one means
+    /// 1; it is empty where the need is exclusive, which takes the whole.
     Need {
         operation: OpKey,
         need: Need,

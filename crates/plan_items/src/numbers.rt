@@ -22,23 +22,23 @@ fn is_numeral(text: &[u8]) -> bool
     }
 }
 
-// The number that decimal digits write, if it is below 65,536.
-fn value_of_digits(digits: &[u8]) -> Option<u16>
+// The number that decimal digits write, if it is of four bytes.
+fn value_of_digits(digits: &[u8]) -> Option<u32>
     requires { IsPlainNumeral digits.now }
-    ensures { MatchOption result (2 ^ 16 ≤ digits_value 10 digits.now) (λ n. n ≡ digits_value 10 digits.now) }
+    ensures { MatchOption result (2 ^ 32 ≤ digits_value 10 digits.now) (λ n. n ≡ digits_value 10 digits.now) }
 {
-    let mut value: u32 = 0;
+    let mut value: u64 = 0;
     for digit in digits {
-        value = value * 10 + u32::from(*digit - b'0');
-        if value > 65_535 {
+        value = value * 10 + u64::from(*digit - b'0');
+        if value > 4_294_967_295 {
             return None;
         }
     }
-    Some(value as u16)
+    Some(value as u32)
 }
 
 // A whole number of at most `most`: decimal digits without sign and without leading zeros.
-pub fn number_of_text(text: &[u8], most: u16) -> Option<u16>
+pub fn number_of_text(text: &[u8], most: u32) -> Option<u32>
     ensures some { IsSome result ↔ ((n : ℕ) × (n ≤ most) × (text.now ≡ decimal n)) }
     ensures value { IfSome result (λ n. (n ≤ most) × (text.now ≡ decimal n)) }
 {
@@ -52,7 +52,7 @@ pub fn number_of_text(text: &[u8], most: u16) -> Option<u16>
 }
 
 // A whole number from `least` to `most`.
-pub fn number_within(text: &[u8], least: u16, most: u16) -> Option<u16>
+pub fn number_within(text: &[u8], least: u32, most: u32) -> Option<u32>
     ensures { IsReading (λ n. IsNumberText least most text.now n) result }
 {
     match number_of_text(text, most) {
@@ -61,10 +61,18 @@ pub fn number_within(text: &[u8], least: u16, most: u16) -> Option<u16>
     }
 }
 
+// A whole number from `least` to `most`, of two bytes.
+pub fn short_number_within(text: &[u8], least: u16, most: u16) -> Option<u16>
+    ensures { IsReading (λ n. IsNumberText least most text.now n) result }
+{
+    let number = number_within(text, u32::from(least), u32::from(most))?;
+    Some(number as u16)
+}
+
 // A whole number from `least` to `most`, of one byte.
 pub fn small_number_within(text: &[u8], least: u8, most: u8) -> Option<u8>
     ensures { IsReading (λ n. IsNumberText least most text.now n) result }
 {
-    let number = number_within(text, u16::from(least), u16::from(most))?;
+    let number = short_number_within(text, u16::from(least), u16::from(most))?;
     Some(number as u8)
 }

@@ -1,13 +1,14 @@
 // The parts of a record that take more than one field, and moments.
 ghost use Rattle.std.specs.Prelude.{ℕ};
 ghost use Rattle.plan_basics.specs.Minutes.{IsMomentText};
-ghost use Rattle.plan_items.specs.Parts.{IsReading, IsMomentOrEmpty, IsNotBefore, IsOccurrenceAt, IsOperationAt, IsIntervalAt, IsNeedAt};
+ghost use Rattle.special_resources.specs.declared.Mode.TheVariants.{Shared, Exclusive};
+ghost use Rattle.plan_items.specs.Parts.{IsReading, IsMomentOrEmpty, IsNotBefore, IsQuantityText, IsAmountText, IsOccurrenceAt, IsOperationAt, IsIntervalAt, IsNeedAt};
 
 use super::letters::{read_keep, read_mode};
-use super::numbers::small_number_within;
-use plan_basics::limits::{GREATEST_NUMBER, LEAST_NUMBER, MOST_FIXED, MOST_SERVERS};
+use super::numbers::{number_within, small_number_within};
+use plan_basics::limits::{GREATEST_NUMBER, LEAST_NUMBER, MOST_FIXED, MOST_QUANTITY, MOST_SERVERS};
 use plan_basics::{AppId, Interval, Moment, OccKey, OpKey, ResName};
-use special_resources::Need;
+use special_resources::{Mode, Need};
 
 // A moment.
 pub fn read_moment(text: &[u8]) -> Option<Moment>
@@ -72,12 +73,59 @@ pub fn read_interval(
     Interval::new(from, end, servers, r1, r2)
 }
 
+// The quantity of a special resource, or the greatest one where the field is empty.
+pub fn read_quantity(text: &[u8]) -> Option<u32>
+    ensures { IsReading (λ quantity. IsQuantityText text.now quantity) result }
+{
+    if text.is_empty() {
+        return Some(MOST_QUANTITY);
+    }
+    number_within(text, 1, MOST_QUANTITY)
+}
+
+// How much a need takes of a special resource. Where it is shared, an empty field means 1; where it is exclusive, the
+// field has to be empty, and it takes the whole.
+pub fn read_amount(mode: Mode, text: &[u8]) -> Option<u32>
+    ensures { IsReading (λ amount. IsAmountText mode text.now amount) result }
+{
+    match mode {
+        Mode::Shared => read_shared_amount(text),
+        Mode::Exclusive => read_no_amount(text),
+    }
+}
+
+// How much a shared need takes, or 1 where the field is empty.
+fn read_shared_amount(text: &[u8]) -> Option<u32>
+    ensures { IsReading (λ amount. IsAmountText Shared text.now amount) result }
+{
+    if text.is_empty() {
+        return Some(1);
+    }
+    number_within(text, 1, MOST_QUANTITY)
+}
+
+// Where a need is exclusive, the field is empty.
+fn read_no_amount(text: &[u8]) -> Option<u32>
+    ensures { IsReading (λ amount. IsAmountText Exclusive text.now amount) result }
+{
+    if text.is_empty() {
+        return Some(0);
+    }
+    None
+}
+
 // A need of a special resource.
-pub fn read_need(name: &[u8], mode: &[u8], keep: &[u8]) -> Option<Need>
-    ensures { IsReading (λ need. IsNeedAt name.now mode.now keep.now need) result }
+pub fn read_need(name: &[u8], mode: &[u8], keep: &[u8], amount: &[u8]) -> Option<Need>
+    ensures { IsReading (λ need. IsNeedAt name.now mode.now keep.now amount.now need) result }
 {
     let name = ResName::from_text(name)?;
     let mode = read_mode(mode)?;
     let keep = read_keep(keep)?;
-    Some(Need { name, mode, keep })
+    let amount = read_amount(mode, amount)?;
+    Some(Need {
+        name,
+        mode,
+        amount,
+        keep,
+    })
 }

@@ -1,15 +1,16 @@
 -- Whether an operation is allowed to start can be decided.
-use Rattle.std.proofs.Common.{◌≡◌, ◌≢◌, ◌⊎◌, inl, inr, refl, sym, ap, subst, arith, ℕ, ◌+◌, ◌≤◌, Bool, true, false, Option, Some, None}
+use Rattle.std.proofs.Common.{◌∙◌, ◌≡◌, ◌≢◌, ◌⊎◌, inl, inr, refl, sym, ap, subst, arith, ℕ, ◌+◌, ◌≤◌, true, false, List, Some}
 use Rattle.std.proofs.lemmas.Bool.{cases_lt}
-use Rattle.std.specs.FinMap.{get, nat_cmp-IsAntisymmetric}
+use Rattle.std.specs.FinMap.{get, keys, nat_cmp-IsAntisymmetric}
 use Rattle.std.specs.Cmp.{nat_cmp_total}
 use Rattle.plan_basics.specs.declared.Attr.TheVariants as attribute
 use Rattle.plan_basics.specs.declared.Refusal.{Refusal}
 use Rattle.plan_basics.specs.declared.Refusal.TheVariants as refusal
 use Rattle.plan_basics.specs.declared.keys.OpKey.{OpKey}
 use Rattle.plan_basics.specs.Intervals.{IsOpenAt, OpenInterval}
-use Rattle.plan_basics.specs.Keys.{Name, name_cmp-IsAntisymmetric, name_cmp_total}
-use Rattle.plan_records.specs.special_resources.specs.Holders.{SharesWithHolders, Usage}
+use Rattle.plan_basics.specs.Keys.{Name, name_cmp-IsAntisymmetric, name_cmp_total, operation_cmp, operation_cmp-IsAntisymmetric, operation_cmp_total}
+use Rattle.plan_records.specs.special_resources.proofs.Amounts.{AreAllHolders, all_holders, some_of_all}
+use Rattle.plan_records.specs.special_resources.specs.Holders.{FitsBeside, LeavesEnough, OtherHolds, SharesWithHolders, Usage, amount_held}
 use Rattle.plan_records.specs.special_resources.specs.declared.Mode.{Mode}
 use Rattle.plan_records.specs.special_resources.specs.declared.Mode.TheVariants as mode
 use Rattle.plan_records.specs.status_rules.specs.Table.{marked_status}
@@ -17,12 +18,17 @@ use Rattle.plan_records.specs.status_rules.specs.declared.Status.TheVariants as 
 use Rattle.plan_records.specs.workstations.specs.Workstations.{HasCapacity, HasRoom, Workstation, capacity_of}
 use Rattle.plan_records.specs.workstations.specs.declared.Capacity.{Capacity}
 use Rattle.plan_laws.proofs.Entries.{same_operation, told_at, told_each_at, told_entries, told_entry, told_has, told_operations}
-use Rattle.std.proofs.lemmas.Option.{none-some, same_Some}
+use Rattle.std.proofs.lemmas.Option.{same_Some}
 use Rattle.plan_laws.proofs.Numbers.{told_refusals}
 use Rattle.plan_laws.proofs.Readying.{ready_told}
 use Rattle.plan_laws.proofs.Standing.{status_told}
 use Rattle.plan_laws.proofs.Decide.{told_attribute}
 use Rattle.plan_records.specs.operation_graph.proofs.Telling.{Told, told_alike, told_and, told_if_then, told_none, told_or, told_true}
+use Rattle.plan_records.specs.plan_drafts.proofs.Lists.{pairs_from_differ}
+use Rattle.plan_records.specs.plan_drafts.proofs.Tables.{sorted_apart}
+use Rattle.plan_records.specs.plan_model.proofs.Entries.{entries_in_order}
+use Rattle.plan_records.specs.plan_model.proofs.Members.{in_keys}
+use Rattle.plan_records.specs.plan_model.specs.declared.Stock.{Stock}
 use Rattle.plan_records.specs.plan_model.specs.Holdings.{Holds, given_out, holds_resource, takes}
 use Rattle.plan_records.specs.plan_model.specs.Contents.{Contents, HasAttribute, Operation, attribute_at}
 use Rattle.plan_records.specs.plan_model.specs.Starts.{FitsAt, IsAllowedToStart, MayStart}
@@ -31,10 +37,6 @@ use Rattle.plan_records.specs.plan_model.specs.Valid.{IsAcyclic}
 
 pub told_le : (a b : ℕ) → Told (a ≤ b)
 told_le a b = elim (cases_lt b a) [ inl less ↦ inr (λ h. omega (arith, less, h)) | inr le ↦ inl le ]
-
-pub told_available : (x : Option Bool) (b : Bool) → Told (x ≡ Some b)
-told_available None b = inr (λ e. none-some b e)
-told_available (Some a) b = told_alike (λ e. ap Some e) (λ e. same_Some a b e) (told_true a b)
 
 told_shared : (m : Mode) → Told (m ≡ mode.Shared)
 told_shared mode.Shared = inl refl
@@ -72,14 +74,14 @@ module _ (P : Contents) where
 
   -- what one other operation takes of a resource is shared, if it takes any
   abbrev OtherShares : OpKey → Name → Usage → OpKey → Operation → Usage → Type 0
-  OtherShares o r usage other op held = other ≢ o → takes (attribute_at P op.workstation) ≡ true → holds_resource held.keep (marked_status op.mark) ≡ true → (usage.mode ≡ mode.Shared) × (held.mode ≡ mode.Shared)
+  OtherShares o r usage other op held = other ≢ o → takes (attribute_at P op.workstation) ≡ true → holds_resource held.keep (marked_status op.mark) ≡ true → (usage.claim.mode ≡ mode.Shared) × (held.claim.mode ≡ mode.Shared)
 
   other_told : (o : OpKey) (r : Name) (usage : Usage) (other : OpKey) (op : Operation) (held : Usage) → Told (OtherShares o r usage other op held)
   other_told o r usage other op held =
       told_if_then (told_none (same_operation other o)) (λ _.
       told_if_then (told_true (takes (attribute_at P op.workstation)) true) (λ _.
       told_if_then (told_true (holds_resource held.keep (marked_status op.mark)) true) (λ _.
-      told_and (told_shared usage.mode) (λ _. told_shared held.mode))))
+      told_and (told_shared usage.claim.mode) (λ _. told_shared held.claim.mode))))
 
   shares_told : (o : OpKey) (r : Name) (usage : Usage) → Told (SharesWithHolders (Holds P) o r usage)
   shares_told o r usage = told_alike {A = (other : OpKey) (op : Operation) → get P.operations other ≡ Some op → (held : Usage) → get op.needs r ≡ Some held → OtherShares o r usage other op held}
@@ -90,9 +92,46 @@ module _ (P : Contents) where
       told_each_at op.needs r (λ held. OtherShares o r usage other op held) (λ held n. other_told o r usage other op held)))
       (λ other not op e. absurd (not (op, e, tt))))
 
-  needs_told : (o : OpKey) (op : Operation) → Told ((r : Name) (usage : Usage) → get op.needs r ≡ Some usage → (get P.resources r ≡ Some true) × SharesWithHolders (Holds P) o r usage)
-  needs_told o op = told_entries op.needs name_cmp_total name_cmp-IsAntisymmetric (λ r usage. (get P.resources r ≡ Some true) × SharesWithHolders (Holds P) o r usage)
-      (λ r usage. told_and (told_available (get P.resources r) true) (λ _. shares_told o r usage))
+  -- how another operation holds the resource, if it does
+  other_holds : (o : OpKey) (r : Name) (k : OpKey) → Told ((held : Usage) × OtherHolds (Holds P) o k r held)
+  other_holds o r k = told_alike {A = (k ≢ o) × ((op : Operation) × (get P.operations k ≡ Some op) × ((held : Usage) × (get op.needs r ≡ Some held) × ((takes (attribute_at P op.workstation) ≡ true) × (holds_resource held.keep (marked_status op.mark) ≡ true))))}
+      (λ h. (h.1.2.0, (h.0, (h.1.0, h.1.1, (h.1.2.1, h.1.2.2.0, h.1.2.2.1)))))
+      (λ h. (h.1.0, (h.1.1.0, h.1.1.1, (h.0, h.1.1.2.0, (h.1.1.2.1, h.1.1.2.2)))))
+      (told_and (told_none (same_operation k o)) (λ _.
+      told_at P.operations k (λ op. (held : Usage) × (get op.needs r ≡ Some held) × ((takes (attribute_at P op.workstation) ≡ true) × (holds_resource held.keep (marked_status op.mark) ≡ true))) (λ op e.
+      told_at op.needs r (λ held. (takes (attribute_at P op.workstation) ≡ true) × (holds_resource held.keep (marked_status op.mark) ≡ true)) (λ held n.
+      told_and (told_true (takes (attribute_at P op.workstation)) true) (λ _. told_true (holds_resource held.keep (marked_status op.mark)) true)))))
+
+  -- it holds it in one way
+  one_holding : (o : OpKey) (r : Name) (k : OpKey) (x y : Usage) → OtherHolds (Holds P) o k r x → OtherHolds (Holds P) o k r y → x ≡ y
+  one_holding o r k x y h g = same_Some x y (sym h.1.2.0 ∙ ap (λ (z : Operation). get z.needs r) (same_Some h.1.0 g.1.0 (sym h.1.1 ∙ g.1.1)) ∙ g.1.2.0)
+
+  -- all others that hold it
+  pub others : (o : OpKey) (r : Name) → (hs : List (OpKey × ℕ)) × AreAllHolders same_operation (OtherHolds (Holds P) o) r hs
+  others o r = all_holders same_operation (OtherHolds (Holds P) o) r find (one_holding o r) (keys P.operations) (pairs_from_differ (λ a b. a ≢ b) (keys P.operations) (sorted_apart operation_cmp_total operation_cmp-IsAntisymmetric (keys P.operations) (entries_in_order operation_cmp P.operations)))
+      (λ k u h. in_keys operation_cmp-IsAntisymmetric P.operations k h.1.0 h.1.1)
+    where
+      find : (k : OpKey) → ((u : Usage) × OtherHolds (Holds P) o k r u) ⊎ ((u : Usage) → ¬ OtherHolds (Holds P) o k r u)
+      find k = elim (other_holds o r k) [ inl holds ↦ inl holds | inr none ↦ inr (λ u h. none (u, h)) ]
+
+  leaves_told : (quantity : ℕ) (o : OpKey) (r : Name) (usage : Usage) → Told (LeavesEnough quantity (Holds P) o r usage)
+  leaves_told quantity o r usage =
+      let all = others o r in
+      told_alike {A = amount_held all.0 + usage.claim.amount ≤ quantity}
+      (λ fits hs are. let most = some_of_all same_operation (OtherHolds (Holds P) o) r all.0 all.1 hs are in omega (arith, fits, most))
+      (λ leaves. leaves all.0 all.1.are)
+      (told_le (amount_held all.0 + usage.claim.amount) quantity)
+
+  abbrev IsThere : OpKey → Name → Usage → Type 0
+  IsThere o r usage = (stock : Stock) × (get P.resources r ≡ Some stock) × (stock.available ≡ true) × FitsBeside stock.quantity (Holds P) o r usage
+
+  needs_told : (o : OpKey) (op : Operation) → Told ((r : Name) (usage : Usage) → get op.needs r ≡ Some usage → IsThere o r usage)
+  needs_told o op = told_entries op.needs name_cmp_total name_cmp-IsAntisymmetric (IsThere o)
+      (λ r usage. told_alike {A = (stock : Stock) × (get P.resources r ≡ Some stock) × ((stock.available ≡ true) × FitsBeside stock.quantity (Holds P) o r usage)}
+      (λ h. (h.0, h.1, h.2.0, h.2.1))
+      (λ h. (h.0, h.1, (h.2, h.3)))
+      (told_at P.resources r (λ stock. (stock.available ≡ true) × FitsBeside stock.quantity (Holds P) o r usage) (λ stock e.
+      told_and (told_true stock.available true) (λ _. told_and (shares_told o r usage) (λ _. leaves_told stock.quantity o r usage)))))
 
   -- ---- all that an operation needs to start
 

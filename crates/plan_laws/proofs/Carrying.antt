@@ -2,10 +2,10 @@
 use Rattle.std.proofs.Common.{◌≡◌, ◌⊎◌, inl, inr, refl, sym, ◌∙◌, ap, subst, ℤ, Bool, true, false, cond, List, Option, Some, None, option_map, is_some}
 use Rattle.std.proofs.lemmas.Bool.{or_left, or_right}
 use Rattle.std.proofs.lemmas.Option.{none-some, same_Some}
-use Rattle.std.specs.FinMap.{get, get-empty, get-insert, insert, contains_key}
+use Rattle.std.specs.FinMap.{get, get-empty, contains_key}
 use Rattle.std.specs.FinSet as set
 use Rattle.std.specs.Ordering.{eq_by_cmp}
-use Rattle.plan_basics.specs.Keys.{Name, name_cmp, name_cmp-IsAntisymmetric, name_cmp_total, occurrence_cmp, occurrence_cmp_total, operation_cmp, operation_cmp_total}
+use Rattle.plan_basics.specs.Keys.{Name, name_cmp, name_cmp-IsAntisymmetric, occurrence_cmp, occurrence_cmp_total, operation_cmp, operation_cmp_total}
 use Rattle.plan_basics.specs.declared.Refusal.TheVariants as refusal
 use Rattle.plan_basics.specs.declared.keys.OccKey.{OccKey}
 use Rattle.plan_basics.specs.declared.keys.OpKey.{OpKey}
@@ -14,11 +14,12 @@ use Rattle.plan_records.specs.status_rules.specs.declared.Mark.{Mark}
 use Rattle.plan_records.specs.status_rules.specs.declared.Mark.TheVariants as mark
 use Rattle.plan_records.specs.workstations.specs.Workstations.{Workstation, with_intervals}
 use Rattle.plan_records.specs.plan_model.proofs.Looks.{as_named, get-named}
-use Rattle.plan_records.specs.plan_model.specs.Contents.{AddedParts, Contents, Operation, Precedes, nothing, pair_cmp}
+use Rattle.plan_records.specs.plan_model.specs.Contents.{AddedParts, Contents, Operation, Precedes, nothing, pair_cmp, with_availability}
 use Rattle.plan_records.specs.plan_model.specs.Plan.{Plan, IsSoundPlan}
 use Rattle.plan_records.specs.plan_model.specs.Ready.{named, with_mark}
 use Rattle.plan_records.specs.plan_model.specs.Revise.{get-joined, get-revise, revise}
 use Rattle.plan_records.specs.plan_model.specs.Valid.{IsValid}
+use Rattle.plan_records.specs.plan_model.specs.declared.Stock.{Stock}
 use Rattle.plan_records.specs.plan_drafts.proofs.Needed.{mapped}
 use Rattle.plan_records.specs.plan_drafts.proofs.Tables.{is_found}
 use Rattle.plan_records.specs.plan_drafts.specs.Drafts.{IsAddition}
@@ -35,7 +36,6 @@ use Rattle.plan_records.specs.declared.Request.{Request}
 use Rattle.plan_records.specs.declared.What.{What}
 use Rattle.plan_records.specs.declared.What.TheVariants as what
 use Rattle.plan_basics.specs.Refusals.{NoneRefuses}
-use Rattle.plan_laws.proofs.Changing.{or_found}
 use Rattle.plan_laws.proofs.ComingIn.{joined_first, not_own, only_first}
 use Rattle.plan_laws.proofs.Every.{every_step_keeps_sound, no_pair, nothing_at, nothing_known}
 use Rattle.plan_laws.proofs.Pairs.{pair_cmp_total}
@@ -44,10 +44,10 @@ use Rattle.plan_laws.proofs.Tabling.{some_row}
 use Rattle.plan_laws.proofs.Waiting.{some_occurrence_status}
 use Rattle.plan_laws.specs.Tables.{IsIntervalKey, OnlyIntervalsGo}
 
--- what P has, Q has under the same keys; an operation needs the same there
+-- what P has, Q has under the same keys; there is as much of a special resource, and an operation needs the same
 record Carries (P Q : Contents) : Type 0 where
   pub workstations : (w : Name) → contains_key P.workstations w ≡ true → contains_key Q.workstations w ≡ true
-  pub resources : (r : Name) → contains_key P.resources r ≡ true → contains_key Q.resources r ≡ true
+  pub resources : (r : Name) (stock : Stock) → get P.resources r ≡ Some stock → (x : Stock) × (get Q.resources r ≡ Some x) × (x.quantity ≡ stock.quantity)
   pub occurrences : (c : OccKey) → contains_key P.occurrences c ≡ true → contains_key Q.occurrences c ≡ true
   pub operations : (o : OpKey) (op : Operation) → get P.operations o ≡ Some op → (x : Operation) × (get Q.operations o ≡ Some x) × (x.needs ≡ op.needs)
   pub pairs : (p s : OpKey) → Precedes P p s → Precedes Q p s
@@ -57,7 +57,7 @@ record Carries (P Q : Contents) : Type 0 where
 all_carried : (P : Contents) → Carries P P
 all_carried P = record {
   workstations = λ w h. h;
-  resources = λ r h. h;
+  resources = λ r stock e. (stock, e, refl);
   occurrences = λ c h. h;
   operations = λ o op e. (op, e, refl);
   pairs = λ p s h. h;
@@ -66,7 +66,7 @@ all_carried P = record {
 carried_on : (P Q R : Contents) → Carries P Q → Carries Q R → Carries P R
 carried_on P Q R a b = record {
   workstations = λ w h. b.workstations w (a.workstations w h);
-  resources = λ r h. b.resources r (a.resources r h);
+  resources = λ r stock e. let x = a.resources r stock e in let y = b.resources r x.0 x.1 in (y.0, y.1, y.2 ∙ x.2);
   occurrences = λ c h. b.occurrences c (a.occurrences c h);
   operations = λ o op e. let x = a.operations o op e in let y = b.operations o x.0 x.1 in (y.0, y.1, y.2 ∙ x.2);
   pairs = λ p s h. b.pairs p s (a.pairs p s h);
@@ -75,7 +75,7 @@ carried_on P Q R a b = record {
 nothing_carried : (Q : Contents) → Carries nothing Q
 nothing_carried Q = record {
   workstations = λ w h. nothing_known (get nothing.workstations w) (get-empty name_cmp w) h;
-  resources = λ r h. nothing_known (get nothing.resources r) (get-empty name_cmp r) h;
+  resources = λ r stock e. nothing_at (get nothing.resources r) stock (get-empty name_cmp r) e;
   occurrences = λ c h. nothing_known (get nothing.occurrences c) (get-empty occurrence_cmp c) h;
   operations = λ o op e. nothing_at (get nothing.operations o) op (get-empty operation_cmp o) e;
   pairs = λ p s h. absurd (no_pair p s h);
@@ -88,7 +88,7 @@ same_needs false x op e = refl
 revised_carried : (test : OpKey → Bool) (f : Operation → Operation) (P : Contents) → ((op : Operation) → (f op).needs ≡ op.needs) → Carries P (revised test f P)
 revised_carried test f P keeps = record {
   workstations = λ w h. h;
-  resources = λ r h. h;
+  resources = λ r stock e. (stock, e, refl);
   occurrences = λ c h. h;
   operations = λ o op e. (cond (test o) (f op) op, get-revised test f P o ∙ ap (option_map (λ z. cond (test o) (f z) z)) e, same_needs (test o) (f op) op (keeps op));
   pairs = λ p s h. h;
@@ -100,7 +100,7 @@ marks_carried test m P = revised_carried test (with_mark m) P (λ op. refl)
 named_carried : (os : List OpKey) (P : Contents) → Carries P (named os P)
 named_carried os P = record {
   workstations = λ w h. h;
-  resources = λ r h. h;
+  resources = λ r stock e. (stock, e, refl);
   occurrences = λ c h. h;
   operations = λ o op e. (as_named os o op, get-named os P o ∙ ap (option_map (as_named os o)) e, same_needs (is_among os o) (with_mark mark.Named op) op refl);
   pairs = λ p s h. h;
@@ -109,7 +109,7 @@ named_carried os P = record {
 pair_carried : (P : Contents) (p s : OpKey) → Carries P (with_pair P p s)
 pair_carried P p s = record {
   workstations = λ w h. h;
-  resources = λ r h. h;
+  resources = λ r stock e. (stock, e, refl);
   occurrences = λ c h. h;
   operations = λ o op e. (op, e, refl);
   pairs = λ a b h. set.contains-insert pair_cmp_total P.pairs (p, s) (a, b) ∙ or_right (eq_by_cmp pair_cmp (a, b) (p, s)) (set.contains P.pairs (a, b)) h;
@@ -119,7 +119,7 @@ pair_carried P p s = record {
 addition_carried : (P : Contents) (s : AddedParts) → IsValid P → IsAddition s → MayBeAdded P s refusal.Duplicate → Carries P (with_added P s)
 addition_carried P s valid addition new = record {
   workstations = λ w h. h;
-  resources = λ r h. h;
+  resources = λ r stock e. (stock, e, refl);
   occurrences = λ c h. joined_first occurrence_cmp_total P.occurrences s.occurrences c h;
   operations = λ o op e. (op, get-joined operation_cmp_total P.operations s.operations o ∙ only_first (get s.operations o) (get P.operations o) op (λ h. own_twice o op e (is_found (get s.operations o) h)) e, refl);
   pairs = λ p o h. set.contains-union pair_cmp_total P.pairs s.pairs (p, o) ∙ or_left (set.contains P.pairs (p, o)) (set.contains s.pairs (p, o)) h;
@@ -128,10 +128,18 @@ addition_carried P s valid addition new = record {
     own_twice : (o : OpKey) (op : Operation) → get P.operations o ≡ Some op → (x : Operation) × (get s.operations o ≡ Some x) → ⊥
     own_twice o op e x = not_own P s valid new o (ap is_some e) (addition.occurrences.each_operation o x.0 x.1).1
 
-availability_carried : (P : Contents) (r : Name) (available : Bool) → Carries P (record P { resources = insert P.resources r available })
+as_much : (b : Bool) (x stock : Stock) → x.quantity ≡ stock.quantity → (cond b x stock).quantity ≡ stock.quantity
+as_much true x stock e = e
+as_much false x stock e = refl
+
+availability_carried : (P : Contents) (r : Name) (available : Bool) → Carries P (record P { resources = revise (with_availability r available) P.resources })
 availability_carried P r available = record {
   workstations = λ w h. h;
-  resources = λ n h. ap is_some (get-insert name_cmp_total P.resources r available n) ∙ or_found (eq_by_cmp name_cmp n r) available (get P.resources n) h;
+  resources = λ n stock e. (
+    with_availability r available n stock,
+    get-revise name_cmp-IsAntisymmetric (with_availability r available) P.resources n ∙ ap (option_map (with_availability r available n)) e,
+    as_much (eq_by_cmp name_cmp n r) (record stock { available = available }) stock refl,
+  );
   occurrences = λ c h. h;
   operations = λ o op e. (op, e, refl);
   pairs = λ p s h. h;
@@ -140,7 +148,7 @@ availability_carried P r available = record {
 workstations_carried : (P : Contents) (f : Name → Workstation → Workstation) → Carries P (record P { workstations = revise f P.workstations })
 workstations_carried P f = record {
   workstations = λ v h. let one = is_found (get P.workstations v) h in ap is_some (get-revise name_cmp-IsAntisymmetric f P.workstations v ∙ ap (option_map (f v)) one.1);
-  resources = λ r h. h;
+  resources = λ r stock e. (stock, e, refl);
   occurrences = λ c h. h;
   operations = λ o op e. (op, e, refl);
   pairs = λ p s h. h;
@@ -185,15 +193,15 @@ every_change_carries (what.ReplaceIntervals w items) P Q at sound may request c 
 module _ (P Q : Plan) (valid : IsValid Q.contents) (carries : Carries P.contents Q.contents) where
   -- the key of a row of P is an interval's, or one of a row of Q
   still_keyed : (r : PlanRow) → IsRow P r → IsIntervalKey (key_of r) ⊎ HasKey Q (key_of r)
-  still_keyed (row.Meta version loaded clock) h = inr (row.Meta 1 Q.loaded Q.clock, (refl, refl, refl), refl)
+  still_keyed (row.Meta version loaded clock) h = inr (row.Meta 2 Q.loaded Q.clock, (refl, refl, refl), refl)
   still_keyed (row.Workstation w a) h =
       let old = mapped (λ ws. ws.attribute) (get P.contents.workstations w) a h in
       let ws = is_found (get Q.contents.workstations w) (carries.workstations w (ap is_some old.1)) in
       inr (row.Workstation w ws.0.attribute, ap (option_map (λ ws. ws.attribute)) ws.1, refl)
   still_keyed (row.Interval w i) h = inl (w, i.from, refl)
   still_keyed (row.Resource r available) h =
-      let now = is_found (get Q.contents.resources r) (carries.resources r (ap is_some h)) in
-      inr (row.Resource r now.0, now.1, refl)
+      let now = carries.resources r h.0 h.1 in
+      inr (row.Resource r now.0.available, (now.0, now.1, refl), refl)
   still_keyed (row.Occurrence c priority deadline status) h =
       let now = is_found (get Q.contents.occurrences c) (carries.occurrences c (ap is_some h.0)) in
       let status = some_occurrence_status Q.contents valid.acyclic c in
@@ -203,9 +211,15 @@ module _ (P Q : Plan) (valid : IsValid Q.contents) (carries : Carries P.contents
       let made = some_row Q.contents valid r.op now.0 now.1 in
       inr (row.Operation made.0, made.2, ap key.Operation made.1)
   still_keyed (row.Dependency p s) h = inr (row.Dependency p s, carries.pairs p s h, refl)
-  still_keyed (row.Need o n) h =
+  still_keyed (row.Need o r mode keep) h =
       let now = carries.operations o h.0 h.1 in
-      inr (row.Need o n, (now.0, now.1, ap (λ needs. get needs n.name) now.2 ∙ h.2), refl)
+      inr (row.Need o r mode keep, (now.0, now.1, (h.2.0, ap (λ needs. get needs r) now.2 ∙ h.2.1, h.2.2, h.2.3)), refl)
+  still_keyed (row.Quantity r quantity) h =
+      let now = carries.resources r h.0 h.1 in
+      inr (row.Quantity r quantity, (now.0, now.1, now.2 ∙ h.2, h.3), refl)
+  still_keyed (row.Amount o r amount) h =
+      let now = carries.operations o h.0 h.1 in
+      inr (row.Amount o r amount, (now.0, now.1, (h.2.0, ap (λ needs. get needs r) now.2 ∙ h.2.1, h.2.2, h.2.3)), refl)
 
   gone_is_interval : (k : RowKey) → HasKey P k → ¬ HasKey Q k → IsIntervalKey k
   gone_is_interval k old none = elim (still_keyed old.0 old.1) [

@@ -4,7 +4,7 @@ use Rattle.std.specs.Ordering.{eq_by_cmp}
 use Rattle.std.specs.Cmp.{Equal-is}
 use Rattle.std.specs.FinMap.{get, insert, get-insert, len, len-insert, contains_key}
 use Rattle.std.proofs.lemmas.Bool.{cond_both}
-use Rattle.plan_basics.specs.declared.limits.TheConstants.{MOST_RESOURCES, MOST_WORKSTATIONS}
+use Rattle.plan_basics.specs.declared.limits.TheConstants.{MOST_QUANTITY, MOST_RESOURCES, MOST_WORKSTATIONS}
 use Rattle.plan_basics.specs.declared.Refusal.TheVariants as refusal
 use Rattle.plan_records.specs.status_rules.specs.declared.Mark.TheVariants as mark
 use Rattle.plan_records.specs.declared.What.TheVariants as what
@@ -12,19 +12,22 @@ use Rattle.plan_basics.specs.declared.moments.Interval.{Interval}
 use Rattle.std.proofs.Common.{Vec, Global}
 use Rattle.plan_basics.specs.Intervals.{OpenInterval}
 use Rattle.plan_basics.specs.Keys.{Name, name_cmp, name_cmp-IsAntisymmetric, name_cmp_total}
-use Rattle.plan_basics.specs.Names.{IsName}
+use Rattle.plan_basics.specs.Names.{IsName, IsResourceName}
+use Rattle.plan_laws.proofs.Entries.{same_operation}
+use Rattle.plan_records.specs.special_resources.proofs.Amounts.{no_more, none_held}
 use Rattle.plan_basics.specs.declared.keys.OpKey.{OpKey}
 use Rattle.plan_records.specs.plan_drafts.proofs.Tables.{is_found}
 use Rattle.plan_records.specs.plan_drafts.proofs.Needed.{mapped}
 use Rattle.std.proofs.lemmas.Option.{same_Some}
 use Rattle.plan_records.specs.plan_model.specs.Holdings.{Holds, holds_resource, takes}
-use Rattle.plan_records.specs.plan_model.specs.Contents.{Contents, Operation, attribute_at}
+use Rattle.plan_records.specs.plan_model.specs.Contents.{Contents, Operation, attribute_at, with_availability}
+use Rattle.plan_records.specs.plan_model.specs.declared.Stock.{Stock}
 use Rattle.plan_records.specs.plan_model.specs.Revise.{get-revise, len-revise, revise}
 use Rattle.plan_records.specs.plan_model.specs.Status.{IsSatisfied, NeedsNoReport}
 use Rattle.plan_records.specs.plan_model.specs.Valid.{IsSound, MayBear}
 use Rattle.plan_records.specs.plan_drafts.specs.Drafts.{IsDraft}
 use Rattle.plan_records.specs.Laws.{ChangeKeepsSound}
-use Rattle.plan_records.specs.special_resources.specs.Holders.{Usage}
+use Rattle.plan_records.specs.special_resources.specs.Holders.{HoldNoMoreThan, Usage}
 use Rattle.plan_records.specs.status_rules.specs.LeastSet.{LeastSet, by_all_before, by_given}
 use Rattle.plan_records.specs.status_rules.specs.Table.{marked_status}
 use Rattle.plan_records.specs.workstations.proofs.Lookups.{opened_is}
@@ -37,6 +40,7 @@ draft_is_sound P d = record {
   valid = d.valid;
   in_order = λ o h. absurd (h.2.0 (d.untouched o h.0 h.1).0);
   compatible = λ a b r x y apart ha hb. absurd (true≢false (sym (ap (λ z. holds_resource x.keep (marked_status z)) (sym (d.untouched a ha.0 ha.1).0) ∙ ha.2.2)));
+  within = λ r stock known. none_held same_operation r stock.quantity (Holds P) (λ o x h. true≢false (sym (ap (λ z. holds_resource x.keep (marked_status z)) (sym (d.untouched o h.0 h.1).0) ∙ h.2.2)));
   held = λ o op e h. inl (d.untouched o op e).0;
   marks = λ o op a e w. subst (MayBear a) (sym (d.untouched o op e).0) tt;
   deleted = λ a b e ha op hb. absurd (let k : mark.Unmarked ≡ mark.Deleted = sym (d.untouched a ha.0 ha.1).0 ∙ ha.2 in cc);
@@ -47,51 +51,48 @@ load_keeps_sound d P Q at sound may request c = subst IsSound (same_Some d Q c) 
 
 -- ---- availability
 
-found_or : {X : Type 0} (b : Bool) (v : X) (x : Option X) → is_some (cond b (Some v) x) ≡ true → (b ≡ true) ⊎ (is_some x ≡ true)
-found_or true v x e = inl refl
-found_or false v x e = inr e
+module _ (P : Contents) (sound : IsSound P) (r : Name) (available : Bool) where
+  abbrev made : Name → Stock → Stock
+  made = with_availability r available
 
-pub or_found : {X : Type 0} (b : Bool) (v : X) (x : Option X) → is_some x ≡ true → is_some (cond b (Some v) x) ≡ true
-or_found true v x e = refl
-or_found false v x e = e
-
-module _ (P : Contents) (sound : IsSound P) (r : Name) (available : Bool) (known : contains_key P.resources r ≡ true) where
   abbrev after : Contents
-  after = record P { resources = insert P.resources r available }
+  after = record P { resources = revise made P.resources }
+
+  found_now : (n : Name) → get after.resources n ≡ option_map (made n) (get P.resources n)
+  found_now n = get-revise name_cmp-IsAntisymmetric made P.resources n
 
   still_there : (n : Name) → contains_key P.resources n ≡ true → contains_key after.resources n ≡ true
-  still_there n h = ap is_some (get-insert name_cmp_total P.resources r available n) ∙ or_found (eq_by_cmp name_cmp n r) available (get P.resources n) h
+  still_there n h = let one = is_found (get P.resources n) h in ap is_some (found_now n ∙ ap (option_map (made n)) one.1)
 
-  was_there : (n : Name) → contains_key after.resources n ≡ true → contains_key P.resources n ≡ true
-  was_there n h = elim (found_or (eq_by_cmp name_cmp n r) available (get P.resources n) (ap is_some (sym (get-insert name_cmp_total P.resources r available n)) ∙ h)) [
-    | inl e ↦ subst (λ z. contains_key P.resources z ≡ true) (sym (name_cmp-IsAntisymmetric n r ((Equal-is (name_cmp n r)).0 e))) known
-    | inr old ↦ old
-  ]
-
-  as_many : len after.resources ≡ len P.resources
-  as_many = len-insert name_cmp_total P.resources r available ∙ ap (λ b. cond b (len P.resources) (len P.resources + 1)) known
+  -- what is found was of as much before, and what was found is of as much
+  was_found : (n : Name) (stock : Stock) → get after.resources n ≡ Some stock → (old : Stock) × (get P.resources n ≡ Some old) × (old.quantity ≡ stock.quantity)
+  was_found n stock e =
+      let m = mapped (made n) (get P.resources n) stock (sym (found_now n) ∙ e) in
+      (m.0, m.1, cond_both (eq_by_cmp name_cmp n r) (record m.0 { available = available }) m.0 (λ z. m.0.quantity ≡ z.quantity) (λ t. refl) (λ t. refl) ∙ ap (λ z. z.quantity) m.2)
 
   pub availability_is_sound : IsSound after
   availability_is_sound = let v = sound.valid in record {
     valid = record {
       workstations = v.workstations;
-      resources = λ n h. v.resources n (was_there n h);
+      resources = λ n stock e. let w = was_found n stock e in subst (λ q. IsResourceName n × (1 ≤ q) × (q ≤ MOST_QUANTITY)) w.2 (v.resources n w.0 w.1);
       occurrences = v.occurrences;
       have_workstations = v.have_workstations;
       have_resources = λ o op e n usage h. still_there n (v.have_resources o op e n usage h);
+      amounts = λ o op e n usage h stock known. let w = was_found n stock known in subst (λ q. usage.claim.amount ≤ q) w.2 (v.amounts o op e n usage h w.0 w.1);
       pairs = v.pairs;
       acyclic = v.acyclic;
-      limits = record { workstations = v.limits.workstations; resources = subst (λ n. n ≤ MOST_RESOURCES) (sym as_many) v.limits.resources; occurrences = v.limits.occurrences; operations = v.limits.operations; pairs = v.limits.pairs };
+      limits = record { workstations = v.limits.workstations; resources = subst (λ n. n ≤ MOST_RESOURCES) (sym (len-revise made P.resources)) v.limits.resources; occurrences = v.limits.occurrences; operations = v.limits.operations; pairs = v.limits.pairs };
     };
     in_order = sound.in_order;
     compatible = sound.compatible;
+    within = λ n stock known. let w = was_found n stock known in subst (λ q. HoldNoMoreThan q (Holds P) n) w.2 (sound.within n w.0 w.1);
     held = sound.held;
     marks = sound.marks;
     deleted = sound.deleted;
   }
 
 pub availability_keeps_sound : (r : Name) (available : Bool) → ChangeKeepsSound (what.SetAvailable r available)
-availability_keeps_sound r available P Q at sound may request c = subst IsSound (sym c) (availability_is_sound P.contents sound.contents r available (may refusal.UnknownResource))
+availability_keeps_sound r available P Q at sound may request c = subst IsSound (sym c) (availability_is_sound P.contents sound.contents r available)
 
 -- ---- intervals
 
@@ -142,12 +143,14 @@ module _ (P : Contents) (sound : IsSound P) (w : Name) (known : contains_key P.w
       occurrences = v.occurrences;
       have_workstations = λ o op e. still_known op.workstation (v.have_workstations o op e);
       have_resources = v.have_resources;
+      amounts = v.amounts;
       pairs = v.pairs;
       acyclic = v.acyclic;
       limits = record { workstations = subst (λ n. n ≤ MOST_WORKSTATIONS) (sym (len-revise _ P.workstations)) v.limits.workstations; resources = v.limits.resources; occurrences = v.limits.occurrences; operations = v.limits.operations; pairs = v.limits.pairs };
     };
     in_order = λ o h p live. still (sound.in_order o h p live);
     compatible = λ a b r x y apart ha hb. sound.compatible a b r x y apart (held_before a r x ha) (held_before b r y hb);
+    within = λ r stock known. no_more same_operation r stock.quantity (Holds P) (Holds reopened) (λ q x h. held_before q r x h) (sound.within r stock known);
     held = sound.held;
     marks = λ o op a e on. sound.marks o op a e (sym (same_attribute op.workstation) ∙ on);
     deleted = sound.deleted;

@@ -12,6 +12,7 @@ use Rattle.std.specs.declared.cmp.Ordering.{Ordering}
 use Rattle.plan_basics.specs.Keys.{Name, occurrence_cmp_total, operation_cmp_total}
 use Rattle.plan_basics.specs.declared.Refusal.{Refusal}
 use Rattle.plan_basics.specs.declared.keys.OpKey.{OpKey}
+use Rattle.plan_laws.proofs.Entries.{same_operation}
 use Rattle.plan_laws.proofs.Pairs.{pair_cmp_total, pair_same}
 use Rattle.plan_laws.proofs.Flags.{waiting_not_satisfied, waiting_unmarked}
 use Rattle.plan_records.specs.plan_drafts.proofs.Tables.{is_found}
@@ -25,6 +26,7 @@ use Rattle.plan_records.specs.Acceptance.{IsNew, IsOld, MayBeAdded}
 use Rattle.plan_records.specs.Changes.{with_added}
 use Rattle.plan_records.specs.plan_drafts.specs.Drafts.{IsAddition, IsOwn}
 use Rattle.plan_records.specs.Laws.{ChangeKeepsSound}
+use Rattle.plan_records.specs.special_resources.proofs.Amounts.{no_more}
 use Rattle.plan_records.specs.special_resources.specs.Holders.{Usage}
 use Rattle.plan_records.specs.status_rules.specs.LeastSet.{by_all_before, by_given}
 use Rattle.plan_records.specs.status_rules.specs.Table.{marked_status}
@@ -75,6 +77,7 @@ module _ (P : Contents) (sound : IsSound P) (occurrences : Occurrences) (operati
         | inr new ↦ absurd (h.2.0 new.0.0)
       ];
       compatible = λ a b r x y apart ha hb. sound.compatible a b r x y apart (held_before a r x ha) (held_before b r y hb);
+      within = λ r stock known. no_more same_operation r stock.quantity (Holds P) (Holds grown) (λ q x h. held_before q r x h) (sound.within r stock known);
       held = λ q x e h. elim (g.from q x e) [ inl old ↦ sound.held q x old h | inr new ↦ absurd (true≢false (sym h ∙ new.0.1)) ];
       marks = λ q x a e w. elim (g.from q x e) [ inl old ↦ sound.marks q x a old w | inr new ↦ subst (MayBear a) (sym new.0.0) tt ];
       deleted = λ a b e ha x hb. elim (g.from a ha.0 ha.1) [
@@ -108,6 +111,7 @@ pair_keeps_sound p s P Q at sound may request c =
         occurrences = v.occurrences;
         have_workstations = v.have_workstations;
         have_resources = v.have_resources;
+        amounts = v.amounts;
         pairs = λ a b h. elim (new_pair P.contents p s a b h) [
           | inl e ↦ (subst (λ z. contains_key P.contents.operations z ≡ true) (sym e.0) (known_in P.contents p known.0), subst (λ z. contains_key P.contents.operations z ≡ true) (sym e.1) (known_in P.contents s known.1))
           | inr old ↦ v.pairs a b old
@@ -208,12 +212,13 @@ module _ (P : Contents) (sound : IsSound P) (s : AddedParts) (addition : IsAddit
       occurrences = occurrences_of_both;
       have_workstations = λ o x e. elim (cases o x e) [ inl new ↦ may refusal.UnknownWorkstation o x new | inr old ↦ sound.valid.have_workstations o x old ];
       have_resources = λ o x e r usage n. elim (cases o x e) [ inl new ↦ may refusal.UnknownResource o x new r usage n | inr old ↦ sound.valid.have_resources o x old r usage n ];
+      amounts = λ o x e r usage n. elim (cases o x e) [ inl new ↦ (may refusal.Limit).1 o x new r usage n | inr old ↦ sound.valid.amounts o x old r usage n ];
       pairs = λ p o h. elim (pair_cases P s p o h) [
         | inl old ↦ let both = sound.valid.pairs p o old in (from_first P s p both.0, from_first P s o both.1)
         | inr new ↦ let both = may refusal.UnknownOperation p o new in (an_end P s p both.0, an_end P s o both.1)
       ];
       acyclic = may refusal.Cycle;
-      limits = may refusal.Limit;
+      limits = (may refusal.Limit).0;
     };
     old = λ o x e. get-joined operation_cmp_total P.operations s.operations o ∙ only_first (get s.operations o) (get P.operations o) x (λ h. let one = is_found (get s.operations o) h in not_own P s sound.valid (may refusal.Duplicate) o (ap is_some e) (own o one.0 one.1)) e;
     from = λ o x e. elim (cases o x e) [

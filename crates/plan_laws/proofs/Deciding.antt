@@ -1,5 +1,5 @@
 -- Whether a request may be accepted can be decided, refusal by refusal.
-use Rattle.std.proofs.Common.{◌≡◌, ◌⊎◌, inl, inr, refl, sym, subst, arith, ℕ, Bool, true, false, List, length, Option, Some, None, ℤ, pos, negsuc, is_some}
+use Rattle.std.proofs.Common.{◌≡◌, ◌⊎◌, inl, inr, refl, sym, subst, arith, ℕ, ◌≤◌, Bool, true, false, List, length, Option, Some, None, ℤ, pos, negsuc, is_some}
 use Rattle.std.specs.Prelude.{◌≤ℤ◌}
 use Rattle.std.specs.FinMap.{contains_key, get}
 use Rattle.std.specs.FinSet as set
@@ -28,7 +28,9 @@ use Rattle.plan_laws.proofs.Decide.{told_attribute}
 use Rattle.plan_records.specs.operation_graph.proofs.Telling.{Told, told_alike, told_and, told_if_then, told_none, told_or, told_true}
 use Rattle.plan_records.specs.plan_model.specs.Plan.{Plan}
 use Rattle.plan_records.specs.plan_model.specs.Contents.{Contents, Operation, AddedParts, attribute_at}
-use Rattle.plan_records.specs.plan_model.specs.Valid.{HaveResources, HaveWorkstations, IsAcyclic}
+use Rattle.plan_records.specs.plan_model.specs.Valid.{AmountsFit, HaveResources, HaveWorkstations, IsAcyclic}
+use Rattle.plan_records.specs.plan_model.specs.declared.Stock.{Stock}
+use Rattle.plan_records.specs.special_resources.specs.Holders.{Usage}
 use Rattle.plan_records.specs.Acceptance.{IsBadText, IsLoad, IsNew, IsOld, MayBeAccepted, MayBeAdded, MayBeCompleted, MayBeDeleted, MayBeDone, MayBeEnded, MayBeFlagged, MayBeInterrupted, MayBeLoaded, MayBeOpenBy, MayBePaired, MayBeRerun, MayBeSetAvailable, MayBeStarted, MayBeUndecided, NeedsPlan, OfOperation, minute_of}
 use Rattle.plan_records.specs.Changes.{with_pair, with_added}
 use Rattle.plan_records.specs.declared.Request.{Request}
@@ -110,6 +112,12 @@ module _ (P : Contents) (acyclic : IsAcyclic P.pairs) where
     resources_told = told_entries s.operations operation_cmp_total operation_cmp-IsAntisymmetric (λ o op. (r : Name) (usage : _) → get op.needs r ≡ Some usage → contains_key P.resources r ≡ true)
         (λ o op. told_entries op.needs name_cmp_total name_cmp-IsAntisymmetric (λ r usage. contains_key P.resources r ≡ true) (λ r usage. told_has_key (contains_key P.resources r)))
 
+    amounts_told : Told (AmountsFit P.resources s.operations)
+    amounts_told = told_entries s.operations operation_cmp_total operation_cmp-IsAntisymmetric
+        (λ o op. (r : Name) (usage : Usage) → get op.needs r ≡ Some usage → (stock : Stock) → get P.resources r ≡ Some stock → usage.claim.amount ≤ stock.quantity)
+        (λ o op. told_entries op.needs name_cmp_total name_cmp-IsAntisymmetric (λ r usage. (stock : Stock) → get P.resources r ≡ Some stock → usage.claim.amount ≤ stock.quantity)
+        (λ r usage. told_each_at P.resources r (λ stock. usage.claim.amount ≤ stock.quantity) (λ stock e. told_le usage.claim.amount stock.quantity)))
+
     added_told : (r : Refusal) → Told (MayBeAdded P s r)
     added_told refusal.UnknownOperation = told_pairs s.pairs (λ p o. (IsNew s p ⊎ IsOld P s p) × (IsNew s o ⊎ IsOld P s o)) (λ p o. told_and (told_or (new_told p) (old_told p)) (λ _. told_or (new_told o) (old_told o)))
     added_told refusal.UnknownWorkstation = workstations_told
@@ -117,7 +125,7 @@ module _ (P : Contents) (acyclic : IsAcyclic P.pairs) where
     added_told refusal.WrongStatus = told_pairs s.pairs _ (λ p o. told_and (told_if_then (old_told o) (λ _. waiting_or_ready_told P acyclic o)) (λ _. told_if_then (old_told p) (λ _. told_none (status_told P acyclic p status.Deleted))))
     added_told refusal.Duplicate = told_keys occurrence_cmp_total occurrence_cmp-IsAntisymmetric s.occurrences (λ c. contains_key P.occurrences c ≡ false) (λ c. told_true (contains_key P.occurrences c) false)
     added_told refusal.Cycle = told_acyclic_pairs (with_added P s).pairs
-    added_told refusal.Limit = limits_told (with_added P s)
+    added_told refusal.Limit = told_and (limits_told (with_added P s)) (λ _. amounts_told)
     added_told r = inl tt
 
   paired_told : (p s : OpKey) (r : Refusal) → Told (MayBePaired P p s r)

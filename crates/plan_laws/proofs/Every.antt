@@ -1,5 +1,5 @@
 -- Every step and every run keeps a plan sound, and what becomes started is provided for.
-use Rattle.std.proofs.Common.{◌≡◌, ◌⊎◌, inl, inr, refl, sym, ◌∙◌, ap, subst, true≢false, arith, Bool, true, List, [], ◌∷◌, Option, Some, None, is_some}
+use Rattle.std.proofs.Common.{◌≡◌, ◌⊎◌, inl, inr, refl, sym, ◌∙◌, ap, subst, true≢false, arith, true, List, [], ◌∷◌, Option, Some, None, is_some}
 use Rattle.std.specs.FinMap.{get, len-empty, get-empty}
 use Rattle.std.specs.FinSet as set
 use Rattle.plan_records.specs.status_rules.specs.declared.Status.TheVariants as status
@@ -21,6 +21,7 @@ use Rattle.plan_laws.proofs.Starts.{starts_are_provided_for}
 use Rattle.plan_records.specs.plan_model.specs.Plan.{Plan, no_plan, IsSoundPlan}
 use Rattle.plan_records.specs.plan_model.specs.Contents.{nothing, IsPairOf, Operation, pair_cmp}
 use Rattle.plan_records.specs.plan_model.specs.declared.Occurrence.{Occurrence}
+use Rattle.plan_records.specs.plan_model.specs.declared.Stock.{Stock}
 use Rattle.plan_records.specs.plan_model.specs.Status.{HasStatus}
 use Rattle.plan_records.specs.plan_model.specs.Valid.{IsSound}
 use Rattle.plan_records.specs.Laws.{BecomesStarted, ChangeKeepsSound, ReachedStartsAreProvidedFor, RunKeepsSound, StepKeepsSound, request_of}
@@ -98,7 +99,7 @@ nothing_is_sound : IsSound nothing
 nothing_is_sound = record {
   valid = record {
     workstations = λ w ws e. nothing_at (get nothing.workstations w) ws (get-empty name_cmp w) e;
-    resources = λ r h. nothing_known (get nothing.resources r) (get-empty name_cmp r) h;
+    resources = λ r stock e. nothing_at (get nothing.resources r) stock (get-empty name_cmp r) e;
     occurrences = record {
       each_occurrence = λ c x e. nothing_at (get nothing.occurrences c) x (get-empty occurrence_cmp c) e;
       each_operation = λ o x e. nothing_at (get nothing.operations o) x (get-empty operation_cmp o) e;
@@ -106,11 +107,12 @@ nothing_is_sound = record {
     };
     have_workstations = λ o op e. nothing_at (get nothing.operations o) op (get-empty operation_cmp o) e;
     have_resources = λ o op e. nothing_at (get nothing.operations o) op (get-empty operation_cmp o) e;
+    amounts = λ o op e. nothing_at (get nothing.operations o) op (get-empty operation_cmp o) e;
     pairs = λ p o h. absurd (no_pair p o h);
     acyclic = λ o h. no_path no_pair h;
     limits = record {
       workstations = rw (len-empty name_cmp Workstation) (omega arith);
-      resources = rw (len-empty name_cmp Bool) (omega arith);
+      resources = rw (len-empty name_cmp Stock) (omega arith);
       occurrences = rw (len-empty occurrence_cmp Occurrence) (omega arith);
       operations = rw (len-empty operation_cmp Operation) (omega arith);
       pairs = rw (set.len-empty pair_cmp) (omega arith);
@@ -118,6 +120,7 @@ nothing_is_sound = record {
   };
   in_order = λ o h. nothing_at (get nothing.operations o) h.0 (get-empty operation_cmp o) h.1;
   compatible = λ a b r x y apart ha hb. nothing_at (get nothing.operations a) ha.0 (get-empty operation_cmp a) ha.1;
+  within = λ r stock e. nothing_at (get nothing.resources r) stock (get-empty name_cmp r) e;
   held = λ o op e h. nothing_at (get nothing.operations o) op (get-empty operation_cmp o) e;
   marks = λ o op a e w. nothing_at (get nothing.operations o) op (get-empty operation_cmp o) e;
   deleted = λ a b e ha op hb. nothing_at (get nothing.operations a) ha.0 (get-empty operation_cmp a) ha.1;

@@ -46,3 +46,4 @@ pub mod Tables
 pub mod Tabling
 pub mod Waiting
 pub mod Work
+pub mod SomeOfEach

@@ -5,7 +5,6 @@ use Rattle.std.specs.Ordering.{is_eq}
 use Rattle.std.specs.Cmp.{tied_itself}
 use Rattle.std.specs.FinMap.{get}
 use Rattle.plan_records.specs.status_rules.specs.declared.Mark.TheVariants as mark
-use Rattle.plan_records.specs.special_resources.specs.declared.Mode.TheVariants.{Shared}
 use Rattle.plan_basics.specs.Keys.{Name, operation_cmp_total}
 use Rattle.plan_basics.specs.Names.{IsName}
 use Rattle.plan_basics.specs.declared.Attr.{Attr}
@@ -16,13 +15,19 @@ use Rattle.std.proofs.lemmas.Option.{same_Some}
 use Rattle.plan_laws.proofs.Revising.{now_at, now_elsewhere, valid_revised, was, with_state}
 use Rattle.plan_records.specs.plan_model.specs.Holdings.{Holds}
 use Rattle.plan_records.specs.plan_model.specs.Contents.{Contents, Has, HasAttribute, IsLive, LivePredecessor, Operation, attribute_at}
+use Rattle.plan_records.specs.plan_model.specs.declared.Stock.{Stock}
 use Rattle.plan_records.specs.plan_model.specs.Ready.{with_mark}
 use Rattle.plan_records.specs.plan_model.specs.Status.{AllPredecessorsSatisfied, IsSatisfied}
 use Rattle.plan_records.specs.plan_model.specs.Valid.{IsOperation, IsSound, IsValid, MayBear}
 use Rattle.plan_records.specs.Changes.{is_at, marked, revised}
-use Rattle.plan_records.specs.special_resources.specs.Holders.{Usage}
+use Rattle.plan_records.specs.special_resources.proofs.Amounts.{one_more}
+use Rattle.plan_records.specs.special_resources.specs.Holders.{FitsBeside, LeavesEnough, Usage}
 use Rattle.plan_records.specs.status_rules.specs.LeastSet.{by_all_before, by_given}
 use Rattle.plan_records.specs.status_rules.specs.declared.Mark.{Mark}
+
+-- of r there is what o uses, beside all others that hold it
+abbrev pub IsThereFor : Contents → OpKey → Name → Usage → Type 0
+IsThereFor P o r x = (stock : Stock) × (get P.resources r ≡ Some stock) × FitsBeside stock.quantity (Holds P) o r x
 
 -- what a change f of the operation o has to meet
 pub record MayChange (P : Contents) (o : OpKey) (op : Operation) (f : Operation → Operation) : Type 0 where
@@ -36,7 +41,7 @@ pub record MayChange (P : Contents) (o : OpKey) (op : Operation) (f : Operation 
   pub stays_satisfied : IsSatisfied P o → (f op).mark ≡ mark.Done
   pub free : (f op).held ≡ true → (f op).mark ≡ mark.Unmarked
   pub bears : (a : Attr) → HasAttribute P op.workstation a → MayBear a (f op).mark
-  pub compatible : (r : Name) (x : Usage) → Holds (revised (is_at o) f P) o r x → (other : OpKey) (y : Usage) → other ≢ o → Holds P other r y → (x.mode ≡ Shared) × (y.mode ≡ Shared)
+  pub there : (r : Name) (x : Usage) → Holds (revised (is_at o) f P) o r x → IsThereFor P o r x
 
 module _ (P : Contents) (o : OpKey) (op : Operation) (f : Operation → Operation) (sound : IsSound P) (may : MayChange P o op f) where
   abbrev after : Contents
@@ -114,12 +119,16 @@ module _ (P : Contents) (o : OpKey) (op : Operation) (f : Operation → Operatio
       | inr other ↦ all_still q (sound.in_order q (h.0, other.1, h.2))
     ];
     compatible = λ a b r x y apart ha hb. elim (same_operation a o) [
-      | inl a_is ↦ (may.compatible r x (subst (λ z. Holds after z r x) a_is ha) b y (λ e. apart (a_is ∙ sym e)) (held_before b r y (λ e. apart (a_is ∙ sym e)) hb)).0
+      | inl a_is ↦ ((may.there r x (subst (λ z. Holds after z r x) a_is ha)).2.0 b y (λ e. apart (a_is ∙ sym e)) (held_before b r y (λ e. apart (a_is ∙ sym e)) hb)).0
       | inr a_not ↦ elim (same_operation b o) [
-        | inl b_is ↦ (may.compatible r y (subst (λ z. Holds after z r y) b_is hb) a x a_not (held_before a r x a_not ha)).1
+        | inl b_is ↦ ((may.there r y (subst (λ z. Holds after z r y) b_is hb)).2.0 a x a_not (held_before a r x a_not ha)).1
         | inr b_not ↦ sound.compatible a b r x y apart (held_before a r x a_not ha) (held_before b r y b_not hb)
       ]
     ];
+    within = λ r stock known.
+        one_more same_operation r stock.quantity (Holds P) (Holds after) o (λ q x apart h. held_before q r x apart h)
+        (λ x h. let t = may.there r x h in subst (λ z. LeavesEnough z.quantity (Holds P) o r x) (same_Some t.0 stock (sym t.1 ∙ known)) t.2.1)
+        (sound.within r stock known);
     held = λ q x e h. elim (look q x e) [
       | inl same ↦ inl (ap (λ z. z.mark) same.1 ∙ may.free (ap (λ z. z.held) (sym same.1) ∙ h))
       | inr other ↦ sound.held q x other.1 h
@@ -147,7 +156,7 @@ pub record MayBeMarked (P : Contents) (o : OpKey) (op : Operation) (M : Mark) : 
   pub free : op.held ≡ false
   pub bears : (a : Attr) → HasAttribute P op.workstation a → MayBear a M
   pub legal : (code : Name) → M ≡ mark.Error code → IsName 4 code
-  pub compatible : (r : Name) (x : Usage) → Holds (marked o M P) o r x → (other : OpKey) (y : Usage) → other ≢ o → Holds P other r y → (x.mode ≡ Shared) × (y.mode ≡ Shared)
+  pub there : (r : Name) (x : Usage) → Holds (marked o M P) o r x → IsThereFor P o r x
 
 pub still_sound : (P : Contents) (o : OpKey) (op : Operation) (M : Mark) → IsSound P → MayBeMarked P o op M → IsSound (marked o M P)
 still_sound P o op M sound may = change_is_sound P o op (with_mark M) sound (record {
@@ -161,5 +170,5 @@ still_sound P o op M sound may = change_is_sound P o op (with_mark M) sound (rec
   stays_satisfied = may.stays_satisfied;
   free = λ h. absurd (true≢false (sym h ∙ may.free));
   bears = may.bears;
-  compatible = may.compatible;
+  there = may.there;
 })

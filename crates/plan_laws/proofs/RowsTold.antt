@@ -1,26 +1,27 @@
 -- Whether a row is one of a valid plan's can be decided.
-use Rattle.std.proofs.Common.{◌≡◌, inl, inr, refl, sym, ap, subst, ℕ, true, Option, Some, None, ℤ}
-use Rattle.std.specs.FinMap.{get, int_cmp-IsAntisymmetric, nat_cmp-IsAntisymmetric}
+use Rattle.std.proofs.Common.{◌≡◌, ◌≢◌, inl, inr, refl, sym, ap, subst, ℕ, true, Option, Some, None, ℤ, Ordering}
+use Rattle.std.specs.FinMap.{FinMap, get, int_cmp-IsAntisymmetric, nat_cmp-IsAntisymmetric}
 use Rattle.std.specs.FinSet as set
 use Rattle.std.specs.Cmp.{int_cmp_total, nat_cmp_total}
+use Rattle.plan_basics.specs.declared.limits.TheConstants.{MOST_QUANTITY}
 use Rattle.plan_basics.specs.Intervals.{OpenInterval}
 use Rattle.plan_basics.specs.Keys.{Name, name_cmp-IsAntisymmetric, name_cmp_total}
 use Rattle.plan_basics.specs.declared.keys.OccKey.{OccKey}
 use Rattle.plan_basics.specs.declared.keys.OpKey.{OpKey}
 use Rattle.plan_records.specs.special_resources.specs.Holders.{Usage}
+use Rattle.plan_records.specs.special_resources.specs.declared.Claim.{Claim}
 use Rattle.plan_records.specs.special_resources.specs.declared.Mode.{Mode}
 use Rattle.plan_records.specs.special_resources.specs.declared.Mode.TheVariants as mode
 use Rattle.plan_records.specs.status_rules.specs.declared.Mark.{Mark}
 use Rattle.plan_records.specs.status_rules.specs.declared.Mark.TheVariants as mark
 use Rattle.plan_records.specs.status_rules.specs.declared.OccStatus.{OccStatus}
 use Rattle.plan_records.specs.status_rules.specs.Table.{occurrence_status_place}
-use Rattle.plan_laws.proofs.Allowing.{told_available}
 use Rattle.plan_laws.proofs.Decide.{told_attribute}
 use Rattle.plan_laws.proofs.Entries.{told_at, told_has}
 use Rattle.plan_laws.proofs.Latest.{one_latest_start, some_latest_start}
 use Rattle.std.proofs.lemmas.Option.{none-some, same_Some}
 use Rattle.plan_laws.proofs.Standing.{status_told}
-use Rattle.plan_records.specs.operation_graph.proofs.Telling.{Told, told_alike, told_and, told_equal, told_three, told_true}
+use Rattle.plan_records.specs.operation_graph.proofs.Telling.{Told, told_alike, told_and, told_equal, told_none, told_three, told_true}
 use Rattle.plan_laws.proofs.Waiting.{one_count, one_occurrence_status, same_precedence, some_occurrence_status, some_waiting}
 use Rattle.plan_records.specs.plan_model.specs.Plan.{Plan}
 use Rattle.plan_records.specs.plan_model.specs.Contents.{Contents, LivePredecessor, Operation}
@@ -35,7 +36,7 @@ use Rattle.plan_records.specs.declared.PlanRow.TheVariants as row
 
 -- ---- equal values
 
-same_nat : (a b : ℕ) → Told (a ≡ b)
+pub same_nat : (a b : ℕ) → Told (a ≡ b)
 same_nat = told_equal nat_cmp_total nat_cmp-IsAntisymmetric
 
 same_name : (a b : Name) → Told (a ≡ b)
@@ -57,16 +58,23 @@ same_terms a b = told_alike {A = (a.priority ≡ b.priority) × (a.deadline ≡ 
     (λ e. (ap (λ z. z.priority) e, ap (λ z. z.deadline) e))
     (told_and (same_nat a.priority b.priority) (λ _. same_nat a.deadline b.deadline))
 
-same_mode : (a b : Mode) → Told (a ≡ b)
+pub same_mode : (a b : Mode) → Told (a ≡ b)
 same_mode mode.Shared mode.Shared = inl refl
 same_mode mode.Exclusive mode.Exclusive = inl refl
 same_mode a b = inr (λ e. cc)
 
-same_usage : (a b : Usage) → Told (a ≡ b)
-same_usage a b = told_alike {A = (a.mode ≡ b.mode) × (a.keep ≡ b.keep)}
-    (λ h i. record { mode = h.0 i; keep = h.1 i })
-    (λ e. (ap (λ z. z.mode) e, ap (λ z. z.keep) e))
-    (told_and (same_mode a.mode b.mode) (λ _. told_true a.keep b.keep))
+same_claim : (a b : Claim) → Told (a ≡ b)
+same_claim a b = told_alike {A = (a.mode ≡ b.mode) × (a.amount ≡ b.amount)}
+    (λ h i. record { mode = h.0 i; amount = h.1 i })
+    (λ e. (ap (λ z. z.mode) e, ap (λ z. z.amount) e))
+    (told_and (same_mode a.mode b.mode) (λ _. same_nat a.amount b.amount))
+
+-- what there is under a key, with two things that can be decided of it
+told_both_at : {K X : Type 0} {R : K → K → Ordering} (m : FinMap R X) (k : K) (A B : X → Type 0) → ((x : X) → Told (A x)) → ((x : X) → Told (B x)) → Told ((x : X) × (get m k ≡ Some x) × A x × B x)
+told_both_at m k A B first second = told_alike {A = (x : _) × (get m k ≡ Some x) × (A x × B x)}
+    (λ h. (h.0, h.1, h.2.0, h.2.1))
+    (λ h. (h.0, h.1, (h.2, h.3)))
+    (told_at m k (λ x. A x × B x) (λ x e. told_and (first x) (λ _. second x)))
 
 same_codes : (a b : Name) → mark.Error a ≡ mark.Error b → a ≡ b
 same_codes a b e = cc
@@ -118,11 +126,17 @@ module _ (P : Contents) (acyclic : IsAcyclic P.pairs) where
 
 module _ (P : Plan) (acyclic : IsAcyclic P.contents.pairs) where
   pub row_told : (r : PlanRow) → Told (IsRow P r)
-  row_told (row.Meta version loaded clock) = told_three (same_nat version 1) (told_true loaded P.loaded) (same_nat clock P.clock)
+  row_told (row.Meta version loaded clock) = told_three (same_nat version 2) (told_true loaded P.loaded) (same_nat clock P.clock)
   row_told (row.Workstation name a) = told_attribute P.contents name a
   row_told (row.Interval w i) = told_at P.contents.workstations w (λ ws. get ws.intervals i.from ≡ Some i) (λ ws e. told_some_is same_interval (get ws.intervals i.from) i)
-  row_told (row.Resource name available) = told_available (get P.contents.resources name) available
+  row_told (row.Resource name available) = told_at P.contents.resources name (λ stock. stock.available ≡ available) (λ stock e. told_true stock.available available)
   row_told (row.Occurrence c priority deadline s) = told_and (told_some_is same_terms (get P.contents.occurrences c) _) (λ _. occurrence_status_told P.contents acyclic c s)
   row_told (row.Operation r) = operation_row_told P.contents acyclic r
   row_told (row.Dependency p s) = told_true (set.contains P.contents.pairs (p, s)) true
-  row_told (row.Need o n) = told_has P.contents o (λ op. get op.needs n.name ≡ Some (record { mode = n.mode; keep = n.keep })) (λ op e. told_some_is same_usage (get op.needs n.name) _)
+  row_told (row.Need o r mode keep) = told_has P.contents o (λ op. (usage : Usage) × (get op.needs r ≡ Some usage) × (usage.claim.mode ≡ mode) × (usage.keep ≡ keep))
+      (λ op e. told_both_at op.needs r (λ usage. usage.claim.mode ≡ mode) (λ usage. usage.keep ≡ keep) (λ usage. same_mode usage.claim.mode mode) (λ usage. told_true usage.keep keep))
+  row_told (row.Quantity r quantity) = told_both_at P.contents.resources r (λ stock. stock.quantity ≡ quantity) (λ stock. quantity ≢ MOST_QUANTITY) (λ stock. same_nat stock.quantity quantity) (λ stock. told_none (same_nat quantity MOST_QUANTITY))
+  row_told (row.Amount o r amount) =
+      let claim : Claim = record { mode = mode.Shared; amount = amount } in
+      told_has P.contents o (λ op. (usage : Usage) × (get op.needs r ≡ Some usage) × (usage.claim ≡ claim) × (amount ≢ 1))
+      (λ op e. told_both_at op.needs r (λ usage. usage.claim ≡ claim) (λ usage. amount ≢ 1) (λ usage. same_claim usage.claim claim) (λ usage. told_none (same_nat amount 1)))

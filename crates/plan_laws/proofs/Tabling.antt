@@ -1,17 +1,21 @@
 -- Each operation of a valid plan has one row, and the rows of the tables determine the plan.
-use Rattle.std.proofs.Common.{◌≡◌, refl, sym, ◌∙◌, ap, subst, ℕ, Bool, Option, Some, None, option_map}
+use Rattle.std.proofs.Common.{◌≡◌, ◌≢◌, inl, inr, refl, sym, ◌∙◌, ap, subst, ℕ, Option, Some, None, option_map}
 use Rattle.std.specs.Cmp.{nat_cmp_total}
 use Rattle.std.specs.FinMap.{get, nat_cmp-IsAntisymmetric, same_map}
 use Rattle.std.specs.FinSet as set
+use Rattle.plan_basics.specs.declared.limits.TheConstants.{MOST_QUANTITY}
 use Rattle.plan_basics.specs.Intervals.{OpenInterval}
 use Rattle.plan_basics.specs.Keys.{Name, name_cmp-IsAntisymmetric, name_cmp_total, occurrence_cmp-IsAntisymmetric, occurrence_cmp_total, operation_cmp-IsAntisymmetric, operation_cmp_total}
 use Rattle.plan_basics.specs.declared.keys.OccKey.{OccKey}
 use Rattle.plan_basics.specs.declared.keys.OpKey.{OpKey}
 use Rattle.plan_basics.proofs.OptionLemmas.{same_answer}
-use Rattle.plan_records.specs.special_resources.specs.Holders.{Usage}
+use Rattle.plan_records.specs.special_resources.specs.Holders.{IsAmount, Usage}
+use Rattle.plan_records.specs.special_resources.specs.declared.Mode.{Mode}
+use Rattle.plan_records.specs.special_resources.specs.declared.Mode.TheVariants.{Exclusive, Shared}
 use Rattle.plan_records.specs.workstations.specs.Workstations.{Workstation}
 use Rattle.plan_laws.proofs.Latest.{one_latest_start, some_latest_start}
 use Rattle.std.proofs.lemmas.Option.{none-some, same_Some}
+use Rattle.plan_laws.proofs.RowsTold.{same_nat}
 use Rattle.plan_laws.proofs.Pairs.{pair_cmp-IsAntisymmetric, pair_cmp_total}
 use Rattle.plan_laws.proofs.Single.{same_bool}
 use Rattle.plan_laws.proofs.Standing.{one_status, some_status}
@@ -23,6 +27,7 @@ use Rattle.plan_records.specs.plan_model.specs.Starts.{IsLatestStart}
 use Rattle.plan_records.specs.plan_model.specs.Status.{HasStatus, IsSatisfied}
 use Rattle.plan_records.specs.plan_model.specs.Valid.{IsAcyclic, IsValid}
 use Rattle.plan_records.specs.plan_model.specs.declared.Occurrence.{Occurrence}
+use Rattle.plan_records.specs.plan_model.specs.declared.Stock.{Stock}
 use Rattle.plan_records.specs.Rows.{IsOperationRow, IsRow, IsWaitingFor}
 use Rattle.plan_records.specs.declared.OperationRow.{OperationRow}
 use Rattle.plan_records.specs.declared.PlanRow.{PlanRow}
@@ -73,9 +78,6 @@ each_has_one_row P valid o h =
 
 -- where each row of P is one of Q, what P has Q has
 module _ (P Q : Plan) (valid : IsValid P.contents) (carried : (r : PlanRow) → IsRow P r → IsRow Q r) where
-  resource : (r : Name) (available : Bool) → get P.contents.resources r ≡ Some available → get Q.contents.resources r ≡ Some available
-  resource r available e = carried (row.Resource r available) e
-
   pair : (p o : OpKey) → Precedes P.contents p o → Precedes Q.contents p o
   pair p o h = carried (row.Dependency p o) h
 
@@ -98,17 +100,68 @@ module _ (P Q : Plan) (valid : IsValid P.contents) (carried : (r : PlanRow) → 
       known None h = absurd (none-some ws.attribute h)
       known (Some vs) h = (vs, refl, same_Some vs.attribute ws.attribute h)
 
-  need : (o : OpKey) (op oq : Operation) → get P.contents.operations o ≡ Some op → get Q.contents.operations o ≡ Some oq → (r : Name) (usage : Usage) → get op.needs r ≡ Some usage → get oq.needs r ≡ Some usage
-  need o op oq e f r usage at =
-      let found = carried (row.Need o (record { name = r; mode = usage.mode; keep = usage.keep })) (op, e, at) in
-      let same : found.0 ≡ oq = same_Some found.0 oq (sym found.1 ∙ f) in
-      subst (λ z. get z.needs r ≡ Some usage) same found.2
+  -- there is as much of a resource, where that is written
+  same_quantity : (r : Name) (stock other : Stock) → get P.contents.resources r ≡ Some stock → get Q.contents.resources r ≡ Some other → stock.quantity ≢ MOST_QUANTITY → other.quantity ≡ stock.quantity
+  same_quantity r stock other e f told =
+      let found = carried (row.Quantity r stock.quantity) (stock, e, refl, told) in
+      ap (λ z. z.quantity) (same_Some other found.0 (sym f ∙ found.1)) ∙ found.2
+
+  -- an operation uses the same in the same mode, as an error keeps it, and as much where that is written
+  module _ (o : OpKey) (op oq : Operation) (e : get P.contents.operations o ≡ Some op) (f : get Q.contents.operations o ≡ Some oq) (r : Name) (usage : Usage) (at : get op.needs r ≡ Some usage) where
+    need : (other : Usage) × (get oq.needs r ≡ Some other) × (other.claim.mode ≡ usage.claim.mode) × (other.keep ≡ usage.keep)
+    need =
+        let found = carried (row.Need o r usage.claim.mode usage.keep) (op, e, (usage, at, refl, refl)) in
+        subst (λ z. (other : Usage) × (get z.needs r ≡ Some other) × (other.claim.mode ≡ usage.claim.mode) × (other.keep ≡ usage.keep)) (same_Some found.0 oq (sym found.1 ∙ f)) found.2
+
+    same_amount : (other : Usage) → get oq.needs r ≡ Some other → usage.claim.mode ≡ Shared → usage.claim.amount ≢ 1 → other.claim.amount ≡ usage.claim.amount
+    same_amount other there shared told =
+        let claim : usage.claim ≡ record { mode = Shared; amount = usage.claim.amount } = (λ i. record { mode = shared i; amount = usage.claim.amount }) in
+        let found = carried (row.Amount o r usage.claim.amount) (op, e, (usage, at, claim, told)) in
+        let its : get oq.needs r ≡ Some found.2.0 = ap (λ z. get z.needs r) (same_Some oq found.0 (sym f ∙ found.1)) ∙ found.2.1 in
+        ap (λ (u : Usage). u.claim.amount) (same_Some other found.2.0 (sym there ∙ its)) ∙ ap (λ c. c.amount) found.2.2
 
   -- the operation of the same key, with the same columns
   operation : (o : OpKey) (op : Operation) → get P.contents.operations o ≡ Some op → (r : OperationRow) × (r.op ≡ o) × IsOperationRow P.contents r × IsOperationRow Q.contents r
   operation o op e =
       let r = some_row P.contents valid o op e in
       (r.0, r.1, r.2, carried (row.Operation r.0) r.2)
+
+module _ (P Q : Plan) (p : IsValid P.contents) (q : IsValid Q.contents) (to : (r : PlanRow) → IsRow P r → IsRow Q r) (back : (r : PlanRow) → IsRow Q r → IsRow P r) where
+  resource_there : (r : Name) (stock : Stock) → get P.contents.resources r ≡ Some stock → get Q.contents.resources r ≡ Some stock
+  resource_there r stock e =
+      let found = to (row.Resource r stock.available) (stock, e, refl) in
+      let other : Stock = found.0 in
+      let quantity : other.quantity ≡ stock.quantity = elim (same_nat stock.quantity MOST_QUANTITY) [
+        | inr told ↦ same_quantity P Q p to r stock other e found.1 told
+        | inl most ↦ elim (same_nat other.quantity MOST_QUANTITY) [
+          | inl also ↦ also ∙ sym most
+          | inr told ↦ sym (same_quantity Q P q back r other stock found.1 e told)
+        ]
+      ] in
+      let same : other ≡ stock = (λ i. record { available = found.2 i; quantity = quantity i }) in
+      found.1 ∙ ap Some same
+
+  -- amounts that are in range, of needs in one mode
+  as_much : (x y : Usage) → y.claim.mode ≡ x.claim.mode → IsAmount x.claim.mode x.claim.amount → IsAmount y.claim.mode y.claim.amount
+      → (x.claim.mode ≡ Shared → x.claim.amount ≢ 1 → y.claim.amount ≡ x.claim.amount) → (y.claim.mode ≡ Shared → y.claim.amount ≢ 1 → x.claim.amount ≡ y.claim.amount) → y.claim.amount ≡ x.claim.amount
+  as_much x y modes in_x in_y first second = by_mode x.claim.mode refl
+    where
+      by_mode : (m : Mode) → x.claim.mode ≡ m → y.claim.amount ≡ x.claim.amount
+      by_mode Exclusive e = subst (λ z. IsAmount z y.claim.amount) (modes ∙ e) in_y ∙ sym (subst (λ z. IsAmount z x.claim.amount) e in_x)
+      by_mode Shared e = elim (same_nat x.claim.amount 1) [
+        | inr told ↦ first e told
+        | inl one ↦ elim (same_nat y.claim.amount 1) [ inl also ↦ also ∙ sym one | inr told ↦ sym (second (modes ∙ e) told) ]
+      ]
+
+  need_there : (o : OpKey) (op oq : Operation) → get P.contents.operations o ≡ Some op → get Q.contents.operations o ≡ Some oq → (r : Name) (usage : Usage) → get op.needs r ≡ Some usage → get oq.needs r ≡ Some usage
+  need_there o op oq e f r usage at =
+      let found = need P Q p to o op oq e f r usage at in
+      let other : Usage = found.0 in
+      let amount = as_much usage other found.2
+      ((p.occurrences.each_operation o op e).0.needs r usage at).1 ((q.occurrences.each_operation o oq f).0.needs r other found.1).1
+      (same_amount P Q p to o op oq e f r usage at other found.1) (same_amount Q P q back o oq op f e r other found.1 usage at) in
+      let same : other ≡ usage = (λ i. record { claim = record { mode = found.2 i; amount = amount i }; keep = found.3 i }) in
+      found.1 ∙ ap Some same
 
 module _ (P Q : Plan) (p : IsValid P.contents) (q : IsValid Q.contents) (to : (r : PlanRow) → IsRow P r → IsRow Q r) (back : (r : PlanRow) → IsRow Q r → IsRow P r) where
   workstation_there : (w : Name) (ws : Workstation) → get P.contents.workstations w ≡ Some ws → get Q.contents.workstations w ≡ Some ws
@@ -127,7 +180,7 @@ module _ (P Q : Plan) (p : IsValid P.contents) (q : IsValid Q.contents) (to : (r
       let first : x.op ≡ op = same_Some x.op op (sym x.is_in_plan ∙ ap (get P.contents.operations) r.1 ∙ e) in
       let there : get Q.contents.operations o ≡ Some y.op = ap (get Q.contents.operations) (sym r.1) ∙ y.is_in_plan in
       let needs : y.op.needs ≡ op.needs = same_map name_cmp_total name_cmp-IsAntisymmetric y.op.needs op.needs (λ n.
-      same_answer (get y.op.needs n) (get op.needs n) (need Q P q back o y.op op there e n) (need P Q p to o op y.op e there n)) in
+      same_answer (get y.op.needs n) (get op.needs n) (need_there Q P q p back to o y.op op there e n) (need_there P Q p q to back o op y.op e there n)) in
       let workstation = sym y.columns.0 ∙ x.columns.0 ∙ ap (λ z. z.workstation) first in
       let duration = sym y.columns.1 ∙ x.columns.1 ∙ ap (λ z. z.duration) first in
       let r1 = sym y.columns.2 ∙ x.columns.2 ∙ ap (λ z. z.r1) first in
@@ -144,9 +197,9 @@ pub rows_tell_plan : RowsTellPlan
 rows_tell_plan P Q p q rows =
     let to : (r : PlanRow) → IsRow P r → IsRow Q r = λ r. (rows r).0 in
     let back : (r : PlanRow) → IsRow Q r → IsRow P r = λ r. (rows r).1 in
-    let meta = to (row.Meta 1 P.loaded P.clock) (refl, refl, refl) in
+    let meta = to (row.Meta 2 P.loaded P.clock) (refl, refl, refl) in
     let workstations : P.contents.workstations ≡ Q.contents.workstations = same_map name_cmp_total name_cmp-IsAntisymmetric P.contents.workstations Q.contents.workstations (λ w. same_answer (get P.contents.workstations w) (get Q.contents.workstations w) (workstation_there P Q p q to back w) (workstation_there Q P q p back to w)) in
-    let resources : P.contents.resources ≡ Q.contents.resources = same_map name_cmp_total name_cmp-IsAntisymmetric P.contents.resources Q.contents.resources (λ r. same_answer (get P.contents.resources r) (get Q.contents.resources r) (resource P Q p to r) (resource Q P q back r)) in
+    let resources : P.contents.resources ≡ Q.contents.resources = same_map name_cmp_total name_cmp-IsAntisymmetric P.contents.resources Q.contents.resources (λ r. same_answer (get P.contents.resources r) (get Q.contents.resources r) (resource_there P Q p q to back r) (resource_there Q P q p back to r)) in
     let occurrences : P.contents.occurrences ≡ Q.contents.occurrences = same_map occurrence_cmp_total occurrence_cmp-IsAntisymmetric P.contents.occurrences Q.contents.occurrences (λ c. same_answer (get P.contents.occurrences c) (get Q.contents.occurrences c) (occurrence P Q p to c) (occurrence Q P q back c)) in
     let operations : P.contents.operations ≡ Q.contents.operations = same_map operation_cmp_total operation_cmp-IsAntisymmetric P.contents.operations Q.contents.operations (λ o. same_answer (get P.contents.operations o) (get Q.contents.operations o) (operation_there P Q p q to back o) (operation_there Q P q p back to o)) in
     let pairs : P.contents.pairs ≡ Q.contents.pairs = set.same_set pair_cmp_total pair_cmp-IsAntisymmetric P.contents.pairs Q.contents.pairs (λ x. same_bool (set.contains P.contents.pairs x) (set.contains Q.contents.pairs x) (pair P Q p to x.0 x.1) (pair Q P q back x.0 x.1)) in

@@ -29,8 +29,8 @@ ghost use Rattle.plan_laws.specs.Ranks.{ValidHasRank, PathsAreTold, CyclesAreTol
 ghost use Rattle.std.specs.Prelude.{◌≡◌, ◌≢◌, ◌⊎◌, ◌↔◌, ℕ};
 
 pub use plan_records::{
-    Changes, Occurrence, OperationRecord, OperationRow, PlanContents, PlanRow, RowKey, graph_of,
-    keys, row_place,
+    Changes, Occurrence, OperationRecord, OperationRow, PlanContents, PlanRow, RowKey, Stock,
+    graph_of, keys, row_place,
 };
 
 /// The accepted requests of a run, taken alone in their order, are a run with the same accepted replies,

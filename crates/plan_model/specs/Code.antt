@@ -12,6 +12,7 @@ use Rattle.status_rules.specs.declared.Mark.{Mark}
 use Rattle.workstations.specs.Timetables.{workstation_code}
 use Rattle.plan_model.specs.Plan.{Plan}
 use Rattle.plan_model.specs.Contents.{Contents, Operation, AddedParts, Workstations, Resources, Occurrences, Operations, Pairs}
+use Rattle.plan_model.specs.declared.Stock.{Stock}
 use Rattle.plan_model.specs.declared.Occurrence.{Occurrence}
 
 -- a name is stored as its bytes
@@ -43,6 +44,10 @@ operation_code = code_by
     })
     (λ _. refl)
 
+-- a special resource as whether it is available and how much there is
+abbrev pub stock_code : Coded Stock
+stock_code = code_by (Bool × ℕ) (coded× coded_bool coded_ℕ) (λ s. (s.available, s.quantity)) (λ p. record { available = p.0; quantity = p.1 }) (λ _. refl)
+
 -- occurrences by key
 abbrev pub occurrences_code : Coded Occurrences
 occurrences_code = map.code (occurrence_key.the_row).coded occurrence_code
@@ -59,7 +64,7 @@ pairs_code = set.code (coded× (operation_key.the_row).coded (operation_key.the_
 abbrev pub contents_code : Coded Contents
 contents_code = code_by
     ((Workstations × Resources) × (Occurrences × (Operations × Pairs)))
-    (coded× (coded× (map.code name_code workstation_code) (map.code name_code coded_bool)) (coded× occurrences_code (coded× operations_code pairs_code)))
+    (coded× (coded× (map.code name_code workstation_code) (map.code name_code stock_code)) (coded× occurrences_code (coded× operations_code pairs_code)))
     (λ c. ((c.workstations, c.resources), (c.occurrences, (c.operations, c.pairs))))
     (λ p. record { workstations = p.0.0; resources = p.0.1; occurrences = p.1.0; operations = p.1.1.0; pairs = p.1.1.1 })
     (λ _. refl)

@@ -1,7 +1,7 @@
 -- What a plan holds, once one is loaded. Nothing in it is derived.
-use Rattle.std.specs.Prelude.{◌≡◌, ◌≢◌, ℕ, Bool, true, Option, Some, option_map}
+use Rattle.std.specs.Prelude.{◌≡◌, ◌≢◌, ℕ, Bool, true, cond, Option, Some, option_map}
 use Rattle.std.specs.declared.cmp.Ordering.{Ordering}
-use Rattle.std.specs.Ordering.{ordering_then}
+use Rattle.std.specs.Ordering.{eq_by_cmp, ordering_then}
 use Rattle.std.specs.FinMap.{FinMap, get}
 use Rattle.std.specs.FinSet.{FinSet, contains}
 use Rattle.std.specs.FinMap as map
@@ -10,6 +10,7 @@ use Rattle.plan_basics.specs.declared.Attr.{Attr}
 use Rattle.plan_basics.specs.declared.keys.OpKey.{OpKey}
 use Rattle.plan_basics.specs.Keys.{Name, name_cmp, occurrence_cmp, operation_cmp}
 use Rattle.plan_model.specs.declared.Occurrence.{Occurrence}
+use Rattle.plan_model.specs.declared.Stock.{Stock}
 use Rattle.workstations.specs.Workstations.{Workstation}
 use Rattle.special_resources.specs.Holders.{Usage}
 use Rattle.status_rules.specs.declared.Mark.{Mark}
@@ -36,9 +37,13 @@ pair_cmp a b = ordering_then (operation_cmp a.0 b.0) (operation_cmp a.1 b.1)
 abbrev pub Workstations : Type 0
 Workstations = FinMap name_cmp Workstation
 
--- the special resources by name, and whether each is available
+-- the special resources by name, each with whether it is available and how much of it there is
 abbrev pub Resources : Type 0
-Resources = FinMap name_cmp Bool
+Resources = FinMap name_cmp Stock
+
+-- what there is of a special resource, made available or not where it is r
+abbrev pub with_availability : Name → Bool → Name → Stock → Stock
+with_availability r available n stock = cond (eq_by_cmp name_cmp n r) (record stock { available = available }) stock
 
 -- the occurrences by application and input arrival
 abbrev pub Occurrences : Type 0

@@ -8,11 +8,12 @@ use Rattle.plan_basics.specs.declared.Refusal.{Refusal}
 use Rattle.plan_basics.specs.declared.Refusal.TheVariants as refusal
 use Rattle.plan_basics.specs.Keys.{Name}
 use Rattle.workstations.specs.Workstations.{Workstation, HasRoom}
-use Rattle.special_resources.specs.Holders.{Usage, SharesWithHolders}
+use Rattle.special_resources.specs.Holders.{Usage, FitsBeside}
 use Rattle.latest_start.specs.operation_graph.specs.Paths.{ReachesBy}
 use Rattle.latest_start.specs.LeastStart.{IsLeastStart}
 use Rattle.status_rules.specs.declared.Status.TheVariants as status
 use Rattle.plan_model.specs.Contents.{Contents, Operation, Has, HasAttribute, Precedes, IsLive}
+use Rattle.plan_model.specs.declared.Stock.{Stock}
 use Rattle.plan_model.specs.Status.{HasStatus, IsReady}
 use Rattle.plan_model.specs.Holdings.{given_out, Holds}
 
@@ -28,7 +29,8 @@ MayStart P o op m refusal.TooEarly = op.not_before ≤ m
 MayStart P o op m refusal.Closed = FitsAt P op m refusal.Closed
 MayStart P o op m refusal.NoServer = FitsAt P op m refusal.NoServer
 MayStart P o op m refusal.NoFixed = FitsAt P op m refusal.NoFixed
-MayStart P o op m refusal.ResourceBusy = (r : Name) (usage : Usage) → get op.needs r ≡ Some usage → (get P.resources r ≡ Some true) × SharesWithHolders (Holds P) o r usage
+MayStart P o op m refusal.ResourceBusy = (r : Name) (usage : Usage) → get op.needs r ≡ Some usage
+    → (stock : Stock) × (get P.resources r ≡ Some stock) × (stock.available ≡ true) × FitsBeside stock.quantity (Holds P) o r usage
 MayStart P o op m _ = Unit {0}
 
 -- o is in the plan, and none of these refusals is given at m

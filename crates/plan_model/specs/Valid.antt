@@ -6,17 +6,18 @@ use Rattle.plan_basics.specs.declared.Attr.{Attr}
 use Rattle.plan_basics.specs.declared.Attr.TheVariants as attribute
 use Rattle.plan_basics.specs.declared.keys.OccKey.{OccKey}
 use Rattle.plan_basics.specs.declared.keys.OpKey.{OpKey}
-use Rattle.plan_basics.specs.declared.limits.TheConstants.{MOST_WORKSTATIONS, MOST_RESOURCES, MOST_OCCURRENCES, MOST_OPERATIONS, MOST_PAIRS, MOST_NEEDS, MOST_FIXED, SHORTEST_DURATION, LONGEST_DURATION, LOWEST_PRIORITY, HIGHEST_PRIORITY}
+use Rattle.plan_basics.specs.declared.limits.TheConstants.{MOST_WORKSTATIONS, MOST_RESOURCES, MOST_OCCURRENCES, MOST_OPERATIONS, MOST_PAIRS, MOST_NEEDS, MOST_QUANTITY, MOST_FIXED, SHORTEST_DURATION, LONGEST_DURATION, LOWEST_PRIORITY, HIGHEST_PRIORITY}
 use Rattle.plan_basics.specs.Names.{IsName, IsResourceName}
 use Rattle.plan_basics.specs.Minutes.{IsMoment}
 use Rattle.plan_basics.specs.Keys.{Name, IsOccurrenceKey, IsOperationKey}
 use Rattle.workstations.specs.Workstations.{Workstation, IsWorkstation}
 use Rattle.special_resources.specs.declared.Mode.TheVariants.{Shared}
-use Rattle.special_resources.specs.Holders.{Usage}
+use Rattle.special_resources.specs.Holders.{Usage, IsAmount, HoldNoMoreThan}
 use Rattle.latest_start.specs.operation_graph.specs.Paths.{IsAcyclicBy}
 use Rattle.status_rules.specs.declared.Mark.{Mark}
 use Rattle.status_rules.specs.declared.Mark.TheVariants as mark
 use Rattle.plan_model.specs.Contents.{Contents, Operation, Occurrences, Operations, Workstations, Resources, Pairs, IsPairOf, Has, HasAttribute}
+use Rattle.plan_model.specs.declared.Stock.{Stock}
 use Rattle.plan_model.specs.declared.Occurrence.{Occurrence}
 use Rattle.plan_model.specs.Status.{AllPredecessorsSatisfied}
 use Rattle.plan_model.specs.Holdings.{Holds}
@@ -35,7 +36,7 @@ pub record IsOperation (o : OpKey) (op : Operation) : Type 0 where
   pub fixed : (op.r1 ≤ MOST_FIXED) × (op.r2 ≤ MOST_FIXED)
   pub not_before : IsMoment op.not_before
   pub deadline : IsMoment op.deadline
-  pub needs : (r : Name) (usage : Usage) → get op.needs r ≡ Some usage → IsResourceName r
+  pub needs : (r : Name) (usage : Usage) → get op.needs r ≡ Some usage → IsResourceName r × IsAmount usage.claim.mode usage.claim.amount
   pub few_needs : len op.needs ≤ MOST_NEEDS
   pub code : (code : Name) → op.mark ≡ mark.Error code → IsName 4 code
 
@@ -54,6 +55,12 @@ abbrev pub HaveResources : Resources → Operations → Type 0
 HaveResources resources operations =
     (o : OpKey) (op : Operation) → get operations o ≡ Some op → (r : Name) (usage : Usage) → get op.needs r ≡ Some usage → contains_key resources r ≡ true
 
+-- a need is of no more than there is
+abbrev pub AmountsFit : Resources → Operations → Type 0
+AmountsFit resources operations =
+    (o : OpKey) (op : Operation) → get operations o ≡ Some op → (r : Name) (usage : Usage) → get op.needs r ≡ Some usage
+    → (stock : Stock) → get resources r ≡ Some stock → usage.claim.amount ≤ stock.quantity
+
 -- no path of these pairs returns to its start
 abbrev pub IsAcyclic : Pairs → Type 0
 IsAcyclic pairs = IsAcyclicBy (IsPairOf pairs)
@@ -69,10 +76,11 @@ pub record IsWithinLimits (P : Contents) : Type 0 where
 -- all that a plan names is there and in range, no path of pairs returns, and the limits hold
 pub record IsValid (P : Contents) : Type 0 where
   pub workstations : (w : Name) (ws : Workstation) → get P.workstations w ≡ Some ws → IsName 4 w × IsWorkstation ws
-  pub resources : (r : Name) → contains_key P.resources r ≡ true → IsResourceName r
+  pub resources : (r : Name) (stock : Stock) → get P.resources r ≡ Some stock → IsResourceName r × (1 ≤ stock.quantity) × (stock.quantity ≤ MOST_QUANTITY)
   pub occurrences : AreOccurrences P.occurrences P.operations
   pub have_workstations : HaveWorkstations P.workstations P.operations
   pub have_resources : HaveResources P.resources P.operations
+  pub amounts : AmountsFit P.resources P.operations
   pub pairs : (p o : OpKey) → IsPairOf P.pairs p o → (contains_key P.operations p ≡ true) × (contains_key P.operations o ≡ true)
   pub acyclic : IsAcyclic P.pairs
   pub limits : IsWithinLimits P
@@ -94,7 +102,9 @@ pub record IsSound (P : Contents) : Type 0 where
   -- what is reported of an operation came after its predecessors
   pub in_order : (o : OpKey) → Has P o (λ op. (op.mark ≢ mark.Unmarked) × (op.mark ≢ mark.Deleted)) → AllPredecessorsSatisfied P o
   -- no resource has an exclusive holder beside another
-  pub compatible : (a b : OpKey) (r : Name) (x y : Usage) → a ≢ b → Holds P a r x → Holds P b r y → x.mode ≡ Shared
+  pub compatible : (a b : OpKey) (r : Name) (x y : Usage) → a ≢ b → Holds P a r x → Holds P b r y → x.claim.mode ≡ Shared
+  -- no more of a resource is held than there is
+  pub within : (r : Name) (stock : Stock) → get P.resources r ≡ Some stock → HoldNoMoreThan stock.quantity (Holds P) r
   -- a held operation has no mark, or is deleted
   pub held : (o : OpKey) (op : Operation) → get P.operations o ≡ Some op → op.held ≡ true → (op.mark ≡ mark.Unmarked) ⊎ (op.mark ≡ mark.Deleted)
   -- each mark is one that its workstation's attribute allows

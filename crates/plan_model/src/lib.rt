@@ -4,7 +4,7 @@
 
 pub use latest_start::{EdgeFault, Graph};
 use plan_basics::{Moment, WsName};
-pub use special_resources::{Need, Needs};
+pub use special_resources::{Mode, Need, Needs};
 pub use status_rules::{Mark, OccStatus, Status};
 use std::marker::Model;
 pub use workstations::Workstation;
@@ -14,6 +14,13 @@ pub use workstations::Workstation;
 pub struct Occurrence {
     pub priority: u8,
     pub deadline: Moment,
+}
+
+/// A special resource: whether it is available, and how much of it there is, 1 to 999,999.
+#[derive(Clone, Copy, Debug, PartialEq, Eq)]
+pub struct Stock {
+    pub available: bool,
+    pub quantity: u32,
 }
 
 /// An operation record: what was planned of an operation, and what was reported. Contracts see it as `Operation` of the

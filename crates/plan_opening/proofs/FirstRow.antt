@@ -17,11 +17,13 @@ only_row : (r : PlanRow) → IsRow no_plan r → r ≡ first_row
 only_row (row.Meta version loaded clock) h = λ i. row.Meta (h.0 i) (h.1 i) (h.2 i)
 only_row (row.Workstation name a) h = nothing_at (option_map (λ ws. ws.attribute) (get nothing.workstations name)) a (ap (option_map (λ ws. ws.attribute)) (get-empty name_cmp name)) h
 only_row (row.Interval w i) h = nothing_at (get nothing.workstations w) h.0 (get-empty name_cmp w) h.1
-only_row (row.Resource name available) h = nothing_at (get nothing.resources name) available (get-empty name_cmp name) h
+only_row (row.Resource name available) h = nothing_at (get nothing.resources name) h.0 (get-empty name_cmp name) h.1
 only_row (row.Occurrence c priority deadline status) h = nothing_at (get nothing.occurrences c) (record { priority = priority; deadline = deadline }) (get-empty occurrence_cmp c) h.0
 only_row (row.Operation r) h = nothing_at (get nothing.operations r.op) h.op (get-empty operation_cmp r.op) h.is_in_plan
 only_row (row.Dependency p s) h = absurd (true≢false (sym h ∙ set.contains-empty pair_cmp (p, s)))
-only_row (row.Need o n) h = nothing_at (get nothing.operations o) h.0 (get-empty operation_cmp o) h.1
+only_row (row.Need o r mode keep) h = nothing_at (get nothing.operations o) h.0 (get-empty operation_cmp o) h.1
+only_row (row.Quantity r quantity) h = nothing_at (get nothing.resources r) h.0 (get-empty name_cmp r) h.1
+only_row (row.Amount o r amount) h = nothing_at (get nothing.operations o) h.0 (get-empty operation_cmp o) h.1
 
 its_row : (r : PlanRow) → r ≡ first_row → IsRow no_plan r
 its_row r e = subst (IsRow no_plan) (sym e) (refl, refl, refl)

@@ -9,7 +9,7 @@ use Rattle.plan_records.specs.declared.PlanRow.TheVariants as row
 
 -- the row of the plan itself before one is loaded
 abbrev pub first_row : PlanRow
-first_row = row.Meta 1 false 0
+first_row = row.Meta 2 false 0
 
 -- a sound plan, and these are all its rows, each once
 pub record IsPlanOf (rows : List PlanRow) (P : Plan) : Type 0 where

@@ -15,7 +15,7 @@ fn is_first(row: &PlanRow) -> bool
             version,
             loaded,
             clock,
-        } => *version == 1 && !*loaded && clock.minute() == 0,
+        } => *version == 2 && !*loaded && clock.minute() == 0,
         _ => false,
     }
 }

@@ -37,7 +37,9 @@ module _ (P : Contents) where
   told_by_key (row.Occurrence c priority deadline status) = refl
   told_by_key (row.Operation r) = refl
   told_by_key (row.Dependency p s) = refl
-  told_by_key (row.Need o n) = refl
+  told_by_key (row.Need o r mode keep) = refl
+  told_by_key (row.Quantity r quantity) = refl
+  told_by_key (row.Amount o r amount) = refl
 
   known : (k : RowKey) → is_known k ≡ true → Contains (map key.Operation (keys P.operations)) k
   known (key.Operation o) h = in_map key.Operation (keys P.operations) o (member_if operation_cmp-IsAntisymmetric (keys P.operations) o (sym (contains_key-keys P.operations o) ∙ h))
@@ -48,6 +50,8 @@ module _ (P : Contents) where
   known (key.Occurrence c) h = absurd (true≢false (sym h))
   known (key.Dependency p s) h = absurd (true≢false (sym h))
   known (key.Need o name) h = absurd (true≢false (sym h))
+  known (key.Quantity name) h = absurd (true≢false (sym h))
+  known (key.Amount o name) h = absurd (true≢false (sym h))
 
   counted : (rows : List PlanRow) → count_by is_known (map key_of rows) ≡ count_by (is_known_operation P) rows
   counted [] = refl

@@ -24,7 +24,9 @@ module _ (P : Contents) where
   by_row (row.Occurrence c priority deadline status) = omega arith
   by_row (row.Operation r) = at_most_one (is_known_operation P (row.Operation r))
   by_row (row.Dependency p s) = omega arith
-  by_row (row.Need o n) = omega arith
+  by_row (row.Need o r mode keep) = omega arith
+  by_row (row.Quantity r quantity) = omega arith
+  by_row (row.Amount o r amount) = omega arith
 
   -- rows of operations that P has are rows of operations
   known_are_operations : (rows : List PlanRow) → count_by (is_known_operation P) rows ≤ count_by is_operation rows

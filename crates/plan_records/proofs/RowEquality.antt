@@ -12,7 +12,6 @@ use Rattle.plan_basics.specs.Intervals.{OpenInterval}
 use Rattle.plan_basics.specs.declared.Attr.{Attr}
 use Rattle.plan_basics.specs.declared.keys.OccKey.{OccKey}
 use Rattle.plan_basics.specs.declared.keys.OpKey.{OpKey}
-use Rattle.plan_drafts.specs.special_resources.specs.declared.Need.{Need}
 use Rattle.plan_drafts.specs.status_rules.specs.declared.Mark.{Mark}
 use Rattle.plan_drafts.specs.status_rules.specs.declared.Mark.TheVariants as mark
 use Rattle.plan_records.specs.declared.OperationRow.{OperationRow}
@@ -25,7 +24,6 @@ use Rattle.plan_drafts.specs.status_rules.specs.contracts.OccStatus as occurrenc
 use Rattle.plan_basics.specs.contracts.keys.OccKeyPartialEq.TheImpl as occurrence
 use Rattle.plan_basics.specs.contracts.keys.OpKeyPartialEq.TheImpl as operation
 use Rattle.plan_basics.specs.contracts.moments.IntervalPartialEq.TheImpl as interval
-use Rattle.plan_drafts.specs.special_resources.specs.contracts.NeedPartialEq.TheImpl as need
 use Rattle.plan_drafts.specs.status_rules.specs.contracts.MarkPartialEq.TheImpl as marks
 use Rattle.plan_records.specs.contracts.OperationRowPartialEq.TheImpl as columns
 use Rattle.plan_records.specs.contracts.PlanRowPartialEq.TheImpl as rows
@@ -57,11 +55,6 @@ same_interval : (a b : OpenInterval) → interval.ghosts.eq a b ≡ true → a �
 same_interval a b e =
     let (same_from, (same_end, (same_servers, (same_r1, same_r2)))) = parts (number a.from b.from) (parts (number a.end b.end) (parts (number a.servers b.servers) (parts (number a.r1 b.r1) (number a.r2 b.r2)))) e in
     λ i. record { from = same_from i; end = same_end i; servers = same_servers i; r1 = same_r1 i; r2 = same_r2 i }
-
-same_need : (a b : Need) → need.ghosts.eq a b ≡ true → a ≡ b
-same_need a b e =
-    let (same_name, (same_mode, same_keep)) = parts (name a.name b.name) (parts (same_true mode.the_type tt a.mode b.mode) (flag a.keep b.keep)) e in
-    λ i. record { name = same_name i; mode = same_mode i; keep = same_keep i }
 
 same_mark : (a b : Mark) → marks.ghosts.eq a b ≡ true → a ≡ b
 same_mark mark.Unmarked mark.Unmarked e = refl
@@ -102,7 +95,13 @@ same_row (row.Occurrence c p d s) (row.Occurrence o q m t) e =
     λ i. row.Occurrence (same_key i) (same_priority i) (same_deadline i) (same_status i)
 same_row (row.Operation a) (row.Operation b) e = ap row.Operation (same_columns a b e)
 same_row (row.Dependency p s) (row.Dependency q t) e = let both = parts (same_operation p q) (same_operation s t) e in λ i. row.Dependency (both.0 i) (both.1 i)
-same_row (row.Need o m) (row.Need p n) e = let both = parts (same_operation o p) (same_need m n) e in λ i. row.Need (both.0 i) (both.1 i)
+same_row (row.Need o v m k) (row.Need p w n l) e =
+    let (same_op, (same_name, (same_mode, same_keep))) = parts (same_operation o p) (parts (name v w) (parts (same_true mode.the_type tt m n) (flag k l))) e in
+    λ i. row.Need (same_op i) (same_name i) (same_mode i) (same_keep i)
+same_row (row.Quantity v m) (row.Quantity w n) e = let both = parts (name v w) (number m n) e in λ i. row.Quantity (both.0 i) (both.1 i)
+same_row (row.Amount o v m) (row.Amount p w n) e =
+    let (same_op, (same_name, same_amount)) = parts (same_operation o p) (parts (name v w) (number m n)) e in
+    λ i. row.Amount (same_op i) (same_name i) (same_amount i)
 same_row a b e = absurd (cc)
 
 -- a row that is equal is the same

@@ -17,7 +17,7 @@ use Rattle.plan_drafts.specs.plan_model.specs.Plan.{Plan}
 use Rattle.plan_drafts.specs.plan_model.specs.Contents.{Contents, Operation, AddedParts, IsInPlan, IsPairOf, Precedes, HasAttribute, attribute_at}
 use Rattle.plan_drafts.specs.plan_model.specs.Status.{HasStatus, IsReady, IsWaitingOrReady, IsUnderWay, EachOperation}
 use Rattle.plan_drafts.specs.plan_model.specs.Starts.{MayStart, Reaches}
-use Rattle.plan_drafts.specs.plan_model.specs.Valid.{IsAcyclic, IsWithinLimits, HaveWorkstations, HaveResources}
+use Rattle.plan_drafts.specs.plan_model.specs.Valid.{IsAcyclic, IsWithinLimits, HaveWorkstations, HaveResources, AmountsFit}
 use Rattle.plan_records.specs.declared.What.{What}
 use Rattle.plan_records.specs.declared.What.TheVariants as what
 use Rattle.plan_records.specs.declared.Request.{Request}
@@ -84,7 +84,7 @@ IsOld P s o = IsInPlan P o × ¬ IsOwn s o
 abbrev pub IsNew : AddedParts → OpKey → Type 0
 IsNew s o = contains_key s.operations o ≡ true
 
--- what is added is new and finds all that it names; of the plan it precedes only what waits or is ready, and follows nothing deleted; no path returns, and the limits hold
+-- what is added is new and finds all that it names; of the plan it precedes only what waits or is ready, and follows nothing deleted; no path returns, the limits hold, and no need is of more than there is
 abbrev pub MayBeAdded : Contents → AddedParts → Refusal → Type 0
 MayBeAdded P s refusal.UnknownOperation = (p o : OpKey) → IsPairOf s.pairs p o → (IsNew s p ⊎ IsOld P s p) × (IsNew s o ⊎ IsOld P s o)
 MayBeAdded P s refusal.UnknownWorkstation = HaveWorkstations P.workstations s.operations
@@ -92,7 +92,7 @@ MayBeAdded P s refusal.UnknownResource = HaveResources P.resources s.operations
 MayBeAdded P s refusal.WrongStatus = (p o : OpKey) → IsPairOf s.pairs p o → (IsOld P s o → IsWaitingOrReady P o) × (IsOld P s p → ¬ HasStatus P p status.Deleted)
 MayBeAdded P s refusal.Duplicate = (c : OccKey) → contains_key s.occurrences c ≡ true → contains_key P.occurrences c ≡ false
 MayBeAdded P s refusal.Cycle = IsAcyclic (with_added P s).pairs
-MayBeAdded P s refusal.Limit = IsWithinLimits (with_added P s)
+MayBeAdded P s refusal.Limit = IsWithinLimits (with_added P s) × AmountsFit P.resources s.operations
 MayBeAdded P s _ = Unit {0}
 
 -- s may be made to wait for p: both are in the plan, p isn't deleted, s waits or is ready, the pair is new, no path returns by it, and the limits hold

@@ -1,7 +1,6 @@
 -- What each request changes where it is accepted.
 use Rattle.std.specs.Prelude.{◌≡◌, ◌↔◌, Bool, true, false, cond, Some, All}
 use Rattle.std.specs.Ordering.{eq_by_cmp}
-use Rattle.std.specs.FinMap.{insert}
 use Rattle.std.specs.FinSet as set
 use Rattle.plan_basics.specs.declared.keys.OpKey.{OpKey}
 use Rattle.plan_basics.specs.Names.{IsName}
@@ -10,7 +9,7 @@ use Rattle.plan_basics.specs.Keys.{name_cmp, occurrence_cmp, operation_cmp}
 use Rattle.plan_drafts.specs.workstations.specs.Workstations.{with_intervals}
 use Rattle.plan_drafts.specs.status_rules.specs.declared.Mark.{Mark}
 use Rattle.plan_drafts.specs.status_rules.specs.declared.Mark.TheVariants as mark
-use Rattle.plan_drafts.specs.plan_model.specs.Contents.{Contents, Operation, AddedParts}
+use Rattle.plan_drafts.specs.plan_model.specs.Contents.{Contents, Operation, AddedParts, with_availability}
 use Rattle.plan_drafts.specs.plan_model.specs.Starts.{Reaches}
 use Rattle.plan_drafts.specs.plan_model.specs.Ready.{with_mark}
 use Rattle.plan_drafts.specs.plan_model.specs.Revise.{revise, joined}
@@ -64,5 +63,5 @@ Changes P (what.Complete o) Q = Q ≡ marked o mark.Done P
 Changes P (what.DeleteOccurrence c) Q = Q ≡ revised (λ o. eq_by_cmp occurrence_cmp o.occurrence c) (with_mark mark.Deleted) P
 Changes P (what.AddOccurrence a) Q = (s : AddedParts) × (a ≡ Some s) × (Q ≡ with_added P s)
 Changes P (what.AddDependency p s) Q = Q ≡ with_pair P p s
-Changes P (what.SetAvailable r available) Q = Q ≡ record P { resources = insert P.resources r available }
+Changes P (what.SetAvailable r available) Q = Q ≡ record P { resources = revise (with_availability r available) P.resources }
 Changes P (what.ReplaceIntervals w items) Q = Q ≡ record P { workstations = revise (λ v ws. cond (eq_by_cmp name_cmp v w) (with_intervals items.items ws) ws) P.workstations }

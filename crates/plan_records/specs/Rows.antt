@@ -3,9 +3,13 @@ use Rattle.std.specs.Prelude.{◌≡◌, ◌≢◌, ◌↔◌, ℕ, List, length
 use Rattle.std.specs.List.Sorted.{IsStrictlySortedBy}
 use Rattle.std.specs.FinMap.{get}
 use Rattle.plan_basics.specs.declared.keys.OpKey.{OpKey}
+use Rattle.plan_basics.specs.declared.limits.TheConstants.{MOST_QUANTITY}
 use Rattle.plan_basics.specs.Keys.{operation_cmp}
 use Rattle.plan_drafts.specs.workstations.specs.Workstations.{Workstation}
+use Rattle.plan_drafts.specs.special_resources.specs.Holders.{Usage}
+use Rattle.plan_drafts.specs.special_resources.specs.declared.Mode.TheVariants.{Shared}
 use Rattle.plan_drafts.specs.plan_model.specs.Plan.{Plan}
+use Rattle.plan_drafts.specs.plan_model.specs.declared.Stock.{Stock}
 use Rattle.plan_drafts.specs.plan_model.specs.Contents.{Contents, Operation, Has, HasAttribute, Precedes, LivePredecessor}
 use Rattle.plan_drafts.specs.plan_model.specs.Status.{HasStatus, HasOccurrenceStatus, IsSatisfied}
 use Rattle.plan_drafts.specs.plan_model.specs.Starts.{IsLatestStart}
@@ -37,14 +41,23 @@ pub record IsOperationRow (P : Contents) (r : OperationRow) : Type 0 where
 
 -- a row of the tables for P
 abbrev pub IsRow : Plan → PlanRow → Type 0
-IsRow P (row.Meta version loaded clock) = (version ≡ 1) × (loaded ≡ P.loaded) × (clock ≡ P.clock)
+IsRow P (row.Meta version loaded clock) = (version ≡ 2) × (loaded ≡ P.loaded) × (clock ≡ P.clock)
 IsRow P (row.Workstation name a) = HasAttribute P.contents name a
 IsRow P (row.Interval w i) = (ws : Workstation) × (get P.contents.workstations w ≡ Some ws) × (get ws.intervals i.from ≡ Some i)
-IsRow P (row.Resource name available) = get P.contents.resources name ≡ Some available
+IsRow P (row.Resource name available) = (stock : Stock) × (get P.contents.resources name ≡ Some stock) × (stock.available ≡ available)
 IsRow P (row.Occurrence c priority deadline status) = (get P.contents.occurrences c ≡ Some (record { priority = priority; deadline = deadline })) × HasOccurrenceStatus P.contents c status
 IsRow P (row.Operation r) = IsOperationRow P.contents r
 IsRow P (row.Dependency p s) = Precedes P.contents p s
-IsRow P (row.Need o n) = Has P.contents o (λ op. get op.needs n.name ≡ Some (record { mode = n.mode; keep = n.keep }))
+IsRow P (row.Need o r mode keep) = Has P.contents o (λ op. (usage : Usage) × (get op.needs r ≡ Some usage) × (usage.claim.mode ≡ mode) × (usage.keep ≡ keep))
+-- where it isn't the greatest, which isn't written
+IsRow P (row.Quantity r quantity) = (stock : Stock) × (get P.contents.resources r ≡ Some stock) × (stock.quantity ≡ quantity) × (quantity ≢ MOST_QUANTITY)
+-- of a shared need, where it isn't 1, which isn't written
+IsRow P (row.Amount o r amount) = Has P.contents o (λ op. (usage : Usage) × (get op.needs r ≡ Some usage) × (usage.claim ≡ record { mode = Shared; amount = amount }) × (amount ≢ 1))
+
+-- a row of the tables of the first version for P, which name this version and have no quantities and amounts
+abbrev pub IsFirstRow : Plan → PlanRow → Type 0
+IsFirstRow P (row.Meta version loaded clock) = (version ≡ 1) × (loaded ≡ P.loaded) × (clock ≡ P.clock)
+IsFirstRow P r = IsRow P r
 
 -- the key columns of a row
 abbrev pub key_of : PlanRow → RowKey
@@ -55,7 +68,9 @@ key_of (row.Resource name available) = key.Resource name
 key_of (row.Occurrence c priority deadline status) = key.Occurrence c
 key_of (row.Operation r) = key.Operation r.op
 key_of (row.Dependency p s) = key.Dependency p s
-key_of (row.Need o n) = key.Need o n.name
+key_of (row.Need o r mode keep) = key.Need o r
+key_of (row.Quantity r quantity) = key.Quantity r
+key_of (row.Amount o r amount) = key.Amount o r
 
 -- the tables for P have a row of this key
 abbrev pub HasKey : Plan → RowKey → Type 0

@@ -7,9 +7,9 @@ ghost use Rattle.plan_records.specs.Rows.{key_of};
 use plan_basics::{Attr, ErrCode, Interval, Moment, OccKey, OpKey, Refusal, ResName, WsName};
 pub use plan_drafts::{
     Addition, AdditionParts, ExactKey, Occurrence, OperationRecord, PlanContents, PlanDraft,
-    Record, RowKey, copies_of, graph_of, is_acyclic, keys, one_denotation, row_place,
+    Record, RowKey, Stock, copies_of, graph_of, is_acyclic, keys, one_denotation, row_place,
 };
-use plan_drafts::{Mark, Need, OccStatus, Status};
+use plan_drafts::{Mark, Mode, OccStatus, Status};
 
 /// What is asked: a report of a tracker, a command of an operator, or a tick.
 #[derive(Drop)]
@@ -84,7 +84,18 @@ pub enum PlanRow {
     },
     Need {
         op: OpKey,
-        need: Need,
+        resource: ResName,
+        mode: Mode,
+        keep: bool,
+    },
+    Quantity {
+        resource: ResName,
+        quantity: u32,
+    },
+    Amount {
+        op: OpKey,
+        resource: ResName,
+        amount: u32,
     },
 }
 
@@ -104,7 +115,9 @@ impl PlanRow {
                 predecessor,
                 successor,
             } => RowKey::Dependency(predecessor, successor),
-            PlanRow::Need { op, need } => RowKey::Need(op, need.name),
+            PlanRow::Need { op, resource, .. } => RowKey::Need(op, resource),
+            PlanRow::Quantity { resource, .. } => RowKey::Quantity(resource),
+            PlanRow::Amount { op, resource, .. } => RowKey::Amount(op, resource),
         }
     }
 }

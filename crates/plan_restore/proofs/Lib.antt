@@ -3,3 +3,4 @@ pub mod Metas
 pub mod Reporting
 pub mod Restored
 pub mod RowItems
+pub mod RowNumbers

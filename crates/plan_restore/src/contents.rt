@@ -6,6 +6,7 @@ ghost use Rattle.plan_records.specs.Rows.{AreRows};
 
 use super::items::{are_in_range, items_of};
 use super::reports::put_reports;
+use super::said::said_by;
 use plan_drafts::contents_of_items;
 use plan_records::{PlanContents, PlanRow};
 use std::alloc::{AllocError, Global};
@@ -17,7 +18,10 @@ pub fn contents_of_rows(alloc: Global, rows: &[PlanRow]) -> Result<Option<PlanCo
     ensures valid { IfOk result (λ found. IfSome found IsValid) }
     ensures complete { IfOk result (λ found. (P : Plan) → IsValid P.contents → AreRows P rows.now → found ≡ Some P.contents) }
 {
-    let items = items_of(alloc, rows)?;
+    let Some(said) = said_by(alloc, rows)? else {
+        return Ok(None);
+    };
+    let items = items_of(alloc, &said, rows)?;
     if !are_in_range(&items) {
         return Ok(None);
     }

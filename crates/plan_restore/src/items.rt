@@ -1,16 +1,22 @@
 // What rows say as items of a text, and which items are in range.
 ghost use Rattle.std.specs.Prelude.{◌≡◌, ◌↔◌, All, IsTrue, IfOk};
 ghost use Rattle.std.specs.List.{filter_map};
-ghost use Rattle.plan_basics.specs.Keys.{IsOccurrenceKey, IsOperationKey};
+ghost use Rattle.std.specs.List.Sorted.{IsStrictlySortedBy};
+ghost use Rattle.std.specs.Map.{keys_of};
+ghost use Rattle.plan_basics.specs.Keys.{name_cmp, IsOccurrenceKey, IsOperationKey};
+ghost use Rattle.plan_drafts.specs.PlanItems.{need_cmp};
 ghost use Rattle.plan_items.specs.Items.{IsItem, IsOperationItem};
-ghost use Rattle.plan_restore.specs.Restoring.{as_item, operation_item};
+ghost use Rattle.plan_model.specs.special_resources.specs.Holders.{IsAmount};
+ghost use Rattle.plan_restore.specs.Restoring.{as_item, operation_item, AreSaid};
 
+use super::said::{Said, amount_by, quantity_by};
 use plan_basics::limits::{
-    HIGHEST_PRIORITY, LEAST_NUMBER, LONGEST_DURATION, LOWEST_PRIORITY, MOST_FIXED,
+    HIGHEST_PRIORITY, LEAST_NUMBER, LONGEST_DURATION, LOWEST_PRIORITY, MOST_FIXED, MOST_QUANTITY,
     SHORTEST_DURATION,
 };
 use plan_basics::{OccKey, OpKey};
 use plan_items::{Item, OperationItem};
+use plan_model::{Mode, Need};
 use plan_records::{OperationRow, PlanRow};
 use std::alloc::{AllocError, Global};
 
@@ -29,12 +35,14 @@ fn operation_of(row: &OperationRow) -> OperationItem
     }
 }
 
-// What a row says; `None` for that of the plan itself.
-fn item_of(row: &PlanRow) -> Option<Item>
-    ensures { result ≡ as_item row.now }
+// What a row says, by these quantities and amounts; `None` for that of the plan itself, of a quantity or of an amount.
+fn item_of(said: &Said, row: &PlanRow) -> Option<Item>
+    requires quantities { IsStrictlySortedBy name_cmp (keys_of said.now.quantities.items) }
+    requires amounts { IsStrictlySortedBy need_cmp (keys_of said.now.amounts.items) }
+    ensures { result ≡ as_item said.now row.now }
 {
     match *row {
-        PlanRow::Meta { .. } => None,
+        PlanRow::Meta { .. } | PlanRow::Quantity { .. } | PlanRow::Amount { .. } => None,
         PlanRow::Workstation { name, attr } => Some(Item::Workstation {
             name,
             attribute: attr,
@@ -43,7 +51,14 @@ fn item_of(row: &PlanRow) -> Option<Item>
             workstation: ws,
             interval,
         }),
-        PlanRow::Resource { name, available } => Some(Item::Resource { name, available }),
+        PlanRow::Resource { name, available } => {
+            let quantity = quantity_by(&said.quantities, &name);
+            Some(Item::Resource {
+                name,
+                available,
+                quantity,
+            })
+        }
         PlanRow::Occurrence {
             occurrence,
             priority,
@@ -62,18 +77,39 @@ fn item_of(row: &PlanRow) -> Option<Item>
             predecessor,
             successor,
         }),
-        PlanRow::Need { op, need } => Some(Item::Need {
-            operation: op,
-            need,
-        }),
+        PlanRow::Need {
+            op,
+            resource,
+            mode,
+            keep,
+        } => {
+            let amount = amount_by(&said.amounts, &op, &resource, mode);
+            Some(Item::Need {
+                operation: op,
+                need: Need {
+                    name: resource,
+                    mode,
+                    amount,
+                    keep,
+                },
+            })
+        }
     }
 }
 
-// What the rows say.
-pub fn items_of(alloc: Global, rows: &[PlanRow]) -> Result<Vec<Item>, AllocError>
-    ensures { IfOk result (λ v. v.items ≡ filter_map as_item rows.now) }
+// What the rows say, by the quantities and amounts among them.
+pub fn items_of(alloc: Global, said: &Said, rows: &[PlanRow]) -> Result<Vec<Item>, AllocError>
+    requires { AreSaid rows.now said.now }
+    ensures { IfOk result (λ v. v.items ≡ filter_map (as_item said.now) rows.now) }
 {
-    rows.iter().filter_map(item_of).collect(alloc)
+    rows.iter()
+        .filter_map(
+            |row|
+                requires quantities { IsStrictlySortedBy name_cmp (keys_of said.now.quantities.items) }
+                requires amounts { IsStrictlySortedBy need_cmp (keys_of said.now.amounts.items) }
+            { item_of(said, row) },
+        )
+        .collect(alloc)
 }
 
 // The key is looked at for the proof alone, which learns that it is legal.
@@ -107,6 +143,16 @@ fn is_operation_in_range(operation: &OperationItem) -> bool
         && operation.r2 <= MOST_FIXED
 }
 
+// Whether a need of this mode may be of this amount.
+fn is_amount(mode: Mode, amount: u32) -> bool
+    ensures { IsTrue result ↔ IsAmount mode amount }
+{
+    match mode {
+        Mode::Exclusive => amount == 0,
+        Mode::Shared => (1..=MOST_QUANTITY).contains(&amount),
+    }
+}
+
 // Whether the parts of an item are in range. Names, moments and intervals always are; they are looked at for the proof
 // alone, which learns that they are legal.
 fn is_in_range(item: &Item) -> bool
@@ -125,9 +171,9 @@ fn is_in_range(item: &Item) -> bool
             let _ = interval.from();
             true
         }
-        Item::Resource { name, .. } => {
+        Item::Resource { name, quantity, .. } => {
             let _ = name.as_bytes();
-            true
+            (1..=MOST_QUANTITY).contains(quantity)
         }
         Item::Occurrence {
             key,
@@ -145,7 +191,7 @@ fn is_in_range(item: &Item) -> bool
         } => is_key_in_range(predecessor) && is_key_in_range(successor),
         Item::Need { operation, need } => {
             let _ = need.name.as_bytes();
-            is_key_in_range(operation)
+            is_key_in_range(operation) && is_amount(need.mode, need.amount)
         }
     }
 }

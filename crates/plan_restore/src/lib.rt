@@ -6,6 +6,7 @@ mod contents;
 mod items;
 mod meta;
 mod reports;
+mod said;
 
 pub use contents::contents_of_rows;
 pub use meta::meta_of_rows;

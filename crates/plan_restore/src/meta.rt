@@ -8,10 +8,10 @@ ghost use Rattle.plan_records.specs.declared.PlanRow.TheVariants as row_of;
 use plan_basics::Moment;
 use plan_records::PlanRow;
 
-// Whether a plan is loaded, and its clock, where this is the row of the plan itself and has the version 1.
+// Whether a plan is loaded, and its clock, where this is the row of the plan itself and has the version 2.
 fn meta_in(row: &PlanRow) -> Option<(bool, Moment)>
-    ensures found { IfSome result (λ found. row.now ≡ row_of.Meta 1 found.0 found.1) }
-    ensures absent { IsNone result → (loaded : Bool) (clock : ℕ) → row.now ≢ row_of.Meta 1 loaded clock }
+    ensures found { IfSome result (λ found. row.now ≡ row_of.Meta 2 found.0 found.1) }
+    ensures absent { IsNone result → (loaded : Bool) (clock : ℕ) → row.now ≢ row_of.Meta 2 loaded clock }
     ensures legal { IfSome result (λ found. IsMoment found.1) }
 {
     match row {
@@ -20,7 +20,7 @@ fn meta_in(row: &PlanRow) -> Option<(bool, Moment)>
             loaded,
             clock,
         } => {
-            if *version != 1 {
+            if *version != 2 {
                 return None;
             }
             let _ = clock.minute();

@@ -21,22 +21,24 @@ use Rattle.row_differences.proofs.Joined.{described}
 use Rattle.row_differences.specs.Changes.{AreRowChanges}
 use Rattle.workstations.specs.Workstations.{IsWorkstation, Workstation}
 
--- each table has a number below 8
-below_eight : (r : PlanRow) → table_of (key_of r) < 8
-below_eight (row.Meta version loaded clock) = omega arith
-below_eight (row.Workstation name a) = omega arith
-below_eight (row.Interval w i) = omega arith
-below_eight (row.Resource name available) = omega arith
-below_eight (row.Occurrence c priority deadline status) = omega arith
-below_eight (row.Operation r) = omega arith
-below_eight (row.Dependency p s) = omega arith
-below_eight (row.Need o n) = omega arith
+-- each table has a number below 10
+below_ten : (r : PlanRow) → table_of (key_of r) < 10
+below_ten (row.Meta version loaded clock) = omega arith
+below_ten (row.Workstation name a) = omega arith
+below_ten (row.Interval w i) = omega arith
+below_ten (row.Resource name available) = omega arith
+below_ten (row.Occurrence c priority deadline status) = omega arith
+below_ten (row.Operation r) = omega arith
+below_ten (row.Dependency p s) = omega arith
+below_ten (row.Need o r mode keep) = omega arith
+below_ten (row.Quantity r quantity) = omega arith
+below_ten (row.Amount o r amount) = omega arith
 
-in_some_table : (P : Plan) (r : PlanRow) → IsRowBelow 8 P r ↔ IsRow P r
-in_some_table P r = (λ h. h.0, λ is. (is, below_eight r))
+in_some_table : (P : Plan) (r : PlanRow) → IsRowBelow 10 P r ↔ IsRow P r
+in_some_table P r = (λ h. h.0, λ is. (is, below_ten r))
 
--- what changes in the tables below 8 is what changes
-pub in_all_tables : (P Q : Plan) (rows : List PlanRow) (gone : List RowKey) → AreRowChanges row_cmp key_of (IsRowBelow 8 P) (IsRowBelow 8 Q) rows gone → AreChanges P Q rows gone
+-- what changes in the tables below 10 is what changes
+pub in_all_tables : (P Q : Plan) (rows : List PlanRow) (gone : List RowKey) → AreRowChanges row_cmp key_of (IsRowBelow 10 P) (IsRowBelow 10 Q) rows gone → AreChanges P Q rows gone
 in_all_tables P Q rows gone h =
     let d = described (IsRow P) (IsRow Q) (in_some_table P) (in_some_table Q) rows gone h in
     record { rows_ascend = d.rows_ascend; has_rows = d.has_rows; gone_ascend = d.gone_ascend; has_gone = d.has_gone }
@@ -55,11 +57,13 @@ new_row : (clock now : ℕ) (s : RowSource) (r : PlanRow) → IsRow (plan_shown 
 new_row clock now s (row.Meta version loaded at) h is = true≢false (sym is.1 ∙ h.1)
 new_row clock now s (row.Workstation name a) h is = nothing_at (option_map (λ ws. ws.attribute) (get nothing.workstations name)) a (ap (option_map (λ ws. ws.attribute)) (get-empty name_cmp name)) h
 new_row clock now s (row.Interval w i) h is = nothing_at (get nothing.workstations w) h.0 (get-empty name_cmp w) h.1
-new_row clock now s (row.Resource name available) h is = nothing_at (get nothing.resources name) available (get-empty name_cmp name) h
+new_row clock now s (row.Resource name available) h is = nothing_at (get nothing.resources name) h.0 (get-empty name_cmp name) h.1
 new_row clock now s (row.Occurrence c priority deadline status) h is = nothing_at (get nothing.occurrences c) (record { priority = priority; deadline = deadline }) (get-empty occurrence_cmp c) h.0
 new_row clock now s (row.Operation r) h is = nothing_at (get nothing.operations r.op) h.op (get-empty operation_cmp r.op) h.is_in_plan
 new_row clock now s (row.Dependency p q) h is = true≢false (sym h ∙ set.contains-empty pair_cmp (p, q))
-new_row clock now s (row.Need o n) h is = nothing_at (get nothing.operations o) h.0 (get-empty operation_cmp o) h.1
+new_row clock now s (row.Need o r mode keep) h is = nothing_at (get nothing.operations o) h.0 (get-empty operation_cmp o) h.1
+new_row clock now s (row.Quantity r quantity) h is = nothing_at (get nothing.resources r) h.0 (get-empty name_cmp r) h.1
+new_row clock now s (row.Amount o r amount) h is = nothing_at (get nothing.operations o) h.0 (get-empty operation_cmp o) h.1
 
 -- what changes where a plan is loaded is all of its rows
 pub all_new : (clock now : ℕ) (s : RowSource) (rows : List PlanRow) (gone : List RowKey) → AreChanges (plan_shown clock None) (plan_shown now (Some s)) rows gone → AreRows (plan_shown now (Some s)) rows

@@ -1,5 +1,5 @@
 -- Where a plan keeps the operations of another, rows of one key are the same where what is known is.
-use Rattle.std.proofs.Common.{◌≡◌, ◌↔◌, inl, inr, refl, sym, subst, ap, ◌∙◌, arith, ℕ, ℤ, ◌<◌, length, List, map, Option, Some, MatchOption, option_map, slice_get}
+use Rattle.std.proofs.Common.{◌≡◌, ◌↔◌, inl, inr, refl, sym, subst, ap, ◌∙◌, arith, ℕ, ℤ, Some, MatchOption, option_map, slice_get}
 use Rattle.std.proofs.lemmas.Option.{same_Some, slice_get_within}
 use Rattle.std.specs.FinMap.{entries, get}
 use Rattle.std.specs.Map.{keys_of}
@@ -8,7 +8,6 @@ use Rattle.plan_basics.specs.declared.keys.OpKey.{OpKey}
 use Rattle.plan_figures.specs.plan_drafts.proofs.EntryRows.{row_in}
 use Rattle.plan_figures.specs.plan_drafts.proofs.RowPlaces.{row_at}
 use Rattle.plan_figures.specs.plan_records.specs.declared.OperationRow.{OperationRow}
-use Rattle.plan_figures.specs.plan_records.specs.declared.PlanRow.{PlanRow}
 use Rattle.plan_figures.specs.plan_records.specs.declared.PlanRow.TheVariants as row
 use Rattle.plan_figures.specs.plan_status.proofs.RowKeys.{row_of_key}
 use Rattle.plan_figures.specs.plan_status.specs.declared.standings.Standing.{Standing}
@@ -18,8 +17,8 @@ use Rattle.plan_model.specs.Status.{HasStatus, UnmarkedStatus}
 use Rattle.plan_rows.proofs.ShownPlaces.{row_shown}
 use Rattle.plan_rows.proofs.ShownRows.{operation_at, operation_keys}
 use Rattle.plan_rows.specs.Kept.{AreKnownAlike, IsKeptIn, KeepsRecords, MarkGoesOn}
-use Rattle.plan_rows.specs.Rows.{keyed_operation, keyed_operations, operation_row_of, rows_of}
-use Rattle.plan_rows.specs.Shown.{IsShown, Known, shown_with}
+use Rattle.plan_rows.specs.Rows.{keyed_operations, operation_row_of, rows_of}
+use Rattle.plan_rows.specs.Shown.{IsShown, shown_with}
 use Rattle.plan_rows.specs.declared.columns.SourceColumns.{SourceColumns}
 use Rattle.row_differences.specs.Differences.{HaveOneKey}
 use Rattle.status_rules.specs.Table.{marked_status}

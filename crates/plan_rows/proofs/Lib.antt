@@ -24,3 +24,7 @@ pub mod Sources
 mod KeptOperations
 mod NewPlaces
 mod NewNeeds
+mod NeedRows
+mod QuantityRows
+mod Availability
+mod WrittenOfEach

@@ -22,7 +22,7 @@ clock_of_plan clock None = refl
 clock_of_plan clock (Some s) = refl
 
 abbrev pub meta_row : Plan → PlanRow
-meta_row P = row.Meta 1 P.loaded P.clock
+meta_row P = row.Meta 2 P.loaded P.clock
 
 only_meta : (P : Plan) (r : PlanRow) → IsRowOf 0 P r → meta_row P ≡ r
 only_meta P (row.Meta version loaded clock) (is, e) = λ i. row.Meta (sym is.0 i) (sym is.1 i) (sym is.2 i)

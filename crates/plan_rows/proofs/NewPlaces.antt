@@ -1,5 +1,5 @@
 -- The operations that a plan has more than another that it keeps.
-use Rattle.std.proofs.Common.{◌≡◌, ◌≢◌, ◌↔◌, inl, inr, refl, sym, subst, ap, ◌∙◌, arith, ℕ, ◌+◌, ◌<◌, ◌≤◌, Bool, true, false, not, List, [], ◌∷◌, length, map, filter, slice_get, Contains, Option, Some, None, is_some, get_or}
+use Rattle.std.proofs.Common.{◌≡◌, ◌≢◌, refl, sym, subst, ap, ◌∙◌, arith, ℕ, ◌+◌, ◌<◌, ◌≤◌, Bool, true, not, List, [], ◌∷◌, length, filter, slice_get, Contains, Option, Some, None, is_some, get_or}
 use Rattle.std.proofs.lemmas.Cmp.{eq_by_cmp_equiv}
 use Rattle.std.proofs.lemmas.List.Elements.{Contains-get_or}
 use Rattle.std.proofs.lemmas.List.Filters.{length-filter_both}
@@ -27,7 +27,7 @@ use Rattle.plan_rows.specs.Shown.{contents_shown, source_if_any}
 use Rattle.plan_rows.specs.declared.shown.TableSource.{TableSource}
 use Rattle.row_differences.proofs.Picked.{picked_from, picks_ascend}
 use Rattle.row_differences.specs.Changes.{AreAt}
-use Rattle.row_differences.specs.Differences.{AreDifferences, HaveOneKey}
+use Rattle.row_differences.specs.Differences.{AreDifferences}
 
 -- ---- the keys of a plan
 

@@ -1,13 +1,13 @@
 -- What rows that are noted say of a table of which no other row differs.
-use Rattle.std.proofs.Common.{◌≡◌, ◌⊎◌, inl, inr, refl, sym, ap, subst, ◌∙◌, arith, ℕ, ◌+◌, ◌<◌, Bool, true, false, not, List, [], ◌∷◌, ◌++◌, length, get_or, slice_get, Contains, Some}
+use Rattle.std.proofs.Common.{◌≡◌, inl, inr, refl, sym, ap, subst, ◌∙◌, arith, ℕ, ◌+◌, ◌<◌, Bool, true, false, not, List, [], ◌∷◌, ◌++◌, length, get_or, slice_get, Contains, Some, option_map}
 use Rattle.std.specs.Cmp.{IsTotalOrder}
-use Rattle.std.specs.FinMap.{IsAntisymmetric}
+use Rattle.std.specs.FinMap.{IsAntisymmetric, get}
 use Rattle.std.specs.List.Sorted.{IsStrictlySortedBy}
 use Rattle.std.specs.Ordering.{nat_cmp}
 use Rattle.std.specs.declared.cmp.Ordering.{Ordering}
 use Rattle.std.proofs.lemmas.List.{append-nil}
 use Rattle.plan_basics.proofs.Members.{contains_cases, contains_head, contains_later, contains_none}
-use Rattle.plan_model.specs.Contents.{Contents}
+use Rattle.plan_model.specs.Contents.{Contents, Resources}
 use Rattle.plan_model.specs.Plan.{Plan}
 use Rattle.plan_figures.specs.plan_drafts.specs.declared.RowKey.{RowKey}
 use Rattle.plan_figures.specs.plan_records.specs.Rows.{row_cmp}
@@ -20,7 +20,7 @@ use Rattle.plan_rows.proofs.PairedLists.{paired_at, paired_length}
 use Rattle.plan_rows.proofs.ShownPlaces.{rows_differ}
 use Rattle.plan_rows.specs.Notes.{AreNotedAt, AreWithin, IsNotedAt, IsNotedBeside, NotesBeside}
 use Rattle.plan_rows.specs.Tables.{AreChangesBelow, AreRowsOf}
-use Rattle.plan_rows.specs.Touched.{AreDifferentAmong, StaysBeside}
+use Rattle.plan_rows.specs.Touched.{AreDifferentAmong, KeepsQuantities, StaysBeside}
 use Rattle.plan_rows.specs.declared.noted_rows.NotedRow.{NotedRow}
 use Rattle.plan_rows.specs.declared.notes.NotedBeside.{NotedBeside}
 use Rattle.plan_rows.specs.declared.notes.NotedBeside.TheVariants as noted
@@ -73,11 +73,17 @@ all_beside P Q beside.Nothing noted.Nothing stays is = stays
 all_beside P Q beside.Nothing (noted.Resources rows) stays is = absurd is
 all_beside P Q beside.Nothing (noted.Intervals rows) stays is = absurd is
 all_beside P Q beside.Resources noted.Nothing stays is = absurd is
-all_beside P Q beside.Resources (noted.Resources rows) stays is = (stays.0, stays.1, is)
+all_beside P Q beside.Resources (noted.Resources rows) stays is = (stays.0, stays.1, stays.2, is)
 all_beside P Q beside.Resources (noted.Intervals rows) stays is = absurd is
 all_beside P Q beside.Workstations noted.Nothing stays is = absurd is
 all_beside P Q beside.Workstations (noted.Resources rows) stays is = absurd is
 all_beside P Q beside.Workstations (noted.Intervals rows) stays is = (stays.0, stays.1, is)
+
+-- no quantity differs
+pub quantities_keep : (P Q : Contents) (b : ChangeBeside) → StaysBeside b P Q → KeepsQuantities P Q
+quantities_keep P Q beside.Nothing stays r = ap (λ (resources : Resources). option_map (λ s. s.quantity) (get resources r)) stays.1
+quantities_keep P Q beside.Resources stays r = stays.2 r
+quantities_keep P Q beside.Workstations stays r = ap (λ (resources : Resources). option_map (λ s. s.quantity) (get resources r)) stays.0
 
 -- no pair differs
 pub pairs_stay : (P Q : Contents) (b : ChangeBeside) → StaysBeside b P Q → Q.pairs ≡ P.pairs

@@ -1,6 +1,6 @@
 -- What tables are told by, if a plan is loaded.
 use Rattle.std.proofs.Common.{◌≡◌, ◌∙◌, arith, refl, sym, subst, ℕ, ◌<◌, true, is_some, length, List, Option, Some, None}
-use Rattle.std.specs.FinMap.{get, get-empty}
+use Rattle.std.specs.FinMap.{get-empty}
 use Rattle.std.specs.Map.{keys_of}
 use Rattle.std.proofs.lemmas.Option.{none-some}
 use Rattle.plan_basics.specs.Keys.{operation_cmp}

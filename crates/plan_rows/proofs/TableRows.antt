@@ -1,5 +1,5 @@
 -- The rows of each table for the plan that is shown.
-use Rattle.std.proofs.Common.{◌≡◌, refl, sym, subst, ap, ◌∙◌, Bool, List, [], ◌∷◌, map, Contains, Option, Some, None, option_map}
+use Rattle.std.proofs.Common.{◌≡◌, refl, sym, subst, ap, ◌∙◌, List, [], ◌∷◌, map, Contains, Option, Some, None, option_map}
 use Rattle.std.specs.FinMap.{entries, get}
 use Rattle.std.specs.FinSet as set
 use Rattle.std.proofs.lemmas.Option.{same_Some}
@@ -11,6 +11,7 @@ use Rattle.plan_figures.specs.plan_drafts.proofs.Tables.{from_set, in_set}
 use Rattle.plan_figures.specs.plan_drafts.specs.declared.RowKey.TheVariants as key
 use Rattle.plan_figures.specs.plan_laws.proofs.Pairs.{pair_cmp-IsAntisymmetric, pair_cmp_total}
 use Rattle.plan_model.specs.Plan.{Plan}
+use Rattle.plan_model.specs.declared.Stock.{Stock}
 use Rattle.plan_figures.specs.plan_records.specs.Rows.{key_of}
 use Rattle.plan_figures.specs.plan_records.specs.declared.PlanRow.{PlanRow}
 use Rattle.plan_figures.specs.plan_records.specs.declared.PlanRow.TheVariants as row
@@ -24,13 +25,14 @@ use Rattle.workstations.specs.Workstations.{Workstation}
 module _ (P : Plan) where
   -- ---- special resources
   resource_there : (r : PlanRow) → IsRowOf 3 P r → Contains (map resource_row (entries P.contents.resources)) r
-  resource_there (row.Resource name available) (is, e) = kept_there name_cmp_total name_cmp-IsAntisymmetric resource_row P.contents.resources name available is
+  resource_there (row.Resource name available) ((stock, is, same), e) =
+      subst (λ a. Contains (map resource_row (entries P.contents.resources)) (row.Resource name a)) same (kept_there name_cmp_total name_cmp-IsAntisymmetric resource_row P.contents.resources name stock is)
   resource_there r (is, e) = absurd (cc)
 
   resource_told : (r : PlanRow) → Contains (map resource_row (entries P.contents.resources)) r → IsRowOf 3 P r
-  resource_told r has = let h = kept_from name_cmp_total name_cmp-IsAntisymmetric resource_row P.contents.resources r has in subst (IsRowOf 3 P) h.3 (h.2, refl)
+  resource_told r has = let h = kept_from name_cmp_total name_cmp-IsAntisymmetric resource_row P.contents.resources r has in subst (IsRowOf 3 P) h.3 ((h.1, h.2, refl), refl)
 
-  pub are_resources : (xs : List (Name × Bool)) → xs ≡ entries P.contents.resources → AreRowsOf key.Resource 3 P (keys_of xs) (map resource_row xs)
+  pub are_resources : (xs : List (Name × Stock)) → xs ≡ entries P.contents.resources → AreRowsOf key.Resource 3 P (keys_of xs) (map resource_row xs)
   are_resources xs same =
       subst (λ ys. AreRowsOf key.Resource 3 P (keys_of ys) (map resource_row ys)) (sym same)
       (record { keyed = keyed_by key.Resource resource_row (λ _. refl) (entries P.contents.resources); all = λ r. (resource_told r, resource_there r) })

@@ -1,14 +1,16 @@
 -- The tables of which no row differs where only marks and flags of operations do.
-use Rattle.std.proofs.Common.{◌≡◌, ◌↔◌, refl, sym, ap, subst, ◌∙◌, ℕ, ◌+◌, List, [], ◌∷◌, map, Contains, Option, Some}
+use Rattle.std.proofs.Common.{◌≡◌, ◌↔◌, refl, sym, ap, subst, ◌∙◌, ℕ, ◌+◌, List, [], ◌∷◌, map, Contains, Option, Some, None, option_map}
 use Rattle.std.specs.FinMap.{entries, get}
 use Rattle.std.specs.FinSet as set
 use Rattle.std.proofs.lemmas.List.{append-nil}
+use Rattle.std.proofs.lemmas.Option.{none-some, same_Some}
 use Rattle.plan_basics.proofs.Members.{contains_none}
 use Rattle.plan_basics.specs.Keys.{Name}
 use Rattle.plan_basics.specs.declared.Attr.{Attr}
 use Rattle.plan_figures.specs.plan_drafts.specs.declared.RowKey.{RowKey}
 use Rattle.plan_model.specs.Contents.{Pairs, Workstations}
 use Rattle.plan_model.specs.Plan.{Plan}
+use Rattle.plan_model.specs.declared.Stock.{Stock}
 use Rattle.plan_figures.specs.plan_moves.specs.Moves.{reporting}
 use Rattle.plan_figures.specs.plan_records.specs.Rows.{key_of, row_cmp}
 use Rattle.plan_figures.specs.plan_records.specs.declared.Changes.{Changes}
@@ -21,7 +23,7 @@ use Rattle.plan_rows.proofs.TableRows.{are_resources, are_workstations}
 use Rattle.plan_rows.specs.Rows.{workstation_row, resource_row}
 use Rattle.plan_rows.specs.Shown.{contents_shown, plan_shown}
 use Rattle.plan_rows.specs.Tables.{AreChangesBelow, AreRowsOf, IsRowOf}
-use Rattle.plan_rows.specs.Touched.{AreMovedAmong}
+use Rattle.plan_rows.specs.Touched.{AreMovedAmong, KeepsQuantities}
 use Rattle.plan_rows.specs.declared.shown.RowSource.{RowSource}
 use Rattle.row_differences.specs.Changes.{AreRowChanges}
 use Rattle.workstations.specs.Timetables.{NamedWorkstation}
@@ -61,12 +63,31 @@ dependencies_kept P Q same r (is, e) = absurd (cc)
 
 module _ (P Q : Plan) (touched : List ℕ) (h : AreMovedAmong P.contents Q.contents touched) where
   needs_stay_after : (r : PlanRow) → IsRowOf 7 P r → IsRowOf 7 Q r
-  needs_stay_after (row.Need o n) ((op, at, has), e) = let (now, there, same) = needs_are P.contents Q.contents touched h o op at in ((now, there, ap (λ needs. get needs n.name) same ∙ has), e)
+  needs_stay_after (row.Need o r mode keep) ((op, at, (usage, has, uses, keeps)), e) = let (now, there, same) = needs_are P.contents Q.contents touched h o op at in ((now, there, (usage, ap (λ needs. get needs r) same ∙ has, uses, keeps)), e)
   needs_stay_after r (is, e) = absurd (cc)
 
   needs_stay_before : (r : PlanRow) → IsRowOf 7 Q r → IsRowOf 7 P r
-  needs_stay_before (row.Need o n) ((op, at, has), e) = let (was, there, same) = needs_were P.contents Q.contents touched h o op at in ((was, there, ap (λ needs. get needs n.name) (sym same) ∙ has), e)
+  needs_stay_before (row.Need o r mode keep) ((op, at, (usage, has, uses, keeps)), e) = let (was, there, same) = needs_were P.contents Q.contents touched h o op at in ((was, there, (usage, ap (λ needs. get needs r) (sym same) ∙ has, uses, keeps)), e)
   needs_stay_before r (is, e) = absurd (cc)
+
+  amounts_stay_after : (r : PlanRow) → IsRowOf 9 P r → IsRowOf 9 Q r
+  amounts_stay_after (row.Amount o r amount) ((op, at, (usage, has, claims, differs)), e) = let (now, there, same) = needs_are P.contents Q.contents touched h o op at in ((now, there, (usage, ap (λ needs. get needs r) same ∙ has, claims, differs)), e)
+  amounts_stay_after r (is, e) = absurd (cc)
+
+  amounts_stay_before : (r : PlanRow) → IsRowOf 9 Q r → IsRowOf 9 P r
+  amounts_stay_before (row.Amount o r amount) ((op, at, (usage, has, claims, differs)), e) = let (was, there, same) = needs_were P.contents Q.contents touched h o op at in ((was, there, (usage, ap (λ needs. get needs r) (sym same) ∙ has, claims, differs)), e)
+  amounts_stay_before r (is, e) = absurd (cc)
+
+-- the quantity that is found
+found_quantity : (stock : Option Stock) (n : ℕ) → option_map (λ s. s.quantity) stock ≡ Some n → (s : Stock) × (stock ≡ Some s) × (s.quantity ≡ n)
+found_quantity None n e = absurd (none-some n e)
+found_quantity (Some s) n e = (s, refl, same_Some s.quantity n e)
+
+quantity_kept : (P Q : Plan) → KeepsQuantities P.contents Q.contents → (r : PlanRow) → IsRowOf 8 P r → IsRowOf 8 Q r
+quantity_kept P Q keeps (row.Quantity r n) ((stock, is, same, differs), e) =
+    let now = found_quantity (get Q.contents.resources r) n (keeps r ∙ ap (option_map (λ s. s.quantity)) is ∙ ap Some same) in
+    ((now.0, now.1, now.2, differs), e)
+quantity_kept P Q keeps r (is, e) = absurd (cc)
 
 module _ (clock now : ℕ) (before after : Option RowSource) (c : Changes) where
   abbrev P : Plan
@@ -90,6 +111,11 @@ module _ (clock now : ℕ) (before after : Option RowSource) (c : Changes) where
       let same : Q.contents.pairs ≡ P.contents.pairs = ap (λ C. C.pairs) (sym (contents_of_plan now after)) ∙ (e ∙ ap (λ C. C.pairs) (contents_of_plan clock before)) in
       table_stays 6 P Q (λ r. (dependencies_kept P Q (sym same) r, dependencies_kept Q P same r)) c so_far
 
+  pub quantities_stay : KeepsQuantities (contents_shown before) (contents_shown after) → AreChangesBelow 8 P Q c → AreChangesBelow 9 P Q c
+  quantities_stay keeps so_far =
+      let same : KeepsQuantities P.contents Q.contents = subst (KeepsQuantities P.contents) (contents_of_plan now after) (subst (λ C. KeepsQuantities C (contents_shown after)) (contents_of_plan clock before) keeps) in
+      table_stays 8 P Q (λ r. (quantity_kept P Q same r, quantity_kept Q P (λ n. sym (same n)) r)) c so_far
+
   module _ (touched : List ℕ) (h : AreMovedAmong (contents_shown before) (contents_shown after) touched) where
     moved : AreMovedAmong P.contents Q.contents touched
     moved = subst (λ C. AreMovedAmong P.contents C touched) (contents_of_plan now after) (subst (λ C. AreMovedAmong C (contents_shown after) touched) (contents_of_plan clock before) h)
@@ -98,6 +124,9 @@ module _ (clock now : ℕ) (before after : Option RowSource) (c : Changes) where
     workstations_stay so_far =
         let same = rows_reported (entries Q.contents.workstations) ∙ (ap (map (λ (x : Name × Attr). row.Workstation x.0 x.1)) moved.moved.workstations ∙ sym (rows_reported (entries P.contents.workstations))) in
         table_stays 1 P Q (same_rows 1 P Q _ _ _ _ (are_workstations P _ refl) (are_workstations Q _ refl) same) c so_far
+
+    pub amounts_stay : AreChangesBelow 9 P Q c → AreChangesBelow 10 P Q c
+    amounts_stay so_far = table_stays 9 P Q (λ r. (amounts_stay_after P Q touched moved r, amounts_stay_before P Q touched moved r)) c so_far
 
     pub needs_stay : AreChangesBelow 7 P Q c → AreChangesBelow 8 P Q c
     needs_stay so_far = table_stays 7 P Q (λ r. (needs_stay_after P Q touched moved r, needs_stay_before P Q touched moved r)) c so_far

@@ -1,4 +1,4 @@
--- The rows of the intervals and of the needs of a plan.
+-- The rows of the intervals of a plan, and the order of its needs.
 use Rattle.std.proofs.Common.{◌≡◌, refl, sym, subst, ap, ◌∙◌, ℕ, List, [], ◌∷◌, map, Contains, Some}
 use Rattle.std.specs.FinMap.{entries, from_entries, get, nat_cmp-IsAntisymmetric}
 use Rattle.std.specs.Cmp.{nat_cmp_total}
@@ -7,18 +7,17 @@ use Rattle.std.specs.Map.{keys_of}
 use Rattle.std.specs.Ordering.{nat_cmp, ordering_then}
 use Rattle.plan_basics.proofs.Members.{contains_mapped, mapped_contains}
 use Rattle.plan_basics.specs.Intervals.{OpenInterval}
-use Rattle.plan_basics.specs.Keys.{Name, name_cmp, name_cmp-IsAntisymmetric, name_cmp_total, operation_cmp, operation_cmp-IsAntisymmetric, operation_cmp_total}
+use Rattle.plan_basics.specs.Keys.{Name, name_cmp, name_cmp-IsAntisymmetric, name_cmp_total, operation_cmp, operation_cmp_total}
 use Rattle.plan_basics.specs.declared.keys.OpKey.{OpKey}
 use Rattle.plan_figures.specs.plan_drafts.specs.declared.RowKey.TheVariants as key
 use Rattle.plan_model.proofs.Entries.{entries_in_order, rows_in_order}
 use Rattle.plan_model.specs.Contents.{Operation}
 use Rattle.plan_model.specs.Plan.{Plan}
-use Rattle.plan_figures.specs.plan_records.specs.Rows.{key_of}
 use Rattle.plan_figures.specs.plan_records.specs.declared.PlanRow.{PlanRow}
 use Rattle.plan_figures.specs.plan_records.specs.declared.PlanRow.TheVariants as row
 use Rattle.plan_rows.proofs.BothKeys.{all_ascend, from_one, in_all, keys_made, under_made}
 use Rattle.plan_rows.proofs.KeptRows.{kept_has, kept_is, keyed_members}
-use Rattle.plan_rows.specs.Rows.{all_intervals, all_needs, interval_row, intervals_within, need_row, needs_within, under_both}
+use Rattle.plan_rows.specs.Rows.{all_intervals, all_needs, interval_row, intervals_within, needs_within, under_both}
 use Rattle.plan_rows.specs.Tables.{AreRowsOf, IsRowOf}
 use Rattle.special_resources.specs.Holders.{Usage}
 use Rattle.special_resources.specs.Holdings.{usage_of}
@@ -57,8 +56,8 @@ as_needs : (ns : List Need) → map {B = Name × Need} (λ (x : Name × Usage). 
 as_needs [] = refl
 as_needs (n ∷ ns) = λ i. (n.name, n) ∷ as_needs ns i
 
-pub needs_listed : (o : OpKey × Operation) (ns : List Need) → o.1.needs ≡ usages_of ns → AreInNameOrder ns → map {B = (OpKey × Name) × Need} (λ (n : Need). ((o.0, n.name), n)) ns ≡ under_both needs_within o
-needs_listed o ns kept up =
+pub needs_kept : (o : OpKey × Operation) (ns : List Need) → o.1.needs ≡ usages_of ns → AreInNameOrder ns → map {B = (OpKey × Name) × Need} (λ (n : Need). ((o.0, n.name), n)) ns ≡ under_both needs_within o
+needs_kept o ns kept up =
     let up_keys = subst (IsStrictlySortedBy name_cmp) (sym (keys_made (λ (n : Need). n.name) usage_of ns)) up in
     let listed = ap entries kept ∙ rows_in_order name_cmp_total (map entry_of ns) up_keys in
     under_made o.0 (λ (n : Need). n.name) (λ n. n) ns
@@ -103,42 +102,3 @@ module _ (P : Plan) where
         keyed = keyed_members (λ x. key.Interval x.0 x.1) interval_row intervals (λ y has. ap (key.Interval y.0.0) (sym (interval_of legal y has).3));
         all = λ r. (interval_told legal r, interval_there r);
       })
-
-  -- ---- needs
-  abbrev needs : List ((OpKey × Name) × Need)
-  needs = all_needs (entries P.contents.operations)
-
-  need_from : (y : (OpKey × Name) × Need) → Contains needs y
-      → (z : OpKey × Operation) × (x : Name × Usage) × (get P.contents.operations z.0 ≡ Some z.1) × (get z.1.needs x.0 ≡ Some x.1) × (((z.0, x.0), need_of x) ≡ y)
-  need_from y has =
-      let h = from_one needs_within (entries P.contents.operations) y has in
-      let x = mapped_contains (λ (x : Name × Usage). (x.0, need_of x)) (entries h.0.1.needs) h.2 h.3 in (
-        h.0,
-        x.0,
-        kept_is operation_cmp_total operation_cmp-IsAntisymmetric P.contents.operations h.0 h.1,
-        kept_is name_cmp_total name_cmp-IsAntisymmetric h.0.1.needs x.0 x.2,
-        ap (λ (w : Name × Need). ((h.0.0, w.0), w.1)) x.1 ∙ h.4,
-      )
-
-  pub need_told : (r : PlanRow) → Contains (map need_row needs) r → IsRowOf 7 P r
-  need_told r has =
-      let y = mapped_contains need_row needs r has in
-      let h = need_from y.0 y.2 in
-      subst (IsRowOf 7 P) (ap need_row h.4 ∙ y.1) ((h.0.1, h.2, h.3), refl)
-
-  need_there : (r : PlanRow) → IsRowOf 7 P r → Contains (map need_row needs) r
-  need_there (row.Need o n) (is, e) =
-      let usage : Usage = record { mode = n.mode; keep = n.keep } in
-      contains_mapped need_row needs ((o, n.name), n)
-      (in_all needs_within (entries P.contents.operations) (o, is.0) (n.name, n)
-      (kept_has operation_cmp_total operation_cmp-IsAntisymmetric P.contents.operations o is.0 is.1)
-      (contains_mapped (λ (x : Name × Usage). (x.0, need_of x)) (entries is.0.needs) (n.name, usage) (kept_has name_cmp_total name_cmp-IsAntisymmetric is.0.needs n.name usage is.2)))
-  need_there r (is, e) = absurd (cc)
-
-  need_keyed : (y : (OpKey × Name) × Need) → Contains needs y → key_of (need_row y) ≡ key.Need y.0.0 y.0.1
-  need_keyed y has = let h = need_from y has in subst (λ (z : (OpKey × Name) × Need). key_of (need_row z) ≡ key.Need z.0.0 z.0.1) h.4 refl
-
-  pub are_needs : (xs : List ((OpKey × Name) × Need)) → xs ≡ needs → AreRowsOf (λ x. key.Need x.0 x.1) 7 P (keys_of xs) (map need_row xs)
-  are_needs xs same =
-      subst (λ ys. AreRowsOf (λ x. key.Need x.0 x.1) 7 P (keys_of ys) (map need_row ys)) (sym same)
-      (record { keyed = keyed_members (λ x. key.Need x.0 x.1) need_row needs need_keyed; all = λ r. (need_told r, need_there r) })

@@ -1,28 +1,24 @@
 -- Rows of one key are the same where their values are equal.
-use Rattle.std.specs.Prelude.{◌≡◌, ◌↔◌, ℕ, Bool, List, [], map, slice_get, Some, Decides, option_map}
+use Rattle.std.specs.Prelude.{◌≡◌, ◌↔◌, ◌==◌, ℕ, Bool, List, [], map, slice_get, Some, Decides, option_map}
 use Rattle.std.proofs.Common.{sym, ap, ◌∙◌}
 use Rattle.std.proofs.lemmas.Option.{same_Some, slice_get-map}
-use Rattle.std.proofs.Math.Bool.{beq}
-use Rattle.std.specs.Cmp.{booleans_Decides}
+use Rattle.std.proofs.lemmas.Bool.Decides.{Decides-eqb}
 use Rattle.std.specs.FinMap.{IsAntisymmetric, nat_cmp-IsAntisymmetric}
 use Rattle.std.specs.Map.{keys_of}
 use Rattle.std.specs.Ordering.{nat_cmp, ordering_then}
 use Rattle.std.specs.declared.cmp.Ordering.{Ordering}
 use Rattle.plan_basics.proofs.PairOrders.{by_two-IsAntisymmetric}
 use Rattle.plan_basics.specs.Intervals.{OpenInterval}
-use Rattle.plan_basics.specs.Keys.{Name, name_cmp, name_cmp-IsAntisymmetric, operation_cmp, operation_cmp-IsAntisymmetric}
+use Rattle.plan_basics.specs.Keys.{Name, name_cmp, name_cmp-IsAntisymmetric, operation_cmp-IsAntisymmetric}
 use Rattle.plan_basics.specs.contracts.moments.IntervalPartialEq.TheImpl as intervals
-use Rattle.plan_basics.specs.declared.keys.OpKey.{OpKey}
 use Rattle.plan_model.specs.Contents.{pair_cmp}
 use Rattle.plan_figures.specs.plan_records.proofs.RowEquality.{equal_rows}
 use Rattle.plan_figures.specs.plan_records.specs.declared.PlanRow.{PlanRow}
 use Rattle.plan_figures.specs.plan_records.specs.declared.PlanRow.TheVariants as row
-use Rattle.plan_rows.specs.Rows.{interval_row, need_row, resource_row}
+use Rattle.plan_rows.specs.Rows.{interval_row, quantity_row}
 use Rattle.row_differences.proofs.Picked.{made_from}
 use Rattle.row_differences.specs.Differences.{HaveOneKey}
 use Rattle.row_differences.specs.Rows.{HaveEqualValues}
-use Rattle.special_resources.specs.contracts.NeedPartialEq.TheImpl as needs
-use Rattle.special_resources.specs.declared.Need.{Need}
 
 -- only equal pairs tie
 pub pair_exact : IsAntisymmetric pair_cmp
@@ -47,11 +43,11 @@ module _ {K X : Type 0} (eq : X → X → Bool) (row_of : K × X → PlanRow) (t
         (z.0, w.0, z.1, w.1, (told z.0.1 w.0.1).1 (one_value z.0 w.0 (same_Some (row_of z.0) (row_of w.0) (sym (row_at before i z.0 z.1) ∙ h ∙ row_at after j w.0 w.1)))),
   )
 
-one_availability : (z w : Name × Bool) → resource_row z ≡ resource_row w → z.1 ≡ w.1
-one_availability z w e = cc
+one_quantity : (z w : Name × ℕ) → quantity_row z ≡ quantity_row w → z.1 ≡ w.1
+one_quantity z w e = cc
 
-pub resource_alike : (before after : List (Name × Bool)) (i j : ℕ) → HaveOneKey (keys_of before) (keys_of after) i j → HaveEqualValues beq before after i j ↔ (slice_get (map resource_row before) i ≡ slice_get (map resource_row after) j)
-resource_alike = valued_alike beq resource_row booleans_Decides one_availability
+pub quantity_alike : (before after : List (Name × ℕ)) (i j : ℕ) → HaveOneKey (keys_of before) (keys_of after) i j → HaveEqualValues ◌==◌ before after i j ↔ (slice_get (map quantity_row before) i ≡ slice_get (map quantity_row after) j)
+quantity_alike = valued_alike ◌==◌ quantity_row Decides-eqb one_quantity
 
 -- intervals stand by their workstations' names, and then by their first minutes
 abbrev pub interval_key_cmp : Name × ℕ → Name × ℕ → Ordering
@@ -73,23 +69,3 @@ one_interval z w e = cc
 
 pub interval_alike : (before after : List ((Name × ℕ) × OpenInterval)) (i j : ℕ) → HaveOneKey (keys_of before) (keys_of after) i j → HaveEqualValues intervals.ghosts.eq before after i j ↔ (slice_get (map interval_row before) i ≡ slice_get (map interval_row after) j)
 interval_alike = valued_alike intervals.ghosts.eq interval_row equal_intervals one_interval
-
--- only equal keys of needs tie
-pub need_key_exact : IsAntisymmetric {K = OpKey × Name} (λ x y. ordering_then (operation_cmp x.0 y.0) (name_cmp x.1 y.1))
-need_key_exact = by_two-IsAntisymmetric operation_cmp-IsAntisymmetric name_cmp-IsAntisymmetric
-
--- needs are compared as rows of one operation are
-abbrev some_operation : OpKey
-some_operation = record { occurrence = record { app = []; arrival = 0 }; number = 0 }
-
-equal_needs : (a b : Need) → Decides (needs.ghosts.eq a b) (a ≡ b)
-equal_needs a b = let h = equal_rows (row.Need some_operation a) (row.Need some_operation b) in (λ e. one (h.0 e), λ e. h.1 (ap (row.Need some_operation) e))
-  where
-    one : row.Need some_operation a ≡ row.Need some_operation b → a ≡ b
-    one e = cc
-
-one_need : (z w : (OpKey × Name) × Need) → need_row z ≡ need_row w → z.1 ≡ w.1
-one_need z w e = cc
-
-pub need_alike : (before after : List ((OpKey × Name) × Need)) (i j : ℕ) → HaveOneKey (keys_of before) (keys_of after) i j → HaveEqualValues needs.ghosts.eq before after i j ↔ (slice_get (map need_row before) i ≡ slice_get (map need_row after) j)
-need_alike = valued_alike needs.ghosts.eq need_row equal_needs one_need

@@ -7,7 +7,7 @@ use Rattle.plan_figures.specs.plan_records.specs.declared.PlanRow.{PlanRow}
 use Rattle.plan_figures.specs.plan_records.specs.declared.PlanRow.TheVariants as row
 use Rattle.plan_rows.specs.Rows.{all_intervals, keyed_occurrences, keyed_operations, rows_of}
 use Rattle.plan_rows.specs.Shown.{IsShown, contents_shown}
-use Rattle.plan_rows.specs.Touched.{AreOccurrencesOf, AreTouched, StaysBeside}
+use Rattle.plan_rows.specs.Touched.{AreOccurrencesOf, AreTouched, KeepsQuantities, StaysBeside}
 use Rattle.plan_rows.specs.declared.noted_rows.NotedRow.{NotedRow}
 use Rattle.plan_rows.specs.declared.notes.NotedBeside.{NotedBeside}
 use Rattle.plan_rows.specs.declared.notes.NotedBeside.TheVariants as noted
@@ -66,5 +66,5 @@ pub record IsNotedStep (before : Option RowSource) (Q : Contents) (notes : Notes
 -- beside operations no more differs from P to Q than the table that it has, whose rows are those of Q
 abbrev pub NotesBeside : Contents → Contents → NotedBeside → Type 0
 NotesBeside P Q noted.Nothing = (Q.workstations ≡ P.workstations) × (Q.resources ≡ P.resources) × (Q.pairs ≡ P.pairs)
-NotesBeside P Q (noted.Resources rows) = (Q.workstations ≡ P.workstations) × (Q.pairs ≡ P.pairs) × (rows.items ≡ entries Q.resources)
+NotesBeside P Q (noted.Resources rows) = (Q.workstations ≡ P.workstations) × (Q.pairs ≡ P.pairs) × KeepsQuantities P Q × (rows.items ≡ entries Q.resources)
 NotesBeside P Q (noted.Intervals rows) = (Q.resources ≡ P.resources) × (Q.pairs ≡ P.pairs) × (rows.items ≡ all_intervals (entries Q.workstations))

@@ -1,19 +1,23 @@
 -- The rows of the tables for what a plan holds, in the order of what is kept.
-use Rattle.std.specs.Prelude.{ℕ, Bool, List, [], map, Option, Some, None}
+use Rattle.std.specs.Prelude.{ℕ, ◌==◌, cond, List, [], map, Option, Some, None}
 use Rattle.std.specs.List.{flat_map, zip}
 use Rattle.std.specs.FinMap.{entries}
 use Rattle.plan_basics.specs.Intervals.{OpenInterval}
 use Rattle.plan_basics.specs.Keys.{Name}
+use Rattle.plan_basics.specs.declared.limits.TheConstants.{MOST_QUANTITY}
 use Rattle.plan_basics.specs.declared.keys.OccKey.{OccKey}
 use Rattle.plan_basics.specs.declared.keys.OpKey.{OpKey}
 use Rattle.plan_model.specs.Contents.{Operation}
 use Rattle.plan_model.specs.declared.Occurrence.{Occurrence}
+use Rattle.plan_model.specs.declared.Stock.{Stock}
 use Rattle.plan_figures.specs.plan_records.specs.declared.OperationRow.{OperationRow}
 use Rattle.plan_figures.specs.plan_records.specs.declared.PlanRow.{PlanRow}
 use Rattle.plan_figures.specs.plan_records.specs.declared.PlanRow.TheVariants as row
 use Rattle.plan_rows.specs.Shown.{Known, known_of}
 use Rattle.plan_rows.specs.declared.shown.RowSource.{RowSource}
 use Rattle.special_resources.specs.Needs.{need_of}
+use Rattle.special_resources.specs.declared.Mode.{Mode}
+use Rattle.special_resources.specs.declared.Mode.TheVariants.{Exclusive, Shared}
 use Rattle.special_resources.specs.declared.Need.{Need}
 use Rattle.status_rules.specs.Table.{occurrence_by}
 use Rattle.status_rules.specs.declared.Counts.{Counts}
@@ -29,8 +33,16 @@ abbrev pub interval_row : (Name × ℕ) × OpenInterval → PlanRow
 interval_row x = row.Interval x.0.0 x.1
 
 -- a special resource, and whether it is available
-abbrev pub resource_row : Name × Bool → PlanRow
-resource_row x = row.Resource x.0 x.1
+abbrev pub resource_row : Name × Stock → PlanRow
+resource_row x = row.Resource x.0 x.1.available
+
+-- how much there is of a special resource, where it isn't the greatest quantity, which isn't written
+abbrev pub quantity_written : Name × Stock → Option (Name × ℕ)
+quantity_written x = cond (x.1.quantity == MOST_QUANTITY) None (Some (x.0, x.1.quantity))
+
+-- its row
+abbrev pub quantity_row : Name × ℕ → PlanRow
+quantity_row x = row.Quantity x.0 x.1
 
 -- an occurrence, by its terms and the numbers of its operations
 abbrev pub keyed_occurrence : (OccKey × Occurrence) × Counts → OccKey × PlanRow
@@ -62,9 +74,17 @@ keyed_operation x = (x.0.0, row.Operation (operation_row_of x))
 abbrev pub dependency_row : OpKey × OpKey → PlanRow
 dependency_row x = row.Dependency x.0 x.1
 
--- a need of an operation, under its operation's key and its resource's name
-abbrev pub need_row : (OpKey × Name) × Need → PlanRow
-need_row x = row.Need x.0.0 x.1
+-- a need of an operation, by its resource, its mode, and whether an error keeps it
+abbrev pub need_row : OpKey × Need → PlanRow
+need_row x = row.Need x.0 x.1.name x.1.mode x.1.keep
+
+-- how much a need is of, where it is shared and that isn't 1, which isn't written
+abbrev pub amount_by : Mode → OpKey × Need → Option PlanRow
+amount_by Exclusive x = None
+amount_by Shared x = cond (x.1.amount == 1) None (Some (row.Amount x.0 x.1.name x.1.amount))
+
+abbrev pub amount_row : OpKey × Need → Option PlanRow
+amount_row x = amount_by x.1.mode x
 
 -- all occurrences of the plan that is shown, each under its key
 abbrev pub keyed_occurrences : RowSource → List (OccKey × PlanRow)
@@ -102,3 +122,11 @@ needs_within o = map (λ x. (x.0, need_of x)) (entries o.needs)
 -- the needs of all operations
 abbrev pub all_needs : List (OpKey × Operation) → List ((OpKey × Name) × Need)
 all_needs = flat_map (under_both needs_within)
+
+-- a need with its operation's key
+abbrev pub with_operation : (OpKey × Name) × Need → OpKey × Need
+with_operation y = (y.0.0, y.1)
+
+-- the needs of an operation, by the names of the resources
+abbrev pub needs_listed : OpKey × Operation → List (OpKey × Need)
+needs_listed z = map with_operation (under_both needs_within z)

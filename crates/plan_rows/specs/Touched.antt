@@ -1,8 +1,9 @@
 -- What may differ from one plan that is shown to the next where some of its operations were touched, and no others.
-use Rattle.std.specs.Prelude.{◌≡◌, ◌≢◌, ◌↔◌, ◌<◌, ℕ, List, [], length, slice_get, Contains, Option, Some, None}
-use Rattle.std.specs.FinMap.{entries}
+use Rattle.std.specs.Prelude.{◌≡◌, ◌≢◌, ◌↔◌, ◌<◌, ℕ, List, [], length, slice_get, Contains, Option, Some, None, option_map}
+use Rattle.std.specs.FinMap.{entries, get}
 use Rattle.std.specs.List.Sorted.{IsStrictlySortedBy}
 use Rattle.std.specs.Ordering.{nat_cmp}
+use Rattle.plan_basics.specs.Keys.{Name}
 use Rattle.plan_basics.specs.declared.keys.OpKey.{OpKey}
 use Rattle.plan_model.specs.Contents.{Contents, Operation}
 use Rattle.plan_model.specs.declared.Occurrence.{Occurrence}
@@ -54,10 +55,14 @@ pub record AreTouched (before after : Option RowSource) (touched : List ℕ) : T
   pub known : (i : ℕ) → ¬ Contains touched i → slice_get (known_shown after) i ≡ slice_get (known_shown before) i
   pub tallies : (i : ℕ) → ¬ HasOneOf (contents_shown before) touched i → slice_get (tallies_shown after) i ≡ slice_get (tallies_shown before) i
 
+-- there is as much of each special resource
+abbrev pub KeepsQuantities : Contents → Contents → Type 0
+KeepsQuantities P Q = (r : Name) → option_map (λ s. s.quantity) (get Q.resources r) ≡ option_map (λ s. s.quantity) (get P.resources r)
+
 -- what else of the contents stays
 abbrev pub StaysBeside : ChangeBeside → Contents → Contents → Type 0
 StaysBeside beside.Nothing P Q = (Q.workstations ≡ P.workstations) × (Q.resources ≡ P.resources) × (Q.pairs ≡ P.pairs)
-StaysBeside beside.Resources P Q = (Q.workstations ≡ P.workstations) × (Q.pairs ≡ P.pairs)
+StaysBeside beside.Resources P Q = (Q.workstations ≡ P.workstations) × (Q.pairs ≡ P.pairs) × KeepsQuantities P Q
 StaysBeside beside.Workstations P Q = (Q.resources ≡ P.resources) × (Q.pairs ≡ P.pairs)
 
 -- of these places those at which the rows before and after differ, in order

@@ -4,7 +4,7 @@ ghost use Rattle.std.specs.FinMap.{entries};
 ghost use Rattle.std.specs.List.Sorted.{IsStrictlySortedBy};
 ghost use Rattle.plan_figures.specs.plan_records.specs.Rows.{AreChanges, AreRows, key_of, row_cmp};
 ghost use Rattle.plan_model.specs.Plan.{plan_held};
-ghost use Rattle.plan_rows.specs.Kept.{KeepsRecords};
+ghost use Rattle.plan_rows.specs.Kept.{AreNewNeeds, KeepsRecords};
 ghost use Rattle.plan_rows.specs.Shown.{IsShown, IsShownIfAny, contents_shown, plan_shown, shown_with, source_if_any, source_of};
 ghost use Rattle.plan_rows.specs.Tables.{AreChangesBelow};
 
@@ -13,13 +13,15 @@ use super::dependencies::push_dependencies;
 use super::intervals::push_intervals;
 use super::keyed::push_resources;
 use super::meta::meta_changes;
-use super::needs::push_needs;
+use super::needs::{new_needs, push_amounts, push_needs};
 use super::occurrences::push_occurrences;
 use super::operations::push_operations;
+use super::quantities::push_quantities;
 use super::shown::{PlanBefore, TableSource};
 use super::workplaces::push_workstations;
-use plan_basics::Moment;
+use plan_basics::{Moment, OpKey};
 use plan_figures::{Changes, PlanRow, Shown};
+use special_resources::Need;
 use std::alloc::{AllocError, Global};
 
 // Adds what changes in the tables of workstations, of intervals and of special resources.
@@ -36,6 +38,25 @@ fn push_stations(
     push_workstations(alloc, before, Some(after), changes)?;
     push_intervals(alloc, before, Some(after), changes)?;
     push_resources(alloc, before, Some(after), changes)
+}
+
+// Adds what changes in the tables of dependencies, of needs, of quantities and of amounts, by the needs of the operations that the
+// plan before hasn't.
+fn push_links(
+    alloc: Global,
+    before: Option<TableSource<'_>>,
+    after: TableSource<'_>,
+    needs: &[(OpKey, Need)],
+    changes: &mut Changes,
+) -> Result<(), AllocError>
+    requires kept { KeepsRecords (contents_shown (source_if_any before)) after.beside.contents.now }
+    requires needs { AreNewNeeds (contents_shown (source_if_any before)) after.beside.contents.now needs.now }
+    ensures { (clock now : ℕ) → AreChangesBelow 6 (plan_shown clock (source_if_any before.entry)) (plan_shown now (Some (source_of after.entry))) changes.old → OnOk result (AreChangesBelow 10 (plan_shown clock (source_if_any before.entry)) (plan_shown now (Some (source_of after.entry))) changes.new) }
+{
+    push_dependencies(alloc, before, Some(after), changes)?;
+    push_needs(needs, changes)?;
+    push_quantities(alloc, before, Some(after), changes)?;
+    push_amounts(needs, changes)
 }
 
 /// Which rows of the tables change from the plan before to what is shown at this clock, which keeps the operations of that. It takes a
@@ -61,10 +82,10 @@ pub fn changes_between(
     push_stations(alloc, old, TableSource { beside, columns }, &mut changes)?;
     push_occurrences(alloc, old, shown, columns, &mut changes)?;
     push_operations(alloc, old, shown, columns, &mut changes)?;
+    let needs = new_needs(alloc, old, shown)?;
     let beside = shown.beside();
     let new = TableSource { beside, columns };
-    push_dependencies(alloc, old, Some(new), &mut changes)?;
-    push_needs(alloc, old, shown, &mut changes)?;
+    push_links(alloc, old, new, &needs, &mut changes)?;
     Ok(changes)
 }
 

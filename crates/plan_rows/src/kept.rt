@@ -10,6 +10,7 @@ ghost use Rattle.plan_rows.specs.Shown.{contents_shown, source_if_any};
 
 use super::shown::TableSource;
 use plan_basics::{OpKey, ResName};
+use plan_model::Stock;
 use workstations::Workstation;
 
 /// The workstations by name.
@@ -23,8 +24,8 @@ pub fn workstations_of<'a>(shown: Option<TableSource<'a>>) -> &'a [Workstation]
     }
 }
 
-/// The special resources by name, each with whether it is available.
-pub fn resources_of<'a>(shown: Option<TableSource<'a>>) -> &'a [(ResName, bool)]
+/// The special resources by name, each with whether it is available and how much of it there is.
+pub fn resources_of<'a>(shown: Option<TableSource<'a>>) -> &'a [(ResName, Stock)]
     ensures rows { result.now ≡ entries (contents_shown (source_if_any shown.entry)).resources }
     ensures in_order { IsStrictlySortedBy name_cmp (keys_of result.now) }
 {

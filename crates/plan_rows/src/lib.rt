@@ -15,17 +15,19 @@ mod notes;
 mod occurrence_places;
 mod occurrences;
 mod operations;
+mod quantities;
 mod shown;
 mod shown_tables;
 mod tables;
 mod workplaces;
+mod written;
 
 pub use changing::{changes_between, rows_of};
 pub use columns::{SourceColumns, columns_of};
 pub use dependencies::push_dependencies;
 pub use intervals::push_intervals;
 pub use keyed::push_resources;
-pub use needs::push_needs;
+pub use needs::{new_needs, push_amounts, push_needs};
 pub use notes::{ChangeBeside, Notes, noted_changes, notes_of};
 pub use occurrences::push_occurrences;
 pub use operations::push_operations;
@@ -33,5 +35,6 @@ pub use plan_figures::{
     Brief, Figures, Frame, LoadedPlan, Shown, SoundContents, Standing, ValidContents, WorkedOut,
     graph_for, worked_out,
 };
+pub use quantities::push_quantities;
 pub use shown::{PlanBefore, RowSource, TableSource};
 pub use workplaces::push_workstations;

@@ -14,10 +14,10 @@ use std::alloc::{AllocError, Global};
 
 // The row of the table.
 fn meta_row(loaded: bool, clock: Moment) -> PlanRow
-    ensures { result ≡ row.Meta 1 loaded clock }
+    ensures { result ≡ row.Meta 2 loaded clock }
 {
     PlanRow::Meta {
-        version: 1,
+        version: 2,
         loaded,
         clock,
     }
@@ -32,14 +32,14 @@ fn stays(was_loaded: bool, was: Moment, loaded: bool, clock: Moment) -> bool
 
 // Adds the row of the table.
 fn push_meta_row(loaded: bool, clock: Moment, rows: &mut Vec<PlanRow>) -> Result<(), AllocError>
-    ensures { OnOk result (rows.new.items ≡ rows.old.items ++ row.Meta 1 loaded clock ∷ []) }
+    ensures { OnOk result (rows.new.items ≡ rows.old.items ++ row.Meta 2 loaded clock ∷ []) }
 {
     let only = [0];
     push_made(
         rows,
         &only,
         |_place|
-            ensures { result ≡ row.Meta 1 loaded clock }
+            ensures { result ≡ row.Meta 2 loaded clock }
         { meta_row(loaded, clock) },
     )
 }

@@ -1,89 +1,150 @@
-// The table of the needs of operations.
-ghost use Rattle.std.specs.Prelude.{◌≡◌, ◌⊎◌, ◌+◌, ◌<◌, ◌≤◌, ◌++◌, ℕ, Contains, Some, OnOk, length, map, slice_get};
+// The tables of the needs of operations, and of their amounts.
+ghost use Rattle.std.specs.Prelude.{◌≡◌, ◌⊎◌, ◌+◌, ◌<◌, ◌≤◌, ◌++◌, Contains, Some, IfOk, OnOk, length, map, slice_get};
 ghost use Rattle.std.specs.FinMap.{entries};
 ghost use Rattle.plan_basics.specs.declared.keys.OpKey.{OpKey as OpKeyValue};
-ghost use Rattle.plan_figures.specs.plan_records.specs.declared.PlanRow.TheVariants as row;
 ghost use Rattle.plan_model.specs.Contents.{Operation};
-ghost use Rattle.plan_rows.specs.Kept.{KeepsRecords};
-ghost use Rattle.plan_rows.specs.Rows.{need_row, needs_within, under_both};
-ghost use Rattle.plan_rows.specs.Shown.{IsShown, IsShownIfAny, contents_shown, plan_shown, source_if_any};
+ghost use Rattle.plan_model.specs.Plan.{Plan};
+ghost use Rattle.plan_rows.specs.Kept.{AreNewNeeds, KeepsRecords};
+ghost use Rattle.plan_rows.specs.Rows.{amount_row, need_row, needs_listed};
+ghost use Rattle.plan_rows.specs.Shown.{IsShownIfAny, contents_shown, source_if_any};
 ghost use Rattle.plan_rows.specs.Tables.{AreChangesBelow};
-ghost use Rattle.plan_rows.specs.declared.shown.RowSource.{RowSource};
-ghost use Rattle.special_resources.specs.declared.Need.{Need as NeedValue};
 
 use super::new_places::new_places;
 use super::shown::TableSource;
+use super::written::push_written;
 use plan_basics::OpKey;
 use plan_figures::{Changes, PlanRow, Shown};
 use plan_model::OperationRecord;
-use special_resources::Need;
+use special_resources::{Mode, Need};
 use std::alloc::{AllocError, Global};
 
 // The needs of an operation.
 fn needs_of(operation: &OperationRecord) -> &[Need]
-    ensures { (o : OpKeyValue) → map (λ n. row.Need o n) result.now ≡ map need_row (under_both needs_within (o, operation.now)) }
+    ensures { (o : OpKeyValue) → map (λ n. (o, n)) result.now ≡ needs_listed (o, operation.now) }
 {
     operation.needs.as_slice()
 }
 
-// Adds what is made of each of these needs, in order. At an error a part of it may be added.
-fn push_each<Row: Drop, F: Fn(Need) -> Row>(
+// Adds what is made of each of these, in order. At an error a part of it may be added.
+fn push_each<X: Copy, Row: Drop, F: Fn(X) -> Row>(
     rows: &mut Vec<Row>,
-    needs: &[Need],
+    items: &[X],
     make: F,
 ) -> Result<(), AllocError>
-    requires { (n : NeedValue) → Contains needs.now n → F.pre make n }
-    ensures { (f : NeedValue → Row) → ((n : NeedValue) (r : Row) → Contains needs.now n → F.post make n r → r ≡ f n) → OnOk result (rows.new.items ≡ rows.old.items ++ map f needs.now) }
+    requires { (x : X) → Contains items.now x → F.pre make x }
+    ensures { (f : X → Row) → ((x : X) (r : Row) → Contains items.now x → F.post make x r → r ≡ f x) → OnOk result (rows.new.items ≡ rows.old.items ++ map f items.now) }
 {
-    for need in needs {
-        rows.push(make(*need))?;
+    for item in items {
+        rows.push(make(*item))?;
     }
     Ok(())
 }
 
 // Adds these needs of an operation.
-fn push_needs_of(op: OpKey, needs: &[Need], rows: &mut Vec<PlanRow>) -> Result<(), AllocError>
-    ensures { OnOk result (rows.new.items ≡ rows.old.items ++ map (λ n. row.Need op n) needs.now) }
+fn push_needs_of(op: OpKey, needs: &[Need], all: &mut Vec<(OpKey, Need)>) -> Result<(), AllocError>
+    ensures { OnOk result (all.new.items ≡ all.old.items ++ map (λ n. (op, n)) needs.now) }
 {
     push_each(
-        rows,
+        all,
         needs,
         |need|
-            ensures { result ≡ row.Need op need }
-        { PlanRow::Need { op, need } },
+            ensures { result ≡ (op, need) }
+        { (op, need) },
     )
 }
 
 // Adds the needs of the operation at a place: a look.
-fn push_needs_at(shown: &mut Shown, place: usize, rows: &mut Vec<PlanRow>) -> Result<(), AllocError>
+fn push_needs_at(
+    shown: &mut Shown,
+    place: usize,
+    all: &mut Vec<(OpKey, Need)>,
+) -> Result<(), AllocError>
     requires { place < length (entries shown.old.contents.operations) }
-    ensures rows { (o : OpKeyValue) (op : Operation) → slice_get (entries shown.old.contents.operations) place ≡ Some (o, op) → OnOk result (rows.new.items ≡ rows.old.items ++ map need_row (under_both needs_within (o, op))) }
+    ensures needs { (o : OpKeyValue) (op : Operation) → slice_get (entries shown.old.contents.operations) place ≡ Some (o, op) → OnOk result (all.new.items ≡ all.old.items ++ needs_listed (o, op)) }
     ensures contents { shown.new.contents ≡ shown.old.contents }
     ensures fewest { shown.old.looks ≤ shown.new.looks }
     ensures most { shown.new.looks ≤ shown.old.looks + 1 }
 {
     let seen = shown.see(place);
-    push_needs_of(*seen.key, needs_of(seen.operation), rows)
+    push_needs_of(*seen.key, needs_of(seen.operation), all)
 }
 
-/// Adds what changes in the table of needs, where what is shown keeps the operations of the plan before: a look at each operation that
-/// there wasn't, since the needs of others stay.
-pub fn push_needs(
+/// The needs of the operations that the plan before hasn't, where what is shown keeps those that it has: a look at each that
+/// there wasn't. They are by operation and then resource.
+pub fn new_needs(
     alloc: Global,
     before: Option<TableSource<'_>>,
     shown: &mut Shown,
-    changes: &mut Changes,
-) -> Result<(), AllocError>
+) -> Result<Vec<(OpKey, Need)>, AllocError>
     requires before { IsShownIfAny (source_if_any before) }
     requires kept { KeepsRecords (contents_shown (source_if_any before)) shown.old.contents }
-    ensures changes { (clock now : ℕ) (after : RowSource) → IsShown after → after.contents.now ≡ shown.old.contents → AreChangesBelow 7 (plan_shown clock (source_if_any before.entry)) (plan_shown now (Some after)) changes.old → OnOk result (AreChangesBelow 8 (plan_shown clock (source_if_any before.entry)) (plan_shown now (Some after)) changes.new) }
+    ensures needs { IfOk result (λ v. AreNewNeeds (contents_shown (source_if_any before.entry)) shown.old.contents v.items) }
     ensures contents { shown.new.contents ≡ shown.old.contents }
     ensures fewest { shown.old.looks ≤ shown.new.looks }
     ensures most { shown.new.looks + length (entries (contents_shown (source_if_any before.entry)).operations) ≤ shown.old.looks + length (entries shown.old.contents.operations) }
 {
     let places = new_places(alloc, before, &shown.beside())?;
+    let mut needs = Vec::new(alloc);
     for place in &places {
-        push_needs_at(shown, *place, &mut changes.rows)?;
+        push_needs_at(shown, *place, &mut needs)?;
     }
-    Ok(())
+    Ok(needs)
+}
+
+// The row of a need.
+fn row_of_need(said: &(OpKey, Need)) -> PlanRow
+    ensures { result ≡ need_row said.now }
+{
+    PlanRow::Need {
+        op: said.0,
+        resource: said.1.name,
+        mode: said.1.mode,
+        keep: said.1.keep,
+    }
+}
+
+/// Adds what changes in the table of needs, by those of the operations that there weren't, since the needs of others stay.
+pub fn push_needs(needs: &[(OpKey, Need)], changes: &mut Changes) -> Result<(), AllocError>
+    ensures { (P Q : Plan) → KeepsRecords P.contents Q.contents → AreNewNeeds P.contents Q.contents needs.now → AreChangesBelow 7 P Q changes.old → OnOk result (AreChangesBelow 8 P Q changes.new) }
+{
+    push_each(
+        &mut changes.rows,
+        needs,
+        |said|
+            ensures { result ≡ need_row said }
+        { row_of_need(&said) },
+    )
+}
+
+// The row of the amount of a need, where one is written: of a shared need of another amount than 1.
+fn row_of_amount(said: &(OpKey, Need)) -> Option<PlanRow>
+    ensures { result ≡ amount_row said.now }
+{
+    match said.1.mode {
+        Mode::Exclusive => None,
+        Mode::Shared => {
+            if said.1.amount == 1 {
+                None
+            } else {
+                Some(PlanRow::Amount {
+                    op: said.0,
+                    resource: said.1.name,
+                    amount: said.1.amount,
+                })
+            }
+        }
+    }
+}
+
+/// Adds what changes in the table of amounts, by the needs of the operations that there weren't, since the needs of others stay.
+pub fn push_amounts(needs: &[(OpKey, Need)], changes: &mut Changes) -> Result<(), AllocError>
+    ensures { (P Q : Plan) → KeepsRecords P.contents Q.contents → AreNewNeeds P.contents Q.contents needs.now → AreChangesBelow 9 P Q changes.old → OnOk result (AreChangesBelow 10 P Q changes.new) }
+{
+    push_written(
+        &mut changes.rows,
+        needs,
+        |said|
+            ensures { result ≡ amount_row said }
+        { row_of_amount(&said) },
+    )
 }

@@ -20,6 +20,7 @@ use super::occurrences::{note_occurrences, push_noted_occurrences};
 use super::operations::{note_operations, push_noted_operations};
 use plan_basics::{Interval, Moment, ResName, WsName};
 use plan_figures::{Changes, Shown};
+use plan_model::Stock;
 use std::alloc::{AllocError, Global};
 
 /// What may differ beside operations.
@@ -36,8 +37,8 @@ pub enum ChangeBeside {
 #[derive(Drop)]
 pub enum NotedBeside {
     Nothing,
-    /// All special resources by name, each with whether it is available.
-    Resources(Vec<(ResName, bool)>),
+    /// All special resources by name, each with whether it is available and how much of it there is.
+    Resources(Vec<(ResName, Stock)>),
     /// The intervals of all workstations, each under its workstation's name and its first minute.
     Intervals(Vec<((WsName, Moment), Interval)>),
 }

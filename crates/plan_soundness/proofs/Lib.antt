@@ -1,3 +1,4 @@
 pub mod EachRow
 pub mod Neighbours
 pub mod OneResource
+pub mod HeldAmounts

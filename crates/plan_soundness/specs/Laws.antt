@@ -4,13 +4,14 @@ use Rattle.std.specs.FinMap.{get}
 use Rattle.plan_basics.specs.declared.Attr.{Attr}
 use Rattle.plan_basics.specs.declared.keys.OpKey.{OpKey}
 use Rattle.plan_basics.specs.Keys.{Name}
-use Rattle.special_resources.specs.Holders.{Usage}
+use Rattle.special_resources.specs.Holders.{Usage, HoldNoMoreThan}
 use Rattle.special_resources.specs.declared.Mode.TheVariants.{Shared}
 use Rattle.status_rules.specs.Classes.{is_live}
 use Rattle.status_rules.specs.declared.Mark.{Mark}
 use Rattle.status_rules.specs.declared.Mark.TheVariants.{Deleted, Unmarked}
 use Rattle.plan_model.specs.Contents.{Contents, Operation, Has, HasAttribute}
 use Rattle.plan_model.specs.Holdings.{Holds}
+use Rattle.plan_model.specs.declared.Stock.{Stock}
 use Rattle.plan_model.specs.Status.{AllPredecessorsSatisfied}
 use Rattle.plan_model.specs.Valid.{MayBear}
 
@@ -38,7 +39,11 @@ AreDeletedAlike a b = a.0.occurrence ≡ b.0.occurrence → is_live a.1.mark ≡
 
 -- it has no exclusive holder beside another
 abbrev pub HasCompatibleHolders : Contents → Name → Type 0
-HasCompatibleHolders P r = (a b : OpKey) (x y : Usage) → a ≢ b → Holds P a r x → Holds P b r y → x.mode ≡ Shared
+HasCompatibleHolders P r = (a b : OpKey) (x y : Usage) → a ≢ b → Holds P a r x → Holds P b r y → x.claim.mode ≡ Shared
+
+-- no more of it is held than there is
+abbrev pub IsHeldWithin : Contents → Name → Stock → Type 0
+IsHeldWithin P r stock = HoldNoMoreThan stock.quantity (Holds P) r
 
 -- ---- of a plan
 
@@ -61,3 +66,7 @@ OccurrencesAreDeletedWhole P = (a b : OpKey) → a.occurrence ≡ b.occurrence �
 -- no resource has an exclusive holder beside another
 abbrev pub HoldersAreCompatible : Contents → Type 0
 HoldersAreCompatible P = (r : Name) → HasCompatibleHolders P r
+
+-- no more of a resource is held than there is
+abbrev pub NoMoreIsHeld : Contents → Type 0
+NoMoreIsHeld P = (r : Name) (stock : Stock) → get P.resources r ≡ Some stock → IsHeldWithin P r stock

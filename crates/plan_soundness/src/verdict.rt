@@ -3,11 +3,11 @@ ghost use Rattle.std.specs.Prelude.{◌≡◌, ◌↔◌, Decides, IfErr, IfOk, 
 ghost use Rattle.plan_basics.specs.declared.Refusal.{Refusal};
 ghost use Rattle.plan_choice.specs.Choices.{AreHeldIn};
 ghost use Rattle.plan_model.specs.Valid.{IsSound, IsValid};
-ghost use Rattle.plan_soundness.specs.Laws.{HeldAreWithoutReport, HoldersAreCompatible, MarksAreAllowed, OccurrencesAreDeletedWhole, ReportsAreInOrder};
+ghost use Rattle.plan_soundness.specs.Laws.{HeldAreWithoutReport, HoldersAreCompatible, MarksAreAllowed, NoMoreIsHeld, OccurrencesAreDeletedWhole, ReportsAreInOrder};
 ghost use Rattle.plan_choice.specs.plan_status.specs.Standings.{AreStandings};
 
 use super::flags::held_are_without_report;
-use super::holders::holders_are_compatible;
+use super::holders::{holders_are_compatible, no_more_is_held};
 use super::marks::marks_are_allowed;
 use super::occurrences::occurrences_are_deleted_whole;
 use super::order::reports_are_in_order;
@@ -28,6 +28,14 @@ fn rows_are_sound(contents: &ValidContents) -> bool
         && occurrences_are_deleted_whole(contents)
 }
 
+// Whether what is held of special resources is as in a sound plan.
+fn holders_are_sound(contents: &ValidContents, holdings: &Holdings) -> bool
+    requires { AreHeldIn contents.now holdings.now.held }
+    ensures { IsTrue result ↔ (HoldersAreCompatible contents.now × NoMoreIsHeld contents.now) }
+{
+    holders_are_compatible(contents, holdings) && no_more_is_held(contents, holdings)
+}
+
 // Whether what operations wait for and what they hold are as in a sound plan.
 fn reports_and_holders_are_sound(
     contents: &ValidContents,
@@ -36,9 +44,9 @@ fn reports_and_holders_are_sound(
 ) -> bool
     requires standings { AreStandings contents.now standings.now }
     requires held { AreHeldIn contents.now holdings.now.held }
-    ensures { IsTrue result ↔ (ReportsAreInOrder contents.now × HoldersAreCompatible contents.now) }
+    ensures { IsTrue result ↔ (ReportsAreInOrder contents.now × HoldersAreCompatible contents.now × NoMoreIsHeld contents.now) }
 {
-    reports_are_in_order(contents, standings) && holders_are_compatible(contents, holdings)
+    reports_are_in_order(contents, standings) && holders_are_sound(contents, holdings)
 }
 
 // Whether these contents are sound. The error is always `Memory`.

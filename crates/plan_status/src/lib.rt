@@ -15,7 +15,7 @@ mod valid;
 pub use briefs::{Brief, brief_of, briefs_of};
 pub use graphs::graph_for;
 pub use plan_laws::{
-    Changes, OperationRecord, OperationRow, PlanContents, PlanRow, RowKey, row_place,
+    Changes, OperationRecord, OperationRow, PlanContents, PlanRow, RowKey, Stock, row_place,
 };
 pub use sound::SoundContents;
 pub use standings::{Standing, attribute_near, attribute_of, standings_of};

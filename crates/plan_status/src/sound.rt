@@ -13,7 +13,7 @@ ghost use Rattle.plan_laws.specs.plan_model.specs.Valid.{IsSound};
 
 use super::valid::ValidContents;
 use plan_basics::{OccKey, OpKey, ResName, WsName};
-use plan_laws::{Occurrence, OperationRecord, PlanContents};
+use plan_laws::{Occurrence, OperationRecord, PlanContents, Stock};
 use std::marker::Model;
 use workstations::Workstation;
 
@@ -234,8 +234,8 @@ impl SoundContents {
         self.rows().workstation_near(name, place)
     }
 
-    /// Whether the special resource of a name is available, if there is one.
-    pub fn resource(&self, name: &ResName) -> Option<bool>
+    /// Whether the special resource of a name is available and how much of it there is, if there is one.
+    pub fn resource(&self, name: &ResName) -> Option<Stock>
         ensures { result ≡ get self.now.resources name.now }
     {
         self.rows().resource(name)

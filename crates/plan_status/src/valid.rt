@@ -9,7 +9,7 @@ ghost use Rattle.plan_laws.specs.plan_model.specs.Contents.{pair_cmp};
 ghost use Rattle.plan_laws.specs.plan_model.specs.Valid.{IsValid};
 
 use plan_basics::{OpKey, ResName, WsName};
-use plan_laws::{OperationRecord, PlanContents};
+use plan_laws::{OperationRecord, PlanContents, Stock};
 use std::marker::Model;
 use workstations::Workstation;
 
@@ -60,8 +60,8 @@ impl ValidContents {
         self.contents
     }
 
-    /// Its special resources by name, and whether each is available.
-    pub fn resources(&self) -> &[(ResName, bool)]
+    /// Its special resources by name, each with whether it is available and how much of it there is.
+    pub fn resources(&self) -> &[(ResName, Stock)]
         ensures rows { result.now ≡ entries self.now.resources }
         ensures in_order { IsStrictlySortedBy name_cmp (keys_of result.now) }
         ensures valid { IsValid self.now }

@@ -9,7 +9,8 @@ use Rattle.plan_basics.specs.declared.keys.OpKey.{OpKey}
 use Rattle.plan_changes.proofs.Remarks.{marking, remaking}
 use Rattle.plan_changes.specs.Markings.{DifferInMarks}
 use Rattle.plan_records.specs.plan_drafts.proofs.MadeEntries.{key_of}
-use Rattle.plan_records.specs.plan_model.specs.Contents.{Contents}
+use Rattle.plan_records.specs.plan_model.specs.Contents.{Contents, with_availability}
+use Rattle.plan_records.specs.plan_model.specs.Revise.{revise}
 use Rattle.plan_records.specs.plan_model.specs.Ready.{with_mark}
 use Rattle.workstations.specs.Timetables.{NamedWorkstation}
 use Rattle.plan_changes.specs.plan_moves.specs.Markings.{marking_of, with_marking}
@@ -76,8 +77,8 @@ module _ (P : Contents) (w : What) (legal : IsRequest w) where
     }
 
   -- a special resource
-  pub makes_available : (r : Name) (available : Bool) → contains_key P.resources r ≡ true → Changes P w (record P { resources = insert P.resources r available }) → IsRevisionFor P w (revision.Available r available)
-  makes_available r available known changes = record { legal = legal; has_place = known; changes = λ os are. changes; remarks = λ os are. same_everywhere (record P { resources = insert P.resources r available }) os }
+  pub makes_available : (r : Name) (available : Bool) → contains_key P.resources r ≡ true → Changes P w (record P { resources = revise (with_availability r available) P.resources }) → IsRevisionFor P w (revision.Available r available)
+  makes_available r available known changes = record { legal = legal; has_place = known; changes = λ os are. changes; remarks = λ os are. same_everywhere (record P { resources = revise (with_availability r available) P.resources }) os }
 
   -- a workstation
   pub opens : (v : NamedWorkstation) → contains_key P.workstations v.0 ≡ true → Changes P w (record P { workstations = insert P.workstations v.0 v.1 }) → IsRevisionFor P w (revision.Opened v)

@@ -1,7 +1,7 @@
 -- A small request that isn't refused changes marks and flags where it edits them, and no others; to name what is ready does so too.
 use Rattle.std.proofs.Common.{◌≡◌, ◌≢◌, refl, sym, ap, subst, ◌∙◌, ℕ, Bool, true, false, cond, List, Contains, Some}
 use Rattle.std.specs.Ordering.{eq_by_cmp}
-use Rattle.std.specs.FinMap.{get, insert}
+use Rattle.std.specs.FinMap.{get}
 use Rattle.plan_basics.specs.Keys.{Name, name_cmp}
 use Rattle.plan_basics.specs.Refusals.{NoneRefuses}
 use Rattle.plan_basics.specs.declared.keys.OpKey.{OpKey}
@@ -12,7 +12,7 @@ use Rattle.plan_checks.specs.status_rules.specs.declared.Mark.{Mark}
 use Rattle.plan_checks.specs.status_rules.specs.declared.Mark.TheVariants as mark
 use Rattle.plan_checks.specs.workstations.specs.Workstations.{with_intervals}
 use Rattle.plan_checks.specs.plan_model.proofs.Looks.{same_key}
-use Rattle.plan_checks.specs.plan_model.specs.Contents.{Contents, Operation, Workstations}
+use Rattle.plan_checks.specs.plan_model.specs.Contents.{Contents, Operation, Resources, Workstations, with_availability}
 use Rattle.plan_checks.specs.plan_model.specs.Ready.{with_mark}
 use Rattle.plan_checks.specs.plan_model.specs.Revise.{revise}
 use Rattle.plan_checks.specs.plan_model.specs.Status.{IsSatisfied}
@@ -77,7 +77,9 @@ module _ (P : Contents) (valid : IsValid P) (m : ℕ) (places : List ℕ) (Q : C
   small_moves (what.DeleteOccurrence c) small clear change are = absurd small
   small_moves (what.AddOccurrence s) small clear change are = absurd small
   small_moves (what.AddDependency p s) small clear change are = absurd small
-  small_moves (what.SetAvailable r available) small clear change are = subst (λ Z. IsMovedAt P Z places × AreLiveAlike P Z) (sym change) (unmoved P P.workstations (insert P.resources r available) places refl, still_live P (record P { resources = insert P.resources r available }) refl)
+  small_moves (what.SetAvailable r available) small clear change are =
+      let made : Resources = revise (with_availability r available) P.resources in
+      subst (λ Z. IsMovedAt P Z places × AreLiveAlike P Z) (sym change) (unmoved P P.workstations made places refl, still_live P (record P { resources = made }) refl)
   small_moves (what.ReplaceIntervals w items) small clear change are =
       let test : Name → Bool = λ v. eq_by_cmp name_cmp v w in
       let opened : Workstations = revise (λ v ws. cond (test v) (with_intervals items.items ws) ws) P.workstations in

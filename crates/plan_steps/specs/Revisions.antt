@@ -2,8 +2,9 @@
 use Rattle.std.specs.Prelude.{◌≡◌, true, List, []}
 use Rattle.std.specs.FinMap.{contains_key, insert}
 use Rattle.plan_basics.specs.declared.keys.OpKey.{OpKey}
-use Rattle.plan_records.specs.plan_model.specs.Contents.{Contents}
+use Rattle.plan_records.specs.plan_model.specs.Contents.{Contents, with_availability}
 use Rattle.plan_records.specs.plan_model.specs.Ready.{with_mark}
+use Rattle.plan_records.specs.plan_model.specs.Revise.{revise}
 use Rattle.plan_records.specs.Changes.{Changes, IsRequest, is_at, revised}
 use Rattle.plan_records.specs.declared.What.{What}
 use Rattle.ready_list.specs.Choice.{is_among}
@@ -18,7 +19,7 @@ written keys revision.Nothing P = P
 written keys (revision.Mark mark) P = revised (is_among keys) (with_mark mark) P
 written keys (revision.Held o held) P = revised (is_at o) (λ op. record op { held = held }) P
 written keys (revision.Nop o nop) P = revised (is_at o) (λ op. record op { nop = nop }) P
-written keys (revision.Available r available) P = record P { resources = insert P.resources r available }
+written keys (revision.Available r available) P = record P { resources = revise (with_availability r available) P.resources }
 written keys (revision.Opened w) P = record P { workstations = insert P.workstations w.0 w.1 }
 
 -- the special resource or the workstation that it writes is there

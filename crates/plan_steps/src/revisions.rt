@@ -73,7 +73,7 @@ pub fn standing(shown: &Shown, revision: &Revision) -> Result<Revision, AllocErr
     match revision {
         Revision::Available(name, _) => Ok(Revision::Available(
             *name,
-            shown.beside().resource(name).unwrap(),
+            shown.beside().resource(name).unwrap().available,
         )),
         Revision::Opened(workstation) => Ok(Revision::Opened(standing_workstation(
             shown,

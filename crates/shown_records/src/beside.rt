@@ -17,7 +17,9 @@ ghost use Rattle.workstations.specs.Workstations.{Workstation as WorkstationValu
 use operation_graph::Graph;
 use plan_basics::{Attr, OccKey, OpKey, ResName, WsName};
 use plan_changes::Occurrence;
-use plan_status::{Brief, OperationRecord, SoundContents, attribute_near, brief_of, graph_for};
+use plan_status::{
+    Brief, OperationRecord, SoundContents, Stock, attribute_near, brief_of, graph_for,
+};
 use std::alloc::{AllocError, Global};
 use workstations::Workstation;
 
@@ -54,8 +56,8 @@ impl<'a> Beside<'a> {
         self.contents.workstations()
     }
 
-    /// The special resources by name, and whether each is available.
-    pub fn resources(&self) -> &'a [(ResName, bool)]
+    /// The special resources by name, each with whether it is available and how much of it there is.
+    pub fn resources(&self) -> &'a [(ResName, Stock)]
         ensures rows { result.now ≡ entries self.now.contents.now.resources }
         ensures in_order { IsStrictlySortedBy name_cmp (keys_of result.now) }
         ensures sound { IsSound self.now.contents.now }
@@ -204,7 +206,7 @@ impl<'a> Beside<'a> {
     }
 
     /// Whether the special resource of a name is available, if there is one.
-    pub fn resource(&self, name: &ResName) -> Option<bool>
+    pub fn resource(&self, name: &ResName) -> Option<Stock>
         ensures { result ≡ get self.now.contents.now.resources name.now }
     {
         self.contents.resource(name)

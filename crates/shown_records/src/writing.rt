@@ -2,8 +2,9 @@
 ghost use Rattle.std.specs.Prelude.{◌≡◌, true};
 ghost use Rattle.std.specs.FinMap.{contains_key, insert};
 ghost use Rattle.plan_changes.specs.Markings.{DifferInMarks, WereMarked};
-ghost use Rattle.plan_status.specs.plan_model.specs.Contents.{Contents};
+ghost use Rattle.plan_status.specs.plan_model.specs.Contents.{Contents, with_availability};
 ghost use Rattle.plan_status.specs.plan_model.specs.Ready.{with_mark};
+ghost use Rattle.plan_status.specs.plan_model.specs.Revise.{revise};
 ghost use Rattle.plan_status.specs.plan_model.specs.Valid.{IsSound};
 ghost use Rattle.plan_status.specs.plan_records.specs.Changes.{is_at, revised};
 ghost use Rattle.plan_status.specs.ready_list.specs.Choice.{is_among};
@@ -62,11 +63,12 @@ impl Shown {
         Shown::of_rows(rows, looks)
     }
 
-    /// With a special resource that it has available, or not, by which it stays sound. It takes no memory.
+    /// With a special resource that it has available, or not, by which it stays sound; there is as much of it as before. It takes
+    /// no memory.
     pub fn set_available(self, name: &ResName, available: bool) -> Shown
         requires has_place { contains_key self.contents.resources name.now ≡ true }
-        requires sound { IsSound (record self.contents { resources = insert self.contents.resources name.now available }) }
-        ensures contents { result.contents ≡ record self.contents { resources = insert self.contents.resources name.now available } }
+        requires sound { IsSound (record self.contents { resources = revise (with_availability name.now available) self.contents.resources }) }
+        ensures contents { result.contents ≡ record self.contents { resources = revise (with_availability name.now available) self.contents.resources } }
         ensures looks { result.looks ≡ self.looks }
     {
         let (mut rows, looks) = self.into_rows();

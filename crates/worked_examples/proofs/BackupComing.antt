@@ -1,5 +1,5 @@
 -- BACKUP may be added to the small plan, and what the plan holds with it.
-use Rattle.std.proofs.Common.{rules, arith, pos, ◌≡◌, inl, inr, refl, sym, ◌∙◌, ap, subst, true≢false, ◌⊎◌, ℕ, ◌+◌, ◌<◌, Bool, true, false, [], ◌∷◌, Some, is_some, length}
+use Rattle.std.proofs.Common.{rules, arith, pos, ◌≡◌, inl, inr, refl, sym, ◌∙◌, ap, subst, true≢false, ◌⊎◌, ℕ, ◌+◌, ◌<◌, ◌≤◌, true, false, [], ◌∷◌, Some, is_some, length}
 use Rattle.std.specs.FinMap.{contains_key, get, get-empty, get-from_entries, len-empty, len-entries}
 use Rattle.plan_basics.specs.declared.limits.TheConstants.{MOST_OCCURRENCES, MOST_OPERATIONS, MOST_PAIRS, MOST_WORKSTATIONS}
 use Rattle.plan_basics.specs.declared.keys.OccKey.{OccKey}
@@ -10,6 +10,7 @@ use Rattle.plan_basics.specs.Keys.{IsOccurrenceKey, IsOperationKey, Name, name_c
 use Rattle.plan_laws.specs.special_resources.specs.Holders.{Usage}
 use Rattle.plan_laws.specs.status_rules.specs.declared.Status.TheVariants as status
 use Rattle.plan_laws.specs.plan_model.specs.Contents.{IsPairOf, Operation}
+use Rattle.plan_laws.specs.plan_model.specs.declared.Stock.{Stock}
 use Rattle.plan_laws.specs.plan_model.specs.Status.{HasStatus, IsWaitingOrReady}
 use Rattle.plan_laws.specs.plan_model.specs.Valid.{IsAcyclic, IsOccurrence, IsOperation, IsUntouched, IsWithinLimits}
 use Rattle.plan_laws.specs.plan_records.specs.declared.Request.{Request}
@@ -89,7 +90,7 @@ closes_no_path = acyclic_by place (each_pair two_pairs (λ p o. place p < place 
 is_within_limits : IsWithinLimits with_backup
 is_within_limits = record {
   workstations = len_at_most name_cmp_total ((cpu1, always_open) ∷ []) MOST_WORKSTATIONS (omega arith);
-  resources = let e = len-empty name_cmp Bool in omega arith;
+  resources = let e = len-empty name_cmp Stock in omega arith;
   occurrences = len_at_most occurrence_cmp_total two_occurrences MOST_OCCURRENCES (omega arith);
   operations = len_at_most operation_cmp_total three_operations MOST_OPERATIONS (omega arith);
   pairs = set_at_most pair_cmp_total two_pairs MOST_PAIRS (omega arith);
@@ -112,5 +113,8 @@ nothing_refuses refusal.WrongStatus = of_pair (λ p o. (IsOld day backup_additio
     (λ old. absurd (old.1 is_own), λ old deleted. unmarked_has day second (lasting 60) status.Deleted second_is refl deleted)
 nothing_refuses refusal.Duplicate = of_occurrence (λ c. contains_key day.occurrences c ≡ false) (ap is_some (get-from_entries occurrence_cmp_total ((daily, occurrence) ∷ []) backup))
 nothing_refuses refusal.Cycle = subst (λ P. IsAcyclic P.pairs) (sym added_is) closes_no_path
-nothing_refuses refusal.Limit = subst IsWithinLimits (sym added_is) is_within_limits
+nothing_refuses refusal.Limit = (
+  subst IsWithinLimits (sym added_is) is_within_limits,
+  of_backup (λ o op. (r : Name) (usage : Usage) → get op.needs r ≡ Some usage → (stock : Stock) → get day.resources r ≡ Some stock → usage.claim.amount ≤ stock.quantity) (λ r usage found. absurd (none-some usage (sym (get-empty name_cmp r) ∙ found))),
+)
 nothing_refuses r = tt

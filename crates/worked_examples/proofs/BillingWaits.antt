@@ -20,8 +20,8 @@ use Rattle.plan_laws.specs.plan_model.specs.Status.{HasStatus}
 use Rattle.plan_laws.specs.plan_records.specs.Changes.{is_at}
 use Rattle.plan_laws.proofs.Decide.{pair_cmp_total}
 use Rattle.worked_examples.specs.Day.{cpu1, evening}
-use Rattle.worked_examples.specs.Night.{cpu1_station, custfile, done, end_of_night, night, night_operations, night_pairs, payroll_at}
-use Rattle.worked_examples.specs.Billing.{billing_key, billing_operation, eleven, failed, with_billing}
+use Rattle.worked_examples.specs.Night.{alone, cpu1_station, custfile, done, end_of_night, night, night_operations, night_pairs, payroll_at}
+use Rattle.worked_examples.specs.Billing.{billing_key, billing_operation, eleven, failed, one_shared, with_billing}
 use Rattle.worked_examples.specs.Statements.{KeptResource}
 use Rattle.worked_examples.proofs.Facts.{status_of_first}
 use Rattle.worked_examples.proofs.Given.{given_out_by, given_out_is, lines_of_room}
@@ -76,12 +76,13 @@ given_out_then =
     given_out_is failed cpu1 (Some attribute.Automatic) all_operations (ap (option_map (λ w. w.attribute)) (workstation_at cpu1))
     (ap entries operations_are ∙ entries-from_entries operation_cmp_total operation_cmp-IsAntisymmetric all_operations tt)
 
-kept : Holds failed (payroll_at 20) custfile (record { mode = Exclusive; keep = true })
-kept = (with_mark (mark.Error (codes "S0C7")) p20, third_is, (get-from_entries name_cmp_total ((custfile, record { mode = Exclusive; keep = true }) ∷ []) custfile, ap (λ a. takes a) (ap (option_map (λ w. w.attribute)) (workstation_at cpu1)), refl))
+kept : Holds failed (payroll_at 20) custfile alone
+kept = (with_mark (mark.Error (codes "S0C7")) p20, third_is, (get-from_entries name_cmp_total ((custfile, alone) ∷ []) custfile, ap (λ a. takes a) (ap (option_map (λ w. w.attribute)) (workstation_at cpu1)), refl))
 
 busy : MayStart failed billing_key billing_operation eleven refusal.ResourceBusy → ⊥
 busy may =
-    let shares = (may custfile (record { mode = Shared; keep = false }) (get-from_entries name_cmp_total ((custfile, record { mode = Shared; keep = false }) ∷ []) custfile)).1 (payroll_at 20) (record { mode = Exclusive; keep = true }) (λ e. let n : 20 ≡ 10 = ap (λ o. o.number) e in omega (arith, n)) kept in
+    let line = may custfile one_shared (get-from_entries name_cmp_total ((custfile, one_shared) ∷ []) custfile) in
+    let shares = line.3.0 (payroll_at 20) alone (λ e. let n : 20 ≡ 10 = ap (λ o. o.number) e in omega (arith, n)) kept in
     let clash : Exclusive ≡ Shared = shares.1 in cc
 
 all_else : (line : Refusal) → line ≢ refusal.ResourceBusy → MayStart failed billing_key billing_operation eleven line

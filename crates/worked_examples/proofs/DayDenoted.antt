@@ -173,6 +173,8 @@ all_held (key.Need o r) has = of_both (λ x op. contains_key op.needs r ≡ true
     (λ found. absurd (true≢false (sym found ∙ ap is_some (get-empty name_cmp r))))
     (λ found. absurd (true≢false (sym found ∙ ap is_some (get-empty name_cmp r))))
     o has.0 has.1 has.2
+all_held (key.Quantity r) has = absurd has
+all_held (key.Amount o r) has = absurd has
 all_held key.Meta has = absurd has
 
 -- ---- and no key twice

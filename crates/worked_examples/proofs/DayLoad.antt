@@ -1,5 +1,5 @@
 -- The small plan is a draft.
-use Rattle.std.proofs.Common.{rules, arith, pos, ◌≡◌, inl, refl, sym, ◌∙◌, ap, subst, Bool, true≢false, ℕ, ◌<◌, ◌≤◌, true, [], ◌∷◌, Some, is_some, length}
+use Rattle.std.proofs.Common.{rules, arith, pos, ◌≡◌, inl, refl, sym, ◌∙◌, ap, subst, ℕ, ◌<◌, ◌≤◌, true, [], ◌∷◌, Some, is_some, length}
 use Rattle.std.specs.FinMap.{contains_key, get, get-empty, get-from_entries, len, len-empty, len-entries}
 use Rattle.plan_basics.specs.declared.limits.TheConstants.{LONGEST_DURATION, MOST_OCCURRENCES, MOST_OPERATIONS, MOST_PAIRS, MOST_WORKSTATIONS, SHORTEST_DURATION}
 use Rattle.plan_basics.specs.declared.Attr.TheVariants.{Automatic}
@@ -10,6 +10,7 @@ use Rattle.plan_basics.specs.Names.{IsName}
 use Rattle.plan_laws.specs.special_resources.specs.Holders.{Usage}
 use Rattle.plan_laws.specs.workstations.specs.Workstations.{IsWorkstation}
 use Rattle.plan_laws.specs.plan_model.specs.Contents.{Operation, IsPairOf}
+use Rattle.plan_laws.specs.plan_model.specs.declared.Stock.{Stock}
 use Rattle.plan_laws.specs.plan_model.specs.Valid.{AreOccurrences, IsOccurrence, IsOperation, IsUntouched, IsValid}
 use Rattle.plan_laws.specs.plan_drafts.specs.Drafts.{IsDraft}
 use Rattle.plan_laws.specs.ready_list.specs.declared.ReadyKey.{ReadyKey}
@@ -76,17 +77,18 @@ only_pair Q h = each_pair ((first, second) ∷ []) Q (h, tt)
 day_is_valid : IsValid day
 day_is_valid = record {
   workstations = each_entry name_cmp_total name_cmp-IsAntisymmetric ((cpu1, always_open) ∷ []) (λ w ws. IsName 4 w × IsWorkstation ws) ((cpu1_name, station_is Automatic (interval_by 0 52595999 2 0 0) open_interval), tt);
-  resources = λ r has. absurd (true≢false (sym has ∙ ap is_some (get-empty name_cmp r)));
+  resources = λ r stock there. absurd (none-some stock (sym (get-empty name_cmp r) ∙ there));
   occurrences = occurrences_are;
   have_workstations = of_both (λ o op. contains_key day.workstations op.workstation ≡ true) cpu1_held cpu1_held;
   have_resources = of_both (λ o op. (r : Name) (usage : Usage) → get op.needs r ≡ Some usage → contains_key day.resources r ≡ true)
       (λ r usage found. absurd (none-some usage (sym (get-empty name_cmp r) ∙ found)))
       (λ r usage found. absurd (none-some usage (sym (get-empty name_cmp r) ∙ found)));
+  amounts = λ o op there r usage found stock known. absurd (none-some stock (sym (get-empty name_cmp r) ∙ known));
   pairs = only_pair (λ p o. (contains_key day.operations p ≡ true) × (contains_key day.operations o ≡ true)) (first_held, second_held);
   acyclic = acyclic_by (λ o. o.number) (only_pair (λ p o. p.number < o.number) (omega arith));
   limits = record {
     workstations = len_at_most name_cmp_total ((cpu1, always_open) ∷ []) MOST_WORKSTATIONS (omega arith);
-    resources = let e = len-empty name_cmp Bool in omega arith;
+    resources = let e = len-empty name_cmp Stock in omega arith;
     occurrences = len_at_most occurrence_cmp_total ((daily, occurrence) ∷ []) MOST_OCCURRENCES (omega arith);
     operations = len_at_most operation_cmp_total ((first, lasting 30) ∷ (second, lasting 60) ∷ []) MOST_OPERATIONS (omega arith);
     pairs = set_at_most pair_cmp_total ((first, second) ∷ []) MOST_PAIRS (omega arith);

@@ -1,23 +1,23 @@
 -- The night's plan is a draft.
-use Rattle.std.proofs.Common.{arith, ◌≡◌, refl, sym, ◌∙◌, ap, subst, ◌<◌, true, [], ◌∷◌, Some, is_some}
+use Rattle.std.proofs.Common.{arith, ◌≡◌, refl, sym, ◌∙◌, ap, ◌<◌, ◌≤◌, true, [], ◌∷◌, Some, is_some}
 use Rattle.std.proofs.lemmas.List.Sums.{AllPass-from_list_all}
 use Rattle.std.specs.FinMap.{contains_key, empty, get, get-empty, get-from_entries}
-use Rattle.plan_basics.specs.declared.limits.TheConstants.{MOST_NEEDS, MOST_OCCURRENCES, MOST_OPERATIONS, MOST_PAIRS, MOST_RESOURCES, MOST_WORKSTATIONS}
+use Rattle.plan_basics.specs.declared.limits.TheConstants.{MOST_NEEDS, MOST_OCCURRENCES, MOST_OPERATIONS, MOST_PAIRS, MOST_QUANTITY, MOST_RESOURCES, MOST_WORKSTATIONS}
 use Rattle.plan_basics.specs.declared.Attr.TheVariants as attribute
 use Rattle.plan_basics.specs.declared.keys.OpKey.{OpKey}
 use Rattle.plan_basics.specs.Intervals.{IsInterval, interval_by}
 use Rattle.plan_basics.specs.Keys.{IsOccurrenceKey, Name, name_cmp, name_cmp_total, name_cmp-IsAntisymmetric, occurrence_cmp_total, occurrence_cmp-IsAntisymmetric, operation_cmp_total, operation_cmp-IsAntisymmetric}
 use Rattle.plan_basics.specs.Names.{IsName, IsResourceName, is_resource_byte}
-use Rattle.plan_laws.specs.special_resources.specs.declared.Mode.TheVariants.{Exclusive}
-use Rattle.plan_laws.specs.special_resources.specs.Holders.{Usage}
+use Rattle.plan_laws.specs.special_resources.specs.Holders.{IsAmount, Usage}
 use Rattle.plan_laws.specs.workstations.specs.Workstations.{IsWorkstation, Workstation}
 use Rattle.plan_laws.specs.plan_model.specs.Contents.{IsPairOf, Operation}
+use Rattle.plan_laws.specs.plan_model.specs.declared.Stock.{Stock}
 use Rattle.plan_laws.specs.plan_model.specs.Valid.{AreOccurrences, IsOccurrence, IsOperation, IsUntouched, IsValid}
 use Rattle.plan_laws.specs.plan_drafts.specs.Drafts.{IsDraft}
 use Rattle.plan_laws.proofs.Decide.{pair_cmp_total}
 use Rattle.std.proofs.lemmas.Option.{none-some}
 use Rattle.worked_examples.specs.Day.{cpu1, evening}
-use Rattle.worked_examples.specs.Night.{cpu1_station, custfile, dumm, dumm_station, end_of_night, needs_custfile, night, night_occurrences, night_operations, night_pairs, night_resources, night_workstations, payroll, payroll_at, prt1, prt1_station, setp, setp_station, two_at_night}
+use Rattle.worked_examples.specs.Night.{alone, cpu1_station, custfile, dumm, dumm_station, end_of_night, needs_custfile, night, night_occurrences, night_operations, night_pairs, night_resources, night_workstations, payroll, payroll_at, prt1, prt1_station, setp, setp_station, two_at_night}
 use Rattle.worked_examples.proofs.DayLoad.{cpu1_name}
 use Rattle.worked_examples.proofs.Literal.{each_entry, each_key}
 use Rattle.worked_examples.proofs.NightReports.{found_at, p5, p10, p20, p30, p40}
@@ -61,9 +61,9 @@ occurrence_is_there = ap is_some (get-from_entries occurrence_cmp_total night_oc
 custfile_is_there : contains_key night.resources custfile ≡ true
 custfile_is_there = ap is_some (get-from_entries name_cmp_total night_resources custfile)
 
--- the one need of 20
-one_need : (r : Name) (usage : Usage) → get needs_custfile r ≡ Some usage → r ≡ custfile
-one_need = each_entry name_cmp_total name_cmp-IsAntisymmetric ((custfile, record { mode = Exclusive; keep = true }) ∷ []) (λ r usage. r ≡ custfile) (refl, tt)
+-- what holds of the one need of 20 holds of each that is found
+one_need : (Q : Name → Usage → Type 0) → Q custfile alone → (r : Name) (usage : Usage) → get needs_custfile r ≡ Some usage → Q r usage
+one_need Q h = each_entry name_cmp_total name_cmp-IsAntisymmetric ((custfile, alone) ∷ []) Q (h, tt)
 
 third_is : IsOperation (payroll_at 20) p20
 third_is = record {
@@ -73,8 +73,8 @@ third_is = record {
   fixed = (omega arith, omega arith);
   not_before = omega arith;
   deadline = omega arith;
-  needs = λ r usage found. subst IsResourceName (sym (one_need r usage found)) custfile_name;
-  few_needs = len_at_most name_cmp_total ((custfile, record { mode = Exclusive; keep = true }) ∷ []) MOST_NEEDS (omega arith);
+  needs = one_need (λ r usage. IsResourceName r × IsAmount usage.claim.mode usage.claim.amount) (custfile_name, refl);
+  few_needs = len_at_most name_cmp_total ((custfile, alone) ∷ []) MOST_NEEDS (omega arith);
   code = λ code is. absurd (cc);
 }
 
@@ -96,6 +96,9 @@ occurrences_are = record {
 abbrev NeedsThere : OpKey → Operation → Type 0
 NeedsThere o op = (r : Name) (usage : Usage) → get op.needs r ≡ Some usage → contains_key night.resources r ≡ true
 
+abbrev AmountsThere : OpKey → Operation → Type 0
+AmountsThere o op = (r : Name) (usage : Usage) → get op.needs r ≡ Some usage → (stock : Stock) → get night.resources r ≡ Some stock → usage.claim.amount ≤ stock.quantity
+
 night_is_valid : IsValid night
 night_is_valid = record {
   workstations = of_stations (λ w ws. IsName 4 w × IsWorkstation ws)
@@ -103,11 +106,12 @@ night_is_valid = record {
       (setp_name, station_is attribute.StartAndCompletion (interval_by evening two_at_night 1 0 0) setp_interval)
       (prt1_name, closed_is attribute.CompletionOnly)
       (dumm_name, closed_is attribute.Nonreporting);
-  resources = each_key name_cmp_total name_cmp-IsAntisymmetric night_resources IsResourceName (custfile_name, tt);
+  resources = each_entry name_cmp_total name_cmp-IsAntisymmetric night_resources (λ r stock. IsResourceName r × (1 ≤ stock.quantity) × (stock.quantity ≤ MOST_QUANTITY)) ((custfile_name, omega arith, omega arith), tt);
   occurrences = occurrences_are;
   have_workstations = of_five (λ o op. contains_key night.workstations op.workstation ≡ true)
       (ap is_some (workstation_at setp)) (ap is_some (workstation_at cpu1)) (ap is_some (workstation_at cpu1)) (ap is_some (workstation_at dumm)) (ap is_some (workstation_at prt1));
-  have_resources = of_five NeedsThere no_needs no_needs (λ r usage found. subst (λ z. contains_key night.resources z ≡ true) (sym (one_need r usage found)) custfile_is_there) no_needs no_needs;
+  have_resources = of_five NeedsThere no_needs no_needs (one_need (λ r usage. contains_key night.resources r ≡ true) custfile_is_there) no_needs no_needs;
+  amounts = of_five AmountsThere no_amounts no_amounts (one_need (λ r usage. (stock : Stock) → get night.resources r ≡ Some stock → usage.claim.amount ≤ stock.quantity) (λ stock there. omega arith)) no_amounts no_amounts;
   pairs = of_pairs (λ p o. (contains_key night.operations p ≡ true) × (contains_key night.operations o ≡ true))
       (ap is_some (found_at (payroll_at 5)), ap is_some (found_at (payroll_at 10)))
       (ap is_some (found_at (payroll_at 10)), ap is_some (found_at (payroll_at 20)))
@@ -125,6 +129,9 @@ night_is_valid = record {
   where
     no_needs : (r : Name) (usage : Usage) → get (empty {R = name_cmp}) r ≡ Some usage → contains_key night.resources r ≡ true
     no_needs r usage found = absurd (none-some usage (sym (get-empty name_cmp r) ∙ found))
+
+    no_amounts : (r : Name) (usage : Usage) → get (empty {R = name_cmp}) r ≡ Some usage → (stock : Stock) → get night.resources r ≡ Some stock → usage.claim.amount ≤ stock.quantity
+    no_amounts r usage found = absurd (none-some usage (sym (get-empty name_cmp r) ∙ found))
 
 pub night_is_draft : IsDraft night
 night_is_draft = record { valid = night_is_valid; untouched = of_five (λ o op. IsUntouched op) (refl, refl, refl) (refl, refl, refl) (refl, refl, refl) (refl, refl, refl) (refl, refl, refl) }

@@ -1,5 +1,5 @@
 -- PAYROLL's 10 ends, and 20 is named.
-use Rattle.std.proofs.Common.{rules, arith, ◌≡◌, ◌≢◌, inl, inr, refl, sym, ◌∙◌, ap, subst, pos, true, cond, List, [], ◌∷◌, Some, option_map}
+use Rattle.std.proofs.Common.{rules, arith, ◌≡◌, ◌≢◌, inl, inr, refl, sym, ◌∙◌, ap, subst, pos, cond, List, [], ◌∷◌, Some, option_map}
 use Rattle.std.specs.FinMap.{entries, find, from_entries, get, get-empty, get-from_entries}
 use Rattle.plan_basics.specs.declared.Attr.TheVariants as attribute
 use Rattle.plan_basics.specs.declared.keys.OpKey.{OpKey}
@@ -7,13 +7,14 @@ use Rattle.plan_basics.specs.declared.Refusal.{Refusal}
 use Rattle.plan_basics.specs.declared.Refusal.TheVariants as refusal
 use Rattle.plan_basics.specs.Intervals.{interval_by}
 use Rattle.plan_basics.specs.Keys.{name_cmp, name_cmp_total, name_cmp-IsAntisymmetric, occurrence_cmp_total, operation_cmp, operation_cmp_total, operation_cmp-IsAntisymmetric}
-use Rattle.plan_laws.specs.special_resources.specs.declared.Mode.TheVariants.{Exclusive}
-use Rattle.plan_laws.specs.special_resources.specs.Holders.{Usage}
+use Rattle.plan_laws.proofs.Entries.{same_operation}
+use Rattle.plan_laws.specs.special_resources.proofs.Amounts.{none_held}
+use Rattle.plan_laws.specs.special_resources.specs.Holders.{OtherHolds, Usage}
 use Rattle.plan_laws.specs.status_rules.specs.declared.Mark.TheVariants as mark
 use Rattle.plan_laws.specs.status_rules.specs.declared.Status.TheVariants as status
 use Rattle.plan_laws.specs.ready_list.specs.declared.ReadyKey.{ReadyKey}
 use Rattle.plan_laws.specs.ready_list.specs.Choice.{is_among}
-use Rattle.plan_laws.specs.plan_model.specs.Holdings.{given_out, takes}
+use Rattle.plan_laws.specs.plan_model.specs.Holdings.{Holds, given_out, takes}
 use Rattle.plan_laws.specs.plan_model.specs.Contents.{Operation, attribute_at}
 use Rattle.plan_laws.specs.plan_model.specs.Ready.{IsChosen, IsEntry, named, with_mark}
 use Rattle.plan_laws.specs.plan_model.specs.Revise.{revise}
@@ -27,7 +28,7 @@ use Rattle.plan_laws.proofs.Kept.{named_none}
 use Rattle.plan_laws.specs.plan_model.proofs.Looks.{get-named}
 use Rattle.std.proofs.lemmas.Option.{none-some}
 use Rattle.worked_examples.specs.Day.{cpu1, evening, loaded_at, morning}
-use Rattle.worked_examples.specs.Night.{custfile, done, dumm, end_of_night, end_of_second, loading, night, night_occurrences, night_operations, night_resources, payroll, payroll_at, prt1, second_ended, second_started, setp}
+use Rattle.worked_examples.specs.Night.{alone, custfile, custfile_stock, done, dumm, end_of_night, end_of_second, loading, night, night_occurrences, night_operations, night_resources, payroll, payroll_at, prt1, second_ended, second_started, setp}
 use Rattle.worked_examples.specs.Statements.{EndOfTheSecond}
 use Rattle.worked_examples.proofs.Entries.{one_ready}
 use Rattle.worked_examples.proofs.Facts.{marked_is_not_ready, waiting_is_not_ready}
@@ -105,11 +106,21 @@ no_holder = of_five (λ o op. (held : Usage) → o ≢ payroll_at 20 → get op.
     (λ held other found. none-some held (sym (get-empty name_cmp custfile) ∙ found))
 
 resource_is_free : MayStart second_ended (payroll_at 20) p20 end_of_second refusal.ResourceBusy
-resource_is_free r usage found = elim (entry_of name_cmp_total name_cmp-IsAntisymmetric ((custfile, record { mode = Exclusive; keep = true }) ∷ []) r usage found) [
-  | inl e ↦ (
-    subst (λ z. get night.resources z ≡ Some true) (sym e.0) (get-from_entries name_cmp_total night_resources custfile),
-    λ other held apart holds. absurd (no_holder other holds.0 holds.1 held apart (subst (λ z. get holds.0.needs z ≡ Some held) e.0 holds.2.0)),
-  )
+resource_is_free r usage found = elim (entry_of name_cmp_total name_cmp-IsAntisymmetric ((custfile, alone) ∷ []) r usage found) [
+  | inl e ↦
+      let none : (other : OpKey) (held : Usage) → ¬ OtherHolds (Holds second_ended) (payroll_at 20) other r held =
+      (λ other held holds. no_holder other holds.1.0 holds.1.1 held holds.0 (subst (λ z. get holds.1.0.needs z ≡ Some held) e.0 holds.1.2.0)) in (
+        custfile_stock,
+        subst (λ z. get night.resources z ≡ Some custfile_stock) (sym e.0) (get-from_entries name_cmp_total night_resources custfile),
+        refl,
+        (
+          λ other held apart holds. absurd (none other held (apart, holds)),
+          λ others are.
+              let nothing = none_held same_operation r 0 (OtherHolds (Holds second_ended) (payroll_at 20)) none others are in
+              let amount = ap (λ (u : Usage). u.claim.amount) e.1 in
+              omega (arith, nothing, amount),
+        ),
+      )
   | inr never ↦ absurd never
 ]
 
@@ -162,5 +173,5 @@ end_of_the_second = (
     is_chosen = third_chosen;
     is_after = refl;
   },
-  (with_mark mark.Named p20, third_is_named, (get-from_entries name_cmp_total ((custfile, record { mode = Exclusive; keep = true }) ∷ []) custfile, ap takes on_cpu1, refl)),
+  (with_mark mark.Named p20, third_is_named, (get-from_entries name_cmp_total ((custfile, alone) ∷ []) custfile, ap takes on_cpu1, refl)),
 )

@@ -27,9 +27,13 @@ billing = record { app = codes "BILLING"; arrival = evening }
 abbrev pub billing_key : OpKey
 billing_key = record { occurrence = billing; number = 10 }
 
--- shared, and freed on an error
+-- shared, one of it, and freed on an error
+abbrev pub one_shared : Usage
+one_shared = record { claim = record { mode = Shared; amount = 1 }; keep = false }
+
+-- CUSTFILE, so
 abbrev pub shares_custfile : FinMap name_cmp Usage
-shares_custfile = from_entries ((custfile, record { mode = Shared; keep = false }) ∷ [])
+shares_custfile = from_entries ((custfile, one_shared) ∷ [])
 
 -- half an hour on the automatic workstation, by 03:00
 abbrev pub billing_operation : Operation

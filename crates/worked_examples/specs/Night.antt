@@ -1,11 +1,12 @@
 -- The night's plan: PAYROLL, a chain of five operations on four workstations that report in four ways, as it is once it was loaded.
-use Rattle.std.specs.Prelude.{ℕ, Bool, true, [], ◌∷◌, List, codes}
+use Rattle.std.specs.Prelude.{ℕ, true, [], ◌∷◌, List, codes}
 use Rattle.std.specs.FinMap.{from_entries, empty, FinMap}
 use Rattle.std.specs.FinSet.{from_list}
 use Rattle.plan_basics.specs.declared.Attr.{Attr}
 use Rattle.plan_basics.specs.declared.Attr.TheVariants as attribute
 use Rattle.plan_basics.specs.declared.keys.OccKey.{OccKey}
 use Rattle.plan_basics.specs.declared.keys.OpKey.{OpKey}
+use Rattle.plan_basics.specs.declared.limits.TheConstants.{MOST_QUANTITY}
 use Rattle.plan_basics.specs.Intervals.{OpenInterval, interval_by}
 use Rattle.plan_basics.specs.Keys.{Name, name_cmp}
 use Rattle.plan_laws.specs.special_resources.specs.declared.Mode.TheVariants.{Exclusive}
@@ -14,6 +15,7 @@ use Rattle.plan_laws.specs.workstations.specs.Workstations.{Workstation}
 use Rattle.plan_laws.specs.status_rules.specs.declared.Mark.TheVariants as mark
 use Rattle.plan_laws.specs.plan_model.specs.Contents.{Contents, Operation}
 use Rattle.plan_laws.specs.plan_model.specs.declared.Occurrence.{Occurrence}
+use Rattle.plan_laws.specs.plan_model.specs.declared.Stock.{Stock}
 use Rattle.plan_laws.specs.plan_model.specs.Ready.{with_mark}
 use Rattle.plan_laws.specs.ready_list.specs.Choice.{is_among}
 use Rattle.plan_laws.specs.plan_records.specs.Changes.{is_at, marked, revised}
@@ -80,8 +82,12 @@ abbrev pub planned : Name → ℕ → FinMap name_cmp Usage → Operation
 planned workstation duration needs = record (lasting duration) { workstation = workstation; needs = needs }
 
 -- exclusive, and kept on an error
+abbrev pub alone : Usage
+alone = record { claim = record { mode = Exclusive; amount = 0 }; keep = true }
+
+-- CUSTFILE, so
 abbrev pub needs_custfile : FinMap name_cmp Usage
-needs_custfile = from_entries ((custfile, record { mode = Exclusive; keep = true }) ∷ [])
+needs_custfile = from_entries ((custfile, alone) ∷ [])
 
 -- PAYROLL's five operations
 abbrev pub night_operations : List (OpKey × Operation)
@@ -105,9 +111,13 @@ night_pairs = (payroll_at 5, payroll_at 10) ∷ (payroll_at 10, payroll_at 20) �
 abbrev pub night_occurrences : List (OccKey × Occurrence)
 night_occurrences = (payroll, record { priority = 5; deadline = morning }) ∷ []
 
--- CUSTFILE is available
-abbrev pub night_resources : List (Name × Bool)
-night_resources = (custfile, true) ∷ []
+-- CUSTFILE is available, and there is as much of it as there may be
+abbrev pub custfile_stock : Stock
+custfile_stock = record { available = true; quantity = MOST_QUANTITY }
+
+-- CUSTFILE alone
+abbrev pub night_resources : List (Name × Stock)
+night_resources = (custfile, custfile_stock) ∷ []
 
 -- all of it, as it is loaded
 abbrev pub night : Contents

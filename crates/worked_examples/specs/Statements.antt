@@ -1,5 +1,5 @@
 -- What is to hold of the plans that are written out here.
-use Rattle.std.specs.Prelude.{◌≡◌, ◌≢◌, ◌↔◌, [], ◌∷◌, ℕ, Option, Some, true, pos, neg_ℤ}
+use Rattle.std.specs.Prelude.{◌≡◌, ◌≢◌, ◌↔◌, [], ◌∷◌, ℕ, Option, Some, pos, neg_ℤ}
 use Rattle.plan_basics.specs.Minutes.{civil_minute}
 use Rattle.plan_laws.specs.status_rules.specs.declared.Status.TheVariants as status
 use Rattle.plan_basics.specs.declared.Refusal.{Refusal}
@@ -13,7 +13,6 @@ use Rattle.plan_laws.specs.plan_records.specs.Changes.{Changes}
 use Rattle.plan_laws.specs.plan_records.specs.Run.{Run, numbered, usable}
 use Rattle.plan_laws.specs.plan_records.specs.Step.{Numbered, NumberedStep, Step}
 use Rattle.plan_laws.specs.plan_model.specs.Status.{HasStatus}
-use Rattle.plan_laws.specs.special_resources.specs.declared.Mode.TheVariants.{Exclusive}
 use Rattle.plan_laws.specs.plan_model.specs.Holdings.{Holds}
 use Rattle.plan_laws.specs.plan_model.specs.Ready.{IsChosen, named}
 use Rattle.plan_laws.specs.plan_model.specs.Starts.{IsLatestStart, MayStart}
@@ -23,7 +22,7 @@ use Rattle.worked_examples.specs.Trio.{aaa, bbb, ccc, by_duration, by_fixed_reso
 use Rattle.worked_examples.specs.Tracker.{after_told, ended_told, failure_told, no_receipts, one_receipt}
 use Rattle.worked_examples.specs.Backup.{backup_addition, backup_key, with_backup}
 use Rattle.worked_examples.specs.Billing.{billing_key, eleven, failed}
-use Rattle.worked_examples.specs.Night.{fourth_held, from_first_again, from_third_again, custfile, end_of_second, second_ended, second_started, night, payroll, third_started, three_done, two_passed, payroll_at, loading, two_at_night, end_of_night}
+use Rattle.worked_examples.specs.Night.{alone, fourth_held, from_first_again, from_third_again, custfile, end_of_second, second_ended, second_started, night, payroll, third_started, three_done, two_passed, payroll_at, loading, two_at_night, end_of_night}
 
 -- the numerals are the minutes of these civil dates and times
 abbrev pub MomentsOfTheNight : Type 0
@@ -139,7 +138,7 @@ LoadOfTheNight = Step no_plan (record { at = pos loading; what = what.Load (Some
 abbrev pub EndOfTheSecond : Type 0
 EndOfTheSecond =
     Step (loaded_at loading second_started) (record { at = pos end_of_second; what = what.Ended (payroll_at 10) }) (accepted (payroll_at 20 ∷ [])) (loaded_at end_of_second (named (payroll_at 20 ∷ []) second_ended))
-    × Holds (named (payroll_at 20 ∷ []) second_ended) (payroll_at 20) custfile (record { mode = Exclusive; keep = true })
+    × Holds (named (payroll_at 20 ∷ []) second_ended) (payroll_at 20) custfile alone
 
 -- a rerun of 20 reaches 20, 30 and 40 alone: 20 is ready again, and 30 and 40 wait
 abbrev pub RerunOfTheThird : Type 0

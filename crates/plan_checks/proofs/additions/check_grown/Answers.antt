@@ -1,4 +1,4 @@
-use Rattle.std.proofs.Common.{◌≡◌, inr, refl, sym, subst, ap, true, false, not, true≢false, ◌∙◌, length, List, rules}
+use Rattle.std.proofs.Common.{◌≡◌, inr, refl, sym, subst, ap, true, false, not, true≢false, ◌∙◌, List, rules}
 use Rattle.std.specs.FinMap.{contains_key, keys}
 use Rattle.std.specs.FinSet as set
 use Rattle.std.specs.List.Sorted.{IsStrictlySortedBy}
@@ -16,7 +16,6 @@ use Rattle.plan_checks.proofs.ComingApart.{comes_apart}
 use Rattle.plan_checks.proofs.ComingIn.{own_key}
 use Rattle.plan_checks.proofs.Grown.{has_room, joins_operations, within_limits}
 use Rattle.plan_checks.proofs.Searching.{none_told, some_told}
-use Rattle.plan_checks.specs.Additions.{HasRoomFor}
 use Rattle.plan_checks.proofs.additions.check_grown.Goals as goal
 use Rattle.plan_checks.proofs.additions.check_grown.Goals.{After-beside-beside, In_ok-pairs}
 
@@ -69,29 +68,29 @@ returns-then-is_none-clause-refused c =
     let never = none_told _ c.in_ok-graph_of.field-0 c.in_ok-graph_of.ensures (c.is_none.ensures ∙ ap not yes) in
     inr (returning_by_growth c.args.outline.now (added_of c.args.parts.now) (λ may. never (subst (λ (z : Pairs). IsAcyclic z) (sym (paired at c.deref-2.result.now c.deref-2.ensures.value)) may)))
 
-pub returns-then-not-has_room-clause-refused : goal.returns-then-not-has_room-clause-refused
-returns-then-not-has_room-clause-refused c =
-    let at = (goal.at.returns-then-not-has_room-clause-refused c).In_ok-pairs in
+pub returns-then-not-is_within_limits-clause-refused : goal.returns-then-not-is_within_limits-clause-refused
+returns-then-not-is_within_limits-clause-refused c =
+    let at = (goal.at.returns-then-not-is_within_limits-clause-refused c).In_ok-pairs in
     let P = c.args.outline.now in
     let some : c.is_none.result ≡ false = search rules in
-    let no : c.has_room.result ≡ false = search rules in
+    let no : c.is_within_limits.result ≡ false = search rules in
     let acyclic = (some_told _ c.in_ok-graph_of.field-0 c.in_ok-graph_of.ensures (c.is_none.ensures ∙ ap not some)).1.1 in
     let ks = c.deref-else-is_none.result.now in
     let ps = c.deref-else-is_none-2.result.now in
     inr (full_by_growth P (added_of c.args.parts.now) (subst (λ (z : Pairs). IsAcyclic z) (paired at c.deref-2.result.now c.deref-2.ensures.value) acyclic)
     (λ limits.
-    let room = has_room P c.beside-beside.ensures.sound.valid c.args.parts.now (new at) ks ps (keyed at ks c.deref-else-is_none.ensures.value) (paired at ps c.deref-else-is_none-2.ensures.value) (up at ps c.deref-else-is_none-2.ensures.value) limits in
-    true≢false (sym (c.has_room.ensures.1 (subst (λ (Q : Contents). HasRoomFor Q (length ks) (length ps)) (sym c.beside-beside.ensures.contents) room)) ∙ no)))
+    let room = has_room P c.beside-beside.ensures.sound.valid c.args.parts.now (new at) ks ps (keyed at ks c.deref-else-is_none.ensures.value) (paired at ps c.deref-else-is_none-2.ensures.value) (up at ps c.deref-else-is_none-2.ensures.value) limits.0 in
+    true≢false (sym (c.is_within_limits.ensures.1 (room, limits.1)) ∙ no)))
 
 pub returns-clause-ok : goal.returns-clause-ok
 returns-clause-ok c =
     let at = (goal.at.returns-clause-ok c).In_ok-pairs in
     let P = c.args.outline.now in
     let some : c.is_none.result ≡ false = search rules in
-    let yes : c.has_room.result ≡ true = search rules in
+    let yes : c.is_within_limits.result ≡ true = search rules in
     let acyclic = (some_told _ c.in_ok-graph_of.field-0 c.in_ok-graph_of.ensures (c.is_none.ensures ∙ ap not some)).1.1 in
     let ks = c.deref-else-is_none.result.now in
     let ps = c.deref-else-is_none-2.result.now in
-    let room = subst (λ (Q : Contents). HasRoomFor Q (length ks) (length ps)) c.beside-beside.ensures.contents (c.has_room.ensures.0 yes) in
+    let room = c.is_within_limits.ensures.0 yes in
     none_by_growth P (added_of c.args.parts.now) (subst (λ (z : Pairs). IsAcyclic z) (paired at c.deref-2.result.now c.deref-2.ensures.value) acyclic)
-    (within_limits P c.beside-beside.ensures.sound.valid c.args.parts.now (new at) ks ps (keyed at ks c.deref-else-is_none.ensures.value) (paired at ps c.deref-else-is_none-2.ensures.value) (up at ps c.deref-else-is_none-2.ensures.value) room)
+    (within_limits P c.beside-beside.ensures.sound.valid c.args.parts.now (new at) ks ps (keyed at ks c.deref-else-is_none.ensures.value) (paired at ps c.deref-else-is_none-2.ensures.value) (up at ps c.deref-else-is_none-2.ensures.value) room.0, room.1)

@@ -1,6 +1,7 @@
 use Rattle.std.proofs.Common.{◌≡◌, sym, ap, subst, ◌∙◌, ◌+◌, arith, true, Some, None, is_some, slice_get}
 use Rattle.std.specs.FinMap.{get, len}
 use Rattle.std.proofs.lemmas.Option.{slice_get-get_or}
+use Rattle.special_resources.specs.Holdings.{claim_of}
 use Rattle.special_resources.specs.Needs.{usages_of}
 use Rattle.special_resources.proofs.Replacing.{one_more}
 use Rattle.shown_records.specs.plan_status.specs.plan_model.specs.Contents.{Operation}
@@ -25,8 +26,8 @@ loop-need-preserved c =
     elim c.if-holds_resource.branch [
       | then-holds_resource+then-is_none w ↦
           let holds = sym c.holds_resource.ensures ∙ w.if-holds_resource.true in
-          let free : get now (need.name, o) ≡ None = sym w.mode_of.ensures ∙ is_none w.mode_of.result w.if-is_none.ensures in
-          let more = ap len w.take.ensures.held ∙ one_more now (need.name, o) need.mode (ap is_some free) in
+          let free : get now (need.name, o) ≡ None = sym w.claim_of.ensures ∙ is_none w.claim_of.result w.if-is_none.ensures in
+          let more = ap len w.take.ensures.held ∙ one_more now (need.name, o) (claim_of need) (ap is_some free) in
           rw w.holdings-is
           record {
             room = omega (arith, room, more, w.take.ensures.room);
@@ -36,7 +37,7 @@ loop-need-preserved c =
           rw w.holdings-is
           (elim w.else-holds_resource.branch [
             | else-holds_resource-via-then-holds_resource+else-is_none w' ↦
-                let some : is_some (get now (need.name, o)) ≡ true = ap is_some (sym w'.mode_of.ensures) ∙ w'.if-is_none.ensures in
+                let some : is_some (get now (need.name, o)) ≡ true = ap is_some (sym w'.claim_of.ensures) ∙ w'.if-is_none.ensures in
                 record { room = omega (arith, room); taken = held_already before o needs mark i need at now so_far c.as_slice-needs.ensures.in_order some }
             | else-holds_resource-via-else-holds_resource w' ↦
                 record { room = omega (arith, room); taken = not_held before o needs mark i need at now so_far (sym c.holds_resource.ensures ∙ w'.if-holds_resource.false) }

@@ -28,7 +28,7 @@ loop-need-preserved c =
           rw w.holdings-is
           (elim w.else-not-holds_resource.branch [
             | else-not-holds_resource-via-then-not-holds_resource+else-is_some w' ↦
-                let free : get now (need.name, o) ≡ None = sym w'.mode_of.ensures ∙ is_none w'.mode_of.result (cc (w'.is_some.ensures, w'.if-is_some.false)) in
+                let free : get now (need.name, o) ≡ None = sym w'.claim_of.ensures ∙ is_none w'.claim_of.result (cc (w'.is_some.ensures, w'.if-is_some.false)) in
                 free_already before o needs mark i need at now c.loop-need.invariant free
             | else-not-holds_resource-via-else-not-holds_resource w' ↦
                 still_held before o needs mark i need at now c.loop-need.invariant (sym c.holds_resource.ensures ∙ w'.if-not-holds_resource.false)

@@ -6,20 +6,28 @@ use Rattle.plan_restore.specs.Restoring.{reported}
 use Rattle.plan_restore.proofs.Bare.{bare}
 use Rattle.plan_restore.proofs.Restored.{restored}
 use Rattle.plan_restore.proofs.RowItems.{items_in_range, items_of_bare}
+use Rattle.plan_restore.proofs.RowNumbers.{say_each_once}
 use Rattle.plan_restore.proofs.contents.contents_of_rows.Goals as goal
+
+-- rows that say something twice are those of no plan
+pub returns-in_default-clause-complete : goal.returns-in_default-clause-complete
+returns-in_default-clause-complete c = λ P valid are. absurd ((rw c.in_default.is at c.in_ok-said.ensures) (say_each_once P valid c.args.rows.now are))
 
 pub returns-then-not-are_in_range-clause-complete : goal.returns-then-not-are_in_range-clause-complete
 returns-then-not-are_in_range-clause-complete c = λ P valid are.
-    let said = c.deref.ensures.value ∙ c.in_ok-items.ensures in
-    absurd (true≢false (sym (c.if-not-are_in_range.ensures.1 (subst (All IsItem) (sym said) (items_in_range P valid c.args.rows.now are)))))
+    let items = c.deref.ensures.value ∙ c.in_ok-items.ensures in
+    let said = rw c.in-Some.is at c.in_ok-said.ensures in
+    absurd (true≢false (sym (c.if-not-are_in_range.ensures.1 (subst (All IsItem) (sym items) (items_in_range P valid c.args.rows.now are c.in-Some.said said)))))
 
-pub returns-in_default-clause-complete : goal.returns-in_default-clause-complete
-returns-in_default-clause-complete c = λ P valid are.
-    let said = c.deref-2.ensures.value ∙ c.in_ok-items.ensures in
-    absurd ((rw c.in_default.is at c.in_ok-contents.ensures) (bare P.contents) (subst (λ items. AreItemsOf items (bare P.contents)) (sym said) (items_of_bare P valid c.args.rows.now are)))
+pub returns-in_default-2-clause-complete : goal.returns-in_default-2-clause-complete
+returns-in_default-2-clause-complete c = λ P valid are.
+    let items = c.deref-2.ensures.value ∙ c.in_ok-items.ensures in
+    let said = rw c.in-Some.is at c.in_ok-said.ensures in
+    absurd ((rw c.in_default-2.is at c.in_ok-contents.ensures) (bare P.contents) (subst (λ items. AreItemsOf items (bare P.contents)) (sym items) (items_of_bare P valid c.args.rows.now are c.in-Some.said said)))
 
 pub returns-clause-complete : goal.returns-clause-complete
 returns-clause-complete c = λ P valid are.
-    let said = c.deref-2.ensures.value ∙ c.in_ok-items.ensures in
-    let first = one_plan_of_items c.deref-2.result.now c.in-Some.contents (bare P.contents) (rw c.in-Some.is at c.in_ok-contents.ensures) (subst (λ items. AreItemsOf items (bare P.contents)) (sym said) (items_of_bare P valid c.args.rows.now are)) in
+    let items = c.deref-2.ensures.value ∙ c.in_ok-items.ensures in
+    let said = rw c.in-Some.is at c.in_ok-said.ensures in
+    let first = one_plan_of_items c.deref-2.result.now c.in-Some-2.contents (bare P.contents) (rw c.in-Some-2.is at c.in_ok-contents.ensures) (subst (λ items. AreItemsOf items (bare P.contents)) (sym items) (items_of_bare P valid c.args.rows.now are c.in-Some.said said)) in
     ap Some (c.put_reports.ensures.reported ∙ ap (reported c.args.rows.now) first ∙ restored P valid c.args.rows.now are)

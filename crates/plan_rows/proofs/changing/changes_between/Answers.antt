@@ -1,10 +1,10 @@
-use Rattle.std.proofs.Common.{◌≡◌, ◌∙◌, sym, subst, ap, arith, refl, Some}
+use Rattle.std.proofs.Common.{◌∙◌, sym, subst, ap, Some}
 use Rattle.plan_figures.specs.shown_records.specs.States.{ShownState}
 use Rattle.plan_model.specs.Contents.{Contents}
 use Rattle.plan_model.specs.Plan.{plan_held}
 use Rattle.plan_rows.proofs.AllTables.{in_all_tables}
 use Rattle.plan_rows.proofs.changing.changes_between.Goals as goal
-use Rattle.plan_rows.specs.Kept.{KeepsRecords}
+use Rattle.plan_rows.specs.Kept.{AreNewNeeds, KeepsRecords}
 use Rattle.plan_rows.specs.Shown.{IsShown, contents_shown, plan_shown, shown_with, source_if_any}
 use Rattle.plan_rows.specs.Tables.{AreChangesBelow}
 
@@ -17,10 +17,23 @@ push_operations-requires-clause-shown c = subst (λ (s : ShownState). IsShown (s
 pub push_operations-requires-clause-kept : goal.push_operations-requires-clause-kept
 push_operations-requires-clause-kept c = subst (λ (s : ShownState). KeepsRecords (contents_shown (source_if_any c.args.before.now.loaded)) s.contents) (sym c.in_ok-push_occurrences.ensures.unchanged) c.requires.kept
 
-pub push_needs-requires-clause-kept : goal.push_needs-requires-clause-kept
-push_needs-requires-clause-kept c =
+-- what is shown stays, whatever is looked at
+pub new_needs-requires-clause-kept : goal.new_needs-requires-clause-kept
+new_needs-requires-clause-kept c =
     let same = c.in_ok-push_operations.ensures.contents ∙ ap (λ (s : ShownState). s.contents) c.in_ok-push_occurrences.ensures.unchanged in
     subst (KeepsRecords (contents_shown (source_if_any c.args.before.now.loaded))) (sym same) c.requires.kept
+
+pub push_links-requires-clause-kept : goal.push_links-requires-clause-kept
+push_links-requires-clause-kept c =
+    let told = c.in_ok-push_operations.ensures.contents ∙ ap (λ (s : ShownState). s.contents) c.in_ok-push_occurrences.ensures.unchanged in
+    let same = c.beside-beside-2.ensures.contents ∙ c.in_ok-needs.ensures.contents ∙ told in
+    subst (KeepsRecords (contents_shown (source_if_any c.args.before.now.loaded))) (sym same) c.requires.kept
+
+pub push_links-requires-clause-needs : goal.push_links-requires-clause-needs
+push_links-requires-clause-needs c =
+    let P = contents_shown (source_if_any c.args.before.now.loaded) in
+    let same = c.beside-beside-2.ensures.contents ∙ c.in_ok-needs.ensures.contents in
+    subst (λ (C : Contents). AreNewNeeds P C c.deref.result.now) (sym same) (subst (AreNewNeeds P c.push_operations.new.shown.contents) (sym c.deref.ensures.value) c.in_ok-needs.ensures.needs)
 
 -- table by table
 pub returns-clause-changes : goal.returns-clause-changes
@@ -29,13 +42,13 @@ returns-clause-changes c =
     let now = c.args.clock in
     let P = plan_shown was (source_if_any c.args.before.now.loaded) in
     let Q = c.args.shown.now.contents in
-    let S = shown_with Q c.args.columns in
     let first = c.beside-beside.ensures.contents in
     let seen = ap (λ (s : ShownState). s.contents) c.in_ok-push_occurrences.ensures.unchanged in
     let told = c.in_ok-push_operations.ensures.contents ∙ seen in
-    let then = c.beside-beside-2.ensures.contents ∙ told in
+    let then = c.beside-beside-2.ensures.contents ∙ c.in_ok-needs.ensures.contents ∙ told in
+    let S = shown_with Q c.args.columns in
     let stations = subst (λ (C : Contents). AreChangesBelow 4 P (plan_held now (Some C)) c.push_stations.new.changes) first (c.in_ok-push_stations.ensures was now (subst (λ (C : Contents). AreChangesBelow 1 P (plan_held now (Some C)) c.in_ok-changes.changes) (sym first) (c.in_ok-changes.ensures S))) in
     let occurrences = c.in_ok-push_occurrences.ensures.changes was now stations in
     let operations = subst (λ (C : Contents). AreChangesBelow 6 P (plan_held now (Some C)) c.push_operations.new.changes) seen (c.in_ok-push_operations.ensures.changes was now (subst (λ (C : Contents). AreChangesBelow 5 P (plan_held now (Some C)) c.push_occurrences.new.changes) (sym seen) occurrences)) in
-    let dependencies = subst (λ (C : Contents). AreChangesBelow 7 P (plan_held now (Some C)) c.push_dependencies.new.changes) then (c.in_ok-push_dependencies.ensures was now (subst (λ (C : Contents). AreChangesBelow 6 P (plan_held now (Some C)) c.push_operations.new.changes) (sym then) operations)) in
-    in_all_tables P (plan_held now (Some Q)) c.push_needs.new.changes.rows.items c.push_needs.new.changes.gone.items (c.in_ok-push_needs.ensures.changes was now S c.requires.shown (sym told) dependencies)
+    let links = subst (λ (C : Contents). AreChangesBelow 10 P (plan_held now (Some C)) c.push_links.new.changes) then (c.in_ok-push_links.ensures was now (subst (λ (C : Contents). AreChangesBelow 6 P (plan_held now (Some C)) c.push_operations.new.changes) (sym then) operations)) in
+    in_all_tables P (plan_held now (Some Q)) c.push_links.new.changes.rows.items c.push_links.new.changes.gone.items links

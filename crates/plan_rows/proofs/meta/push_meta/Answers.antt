@@ -18,9 +18,9 @@ returns-then-stays c = λ P Q p_loaded p_clock q_loaded q_clock so_far.
 
 pub returns : goal.returns
 returns c = λ P Q p_loaded p_clock q_loaded q_clock so_far.
-    let is = row.Meta 1 c.args.loaded c.args.clock in
+    let is = row.Meta 2 c.args.loaded c.args.clock in
     let changed = meta_changed P Q (λ loaded clock. true≢false (sym (c.stays.ensures.1 (sym p_loaded ∙ loaded ∙ q_loaded, sym p_clock ∙ clock ∙ q_clock)) ∙ c.if-stays.false)) in
-    let here = subst (λ r. AreRowChanges row_cmp key_of (IsRowOf 0 P) (IsRowOf 0 Q) (r ∷ []) []) (λ i. row.Meta 1 (q_loaded i) (q_clock i)) changed in
+    let here = subst (λ r. AreRowChanges row_cmp key_of (IsRowOf 0 P) (IsRowOf 0 Q) (r ∷ []) []) (λ i. row.Meta 2 (q_loaded i) (q_clock i)) changed in
     on_ok_weaker c.push_meta_row.result
     (λ rows. one_more_table 0 P Q c.args.changes.now (record { rows = c.push_meta_row.new.rows; gone = c.args.changes.now.gone }) (is ∷ []) [] rows (sym (append-nil c.args.changes.now.gone.items)) so_far here)
     c.push_meta_row.ensures

@@ -1,4 +1,3 @@
-use Rattle.std.proofs.Common.{sym}
 use Rattle.plan_basics.specs.Keys.{operation_cmp-IsAntisymmetric}
 use Rattle.plan_rows.proofs.NewPlaces.{are_new, keys_ascend, new_few}
 use Rattle.plan_rows.proofs.new_places.new_places.Goals as goal

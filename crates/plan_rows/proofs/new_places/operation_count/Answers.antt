@@ -1,4 +1,4 @@
-use Rattle.std.proofs.Common.{◌≡◌, sym, subst, ap, ◌∙◌, length, Option}
+use Rattle.std.proofs.Common.{◌≡◌, sym, subst, ap, length, Option}
 use Rattle.std.specs.FinMap.{keys}
 use Rattle.plan_rows.proofs.NewPlaces.{no_keys}
 use Rattle.plan_rows.proofs.new_places.operation_count.Goals as goal

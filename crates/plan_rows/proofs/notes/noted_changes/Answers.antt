@@ -6,9 +6,9 @@ use Rattle.plan_figures.specs.plan_records.specs.Rows.{AreChanges, key_of, row_c
 use Rattle.plan_rows.proofs.AllTables.{in_all_tables, in_no_table}
 use Rattle.plan_rows.proofs.Counted.{no_operation_below}
 use Rattle.plan_rows.proofs.MovedRows.{same_occurrences}
-use Rattle.plan_rows.proofs.NotedTables.{all_beside, noted_within, pairs_stay}
+use Rattle.plan_rows.proofs.NotedTables.{all_beside, noted_within, pairs_stay, quantities_keep}
 use Rattle.plan_rows.proofs.OccurrencesOf.{places_within}
-use Rattle.plan_rows.proofs.TouchedTables.{dependencies_stay, needs_stay, workstations_stay}
+use Rattle.plan_rows.proofs.TouchedTables.{amounts_stay, dependencies_stay, needs_stay, quantities_stay, workstations_stay}
 use Rattle.plan_rows.proofs.notes.noted_changes.Goals as goal
 use Rattle.plan_rows.proofs.notes.noted_changes.Goals.{After-deref-2}
 use Rattle.plan_rows.specs.Notes.{AreNotedAt, AreWithin, IsNotedStep}
@@ -83,7 +83,9 @@ returns-clause-changes c = λ R step.
     (subst (λ (x : ShownState). AreChangesBelow 5 (plan_shown was (Some (shown_with x.contents l))) Q c.push_noted_occurrences.new.changes) (sym same) (before_operations ((goal.at.returns-clause-changes c).After-deref-2) R step)))
     in
     let dependencies = dependencies_stay was now (Some s) (Some after) so_far (pairs_stay c.args.shown.now.contents after.contents.now step.beside step.stays) operations in
-    let below = needs_stay was now (Some s) (Some after) so_far step.touched step.among.moved dependencies in
+    let needs = needs_stay was now (Some s) (Some after) so_far step.touched step.among.moved dependencies in
+    let quantities = quantities_stay was now (Some s) (Some after) so_far (quantities_keep c.args.shown.now.contents after.contents.now step.beside step.stays) needs in
+    let below = amounts_stay was now (Some s) (Some after) so_far step.touched step.among.moved quantities in
     subst (λ (Z : Contents). AreChanges P (plan_held now (Some Z)) so_far.rows.items so_far.gone.items) step.holds (in_all_tables P Q so_far.rows.items so_far.gone.items below)
 
 pub returns-clause-operations : goal.returns-clause-operations

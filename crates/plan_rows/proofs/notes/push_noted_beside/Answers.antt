@@ -1,10 +1,11 @@
-use Rattle.std.proofs.Common.{◌∙◌, List, Bool, Some, sym, ap, subst}
+use Rattle.std.proofs.Common.{◌∙◌, List, Some, sym, ap, subst}
 use Rattle.std.specs.List.Sorted.{IsStrictlySortedBy}
 use Rattle.std.specs.Map.{keys_of}
 use Rattle.std.proofs.lemmas.Result.{on_ok_weaker}
 use Rattle.plan_basics.specs.Keys.{Name, name_cmp}
 use Rattle.plan_model.proofs.Entries.{entries_in_order}
 use Rattle.plan_model.specs.Contents.{Contents}
+use Rattle.plan_model.specs.declared.Stock.{Stock}
 use Rattle.std.specs.FinMap.{entries}
 use Rattle.plan_rows.proofs.TouchedTables.{intervals_stay, resources_stay}
 use Rattle.plan_rows.proofs.WithinRows.{intervals_ascend}
@@ -16,7 +17,7 @@ pub push_noted_resources-requires-clause-after : goal.push_noted_resources-requi
 push_noted_resources-requires-clause-after c =
     let (after, shown, notes) = c.requires.noted in
     let h = subst (NotesBeside c.args.shown.now.contents after.contents.now) c.in-Resources.is notes in
-    subst (λ (xs : List (Name × Bool)). IsStrictlySortedBy name_cmp (keys_of xs)) (sym (c.deref.ensures.value ∙ h.2)) (entries_in_order name_cmp after.contents.now.resources)
+    subst (λ (xs : List (Name × Stock)). IsStrictlySortedBy name_cmp (keys_of xs)) (sym (c.deref.ensures.value ∙ h.3)) (entries_in_order name_cmp after.contents.now.resources)
 
 pub push_noted_intervals-requires-clause-in_order : goal.push_noted_intervals-requires-clause-in_order
 push_noted_intervals-requires-clause-in_order c =
@@ -35,7 +36,7 @@ returns-in-Resources c = λ clock now before after same was is notes so_far.
     let h = subst (NotesBeside c.args.shown.now.contents after.contents.now) c.in-Resources.is notes in
     c.push_noted_resources.ensures (plan_shown clock (Some before)) (plan_shown now (Some after))
     (c.resources.ensures.rows ∙ ap (λ (P : Contents). entries P.resources) (c.beside-kept.ensures.contents ∙ sym same))
-    (c.deref.ensures.value ∙ h.2)
+    (c.deref.ensures.value ∙ h.3)
     (intervals_stay clock now (Some before) (Some after) c.args.changes.now (h.0 ∙ ap (λ (P : Contents). P.workstations) (sym same)) so_far)
 
 pub returns-in-Intervals : goal.returns-in-Intervals

@@ -1,4 +1,4 @@
-use Rattle.std.proofs.Common.{◌≡◌, ◌∙◌, sym, ap, slice_index_or, Some}
+use Rattle.std.proofs.Common.{◌∙◌, sym, ap, slice_index_or, Some}
 use Rattle.std.proofs.lemmas.Option.{same_Some, slice_get-get_or}
 use Rattle.plan_rows.proofs.operations.have_one_status.Goals as goal
 use Rattle.status_rules.specs.declared.Status.TheVariants.{Started}

@@ -1,4 +1,4 @@
-use Rattle.std.proofs.Common.{◌≡◌, ◌∙◌, sym, subst, arith, ◌+◌, ◌*◌, ◌<◌, ◌≤◌, ℕ, length, Contains, slice_get, Some}
+use Rattle.std.proofs.Common.{◌≡◌, sym, subst, arith, ◌≤◌, length, Contains, slice_get, Some}
 use Rattle.std.proofs.lemmas.Result.{on_ok_weaker}
 use Rattle.std.specs.Map.{keys_of}
 use Rattle.plan_model.specs.Contents.{Contents}

@@ -6,4 +6,4 @@ use Rattle.plan_soundness.proofs.holders.holders_are_compatible.Given as goal
 -- the resources that are gone through have compatible holders
 abbrev pub invariant-loop-resource : goal.invariant-loop-resource
 invariant-loop-resource l =
-    IsSoBefore (entries l.contents.resources) (λ r available. HasCompatibleHolders l.contents r) l.resource-index
+    IsSoBefore (entries l.contents.resources) (λ r stock. HasCompatibleHolders l.contents r) l.resource-index

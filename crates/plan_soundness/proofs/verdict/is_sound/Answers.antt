@@ -13,16 +13,17 @@ returns-clause-sound c =
     let rows = c.rows_are_sound.ensures.sound.0 c.if-not-rows_are_sound.false in
     let others = c.reports_and_holders_are_sound.ensures in (
       λ yes.
-          let both = others.0 yes in
+          let all = others.0 yes in
           record {
             valid = c.rows_are_sound.ensures.valid;
-            in_order = λ o has. both.0 o has.0 has.1 has.2;
-            compatible = λ a b r. both.1 r a b;
+            in_order = λ o has. all.0 o has.0 has.1 has.2;
+            compatible = λ a b r. all.1 r a b;
+            within = all.2;
             held = rows.1;
             marks = λ o op a is. rows.0 o op is a;
             deleted = rows.2;
           },
-      λ sound. others.1 (λ o op is reported. sound.in_order o (op, is, reported), λ r a b. sound.compatible a b r),
+      λ sound. others.1 (λ o op is reported. sound.in_order o (op, is, reported), λ r a b. sound.compatible a b r, sound.within),
     )
 
 pub standings_of-requires : goal.standings_of-requires

@@ -10,7 +10,7 @@ pub returns-in-Available : goal.returns-in-Available
 returns-in-Available c =
     let P = c.args.shown.now.contents in
     let r = c.in-Available.name in
-    let old = revision.Available r c.unwrap.result in
+    let old = revision.Available r c.unwrap.result.available in
     let h = puts_resource_back P r _ c.unwrap.result (sym (c.resource.ensures ∙ ap (λ (Q : Contents). get Q.resources r) c.beside.ensures.contents) ∙ c.unwrap.ensures) in
     subst (λ x. PutsBack P x old) (sym c.in-Available.is) h
 

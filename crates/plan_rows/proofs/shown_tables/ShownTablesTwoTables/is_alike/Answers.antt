@@ -1,4 +1,4 @@
-use Rattle.std.proofs.Common.{◌≡◌, ◌↔◌, ◌<◌, sym, subst, length, Option, Some, slice_get, IsTrue}
+use Rattle.std.proofs.Common.{◌≡◌, ◌↔◌, ◌<◌, sym, subst, length, Option, slice_get, IsTrue}
 use Rattle.std.specs.Map.{keys_of}
 use Rattle.plan_rows.proofs.Sources.{is_source, some_source, source_keeps}
 use Rattle.plan_rows.proofs.shown_tables.ShownTablesTwoTables.is_alike.Goals as goal
