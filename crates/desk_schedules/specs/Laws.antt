@@ -3,7 +3,7 @@ use Rattle.std.specs.Prelude.{◌≡◌, List, ◌∷◌, ◌++◌, Contains, No
 use Rattle.plan_basics.specs.declared.keys.OpKey.{OpKey}
 use Rattle.plan_records.specs.Answer.{Answer, accepted}
 use Rattle.plan_records.specs.Run.{State, Call, Run, empty_state, numbered, to_be_reopened, usable}
-use Rattle.plan_records.specs.Schedules.{Event, IsDeskState, IsWithin, Leaves, Schedule, World, created, damaged, ended, found, opening, stopped}
+use Rattle.plan_records.specs.Schedules.{Begins, Event, IsDeskState, IsWithin, Leaves, Schedule, World, damaged, ended, found, opening, stopped}
 use Rattle.plan_records.specs.Step.{Numbered}
 use Rattle.desk_schedules.specs.Acts.{Act, EachActedOnce, HasActed, HaveOneNumber, RunWithActs}
 
@@ -36,9 +36,9 @@ pub record KeepsRequests (events : List Event) (w : World) : Type 0 where
   pub found_left : EachOpeningFinds events
   pub same : NumbersNameTheSame events
 
--- so it is after every schedule that begins with a desk that was just created
+-- so it is after every schedule that begins with a desk that was just created, or with tables of the first version that hold what a run left; the calls of that run count as events before it
 abbrev pub EverySchedule : Type 0
-EverySchedule = (events : List Event) (w : World) → Schedule created events w → KeepsRequests events w
+EverySchedule = (earlier events : List Event) (start w : World) → Begins earlier start → Schedule start events w → KeepsRequests (earlier ++ events) w
 
 -- what a stop in a call leaves, a fault of the store in it may leave too, and the desk stays, to be opened again
 abbrev pub FaultsLeaveAsStops : Type 0

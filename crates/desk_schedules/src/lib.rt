@@ -5,8 +5,8 @@
 
 ghost use Rattle.desk_schedules.specs.Laws.{EverySchedule, FaultsLeaveAsStops};
 
-/// Whatever calls are made at a desk that was just created, wherever they are stopped, and however often it is opened
-/// again: no opening finds the tables damaged, and each finds what a run leaves over the calls that were answered accepted
+/// Whatever calls are made at a desk that was just created, or at one whose tables were of the first version, wherever they
+/// are stopped, and however often it is opened again: no opening finds the tables damaged, and each finds what a run leaves over the calls that were answered accepted
 /// and over some of the stopped. Of each tracker's number one request at most has acted; one that was answered accepted has
 /// acted, and each accepted reply for it names the same keys.
 pub fn every_schedule()

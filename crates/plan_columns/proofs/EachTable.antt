@@ -1,11 +1,11 @@
--- The eight tables of a plan: which rows have columns in each, and which of them have one key.
+-- The ten tables of a plan: which rows have columns in each, and which of them have one key.
 use Rattle.std.proofs.Common.{◌≡◌, ◌↔◌, refl, sym, ap, ap₂, subst, ℕ, Bool, pos, [], ◌∷◌, take, Option, Some, None, inl, inr}
 use Rattle.plan_basics.specs.Intervals.{OpenInterval}
 use Rattle.plan_basics.specs.Keys.{Name}
 use Rattle.plan_basics.specs.declared.Attr.{Attr}
 use Rattle.plan_basics.specs.declared.keys.OccKey.{OccKey}
 use Rattle.plan_basics.specs.declared.keys.OpKey.{OpKey}
-use Rattle.tracker_receipts.specs.special_resources.specs.declared.Need.{Need}
+use Rattle.tracker_receipts.specs.special_resources.specs.declared.Mode.{Mode}
 use Rattle.tracker_receipts.specs.status_rules.specs.declared.OccStatus.{OccStatus}
 use Rattle.tracker_receipts.specs.plan_drafts.specs.declared.RowKey.TheVariants as key
 use Rattle.tracker_receipts.specs.plan_records.specs.declared.OperationRow.{OperationRow}
@@ -13,8 +13,8 @@ use Rattle.tracker_receipts.specs.plan_records.specs.declared.PlanRow.{PlanRow}
 use Rattle.tracker_receipts.specs.plan_records.specs.declared.PlanRow.TheVariants as row
 use Rattle.sqlite.specs.Order.{Row}
 use Rattle.sqlite.specs.declared.types.Value.TheVariants.{Int, Text}
-use Rattle.plan_schema.specs.Stored.{StoredMeta, StoredWorkstation, StoredInterval, StoredResource, StoredOccurrence, StoredOperation, StoredDependency, StoredNeed, workstation_row, interval_row, resource_row, occurrence_row, operation_row, dependency_row, need_row}
-use Rattle.plan_columns.specs.Columns.{meta_columns, workstation_columns, interval_columns, resource_columns, occurrence_columns, operation_columns, dependency_columns, need_columns}
+use Rattle.plan_schema.specs.Stored.{StoredMeta, StoredWorkstation, StoredInterval, StoredResource, StoredOccurrence, StoredOperation, StoredDependency, StoredNeed, StoredQuantity, StoredAmount, workstation_row, interval_row, resource_row, occurrence_row, operation_row, dependency_row, need_row, quantity_row, amount_row}
+use Rattle.plan_columns.specs.Columns.{meta_columns, workstation_columns, interval_columns, resource_columns, occurrence_columns, operation_columns, dependency_columns, need_columns, quantity_columns, amount_columns}
 use Rattle.plan_columns.proofs.OneTable.{IsTable, row_with}
 
 -- ---- the columns of a row, where it is of the table
@@ -48,8 +48,16 @@ dependency_of (row.Dependency p s) = Some (dependency_columns p s)
 dependency_of _ = None
 
 abbrev pub need_of : PlanRow → Option StoredNeed
-need_of (row.Need o n) = Some (need_columns o n)
+need_of (row.Need o r mode keep) = Some (need_columns o r mode keep)
 need_of _ = None
+
+abbrev pub quantity_of : PlanRow → Option StoredQuantity
+quantity_of (row.Quantity r quantity) = Some (quantity_columns r quantity)
+quantity_of _ = None
+
+abbrev pub amount_of : PlanRow → Option StoredAmount
+amount_of (row.Amount o r amount) = Some (amount_columns o r amount)
+amount_of _ = None
 
 -- ---- rows of one key
 
@@ -106,6 +114,16 @@ need_keys o p v w = (
   λ e. let name : v ≡ w = cc in ap₂ key.Need (same_operation o p (cc) (cc) (cc)) name,
 )
 
+quantity_keys : (v w : Name) → (key.Quantity v ≡ key.Quantity w) ↔ (Text v ∷ [] ≡ Text w ∷ [])
+quantity_keys v w = (λ e. let same : v ≡ w = cc in ap (λ z. Text z ∷ []) same, λ e. let same : v ≡ w = cc in ap key.Quantity same)
+
+amount_keys : (o p : OpKey) (v w : Name) → (key.Amount o v ≡ key.Amount p w)
+    ↔ (Text o.occurrence.app ∷ Int (pos o.occurrence.arrival) ∷ Int (pos o.number) ∷ Text v ∷ [] ≡ Text p.occurrence.app ∷ Int (pos p.occurrence.arrival) ∷ Int (pos p.number) ∷ Text w ∷ [])
+amount_keys o p v w = (
+  λ e. let op : o ≡ p = cc in let name : v ≡ w = cc in ap₂ (λ y z. Text y.occurrence.app ∷ Int (pos y.occurrence.arrival) ∷ Int (pos y.number) ∷ Text z ∷ []) op name,
+  λ e. let name : v ≡ w = cc in ap₂ key.Amount (same_operation o p (cc) (cc) (cc)) name,
+)
+
 -- ---- each is a table
 
 -- the id of the one row of `meta`
@@ -133,8 +151,14 @@ operation_table = record { told = elim [ row.Operation o ↦ inl (o, refl, refl,
 pub dependency_table : IsTable 6 dependency_of (λ (p : OpKey × OpKey). row.Dependency p.0 p.1) (λ p. dependency_columns p.0 p.1) (BeginAlike 6 dependency_row)
 dependency_table = record { told = elim [ row.Dependency p s ↦ inl ((p, s), refl, refl, refl) | _ ↦ inr (refl, refl) ]; keys = λ p q. dependency_keys p.0 p.1 q.0 q.1 }
 
-pub need_table : IsTable 7 need_of (λ (p : OpKey × Need). row.Need p.0 p.1) (λ p. need_columns p.0 p.1) (BeginAlike 4 need_row)
-need_table = record { told = elim [ row.Need o n ↦ inl ((o, n), refl, refl, refl) | _ ↦ inr (refl, refl) ]; keys = λ p q. need_keys p.0 q.0 p.1.name q.1.name }
+pub need_table : IsTable 7 need_of (λ (p : OpKey × Name × Mode × Bool). row.Need p.0 p.1 p.2 p.3) (λ p. need_columns p.0 p.1 p.2 p.3) (BeginAlike 4 need_row)
+need_table = record { told = elim [ row.Need o r mode keep ↦ inl ((o, r, mode, keep), refl, refl, refl) | _ ↦ inr (refl, refl) ]; keys = λ p q. need_keys p.0 q.0 p.1 q.1 }
+
+pub quantity_table : IsTable 8 quantity_of (λ (p : Name × ℕ). row.Quantity p.0 p.1) (λ p. quantity_columns p.0 p.1) (BeginAlike 1 quantity_row)
+quantity_table = record { told = elim [ row.Quantity r quantity ↦ inl ((r, quantity), refl, refl, refl) | _ ↦ inr (refl, refl) ]; keys = λ p q. quantity_keys p.0 q.0 }
+
+pub amount_table : IsTable 9 amount_of (λ (p : OpKey × Name × ℕ). row.Amount p.0 p.1 p.2) (λ p. amount_columns p.0 p.1 p.2) (BeginAlike 4 amount_row)
+amount_table = record { told = elim [ row.Amount o r amount ↦ inl ((o, r, amount), refl, refl, refl) | _ ↦ inr (refl, refl) ]; keys = λ p q. amount_keys p.0 q.0 p.1 q.1 }
 
 -- ---- rows with columns in a table, as the tables' definition names them
 
@@ -159,5 +183,11 @@ operation_rows IsIn x = (λ it. (row.Operation it.0, it.1, ap Some (sym it.2)), 
 pub dependency_rows : (IsIn : PlanRow → Type 0) (x : StoredDependency) → ((p : OpKey) × (s : OpKey) × IsIn (row.Dependency p s) × (x ≡ dependency_columns p s)) ↔ ((r : PlanRow) × IsIn r × (dependency_of r ≡ Some x))
 dependency_rows IsIn x = (λ it. (row.Dependency it.0 it.1, it.2, ap Some (sym it.3)), λ it. let is = row_with dependency_table it.0 x it.2 in (is.0.0, is.0.1, subst IsIn is.1 it.1, is.2))
 
-pub need_rows : (IsIn : PlanRow → Type 0) (x : StoredNeed) → ((o : OpKey) × (n : Need) × IsIn (row.Need o n) × (x ≡ need_columns o n)) ↔ ((r : PlanRow) × IsIn r × (need_of r ≡ Some x))
-need_rows IsIn x = (λ it. (row.Need it.0 it.1, it.2, ap Some (sym it.3)), λ it. let is = row_with need_table it.0 x it.2 in (is.0.0, is.0.1, subst IsIn is.1 it.1, is.2))
+pub need_rows : (IsIn : PlanRow → Type 0) (x : StoredNeed) → ((o : OpKey) × (r : Name) × (mode : Mode) × (keep : Bool) × IsIn (row.Need o r mode keep) × (x ≡ need_columns o r mode keep)) ↔ ((r : PlanRow) × IsIn r × (need_of r ≡ Some x))
+need_rows IsIn x = (λ it. (row.Need it.0 it.1 it.2 it.3, it.4, ap Some (sym it.5)), λ it. let is = row_with need_table it.0 x it.2 in (is.0.0, is.0.1, is.0.2, is.0.3, subst IsIn is.1 it.1, is.2))
+
+pub quantity_rows : (IsIn : PlanRow → Type 0) (x : StoredQuantity) → ((r : Name) × (quantity : ℕ) × IsIn (row.Quantity r quantity) × (x ≡ quantity_columns r quantity)) ↔ ((r : PlanRow) × IsIn r × (quantity_of r ≡ Some x))
+quantity_rows IsIn x = (λ it. (row.Quantity it.0 it.1, it.2, ap Some (sym it.3)), λ it. let is = row_with quantity_table it.0 x it.2 in (is.0.0, is.0.1, subst IsIn is.1 it.1, is.2))
+
+pub amount_rows : (IsIn : PlanRow → Type 0) (x : StoredAmount) → ((o : OpKey) × (r : Name) × (amount : ℕ) × IsIn (row.Amount o r amount) × (x ≡ amount_columns o r amount)) ↔ ((r : PlanRow) × IsIn r × (amount_of r ≡ Some x))
+amount_rows IsIn x = (λ it. (row.Amount it.0 it.1 it.2, it.3, ap Some (sym it.4)), λ it. let is = row_with amount_table it.0 x it.2 in (is.0.0, is.0.1, is.0.2, subst IsIn is.1 it.1, is.2))

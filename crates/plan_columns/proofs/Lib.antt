@@ -4,6 +4,7 @@ pub mod RowPut
 pub mod RowsWritten
 pub mod SameColumns
 pub mod Start
+pub mod Upgraded
 pub mod PlanWritten
 pub mod ReceiptPut
 pub mod SameReceipts

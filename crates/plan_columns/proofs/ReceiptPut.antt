@@ -33,6 +33,8 @@ rows_beside_receipt IsIn x held h = record {
   operations = h.operations;
   dependencies = h.dependencies;
   needs = h.needs;
+  quantities = h.quantities;
+  amounts = h.amounts;
 }
 
 -- ---- the receipts

@@ -18,9 +18,9 @@ use Rattle.tracker_receipts.specs.plan_drafts.specs.declared.RowKey.TheVariants 
 use Rattle.tracker_receipts.specs.plan_records.specs.Rows.{key_of}
 use Rattle.tracker_receipts.specs.plan_records.specs.declared.PlanRow.{PlanRow}
 use Rattle.tracker_receipts.specs.plan_records.specs.declared.PlanRow.TheVariants as row
-use Rattle.plan_schema.specs.Stored.{Held, StoredMeta, StoredInterval, meta_row, workstation_row, interval_row, resource_row, occurrence_row, operation_row, dependency_row, need_row}
+use Rattle.plan_schema.specs.Stored.{Held, StoredMeta, StoredInterval, meta_row, workstation_row, interval_row, resource_row, occurrence_row, operation_row, dependency_row, need_row, quantity_row, amount_row}
 use Rattle.plan_columns.specs.Tables.{HoldRows, with_row, without_row}
-use Rattle.plan_columns.proofs.EachTable.{BeginAlike, HaveOneId, dependency_of, dependency_rows, dependency_table, interval_keys, interval_of, interval_rows, interval_table, meta_of, meta_rows, meta_table, need_of, need_rows, need_table, occurrence_of, occurrence_rows, occurrence_table, operation_of, operation_rows, operation_table, resource_of, resource_rows, resource_table, workstation_of, workstation_rows, workstation_table}
+use Rattle.plan_columns.proofs.EachTable.{BeginAlike, HaveOneId, amount_of, amount_rows, amount_table, dependency_of, dependency_rows, dependency_table, interval_keys, interval_of, interval_rows, interval_table, meta_of, meta_rows, meta_table, need_of, need_rows, need_table, occurrence_of, occurrence_rows, occurrence_table, operation_of, operation_rows, operation_table, quantity_of, quantity_rows, quantity_table, resource_of, resource_rows, resource_table, workstation_of, workstation_rows, workstation_table}
 use Rattle.plan_columns.proofs.OneTable.{HoldsOf, PutsByKey, holds_alike, holds_besides, holds_put_of, put_of, row_with}
 
 -- ---- all tables as one table each
@@ -41,6 +41,8 @@ pub record HoldEach (IsIn : PlanRow → Type 0) (held : Held) : Type 0 where
   pub operations : HoldsOf operation_of IsIn held.operations
   pub dependencies : HoldsOf dependency_of IsIn held.dependencies
   pub needs : HoldsOf need_of IsIn held.needs
+  pub quantities : HoldsOf quantity_of IsIn held.quantities
+  pub amounts : HoldsOf amount_of IsIn held.amounts
 
 -- that is the same as that they hold the rows
 pub each_of : {IsIn : PlanRow → Type 0} {held : Held} → HoldRows IsIn held → HoldEach IsIn held
@@ -53,6 +55,8 @@ each_of {IsIn = IsIn} h = record {
   operations = λ x. through (h.operations x) (operation_rows IsIn x);
   dependencies = λ x. through (h.dependencies x) (dependency_rows IsIn x);
   needs = λ x. through (h.needs x) (need_rows IsIn x);
+  quantities = λ x. through (h.quantities x) (quantity_rows IsIn x);
+  amounts = λ x. through (h.amounts x) (amount_rows IsIn x);
 }
 
 pub of_each : {IsIn : PlanRow → Type 0} {held : Held} → HoldEach IsIn held → HoldRows IsIn held
@@ -65,6 +69,8 @@ of_each {IsIn = IsIn} h = record {
   operations = λ x. through (h.operations x) (turned (operation_rows IsIn x));
   dependencies = λ x. through (h.dependencies x) (turned (dependency_rows IsIn x));
   needs = λ x. through (h.needs x) (turned (need_rows IsIn x));
+  quantities = λ x. through (h.quantities x) (turned (quantity_rows IsIn x));
+  amounts = λ x. through (h.amounts x) (turned (amount_rows IsIn x));
 }
 
 -- they hold a set of rows
@@ -80,6 +86,8 @@ rows_alike {held = held} same h =
       operations = holds_alike held.operations same each.operations;
       dependencies = holds_alike held.dependencies same each.dependencies;
       needs = holds_alike held.needs same each.needs;
+      quantities = holds_alike held.quantities same each.quantities;
+      amounts = holds_alike held.amounts same each.amounts;
     })
 
 -- ---- a row is put in
@@ -125,6 +133,8 @@ put_in_each r held = record {
   operations = put_of (with_value 3 operation_row) (operation_of r) held.operations;
   dependencies = put_of (with_value 6 dependency_row) (dependency_of r) held.dependencies;
   needs = put_of (with_value 4 need_row) (need_of r) held.needs;
+  quantities = put_of (with_value 1 quantity_row) (quantity_of r) held.quantities;
+  amounts = put_of (with_value 4 amount_row) (amount_of r) held.amounts;
   receipts = held.receipts;
 }
 
@@ -149,6 +159,8 @@ row_put IsIn r held h =
       operations = holds_put_of operation_table (with_value 3 operation_row) (puts_by_key 3 operation_row (λ x. (tt, (tt, (tt, tt))))) IsIn r held.operations each.operations;
       dependencies = holds_put_of dependency_table (with_value 6 dependency_row) (puts_by_key 6 dependency_row (λ x. (tt, (tt, (tt, (tt, (tt, (tt, tt)))))))) IsIn r held.dependencies each.dependencies;
       needs = holds_put_of need_table (with_value 4 need_row) (puts_by_key 4 need_row (λ x. (tt, (tt, (tt, (tt, tt)))))) IsIn r held.needs each.needs;
+      quantities = holds_put_of quantity_table (with_value 1 quantity_row) (puts_by_key 1 quantity_row (λ x. (tt, tt))) IsIn r held.quantities each.quantities;
+      amounts = holds_put_of amount_table (with_value 4 amount_row) (puts_by_key 4 amount_row (λ x. (tt, (tt, (tt, (tt, tt)))))) IsIn r held.amounts each.amounts;
     }))
 
 -- the receipts stay
@@ -189,6 +201,8 @@ interval_taken IsIn w m held h =
       operations = holds_besides operation_table IsIn k held.operations refl each.operations;
       dependencies = holds_besides dependency_table IsIn k held.dependencies refl each.dependencies;
       needs = holds_besides need_table IsIn k held.needs refl each.needs;
+      quantities = holds_besides quantity_table IsIn k held.quantities refl each.quantities;
+      amounts = holds_besides amount_table IsIn k held.amounts refl each.amounts;
     })
 
 -- the receipts stay

@@ -10,7 +10,6 @@ use Rattle.tracker_receipts.specs.plan_items.specs.Parts.{mode_letter, keep_lett
 use Rattle.tracker_receipts.specs.plan_items.proofs.PartLaws.{one_attribute}
 use Rattle.tracker_receipts.specs.special_resources.specs.declared.Mode.{Mode}
 use Rattle.tracker_receipts.specs.special_resources.specs.declared.Mode.TheVariants as mode
-use Rattle.tracker_receipts.specs.special_resources.specs.declared.Need.{Need}
 use Rattle.tracker_receipts.specs.status_rules.specs.Texts.{code_text, mark_text, marks_without_code, occurrence_letter, status_letter}
 use Rattle.tracker_receipts.specs.status_rules.specs.declared.Mark.{Mark}
 use Rattle.tracker_receipts.specs.status_rules.specs.declared.Mark.TheVariants as mark
@@ -23,8 +22,8 @@ use Rattle.tracker_receipts.specs.plan_records.specs.Rows.{AreRows, IsRow}
 use Rattle.tracker_receipts.specs.plan_records.specs.declared.OperationRow.{OperationRow}
 use Rattle.tracker_receipts.specs.plan_records.specs.declared.PlanRow.{PlanRow}
 use Rattle.tracker_receipts.specs.plan_records.specs.declared.PlanRow.TheVariants as row
-use Rattle.plan_schema.specs.Stored.{Held, StoredInterval, StoredOperation, StoredNeed}
-use Rattle.plan_columns.specs.Columns.{flag, meta_columns, workstation_columns, interval_columns, resource_columns, occurrence_columns, operation_columns, dependency_columns, need_columns}
+use Rattle.plan_schema.specs.Stored.{Held, StoredInterval, StoredOperation, StoredNeed, StoredQuantity, StoredAmount}
+use Rattle.plan_columns.specs.Columns.{flag, meta_columns, workstation_columns, interval_columns, resource_columns, occurrence_columns, operation_columns, dependency_columns, need_columns, quantity_columns, amount_columns}
 use Rattle.plan_columns.specs.Tables.{HoldRows}
 use Rattle.plan_columns.proofs.RowPut.{rows_alike}
 
@@ -154,13 +153,23 @@ pub dependency_columns_injective : (p q s t : OpKey) → dependency_columns p s 
 dependency_columns_injective p q s t e =
     ap₂ row.Dependency (same_operation_key p q (ap (λ x. x.papp) e) (ap (λ x. x.pia) e) (ap (λ x. x.pnum) e)) (same_operation_key s t (ap (λ x. x.sapp) e) (ap (λ x. x.sia) e) (ap (λ x. x.snum) e))
 
-pub need_columns_injective : (o p : OpKey) (m n : Need) → need_columns o m ≡ need_columns p n → row.Need o m ≡ row.Need p n
-need_columns_injective o p m n e =
+pub need_columns_injective : (o p : OpKey) (v w : Name) (m n : Mode) (k l : Bool) → need_columns o v m k ≡ need_columns p w n l → row.Need o v m k ≡ row.Need p w n l
+need_columns_injective o p v w m n k l e =
     let op = same_operation_key o p (ap (λ x. x.app) e) (ap (λ x. x.ia) e) (ap (λ x. x.num) e) in
     let name = ap (λ (x : StoredNeed). x.resource) e in
-    let mode = same_mode m.mode n.mode (ap (λ x. x.mode) e) in
-    let keep = same_keep m.keep n.keep (ap (λ x. x.keep) e) in
-    λ i. row.Need (op i) (record { name = name i; mode = mode i; keep = keep i })
+    let mode = same_mode m n (ap (λ x. x.mode) e) in
+    let keep = same_keep k l (ap (λ x. x.keep) e) in
+    λ i. row.Need (op i) (name i) (mode i) (keep i)
+
+pub quantity_columns_injective : (v w : Name) (m n : ℕ) → quantity_columns v m ≡ quantity_columns w n → row.Quantity v m ≡ row.Quantity w n
+quantity_columns_injective v w m n e = ap₂ row.Quantity (ap (λ (x : StoredQuantity). x.resource) e) (number_is m n (ap (λ x. x.quantity) e))
+
+pub amount_columns_injective : (o p : OpKey) (v w : Name) (m n : ℕ) → amount_columns o v m ≡ amount_columns p w n → row.Amount o v m ≡ row.Amount p w n
+amount_columns_injective o p v w m n e =
+    let op = same_operation_key o p (ap (λ x. x.app) e) (ap (λ x. x.ia) e) (ap (λ x. x.num) e) in
+    let name = ap (λ (x : StoredAmount). x.resource) e in
+    let amount = number_is m n (ap (λ x. x.amount) e) in
+    λ i. row.Amount (op i) (name i) (amount i)
 
 -- ---- the rows that the tables hold
 
@@ -174,7 +183,9 @@ module _ {A B : PlanRow → Type 0} {held : Held} (h : HoldRows A held) (k : Hol
   one_within (row.Occurrence c p d s) is = let it = (k.occurrences _).0 ((h.occurrences _).1 (c, p, d, s, is, refl)) in subst B (sym (occurrence_columns_injective c it.0 p it.1 d it.2 s it.3 it.5)) it.4
   one_within (row.Operation r) is = let it = (k.operations _).0 ((h.operations _).1 (r, is, refl)) in subst B (sym (operation_columns_injective r it.0 it.2)) it.1
   one_within (row.Dependency p s) is = let it = (k.dependencies _).0 ((h.dependencies _).1 (p, s, is, refl)) in subst B (sym (dependency_columns_injective p it.0 s it.1 it.3)) it.2
-  one_within (row.Need o n) is = let it = (k.needs _).0 ((h.needs _).1 (o, n, is, refl)) in subst B (sym (need_columns_injective o it.0 n it.1 it.3)) it.2
+  one_within (row.Need o n m l) is = let it = (k.needs _).0 ((h.needs _).1 (o, n, m, l, is, refl)) in subst B (sym (need_columns_injective o it.0 n it.1 m it.2 l it.3 it.5)) it.4
+  one_within (row.Quantity n m) is = let it = (k.quantities _).0 ((h.quantities _).1 (n, m, is, refl)) in subst B (sym (quantity_columns_injective n it.0 m it.1 it.3)) it.2
+  one_within (row.Amount o n m) is = let it = (k.amounts _).0 ((h.amounts _).1 (o, n, m, is, refl)) in subst B (sym (amount_columns_injective o it.0 n it.1 m it.2 it.4)) it.3
 
 -- tables hold one set of rows
 pub one_set : {A B : PlanRow → Type 0} {held : Held} → HoldRows A held → HoldRows B held → (r : PlanRow) → A r ↔ B r

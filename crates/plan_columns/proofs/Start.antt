@@ -27,24 +27,28 @@ nothing_held = record {
   occurrences = λ x. (λ has. absurd has, λ it. absurd it.4);
   operations = λ x. (λ has. absurd has, λ it. absurd it.1);
   dependencies = λ x. (λ has. absurd has, λ it. absurd it.2);
-  needs = λ x. (λ has. absurd has, λ it. absurd it.2);
+  needs = λ x. (λ has. absurd has, λ it. absurd it.4);
+  quantities = λ x. (λ has. absurd has, λ it. absurd it.2);
+  amounts = λ x. (λ has. absurd has, λ it. absurd it.3);
 }
 
 -- the one row: nothing is loaded, and the clock is at the first minute
-only_row : (r : PlanRow) → IsRow no_plan r → WithRow (row.Meta 1 false 0) NoRow r
+only_row : (r : PlanRow) → IsRow no_plan r → WithRow (row.Meta 2 false 0) NoRow r
 only_row (row.Meta version loaded clock) h = inl (λ i. row.Meta (h.0 i) (h.1 i) (h.2 i))
 only_row (row.Workstation name a) h = nothing_at (option_map (λ ws. ws.attribute) (get nothing.workstations name)) a (ap (option_map (λ ws. ws.attribute)) (get-empty name_cmp name)) h
 only_row (row.Interval w i) h = nothing_at (get nothing.workstations w) h.0 (get-empty name_cmp w) h.1
-only_row (row.Resource name available) h = nothing_at (get nothing.resources name) available (get-empty name_cmp name) h
+only_row (row.Resource name available) h = nothing_at (get nothing.resources name) h.0 (get-empty name_cmp name) h.1
 only_row (row.Occurrence c priority deadline status) h = nothing_at (get nothing.occurrences c) (record { priority = priority; deadline = deadline }) (get-empty occurrence_cmp c) h.0
 only_row (row.Operation r) h = nothing_at (get nothing.operations r.op) h.op (get-empty operation_cmp r.op) h.is_in_plan
 only_row (row.Dependency p s) h = absurd (true≢false (sym h ∙ set.contains-empty pair_cmp (p, s)))
-only_row (row.Need o n) h = nothing_at (get nothing.operations o) h.0 (get-empty operation_cmp o) h.1
+only_row (row.Need o r mode keep) h = nothing_at (get nothing.operations o) h.0 (get-empty operation_cmp o) h.1
+only_row (row.Quantity r quantity) h = nothing_at (get nothing.resources r) h.0 (get-empty name_cmp r) h.1
+only_row (row.Amount o r amount) h = nothing_at (get nothing.operations o) h.0 (get-empty operation_cmp o) h.1
 
-first_row : (r : PlanRow) → WithRow (row.Meta 1 false 0) NoRow r → IsRow no_plan r
+first_row : (r : PlanRow) → WithRow (row.Meta 2 false 0) NoRow r → IsRow no_plan r
 first_row r (inl own) = subst (IsRow no_plan) (sym own) (refl, refl, refl)
 first_row r (inr other) = absurd other.0
 
 -- the row of a desk at which nothing is loaded
-pub held_at_first : HoldRows (IsRow no_plan) (with_row (row.Meta 1 false 0) none_held)
-held_at_first = rows_alike (λ r. (first_row r, only_row r)) (row_put NoRow (row.Meta 1 false 0) none_held nothing_held)
+pub held_at_first : HoldRows (IsRow no_plan) (with_row (row.Meta 2 false 0) none_held)
+held_at_first = rows_alike (λ r. (first_row r, only_row r)) (row_put NoRow (row.Meta 2 false 0) none_held nothing_held)

@@ -7,11 +7,11 @@ use Rattle.plan_basics.specs.declared.Attr.{Attr}
 use Rattle.plan_basics.specs.declared.keys.OccKey.{OccKey}
 use Rattle.plan_basics.specs.declared.keys.OpKey.{OpKey}
 use Rattle.tracker_receipts.specs.plan_items.specs.Parts.{mode_letter, keep_letter}
-use Rattle.tracker_receipts.specs.special_resources.specs.declared.Need.{Need}
+use Rattle.tracker_receipts.specs.special_resources.specs.declared.Mode.{Mode}
 use Rattle.tracker_receipts.specs.status_rules.specs.Texts.{mark_text, code_text, status_letter, occurrence_letter}
 use Rattle.tracker_receipts.specs.status_rules.specs.declared.OccStatus.{OccStatus}
 use Rattle.tracker_receipts.specs.plan_records.specs.declared.OperationRow.{OperationRow}
-use Rattle.plan_schema.specs.Stored.{StoredMeta, StoredWorkstation, StoredInterval, StoredResource, StoredOccurrence, StoredOperation, StoredDependency, StoredNeed}
+use Rattle.plan_schema.specs.Stored.{StoredMeta, StoredWorkstation, StoredInterval, StoredResource, StoredOccurrence, StoredOperation, StoredDependency, StoredNeed, StoredQuantity, StoredAmount}
 
 -- a truth value is 1 or 0
 abbrev pub flag : Bool → ℤ
@@ -64,5 +64,13 @@ abbrev pub dependency_columns : OpKey → OpKey → StoredDependency
 dependency_columns p s = record { papp = p.occurrence.app; pia = pos p.occurrence.arrival; pnum = pos p.number; sapp = s.occurrence.app; sia = pos s.occurrence.arrival; snum = pos s.number }
 
 -- the key of an operation, the special resource that it needs, and the letters of the mode and of what an error does
-abbrev pub need_columns : OpKey → Need → StoredNeed
-need_columns o n = record { app = o.occurrence.app; ia = pos o.occurrence.arrival; num = pos o.number; resource = n.name; mode = mode_letter n.mode; keep = keep_letter n.keep }
+abbrev pub need_columns : OpKey → Name → Mode → Bool → StoredNeed
+need_columns o r mode keep = record { app = o.occurrence.app; ia = pos o.occurrence.arrival; num = pos o.number; resource = r; mode = mode_letter mode; keep = keep_letter keep }
+
+-- a special resource's name, and how much of it there is
+abbrev pub quantity_columns : Name → ℕ → StoredQuantity
+quantity_columns r quantity = record { resource = r; quantity = pos quantity }
+
+-- the key of an operation, a special resource that it shares, and how much of it it needs
+abbrev pub amount_columns : OpKey → Name → ℕ → StoredAmount
+amount_columns o r amount = record { app = o.occurrence.app; ia = pos o.occurrence.arrival; num = pos o.number; resource = r; amount = pos amount }

@@ -6,15 +6,15 @@ use Rattle.plan_basics.specs.Keys.{Name}
 use Rattle.plan_basics.specs.declared.Attr.{Attr}
 use Rattle.plan_basics.specs.declared.keys.OccKey.{OccKey}
 use Rattle.plan_basics.specs.declared.keys.OpKey.{OpKey}
-use Rattle.tracker_receipts.specs.special_resources.specs.declared.Need.{Need}
+use Rattle.tracker_receipts.specs.special_resources.specs.declared.Mode.{Mode}
 use Rattle.tracker_receipts.specs.status_rules.specs.declared.OccStatus.{OccStatus}
 use Rattle.tracker_receipts.specs.plan_drafts.specs.declared.RowKey.{RowKey}
 use Rattle.tracker_receipts.specs.plan_drafts.specs.declared.RowKey.TheVariants as key
 use Rattle.tracker_receipts.specs.plan_records.specs.declared.OperationRow.{OperationRow}
 use Rattle.tracker_receipts.specs.plan_records.specs.declared.PlanRow.{PlanRow}
 use Rattle.tracker_receipts.specs.plan_records.specs.declared.PlanRow.TheVariants as row
-use Rattle.plan_schema.specs.Stored.{Held, StoredMeta, StoredWorkstation, StoredInterval, StoredResource, StoredOccurrence, StoredOperation, StoredDependency, StoredNeed, with_meta, with_workstation, with_interval, with_resource, with_occurrence, with_operation, with_dependency, with_need, without_interval}
-use Rattle.plan_columns.specs.Columns.{meta_columns, workstation_columns, interval_columns, resource_columns, occurrence_columns, operation_columns, dependency_columns, need_columns}
+use Rattle.plan_schema.specs.Stored.{Held, StoredMeta, StoredWorkstation, StoredInterval, StoredResource, StoredOccurrence, StoredOperation, StoredDependency, StoredNeed, StoredQuantity, StoredAmount, with_meta, with_workstation, with_interval, with_resource, with_occurrence, with_operation, with_dependency, with_need, with_quantity, with_amount, without_interval}
+use Rattle.plan_columns.specs.Columns.{meta_columns, workstation_columns, interval_columns, resource_columns, occurrence_columns, operation_columns, dependency_columns, need_columns, quantity_columns, amount_columns}
 
 -- the tables of a plan hold these rows and no others; the receipts are a table of their own
 pub record HoldRows (IsIn : PlanRow → Type 0) (held : Held) : Type 0 where
@@ -25,7 +25,9 @@ pub record HoldRows (IsIn : PlanRow → Type 0) (held : Held) : Type 0 where
   pub occurrences : (x : StoredOccurrence) → Has held.occurrences x ↔ ((c : OccKey) × (priority : ℕ) × (deadline : ℕ) × (status : OccStatus) × IsIn (row.Occurrence c priority deadline status) × (x ≡ occurrence_columns c priority deadline status))
   pub operations : (x : StoredOperation) → Has held.operations x ↔ ((r : OperationRow) × IsIn (row.Operation r) × (x ≡ operation_columns r))
   pub dependencies : (x : StoredDependency) → Has held.dependencies x ↔ ((p : OpKey) × (s : OpKey) × IsIn (row.Dependency p s) × (x ≡ dependency_columns p s))
-  pub needs : (x : StoredNeed) → Has held.needs x ↔ ((o : OpKey) × (n : Need) × IsIn (row.Need o n) × (x ≡ need_columns o n))
+  pub needs : (x : StoredNeed) → Has held.needs x ↔ ((o : OpKey) × (r : Name) × (mode : Mode) × (keep : Bool) × IsIn (row.Need o r mode keep) × (x ≡ need_columns o r mode keep))
+  pub quantities : (x : StoredQuantity) → Has held.quantities x ↔ ((r : Name) × (quantity : ℕ) × IsIn (row.Quantity r quantity) × (x ≡ quantity_columns r quantity))
+  pub amounts : (x : StoredAmount) → Has held.amounts x ↔ ((o : OpKey) × (r : Name) × (amount : ℕ) × IsIn (row.Amount o r amount) × (x ≡ amount_columns o r amount))
 
 -- the tables with this row, in place of the one that has its key
 abbrev pub with_row : PlanRow → Held → Held
@@ -36,7 +38,9 @@ with_row (row.Resource name available) = with_resource (resource_columns name av
 with_row (row.Occurrence c priority deadline status) = with_occurrence (occurrence_columns c priority deadline status)
 with_row (row.Operation r) = with_operation (operation_columns r)
 with_row (row.Dependency p s) = with_dependency (dependency_columns p s)
-with_row (row.Need o n) = with_need (need_columns o n)
+with_row (row.Need o r mode keep) = with_need (need_columns o r mode keep)
+with_row (row.Quantity r quantity) = with_quantity (quantity_columns r quantity)
+with_row (row.Amount o r amount) = with_amount (amount_columns o r amount)
 
 -- the tables without the row of this key: an interval goes; from the other tables nothing is taken
 abbrev pub without_row : RowKey → Held → Held

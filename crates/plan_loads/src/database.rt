@@ -7,7 +7,7 @@ ghost use Rattle.plan_basics.specs.declared.Refusal.{Refusal};
 ghost use Rattle.plan_records.specs.Answer.{answer_of};
 ghost use Rattle.plan_records.specs.Run.{empty_state};
 ghost use Rattle.plan_loads.specs.Databases.{HasNoTable, HasSchema, IsAnswerToLoad, IsDamaged, IsStateAt};
-ghost use Rattle.plan_tables.specs.plan_schema.specs.Schema.{schema_9};
+ghost use Rattle.plan_tables.specs.plan_schema.specs.Schema.{desk_schema, first_schema};
 ghost use Rattle.plan_tables.specs.Desk.{state_of, HoldsState, IsClean};
 ghost use Rattle.plan_tables.specs.Faults.{IsOpeningRefusal};
 ghost use Rattle.plan_tables.specs.table_rows.specs.Tables.{no_schema};
@@ -43,7 +43,8 @@ fn desk_of<S: Alter + Drop>(
     ensures usable { IfOk result (λ desk. desk.is_usable ≡ true) }
     ensures is_open { IfOk result (λ desk. HasCleanDisk (state S.Store desk.conn) → IsTrue (state S.Store desk.conn).is_open) }
     ensures made { IfOk result (λ desk. HasCleanDisk (state S.Store desk.conn) → HasSchema (state S.Store conn) no_schema → HoldsState empty_state (state S.Store desk.conn).committed) }
-    ensures opened { IfOk result (λ desk. HasCleanDisk (state S.Store desk.conn) → HasSchema (state S.Store conn) schema_9 → (state S.Store desk.conn).committed ≡ (state S.Store conn).committed) }
+    ensures opened { IfOk result (λ desk. HasCleanDisk (state S.Store desk.conn) → HasSchema (state S.Store conn) desk_schema → (state S.Store desk.conn).committed ≡ (state S.Store conn).committed) }
+    ensures opened_first { IfOk result (λ desk. HasCleanDisk (state S.Store desk.conn) → HasSchema (state S.Store conn) first_schema → HoldsState (state_of desk) (state S.Store desk.conn).committed) }
     ensures refused { IfErr result (λ e. IsOpeningRefusal e.0) }
     ensures damaged { IfErr result (λ e. e.0 ≡ Refusal.Damaged → IsClean (state S.Store e.1) → IsDamaged (state S.Store conn)) }
     ensures unchanged { IfErr result (λ e. IsClean (state S.Store e.1) → (state S.Store e.1).committed ≡ (state S.Store conn).committed) }
@@ -56,7 +57,7 @@ fn desk_of<S: Alter + Drop>(
 }
 
 /// Loads the plan of a text, if it denotes one, into the desk of a database at a moment: the desk is made where the
-/// database has no table, else opened.
+/// database has no table, else opened, where tables of the first version become those of the second.
 ///
 /// The answer is the desk's, or the refusal of the one that could not be made or opened: `Damaged` where the database
 /// has tables that aren't a desk's with a plan's rows, `Store` where a transaction is open on the connection. The

@@ -5,12 +5,13 @@ use Rattle.std.proofs.lemmas.Bool.{cases_Bool, true≢false}
 use Rattle.std.proofs.lemmas.List.Elements.{Contains-get_or}
 use Rattle.sqlite.specs.Effect.{Database, IsDatabase}
 use Rattle.sqlite.specs.Order.{Row, column}
+use Rattle.sqlite.specs.Schema.{Schema}
 use Rattle.sqlite.specs.Table.{Table as SqlTable}
 use Rattle.sqlite.specs.Tree.{Trees, rowid, has_rowid, IsAscending}
 use Rattle.sqlite.specs.declared.types.Value.TheVariants.{Int, Text}
 use Rattle.sqlite_rules.specs.Edit.{id_in}
 use Rattle.sqlite_rules.specs.Lists.{Has}
-use Rattle.sqlite_rules.proofs.ListLemmas.{all_from, all_has, has_contained, some_from, test_has}
+use Rattle.sqlite_rules.proofs.ListLemmas.{all_from, all_has, has_contained, has_left, some_from, test_has}
 use Rattle.sqlite_rules.proofs.RuleLemmas.{keeps_at}
 use Rattle.sqlite_schema.specs.Rules.{agree, clashes, differ, guards, Keeps}
 use Rattle.sqlite_schema.specs.declared.schema.Constraint.TheVariants.{Unique}
@@ -23,8 +24,10 @@ use Rattle.stored_rows.specs.table_rows.proofs.Keys.{one_key}
 use Rattle.stored_rows.specs.table_rows.proofs.Queries.{has_mapped}
 use Rattle.stored_rows.specs.table_rows.proofs.Rowids.{differs, numbered_has, rowid_is}
 use Rattle.plan_records.specs.declared.PlanRow.{PlanRow}
-use Rattle.plan_schema.specs.Schema.{schema_9, workstation, interval, resource, occurrence, operation, dependency, need, receipt}
+use Rattle.plan_schema.specs.Schema.{schema_of, first_schema, desk_schema, workstation, interval, resource, occurrence, operation, dependency, need, receipt, quantity, amount}
 use Rattle.plan_schema.specs.Stored.{receipt_row}
+use Rattle.plan_schema.specs.declared.Version.{Version}
+use Rattle.plan_schema.specs.declared.Version.TheVariants.{First, Second}
 use Rattle.stored_rows.specs.plan_columns.specs.Receipts.{stored_receipt}
 use Rattle.stored_rows.specs.Receipts.{IsReceiptStoredAs}
 use Rattle.stored_rows.specs.Rows.{columns_of, IsStoredAs}
@@ -32,19 +35,19 @@ use Rattle.stored_rows.specs.declared.Table.{Table}
 use Rattle.stored_rows.specs.declared.Table.TheVariants as table
 use Rattle.stored_rows.proofs.Decoded.{stored_for}
 use Rattle.tracker_receipts.specs.Stored.{Columns}
-use Rattle.plan_reads.specs.Tables.{all_tables, receipt_rows, rows_of, AllDiffer}
-use Rattle.plan_reads.proofs.PlanTables.{workstation_table, interval_table, resource_table, occurrence_table, operation_table, dependency_table, need_table}
+use Rattle.plan_reads.specs.Tables.{tables_of, receipt_rows, rows_of, AllDiffer, IsIn}
+use Rattle.plan_reads.proofs.PlanTables.{workstation_table, interval_table, resource_table, occurrence_table, operation_table, dependency_table, need_table, quantity_table, amount_table}
 use Rattle.plan_reads.proofs.TableHeld.{IsTableOf, value_of}
 
 -- ---- two rows of one key are one
 
 -- the schema keeps the key of a table in an index
-abbrev HasKeyIndex : SqlTable → ℕ → Type 0
-HasKeyIndex t key = (i : Index) × Has schema_9.indexes i × (guards i t ≡ true) × (i.order ≡ plain) × (i.columns ≡ range_with_len 1 key)
+abbrev HasKeyIndex : Schema → SqlTable → ℕ → Type 0
+HasKeyIndex schema t key = (i : Index) × Has schema.indexes i × (guards i t ≡ true) × (i.order ≡ plain) × (i.columns ≡ range_with_len 1 key)
 
-twin : (trees : Trees) (t : SqlTable) (key : ℕ) → Has schema_9.tables t → HasKeyIndex t key → Keeps Unique schema_9 trees → AreNumbered (trees t.tree) → (a b : Row) → Has (trees t.tree) a → Has (trees t.tree) b → same_key key b a ≡ true
+twin : (schema : Schema) (trees : Trees) (t : SqlTable) (key : ℕ) → Has schema.tables t → HasKeyIndex schema t key → Keeps Unique schema trees → AreNumbered (trees t.tree) → (a b : Row) → Has (trees t.tree) a → Has (trees t.tree) b → same_key key b a ≡ true
     → rowid a ≡ rowid b
-twin trees t key listed index keeps numbered a b at_a at_b alike =
+twin schema trees t key listed index keeps numbered a b at_a at_b alike =
     let rows = trees t.tree in
     let id = id_in (rowid a) in
     let own : rowid a ≡ Int id = numbered_has rows a numbered at_a in
@@ -55,7 +58,7 @@ twin trees t key listed index keeps numbered a b at_a at_b alike =
           let apart : differ (rowid b) (rowid a) ≡ true = ap (differ (rowid b)) own ∙ differs rows b id numbered at_b other in
           let here : agree i.order i.columns b i.columns a ≡ true = (λ k. agree (index.3 k) (index.4 k) b (index.4 k) a) ∙ alike in
           let clash : clashes i.order i.columns rows a ≡ true = some_from (λ r. agree i.order i.columns r i.columns a && differ (rowid r) (rowid a)) rows b at_b (λ k. here k && apart k) in
-          let free = test_has (λ j. not (guards j t && clashes j.order j.columns rows a)) schema_9.indexes i (keeps_at Unique schema_9 trees t a keeps listed at_a) index.1 in
+          let free = test_has (λ j. not (guards j t && clashes j.order j.columns rows a)) schema.indexes i (keeps_at Unique schema trees t a keeps listed at_a) index.1 in
           absurd (true≢false (sym free ∙ (λ k. not (index.2 k && clash k))))
     ]
 
@@ -80,32 +83,61 @@ HoldsSingly t trees = (a b : Row) (r : PlanRow) → Has (rows_of t trees) a → 
 meta_own : (rows : List Row) (a : Row) → Has (map (shown_by_rowid 5) rows) a → rowid a ≡ column (drop 1 a) 0
 meta_own rows a there = let m = has_mapped (shown_by_rowid 5) rows a there in ap rowid m.2 ∙ sym (ap (λ (l : Row). column (drop 1 l) 0) m.2)
 
-module _ (db : Database) (sound : IsDatabase db) (has : db.schema ≡ schema_9) where
-  unique : Keeps Unique schema_9 db.trees
+module _ (schema : Schema) (db : Database) (sound : IsDatabase db) (has : db.schema ≡ schema) where
+  unique : Keeps Unique schema db.trees
   unique = subst (λ s. Keeps Unique s db.trees) has (sound.obeys.rules Unique)
 
   -- where a key of so many columns and one more is unique
-  single : {X : Type 0} {t : Table} {of : PlanRow → Option X} {row : X → Row} → IsTableOf t of row → (key : ℕ) → ((x : X) → BeginsExactly (suc key) (row x)) → (sql : SqlTable) → Has schema_9.tables sql → HasKeyIndex sql (suc key) → AreNumbered (db.trees sql.tree)
+  single : {X : Type 0} {t : Table} {of : PlanRow → Option X} {row : X → Row} → IsTableOf t of row → (key : ℕ) → ((x : X) → BeginsExactly (suc key) (row x)) → (sql : SqlTable) → Has schema.tables sql → HasKeyIndex schema sql (suc key) → AreNumbered (db.trees sql.tree)
       → (a b : Row) (r : PlanRow) → Has (db.trees sql.tree) a → Has (db.trees sql.tree) b → IsStoredAs t a r → IsStoredAs t b r → rowid a ≡ rowid b
   single is key exact sql listed index numbered a b r at_a at_b is_a is_b =
       let x = value_of is r is_a.0 in
-      twin db.trees sql (suc key) listed index unique numbered a b at_a at_b (alike_of key a b (columns_of r) (subst (BeginsExactly (suc key)) (sym x.2) (exact x.0)) is_a.2 is_b.2)
+      twin schema db.trees sql (suc key) listed index unique numbered a b at_a at_b (alike_of key a b (columns_of r) (subst (BeginsExactly (suc key)) (sym x.2) (exact x.0)) is_a.2 is_b.2)
 
-  pub singly : (t : Table) → AreNumbered (rows_of t db.trees) → HoldsSingly t db.trees
-  singly table.Meta numbered = λ a b r at_a at_b is_a is_b. meta_own (db.trees 0) a at_a ∙ ap (λ (l : Row). column l 0) (is_a.2 ∙ sym is_b.2) ∙ sym (meta_own (db.trees 0) b at_b)
-  singly table.Workstation numbered = single workstation_table 0 (λ x. (tt, tt)) (placed workstation.name workstation.columns 1 1) (inr (inl refl)) (_, (inl refl), refl, refl, refl) numbered
-  singly table.Interval numbered = single interval_table 1 (λ x. (tt, (tt, tt))) (placed interval.name interval.columns 2 3) (inr (inr (inl refl))) (_, (inr (inl refl)), refl, refl, refl) numbered
-  singly table.Resource numbered = single resource_table 0 (λ x. (tt, tt)) (placed resource.name resource.columns 1 5) (inr (inr (inr (inl refl)))) (_, (inr (inr (inl refl))), refl, refl, refl) numbered
-  singly table.Occurrence numbered = single occurrence_table 1 (λ x. (tt, (tt, tt))) (placed occurrence.name occurrence.columns 2 7) (inr (inr (inr (inr (inl refl))))) (_, (inr (inr (inr (inl refl)))), refl, refl, refl) numbered
-  singly table.Operation numbered = single operation_table 2 (λ x. (tt, (tt, (tt, tt)))) (placed operation.name operation.columns 3 9) (inr (inr (inr (inr (inr (inl refl)))))) (_, (inr (inr (inr (inr (inl refl))))), refl, refl, refl) numbered
-  singly table.Dependency numbered = single dependency_table 5 (λ x. (tt, (tt, (tt, (tt, (tt, (tt, tt))))))) (placed dependency.name dependency.columns 6 11) (inr (inr (inr (inr (inr (inr (inl refl))))))) (_, (inr (inr (inr (inr (inr (inl refl)))))), refl, refl, refl) numbered
-  singly table.Need numbered = single need_table 3 (λ x. (tt, (tt, (tt, (tt, tt))))) (placed need.name need.columns 4 13) (inr (inr (inr (inr (inr (inr (inr (inl refl)))))))) (_, (inr (inr (inr (inr (inr (inr (inl refl))))))), refl, refl, refl) numbered
-
-  -- two rows of receipts of one tracker have one rowid
-  pub receipt_singly : AreNumbered (receipt_rows db.trees) → (a b : Row) (c d : Columns) → Has (receipt_rows db.trees) a → Has (receipt_rows db.trees) b → IsReceiptStoredAs a c → IsReceiptStoredAs b d → c.tracker ≡ d.tracker → rowid a ≡ rowid b
-  receipt_singly numbered a b c d at_a at_b is_a is_b same =
-      twin db.trees (placed receipt.name receipt.columns 1 15) 1 (inr (inr (inr (inr (inr (inr (inr (inr (inl refl))))))))) (_, (inr (inr (inr (inr (inr (inr (inr (inl refl)))))))), refl, refl, refl) unique numbered a b at_a at_b
+  -- two rows of receipts of one tracker have one rowid, where the table has its key
+  single_receipt : Has schema.tables (placed receipt.name receipt.columns 1 15) → HasKeyIndex schema (placed receipt.name receipt.columns 1 15) 1 → AreNumbered (receipt_rows db.trees) → (a b : Row) (c d : Columns) → Has (receipt_rows db.trees) a → Has (receipt_rows db.trees) b
+      → IsReceiptStoredAs a c → IsReceiptStoredAs b d → c.tracker ≡ d.tracker → rowid a ≡ rowid b
+  single_receipt listed index numbered a b c d at_a at_b is_a is_b same =
+      twin schema db.trees (placed receipt.name receipt.columns 1 15) 1 listed index unique numbered a b at_a at_b
       (begin_alike 0 a b (receipt_row (stored_receipt c)) (receipt_row (stored_receipt d)) (tt, tt) (tt, tt) is_a is_b (ap (λ t. Text t ∷ []) (sym same)))
+
+-- the tables and indexes of the first version are in each
+tables_in : (version : Version) (t : SqlTable) → Has first_schema.tables t → Has (schema_of version).tables t
+tables_in First t has = has
+tables_in Second t has = has_left first_schema.tables (drop 9 desk_schema.tables) t has
+
+indexes_in : (version : Version) (i : Index) → Has first_schema.indexes i → Has (schema_of version).indexes i
+indexes_in First i has = has
+indexes_in Second i has = has_left first_schema.indexes (drop 8 desk_schema.indexes) i has
+
+index_in : (version : Version) (t : SqlTable) (key : ℕ) → HasKeyIndex first_schema t key → HasKeyIndex (schema_of version) t key
+index_in version t key index = (index.0, indexes_in version index.0 index.1, index.2, index.3, index.4)
+
+module _ (version : Version) (db : Database) (sound : IsDatabase db) (has : db.schema ≡ schema_of version) where
+  -- so is it for a table of the first version, in either
+  single_in : {X : Type 0} {t : Table} {of : PlanRow → Option X} {row : X → Row} → IsTableOf t of row → (key : ℕ) → ((x : X) → BeginsExactly (suc key) (row x)) → (sql : SqlTable) → Has first_schema.tables sql → HasKeyIndex first_schema sql (suc key) → AreNumbered (db.trees sql.tree)
+      → (a b : Row) (r : PlanRow) → Has (db.trees sql.tree) a → Has (db.trees sql.tree) b → IsStoredAs t a r → IsStoredAs t b r → rowid a ≡ rowid b
+  single_in is key exact sql listed index = single (schema_of version) db sound has is key exact sql (tables_in version sql listed) (index_in version sql (suc key) index)
+
+  pub receipt_singly : AreNumbered (receipt_rows db.trees) → (a b : Row) (c d : Columns) → Has (receipt_rows db.trees) a → Has (receipt_rows db.trees) b
+      → IsReceiptStoredAs a c → IsReceiptStoredAs b d → c.tracker ≡ d.tracker → rowid a ≡ rowid b
+  receipt_singly =
+      let t = placed receipt.name receipt.columns 1 15 in
+      single_receipt (schema_of version) db sound has (tables_in version t (inr (inr (inr (inr (inr (inr (inr (inr (inl refl)))))))))) (index_in version t 1 (_, (inr (inr (inr (inr (inr (inr (inr (inl refl)))))))), refl, refl, refl))
+
+pub singly : (version : Version) (t : Table) → IsIn version t → (db : Database) → IsDatabase db → db.schema ≡ schema_of version → AreNumbered (rows_of t db.trees) → HoldsSingly t db.trees
+singly First table.Quantity is db sound has numbered = absurd is
+singly First table.Amount is db sound has numbered = absurd is
+singly Second table.Quantity is db sound has numbered = single desk_schema db sound has quantity_table 0 (λ x. (tt, tt)) (placed quantity.name quantity.columns 1 17) (inr (inr (inr (inr (inr (inr (inr (inr (inr (inl refl)))))))))) (_, (inr (inr (inr (inr (inr (inr (inr (inr (inl refl))))))))), refl, refl, refl) numbered
+singly Second table.Amount is db sound has numbered = single desk_schema db sound has amount_table 3 (λ x. (tt, (tt, (tt, (tt, tt))))) (placed amount.name amount.columns 4 19) (inr (inr (inr (inr (inr (inr (inr (inr (inr (inr (inl refl))))))))))) (_, (inr (inr (inr (inr (inr (inr (inr (inr (inr (inl refl)))))))))), refl, refl, refl) numbered
+singly version table.Meta is db sound has numbered = λ a b r at_a at_b is_a is_b. meta_own (db.trees 0) a at_a ∙ ap (λ (l : Row). column l 0) (is_a.2 ∙ sym is_b.2) ∙ sym (meta_own (db.trees 0) b at_b)
+singly version table.Workstation is db sound has numbered = single_in version db sound has workstation_table 0 (λ x. (tt, tt)) (placed workstation.name workstation.columns 1 1) (inr (inl refl)) (_, (inl refl), refl, refl, refl) numbered
+singly version table.Interval is db sound has numbered = single_in version db sound has interval_table 1 (λ x. (tt, (tt, tt))) (placed interval.name interval.columns 2 3) (inr (inr (inl refl))) (_, (inr (inl refl)), refl, refl, refl) numbered
+singly version table.Resource is db sound has numbered = single_in version db sound has resource_table 0 (λ x. (tt, tt)) (placed resource.name resource.columns 1 5) (inr (inr (inr (inl refl)))) (_, (inr (inr (inl refl))), refl, refl, refl) numbered
+singly version table.Occurrence is db sound has numbered = single_in version db sound has occurrence_table 1 (λ x. (tt, (tt, tt))) (placed occurrence.name occurrence.columns 2 7) (inr (inr (inr (inr (inl refl))))) (_, (inr (inr (inr (inl refl)))), refl, refl, refl) numbered
+singly version table.Operation is db sound has numbered = single_in version db sound has operation_table 2 (λ x. (tt, (tt, (tt, tt)))) (placed operation.name operation.columns 3 9) (inr (inr (inr (inr (inr (inl refl)))))) (_, (inr (inr (inr (inr (inl refl))))), refl, refl, refl) numbered
+singly version table.Dependency is db sound has numbered = single_in version db sound has dependency_table 5 (λ x. (tt, (tt, (tt, (tt, (tt, (tt, tt))))))) (placed dependency.name dependency.columns 6 11) (inr (inr (inr (inr (inr (inr (inl refl))))))) (_, (inr (inr (inr (inr (inr (inl refl)))))), refl, refl, refl) numbered
+singly version table.Need is db sound has numbered = single_in version db sound has need_table 3 (λ x. (tt, (tt, (tt, (tt, tt))))) (placed need.name need.columns 4 13) (inr (inr (inr (inr (inr (inr (inr (inl refl)))))))) (_, (inr (inr (inr (inr (inr (inr (inl refl))))))), refl, refl, refl) numbered
 
 -- ---- lists whose elements differ
 
@@ -157,5 +189,6 @@ pairs_apart IsApart (x ∷ xs) h i zero d below within = absurd (omega (arith, b
 pairs_apart IsApart (x ∷ xs) h zero (suc j) d below within = all_has (λ y. IsApart x y) xs (get_or xs j d) h.0 (has_contained xs (get_or xs j d) (Contains-get_or xs j d (omega (arith, within))))
 pairs_apart IsApart (x ∷ xs) h (suc i) (suc j) d below within = pairs_apart IsApart xs h.1 i j d (omega (arith, below)) (omega (arith, within))
 
-pub tables_differ : AllDiffer all_tables
-tables_differ = ((λ e. absurd cc, (λ e. absurd cc, (λ e. absurd cc, (λ e. absurd cc, (λ e. absurd cc, (λ e. absurd cc, (λ e. absurd cc, tt))))))), ((λ e. absurd cc, (λ e. absurd cc, (λ e. absurd cc, (λ e. absurd cc, (λ e. absurd cc, (λ e. absurd cc, tt)))))), ((λ e. absurd cc, (λ e. absurd cc, (λ e. absurd cc, (λ e. absurd cc, (λ e. absurd cc, tt))))), ((λ e. absurd cc, (λ e. absurd cc, (λ e. absurd cc, (λ e. absurd cc, tt)))), ((λ e. absurd cc, (λ e. absurd cc, (λ e. absurd cc, tt))), ((λ e. absurd cc, (λ e. absurd cc, tt)), ((λ e. absurd cc, tt), (tt, tt))))))))
+pub tables_differ : (version : Version) → AllDiffer (tables_of version)
+tables_differ First = ((λ e. absurd cc, (λ e. absurd cc, (λ e. absurd cc, (λ e. absurd cc, (λ e. absurd cc, (λ e. absurd cc, (λ e. absurd cc, tt))))))), ((λ e. absurd cc, (λ e. absurd cc, (λ e. absurd cc, (λ e. absurd cc, (λ e. absurd cc, (λ e. absurd cc, tt)))))), ((λ e. absurd cc, (λ e. absurd cc, (λ e. absurd cc, (λ e. absurd cc, (λ e. absurd cc, tt))))), ((λ e. absurd cc, (λ e. absurd cc, (λ e. absurd cc, (λ e. absurd cc, tt)))), ((λ e. absurd cc, (λ e. absurd cc, (λ e. absurd cc, tt))), ((λ e. absurd cc, (λ e. absurd cc, tt)), ((λ e. absurd cc, tt), (tt, tt))))))))
+tables_differ Second = ((λ e. absurd cc, (λ e. absurd cc, (λ e. absurd cc, (λ e. absurd cc, (λ e. absurd cc, (λ e. absurd cc, (λ e. absurd cc, (λ e. absurd cc, (λ e. absurd cc, tt))))))))), ((λ e. absurd cc, (λ e. absurd cc, (λ e. absurd cc, (λ e. absurd cc, (λ e. absurd cc, (λ e. absurd cc, (λ e. absurd cc, (λ e. absurd cc, tt)))))))), ((λ e. absurd cc, (λ e. absurd cc, (λ e. absurd cc, (λ e. absurd cc, (λ e. absurd cc, (λ e. absurd cc, (λ e. absurd cc, tt))))))), ((λ e. absurd cc, (λ e. absurd cc, (λ e. absurd cc, (λ e. absurd cc, (λ e. absurd cc, (λ e. absurd cc, tt)))))), ((λ e. absurd cc, (λ e. absurd cc, (λ e. absurd cc, (λ e. absurd cc, (λ e. absurd cc, tt))))), ((λ e. absurd cc, (λ e. absurd cc, (λ e. absurd cc, (λ e. absurd cc, tt)))), ((λ e. absurd cc, (λ e. absurd cc, (λ e. absurd cc, tt))), ((λ e. absurd cc, (λ e. absurd cc, tt)), ((λ e. absurd cc, tt), (tt, tt))))))))))

@@ -1,5 +1,6 @@
--- Why a table can't be read: where the schema is the desk's, never since its text is refused.
-use Rattle.std.proofs.Common.{◌≡◌, ℕ, inl, inr, refl, sym, ap, subst, ◌∙◌, List, Option, Result, Ok, Err, IfErr, IsTrue, [], Vec, codes, is_some}
+-- Why a table can't be read: where the schema is that of a version, never since its text is refused.
+use Rattle.std.proofs.Common.{◌≡◌, ℕ, inl, inr, refl, sym, ap, subst, ◌∙◌, List, Option, Result, Ok, Err, IfErr, IsTrue, [], Vec, codes, is_some, true, false}
+use Rattle.std.proofs.lemmas.Bool.{true≢false}
 use Rattle.std.specs.declared.alloc.Global.{Global}
 use Rattle.sqlite.proofs.Callers.{IsPlain}
 use Rattle.sqlite.specs.Clock.{timed}
@@ -11,15 +12,20 @@ use Rattle.sqlite.specs.Order.{Row}
 use Rattle.sqlite.specs.State.{State, FailsToQuery, FailsToShow, IsNotRun, KeepsCommit, store_error}
 use Rattle.sqlite.specs.declared.error.Error.{Error}
 use Rattle.sqlite_schema.specs.Names.{table_named}
+use Rattle.sqlite_schema.specs.declared.schema.Schema.{Schema}
 use Rattle.sqlite_resolve.specs.declared.error.CompileError.{CompileError}
 use Rattle.sqlite_tied.specs.Compute.{everything}
 use Rattle.sqlite_trees.specs.declared.error.StoreError.{StoreError}
 use Rattle.sqlite_trees.specs.declared.error.StoreError.TheVariants.{OutOfMemory, Io, Corrupt, Full, Broken, Unstorable}
-use Rattle.plan_schema.specs.Schema.{schema_9}
+use Rattle.plan_schema.specs.Schema.{schema_of}
+use Rattle.plan_schema.specs.declared.TheConstants.{READ_RECEIPT}
+use Rattle.plan_schema.specs.declared.Version.{Version}
+use Rattle.plan_schema.specs.declared.Version.TheVariants.{First, Second}
 use Rattle.stored_rows.specs.declared.Table.{Table}
 use Rattle.stored_rows.specs.declared.Table.TheVariants as table
 use Rattle.plan_reads.specs.Reads.{IsNotOfTables}
-use Rattle.plan_reads.specs.Tables.{text_for}
+use Rattle.plan_reads.specs.Versions.{has_quantity}
+use Rattle.plan_reads.specs.Tables.{IsIn, text_for}
 use Rattle.plan_reads.proofs.QueryTexts.{IsQuery, shows_alone}
 
 -- ---- what isn't the tables' fault
@@ -43,12 +49,21 @@ query_is_other limit _ db params e h = subst IsNotOfTables (sym h) tt
 
 -- ---- the texts
 
-pub each_plain : (t : Table) → IsPlain (understood schema_9 (text_for t))
+pub each_plain : (version : Version) (t : Table) → IsIn version t → IsPlain (understood (schema_of version) (text_for t))
 unfolding understood everything
-each_plain table.Meta = (refl, refl)
-each_plain _ = (refl, refl)
+each_plain First table.Quantity is = absurd is
+each_plain First table.Amount is = absurd is
+each_plain First table.Meta is = (refl, refl)
+each_plain First _ is = (refl, refl)
+each_plain Second table.Meta is = (refl, refl)
+each_plain Second _ is = (refl, refl)
 
-module _ (text : List ℕ) (query : IsQuery text) (plain : IsPlain (understood schema_9 text)) (old new : State) (has : old.now.schema ≡ schema_9) where
+pub receipts_plain : (version : Version) → IsPlain (understood (schema_of version) READ_RECEIPT.now)
+unfolding understood everything
+receipts_plain First = (refl, refl)
+receipts_plain Second = (refl, refl)
+
+module _ (text : List ℕ) (query : IsQuery text) (schema : Schema) (plain : IsPlain (understood schema text)) (old new : State) (has : old.now.schema ≡ schema) where
   -- none is refused
   not_refused : (fault : CompileError) → ¬ (understood old.now.schema text ≡ Err fault)
   not_refused fault is = subst IsPlain (sym (ap (λ s. understood s text) has) ∙ is) plain
@@ -76,14 +91,30 @@ module _ (text : List ℕ) (query : IsQuery text) (plain : IsPlain (understood s
 
 -- ---- all tables
 
--- the schema has the table `meta`
-pub meta_named : IsTrue (is_some (table_named schema_9 (codes "meta")))
+-- each schema has the table `meta`
+pub meta_named : (version : Version) → IsTrue (is_some (table_named (schema_of version) (codes "meta")))
 unfolding everything
-meta_named = refl
+meta_named First = refl
+meta_named Second = refl
+
+-- and the second alone the table `quantity`
+pub quantity_named : (version : Version) → is_some (table_named (schema_of version) (codes "quantity")) ≡ has_quantity version
+unfolding everything
+quantity_named First = refl
+quantity_named Second = refl
+
+-- so it tells the version
+pub second_by : (version : Version) → true ≡ has_quantity version → Second ≡ version
+second_by First e = absurd (true≢false e)
+second_by Second e = refl
+
+pub first_by : (version : Version) → false ≡ has_quantity version → First ≡ version
+first_by First e = refl
+first_by Second e = absurd (true≢false (sym e))
 
 -- outside a transaction the schema that is committed is the one that was read by
-pub committed_faults : {X : Type 0} (old new : State) (r : Result X Error) → (IsTrue old.is_open → old.now ≡ old.committed) → KeepsCommit old new → IsTrue new.is_open → (old.now.schema ≡ schema_9 → IfErr r IsNotOfTables)
-    → new.committed.schema ≡ schema_9 → IfErr r IsNotOfTables
-committed_faults old new r settled kept is_open faults has =
+pub committed_faults : {X : Type 0} (schema : Schema) (old new : State) (r : Result X Error) → (IsTrue old.is_open → old.now ≡ old.committed) → KeepsCommit old new → IsTrue new.is_open → (old.now.schema ≡ schema → IfErr r IsNotOfTables)
+    → new.committed.schema ≡ schema → IfErr r IsNotOfTables
+committed_faults schema old new r settled kept is_open faults has =
     let same : new.committed ≡ old.now = kept.committed is_open ∙ sym (settled (kept.was_open is_open)) in
     faults (ap (λ (db : Database). db.schema) (sym same) ∙ has)

@@ -5,7 +5,9 @@ mod RowidOrder
 mod TableHeld
 mod MetaShown
 mod PlanTables
+mod TablesIn
 pub mod ReceiptsStored
 pub mod RowsStored
 mod EachOnce
 mod Reading
+pub mod Turned

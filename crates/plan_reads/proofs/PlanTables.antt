@@ -1,8 +1,8 @@
--- The eight tables of a plan: each has the columns of the rows that are of it.
+-- The ten tables of a plan: each has the columns of the rows that are of it.
 use Rattle.std.proofs.Common.{refl}
 use Rattle.plan_records.specs.declared.PlanRow.TheVariants as row
-use Rattle.plan_schema.specs.Stored.{meta_values, workstation_row, interval_row, resource_row, occurrence_row, operation_row, dependency_row, need_row}
-use Rattle.stored_rows.specs.plan_columns.proofs.EachTable.{meta_of, workstation_of, interval_of, resource_of, occurrence_of, operation_of, dependency_of, need_of}
+use Rattle.plan_schema.specs.Stored.{meta_values, workstation_row, interval_row, resource_row, occurrence_row, operation_row, dependency_row, need_row, quantity_row, amount_row}
+use Rattle.stored_rows.specs.plan_columns.proofs.EachTable.{meta_of, workstation_of, interval_of, resource_of, occurrence_of, operation_of, dependency_of, need_of, quantity_of, amount_of}
 use Rattle.stored_rows.specs.declared.Table.TheVariants as table
 use Rattle.plan_reads.proofs.TableHeld.{IsTableOf}
 
@@ -28,4 +28,10 @@ pub dependency_table : IsTableOf table.Dependency dependency_of dependency_row
 dependency_table = record { told = elim [ row.Dependency p s ↦ (refl, refl) | _ ↦ λ e. absurd cc ] }
 
 pub need_table : IsTableOf table.Need need_of need_row
-need_table = record { told = elim [ row.Need o n ↦ (refl, refl) | _ ↦ λ e. absurd cc ] }
+need_table = record { told = elim [ row.Need o r mode keep ↦ (refl, refl) | _ ↦ λ e. absurd cc ] }
+
+pub quantity_table : IsTableOf table.Quantity quantity_of quantity_row
+quantity_table = record { told = elim [ row.Quantity r quantity ↦ (refl, refl) | _ ↦ λ e. absurd cc ] }
+
+pub amount_table : IsTableOf table.Amount amount_of amount_row
+amount_table = record { told = elim [ row.Amount o r amount ↦ (refl, refl) | _ ↦ λ e. absurd cc ] }

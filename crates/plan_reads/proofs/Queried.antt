@@ -10,7 +10,9 @@ use Rattle.sqlite.specs.Tree.{Trees}
 use Rattle.sqlite.specs.declared.error.Error.{Error}
 use Rattle.sqlite.proofs.StateLemmas.{survives_weaker}
 use Rattle.sqlite.specs.Clock.{timed}
-use Rattle.plan_schema.specs.Schema.{schema_9}
+use Rattle.plan_schema.specs.Schema.{schema_of}
+use Rattle.plan_schema.specs.declared.Version.{Version}
+use Rattle.plan_schema.specs.declared.Version.TheVariants.{First, Second}
 use Rattle.plan_schema.proofs.Metas.{meta_read}
 use Rattle.plan_schema.proofs.Workstations.{workstation_read}
 use Rattle.plan_schema.proofs.Intervals.{interval_read}
@@ -19,10 +21,15 @@ use Rattle.plan_schema.proofs.Occurrences.{occurrence_read}
 use Rattle.plan_schema.proofs.Operations.{operation_read}
 use Rattle.plan_schema.proofs.Dependencies.{dependency_read}
 use Rattle.plan_schema.proofs.Needs.{need_read}
+use Rattle.plan_schema.proofs.Quantities.{quantity_read}
+use Rattle.plan_schema.proofs.Amounts.{amount_read}
+use Rattle.plan_schema.proofs.Receipts.{receipt_read}
+use Rattle.plan_schema.proofs.FirstReads.{meta_read_first, workstation_read_first, interval_read_first, resource_read_first, occurrence_read_first, operation_read_first, dependency_read_first, need_read_first, receipt_read_first}
+use Rattle.plan_schema.specs.declared.TheConstants.{READ_RECEIPT}
 use Rattle.stored_rows.specs.declared.Table.{Table}
 use Rattle.stored_rows.specs.declared.Table.TheVariants as table
 use Rattle.plan_reads.specs.Reads.{OnlyReads}
-use Rattle.plan_reads.specs.Tables.{rows_of, text_for}
+use Rattle.plan_reads.specs.Tables.{IsIn, receipt_rows, rows_of, text_for}
 use Rattle.plan_reads.proofs.QueryTexts.{IsQuery, shows_alone}
 
 -- ---- what it leaves
@@ -77,15 +84,31 @@ module _ (text : List ℕ) (query : IsQuery text) (old new : State) where
 -- ---- what it shows
 
 -- the rows that are shown are those of the table
-pub rows_shown : (t : Table) (old new : State) (rows : List Row) → IsDatabase old.now → old.now.schema ≡ schema_9 → Shown (text_for t) [] old new rows → IsPermutation (rows_of t old.now.trees) rows
-rows_shown table.Meta old new rows sound has shown = meta_read old new rows has shown
-rows_shown table.Workstation old new rows sound has shown = workstation_read old new rows sound has shown
-rows_shown table.Interval old new rows sound has shown = interval_read old new rows sound has shown
-rows_shown table.Resource old new rows sound has shown = resource_read old new rows sound has shown
-rows_shown table.Occurrence old new rows sound has shown = occurrence_read old new rows sound has shown
-rows_shown table.Operation old new rows sound has shown = operation_read old new rows sound has shown
-rows_shown table.Dependency old new rows sound has shown = dependency_read old new rows sound has shown
-rows_shown table.Need old new rows sound has shown = need_read old new rows sound has shown
+pub rows_shown : (version : Version) (t : Table) → IsIn version t → (old new : State) (rows : List Row) → IsDatabase old.now → old.now.schema ≡ schema_of version → Shown (text_for t) [] old new rows → IsPermutation (rows_of t old.now.trees) rows
+rows_shown First table.Meta is old new rows sound has shown = meta_read_first old new rows has shown
+rows_shown First table.Workstation is old new rows sound has shown = workstation_read_first old new rows sound has shown
+rows_shown First table.Interval is old new rows sound has shown = interval_read_first old new rows sound has shown
+rows_shown First table.Resource is old new rows sound has shown = resource_read_first old new rows sound has shown
+rows_shown First table.Occurrence is old new rows sound has shown = occurrence_read_first old new rows sound has shown
+rows_shown First table.Operation is old new rows sound has shown = operation_read_first old new rows sound has shown
+rows_shown First table.Dependency is old new rows sound has shown = dependency_read_first old new rows sound has shown
+rows_shown First table.Need is old new rows sound has shown = need_read_first old new rows sound has shown
+rows_shown First table.Quantity is old new rows sound has shown = absurd is
+rows_shown First table.Amount is old new rows sound has shown = absurd is
+rows_shown Second table.Meta is old new rows sound has shown = meta_read old new rows has shown
+rows_shown Second table.Workstation is old new rows sound has shown = workstation_read old new rows sound has shown
+rows_shown Second table.Interval is old new rows sound has shown = interval_read old new rows sound has shown
+rows_shown Second table.Resource is old new rows sound has shown = resource_read old new rows sound has shown
+rows_shown Second table.Occurrence is old new rows sound has shown = occurrence_read old new rows sound has shown
+rows_shown Second table.Operation is old new rows sound has shown = operation_read old new rows sound has shown
+rows_shown Second table.Dependency is old new rows sound has shown = dependency_read old new rows sound has shown
+rows_shown Second table.Need is old new rows sound has shown = need_read old new rows sound has shown
+rows_shown Second table.Quantity is old new rows sound has shown = quantity_read old new rows sound has shown
+rows_shown Second table.Amount is old new rows sound has shown = amount_read old new rows sound has shown
+
+pub receipts_shown : (version : Version) (old new : State) (rows : List Row) → IsDatabase old.now → old.now.schema ≡ schema_of version → Shown READ_RECEIPT.now [] old new rows → IsPermutation (receipt_rows old.now.trees) rows
+receipts_shown First = receipt_read_first
+receipts_shown Second = receipt_read
 
 -- what is answered are these rows, where whatever the text shows are these
 pub all_shown : (text : List ℕ) → IsQuery text → (old new : State) (there : List Row) → ((rows : List Row) → IsDatabase old.now → Shown text [] old new rows → IsPermutation there rows) → (r : Result (Vec Row Global) Error) → IsLive old → IfOk r (λ rows. Shown text [] old new rows.items)

@@ -1,7 +1,7 @@
 -- Tables that are read one after another.
-use Rattle.std.proofs.Common.{◌≡◌, ◌≢◌, inl, inr, refl, sym, ap, ap₂, subst, ℕ, ◌+◌, ◌<◌, ◌∙◌, arith, Bool, true, false, List, [], ◌∷◌, ◌++◌, take, length, get_or, Option, Some, None, Result, Ok, Err, IfOk, IsTrue, MatchBool, MatchOption, Any, Vec}
+use Rattle.std.proofs.Common.{◌≡◌, ◌≢◌, inl, inr, refl, sym, ap, ap₂, subst, ℕ, zero, suc, ◌+◌, ◌<◌, ◌∙◌, arith, Bool, true, false, List, [], ◌∷◌, ◌++◌, take, length, get_or, Option, Some, None, Result, Ok, Err, IfOk, IfSome, IsTrue, MatchBool, MatchOption, Any, Vec}
 use Rattle.std.specs.declared.alloc.Global.{Global}
-use Rattle.std.specs.List.{AllPairs, AllZip}
+use Rattle.std.specs.List.{AllByRecursion, AllPairs, AllZip}
 use Rattle.std.specs.List.Sorted.{IsPermutation}
 use Rattle.std.proofs.lemmas.List.{take_more}
 use Rattle.std.proofs.lemmas.List.Sorted.{IsPermutation-sym}
@@ -16,7 +16,8 @@ use Rattle.sqlite_rules.proofs.ListLemmas.{any_has, has_either, has_left, has_ri
 use Rattle.stored_rows.specs.table_rows.proofs.Queries.{has_permuted}
 use Rattle.stored_rows.specs.table_rows.proofs.Reading.{numbered_permuted}
 use Rattle.plan_records.specs.declared.PlanRow.{PlanRow}
-use Rattle.plan_schema.specs.Schema.{schema_9}
+use Rattle.plan_schema.specs.Schema.{schema_of}
+use Rattle.plan_schema.specs.declared.Version.{Version}
 use Rattle.stored_rows.specs.Receipts.{IsNoReceipt, IsReceiptStoredAs}
 use Rattle.stored_rows.specs.Rows.{table_for, AppendsRows, IsNoRow, IsStoredAs}
 use Rattle.stored_rows.specs.declared.Table.{Table}
@@ -24,7 +25,7 @@ use Rattle.stored_rows.proofs.Decoded.{row_for, stored_for}
 use Rattle.plan_reads.specs.Reads.{OnlyReads, ShowsSame, rise_above}
 use Rattle.tracker_receipts.specs.Stored.{Columns}
 use Rattle.plan_reads.specs.declared.rows.StoredTables.{StoredTables}
-use Rattle.plan_reads.specs.Tables.{all_tables, receipt_rows, rows_of, AddsTable, AreRead, AreReceiptsRead, HasOtherRow, AllDiffer, IsTableRead, StoresEach}
+use Rattle.plan_reads.specs.Tables.{tables_of, receipt_rows, rows_of, AddsTable, AreRead, AreReceiptsRead, HasOtherRow, AllDiffer, IsIn, IsTableRead, StoresEach}
 use Rattle.plan_reads.proofs.EachOnce.{differ_front, joined_differ, pairs_apart, read_apart, read_differ, receipt_singly, singly, tables_differ, HoldsSingly}
 use Rattle.plan_reads.proofs.RowidOrder.{rising_numbered}
 use Rattle.plan_reads.proofs.RowsStored.{all_read}
@@ -32,20 +33,20 @@ use Rattle.plan_reads.proofs.RowsStored.{all_read}
 -- ---- one table
 
 -- the rows of a table that are decoded
-pub table_added : (t : Table) (trees : Trees) (stored : List Row) (before after : List PlanRow) (all : Bool) → IsPermutation (rows_of t trees) stored → rise_above None stored ≡ true
-    → MatchBool all (AppendsRows t stored before after) (Any (IsNoRow t) stored) → MatchBool all (AddsTable t trees before after) (HasOtherRow trees)
-table_added t trees stored before after true same rises added =
+pub table_added : (version : Version) (t : Table) → IsIn version t → (trees : Trees) (stored : List Row) (before after : List PlanRow) (all : Bool) → IsPermutation (rows_of t trees) stored → rise_above None stored ≡ true
+    → MatchBool all (AppendsRows t stored before after) (Any (IsNoRow t) stored) → MatchBool all (AddsTable t trees before after) (HasOtherRow version trees)
+table_added version t is_in trees stored before after true same rises added =
     record { numbered = numbered_permuted stored (rows_of t trees) (IsPermutation-sym (rows_of t trees) stored same) (rising_numbered stored rises); stored = stored; same = same; added = added }
-table_added t trees stored before after false same rises some =
+table_added version t is_in trees stored before after false same rises some =
     let it = any_has (IsNoRow t) stored some in
-    inl (t, it.0, has_permuted stored (rows_of t trees) it.0 (IsPermutation-sym (rows_of t trees) stored same) it.1, it.2)
+    inl (t, it.0, is_in, has_permuted stored (rows_of t trees) it.0 (IsPermutation-sym (rows_of t trees) stored same) it.1, it.2)
 
 -- the rows of the table of receipts that are decoded
-pub receipts_decoded : (trees : Trees) (stored : List Row) (found : Option (Vec Columns Global)) → IsPermutation (receipt_rows trees) stored → rise_above None stored ≡ true → MatchOption found (Any IsNoReceipt stored) (λ receipts. AllZip IsReceiptStoredAs stored receipts.items)
-    → MatchOption found (HasOtherRow trees) (λ receipts. AreReceiptsRead trees receipts.items)
-receipts_decoded trees stored (Some receipts) same rises read =
+pub receipts_decoded : (version : Version) (trees : Trees) (stored : List Row) (found : Option (Vec Columns Global)) → IsPermutation (receipt_rows trees) stored → rise_above None stored ≡ true → MatchOption found (Any IsNoReceipt stored) (λ receipts. AllZip IsReceiptStoredAs stored receipts.items)
+    → MatchOption found (HasOtherRow version trees) (λ receipts. AreReceiptsRead trees receipts.items)
+receipts_decoded version trees stored (Some receipts) same rises read =
     record { numbered = numbered_permuted stored (receipt_rows trees) (IsPermutation-sym (receipt_rows trees) stored same) (rising_numbered stored rises); stored = stored; same = same; read = read }
-receipts_decoded trees stored None same rises some =
+receipts_decoded version trees stored None same rises some =
     let it = any_has IsNoReceipt stored some in
     inr (it.0, has_permuted stored (receipt_rows trees) it.0 (IsPermutation-sym (receipt_rows trees) stored same) it.1, it.2)
 
@@ -144,23 +145,34 @@ pub record IsReadSoFar (old now : State) (tables : List Table) (rows : List Plan
   pub idle : old.in_transaction ≡ false → now.in_transaction ≡ false
   pub reads : OnlyReads old now
   pub same : HasCleanDisk now → ShowsSame old now
-  pub rows_read : HasCleanDisk now → IsLive old → old.now.schema ≡ schema_9 → AreRead tables old.now.trees rows
+  pub rows_read : HasCleanDisk now → IsLive old → (version : Version) → AllByRecursion (IsIn version) tables → old.now.schema ≡ schema_of version → AreRead tables old.now.trees rows
 
 pub nothing_read : (s : State) → IsReadSoFar s s [] []
-nothing_read s = record { idle = λ h. h; reads = reads_nothing s; same = λ clean. same_nothing s; rows_read = λ clean live has. none_read s.now.trees }
+nothing_read s = record { idle = λ h. h; reads = reads_nothing s; same = λ clean. same_nothing s; rows_read = λ clean live version all has. none_read s.now.trees }
+
+-- what is so of all elements is so of each
+pub one_of : {X : Type 0} (P : X → Type 0) (xs : List X) (i : ℕ) (d : X) → i < length xs → AllByRecursion P xs → P (get_or xs i d)
+one_of P [] i d in_range h = absurd (omega (arith, in_range))
+one_of P (x ∷ xs) zero d in_range h = h.0
+one_of P (x ∷ xs) (suc i) d in_range h = one_of P xs i d (omega (arith, in_range)) h.1
+
+-- what is so of all elements is so of all but the last, and of the last
+front_and_last : {X : Type 0} (P : X → Type 0) (xs : List X) (x : X) → AllByRecursion P (xs ++ x ∷ []) → AllByRecursion P xs × P x
+front_and_last P [] x h = (tt, h.0)
+front_and_last P (y ∷ xs) x h = let it = front_and_last P xs x h.1 in ((h.0, it.0), it.1)
 
 module _ (old now new : State) (tables : List Table) (rows more : List PlanRow) (t : Table) (far : IsReadSoFar old now tables rows) (reads : OnlyReads now new) (all : Bool)
-    (found : HasCleanDisk new → IsLive now → now.now.schema ≡ schema_9 → MatchBool all (AddsTable t now.now.trees rows more) (HasOtherRow now.now.trees)) where
+    (found : HasCleanDisk new → IsLive now → (version : Version) → IsIn version t → now.now.schema ≡ schema_of version → MatchBool all (AddsTable t now.now.trees rows more) (HasOtherRow version now.now.trees)) where
   -- of a table that is read, what is said of the database that was there at first
-  found_first : HasCleanDisk new → IsLive old → old.now.schema ≡ schema_9 → MatchBool all (AddsTable t old.now.trees rows more) (HasOtherRow old.now.trees)
-  found_first clean live has =
+  found_first : HasCleanDisk new → IsLive old → (version : Version) → IsIn version t → old.now.schema ≡ schema_of version → MatchBool all (AddsTable t old.now.trees rows more) (HasOtherRow version old.now.trees)
+  found_first clean live version is_in has =
       let same = far.same (late old now new far.reads reads clean) in
-      subst (λ (db : Database). MatchBool all (AddsTable t db.trees rows more) (HasOtherRow db.trees)) same.now_is
-      (found clean (live_same old now same live) (ap (λ (db : Database). db.schema) same.now_is ∙ has))
+      subst (λ (db : Database). MatchBool all (AddsTable t db.trees rows more) (HasOtherRow version db.trees)) same.now_is
+      (found clean (live_same old now same live) version is_in (ap (λ (db : Database). db.schema) same.now_is ∙ has))
 
   -- a row of it is none of a plan
-  pub other_found : all ≡ false → HasCleanDisk new → IsLive old → old.now.schema ≡ schema_9 → HasOtherRow old.now.trees
-  other_found is clean live has = subst (λ b. MatchBool b (AddsTable t old.now.trees rows more) (HasOtherRow old.now.trees)) is (found_first clean live has)
+  pub other_found : all ≡ false → HasCleanDisk new → IsLive old → (version : Version) → IsIn version t → old.now.schema ≡ schema_of version → HasOtherRow version old.now.trees
+  other_found is clean live version is_in has = subst (λ b. MatchBool b (AddsTable t old.now.trees rows more) (HasOtherRow version old.now.trees)) is (found_first clean live version is_in has)
 
   -- its rows are appended
   pub far_more : (now.in_transaction ≡ false → new.in_transaction ≡ false) → (HasCleanDisk new → IsUnchanged now new) → all ≡ true → IsReadSoFar old new (tables ++ t ∷ []) more
@@ -168,11 +180,12 @@ module _ (old now new : State) (tables : List Table) (rows more : List PlanRow) 
     idle = λ h. idle (far.idle h);
     reads = reads_then old now new far.reads reads;
     same = λ clean. same_then old now new (far.same (late old now new far.reads reads clean)) (unchanged clean);
-    rows_read = λ clean live has.
-        let adds = subst (λ b. MatchBool b (AddsTable t old.now.trees rows more) (HasOtherRow old.now.trees)) is (found_first clean live has) in
+    rows_read = λ clean live version listed has.
+        let both = front_and_last (IsIn version) tables t listed in
+        let adds = subst (λ b. MatchBool b (AddsTable t old.now.trees rows more) (HasOtherRow version old.now.trees)) is (found_first clean live version both.1 has) in
         let early = late old now new far.reads reads clean in
         let sound = (live ((far.same early).was_open (unchanged clean).0.was_open)).0 in
-        one_more tables old.now.trees rows more t (far.rows_read early live has) adds (singly old.now sound has t adds.numbered);
+        one_more tables old.now.trees rows more t (far.rows_read early live version both.0 has) adds (singly version t both.1 old.now sound has adds.numbered);
   }
 
   -- the same of the next of a list of tables
@@ -184,35 +197,48 @@ module _ (old now new : State) (tables : List Table) (rows more : List PlanRow) 
 -- ---- all tables
 
 -- no two receipts that were read are of one tracker
-receipts_apart : (db : Database) → IsDatabase db → db.schema ≡ schema_9 → (receipts : List Columns) → AreReceiptsRead db.trees receipts → AllPairs (λ a b. a.tracker ≢ b.tracker) receipts
-receipts_apart db sound has receipts read =
+receipts_apart : (version : Version) (db : Database) → IsDatabase db → db.schema ≡ schema_of version → (receipts : List Columns) → AreReceiptsRead db.trees receipts → AllPairs (λ a b. a.tracker ≢ b.tracker) receipts
+receipts_apart version db sound has receipts read =
     let back = λ (s : Row) (there : Has read.stored s). has_permuted read.stored (receipt_rows db.trees) s (IsPermutation-sym (receipt_rows db.trees) read.stored read.same) there in
     let own = (numbered_permuted (receipt_rows db.trees) read.stored read.same read.numbered).0 in
     pairs_apart (λ a b. a.tracker ≢ b.tracker) receipts
-    (read_apart IsReceiptStoredAs (λ c d. c.tracker ≡ d.tracker) read.stored receipts (λ a b c d at_a at_b is_a is_b same. receipt_singly db sound has read.numbered a b c d (back a at_a) (back b at_b) is_a is_b same) own read.read)
+    (read_apart IsReceiptStoredAs (λ c d. c.tracker ≡ d.tracker) read.stored receipts (λ a b c d at_a at_b is_a is_b same. receipt_singly version db sound has read.numbered a b c d (back a at_a) (back b at_b) is_a is_b same) own read.read)
 
 -- what is read of all tables of this database
-abbrev pub IsAllRead : Database → Option StoredTables → Type 0
-IsAllRead db found = MatchOption found (HasOtherRow db.trees) (λ tables. AreRead all_tables db.trees tables.rows.items × AreReceiptsRead db.trees tables.receipts.items)
+abbrev pub IsAllRead : Version → Database → Option StoredTables → Type 0
+IsAllRead version db found = MatchOption found (HasOtherRow version db.trees) (λ tables. AreRead (tables_of version) db.trees tables.rows.items × AreReceiptsRead db.trees tables.receipts.items)
 
 -- what is answered of it
-abbrev pub IsAnswered : Database → Option StoredTables → Type 0
-IsAnswered db found = MatchOption found (HasOtherRow db.trees) (λ tables. StoresEach tables.rows.items tables.receipts.items db)
+abbrev pub IsAnswered : Version → Database → Option StoredTables → Type 0
+IsAnswered version db found = MatchOption found (HasOtherRow version db.trees) (λ tables. (tables.version ≡ version) × StoresEach version tables.rows.items tables.receipts.items db)
 
-all_answered : (db : Database) (found : Option StoredTables) → IsAllRead db found → db.schema ≡ schema_9 → IsDatabase db → IsAnswered db found
-all_answered db None other has sound = other
-all_answered db (Some tables) read has sound = record {
-  stores = all_read db sound has tables.rows.items tables.receipts.items read.0 read.1;
-  once = pairs_apart (λ a b. a ≢ b) tables.rows.items (read.0.once tables_differ);
-  once_receipts = receipts_apart db sound has tables.receipts.items read.1;
-}
+all_answered : (version : Version) (db : Database) (found : Option StoredTables) → IfSome found (λ tables. tables.version ≡ version) → IsAllRead version db found → db.schema ≡ schema_of version → IsDatabase db → IsAnswered version db found
+all_answered version db None named other has sound = other
+all_answered version db (Some tables) named read has sound = (
+  named,
+  record {
+    stores = all_read version db sound has tables.rows.items tables.receipts.items read.0 read.1;
+    once = pairs_apart (λ a b. a ≢ b) tables.rows.items (read.0.once (tables_differ version));
+    once_receipts = receipts_apart version db sound has tables.receipts.items read.1;
+  },
+)
+
+-- the tables are named by the version that was read, which that of the schema is
+pub version_named : (named : Version) (db : Database) (r : Result (Option StoredTables) Error) → ((version : Version) → db.schema ≡ schema_of version → named ≡ version) → IfOk r (λ found. IfSome found (λ tables. tables.version ≡ named))
+    → IfOk r (λ found. IfSome found (λ tables. (version : Version) → db.schema ≡ schema_of version → tables.version ≡ version))
+version_named named db (Err e) told is = tt
+version_named named db (Ok None) told is = tt
+version_named named db (Ok (Some tables)) told is = λ version has. is ∙ told version has
 
 -- outside a transaction what is read is what is committed
-pub committed_rows : (old new : State) (r : Result (Option StoredTables) Error) → (IsTrue old.is_open → old.now ≡ old.committed) → IsLive old → KeepsCommit old new → IsTrue new.is_open → (old.now.schema ≡ schema_9 → IfOk r (IsAllRead old.now))
-    → new.committed.schema ≡ schema_9 → IfOk r (IsAnswered new.committed)
-committed_rows old new (Err e) settled live kept is_open read has = tt
-committed_rows old new (Ok found) settled live kept is_open read has =
+pub committed_rows : (named version : Version) (old new : State) (r : Result (Option StoredTables) Error) → (IsTrue old.is_open → old.now ≡ old.committed) → IsLive old → KeepsCommit old new → IsTrue new.is_open → ((any : Version) → old.now.schema ≡ schema_of any → named ≡ any)
+    → IfOk r (λ found. IfSome found (λ tables. tables.version ≡ named)) → (old.now.schema ≡ schema_of named → IfOk r (IsAllRead named old.now)) → new.committed.schema ≡ schema_of version → IfOk r (IsAnswered version new.committed)
+committed_rows named version old new (Err e) settled live kept is_open told is read has = tt
+committed_rows named version old new (Ok found) settled live kept is_open told is read has =
     let was = kept.was_open is_open in
     let same : new.committed ≡ old.now = kept.committed is_open ∙ sym (settled was) in
-    let own : old.now.schema ≡ schema_9 = ap (λ (db : Database). db.schema) (sym same) ∙ has in
-    subst (λ db. IsAnswered db found) (sym same) (all_answered old.now found (read own) own (live was).0)
+    let own : old.now.schema ≡ schema_of version = ap (λ (db : Database). db.schema) (sym same) ∙ has in
+    let one : named ≡ version = told version own in
+    let its = subst (λ v. IfSome found (λ (tables : StoredTables). tables.version ≡ v)) one is in
+    let rows = subst (λ v. old.now.schema ≡ schema_of v → IsAllRead v old.now found) one read own in
+    subst (λ db. IsAnswered version db found) (sym same) (all_answered version old.now found its rows own (live was).0)

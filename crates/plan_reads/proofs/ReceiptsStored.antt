@@ -1,4 +1,4 @@
--- The rows of receipts that the nine tables of a database store.
+-- The rows of receipts that the tables of a database store.
 use Rattle.std.proofs.Common.{◌≡◌, ◌↔◌, refl, sym, ap, subst, ◌∙◌, Contains, List, map}
 use Rattle.std.proofs.lemmas.List.Sorted.{IsPermutation-sym}
 use Rattle.sqlite.specs.Effect.{Database}
@@ -13,6 +13,7 @@ use Rattle.plan_records.specs.Receipts.{IsReceiptRow}
 use Rattle.plan_records.specs.Step.{Receipt, Receipts}
 use Rattle.plan_records.specs.declared.PlanRow.{PlanRow}
 use Rattle.plan_schema.specs.Stored.{Held, StoredReceipt, receipt_row}
+use Rattle.plan_schema.specs.declared.Version.{Version}
 use Rattle.stored_rows.specs.plan_columns.specs.Receipts.{HoldReceipts, stored_receipt}
 use Rattle.stored_rows.specs.Receipts.{IsReceiptStoredAs}
 use Rattle.stored_rows.proofs.Decoded.{one_receipt, row_for, stored_for}
@@ -43,7 +44,7 @@ receipts_listed receipts x = (
 
 -- ---- the receipts that a database stores
 
-module _ {IsIn : PlanRow → Type 0} {HasReceipt : Columns → Type 0} {db : Database} (h : StoresRows IsIn HasReceipt db) where
+module _ {version : Version} {IsIn : PlanRow → Type 0} {HasReceipt : Columns → Type 0} {db : Database} (h : StoresRows version IsIn HasReceipt db) where
   -- each of them stands in the table
   receipt_stored : (c : Columns) → HasReceipt c → (s : Row) × Has (receipt_rows db.trees) s × IsReceiptStoredAs s c
   receipt_stored c in_it = h.stores.receipts.complete (stored_receipt c) ((h.receipts (stored_receipt c)).1 (c, in_it, refl))
@@ -55,15 +56,15 @@ module _ {IsIn : PlanRow → Type 0} {HasReceipt : Columns → Type 0} {db : Dat
       let of = (h.receipts it.0).0 it.1 in
       (of.0, of.1, it.2 ∙ ap receipt_row of.2)
 
-module _ {A B : PlanRow → Type 0} {R S : Columns → Type 0} {db : Database} where
-  receipts_within : StoresRows A R db → StoresRows B S db → (c : Columns) → R c → S c
+module _ {version : Version} {A B : PlanRow → Type 0} {R S : Columns → Type 0} {db : Database} where
+  receipts_within : StoresRows version A R db → StoresRows version B S db → (c : Columns) → R c → S c
   receipts_within h k c in_r =
       let stored = receipt_stored h c in_r in
       let it = receipt_of k stored.0 stored.1 in
       subst S (one_receipt stored.0 it.0 c it.2 stored.2) it.1
 
 -- a database stores one set of receipts' rows
-pub one_receipts : {A B : PlanRow → Type 0} {R S : Columns → Type 0} {db : Database} → StoresRows A R db → StoresRows B S db → (c : Columns) → R c ↔ S c
+pub one_receipts : {version : Version} {A B : PlanRow → Type 0} {R S : Columns → Type 0} {db : Database} → StoresRows version A R db → StoresRows version B S db → (c : Columns) → R c ↔ S c
 one_receipts h k c = (receipts_within h k c, receipts_within k h c)
 
 -- ---- the rows of receipts by tracker
@@ -86,12 +87,12 @@ hold_receipts T held = (
 )
 
 -- where the rows of a list are those of receipts, a database that stores the ones holds the others
-pub receipts_stored : (T : Receipts) (rows : List PlanRow) (receipts : List Columns) (db : Database) → AreRowsOf T receipts → (h : StoresEach rows receipts db) → HoldReceipts T h.stores.held
+pub receipts_stored : {version : Version} (T : Receipts) (rows : List PlanRow) (receipts : List Columns) (db : Database) → AreRowsOf T receipts → (h : StoresEach version rows receipts db) → HoldReceipts T h.stores.held
 receipts_stored T rows receipts db are h = (hold_receipts T h.stores.held).0 (λ x. (
   λ there. let it = (h.stores.receipts x).0 there in (it.0, (are.each it.0).0 it.1, it.2),
   λ it. (h.stores.receipts x).1 (it.0, (are.each it.0).1 it.1, it.2),
 ))
 
 -- where a database stores the rows of receipts, those that it stores, no two of one tracker, are theirs
-pub rows_of_receipts : {A : PlanRow → Type 0} (T : Receipts) (rows : List PlanRow) (receipts : List Columns) (db : Database) → StoresEach rows receipts db → StoresRows A (IsRowIn T) db → AreRowsOf T receipts
+pub rows_of_receipts : {version : Version} {A : PlanRow → Type 0} (T : Receipts) (rows : List PlanRow) (receipts : List Columns) (db : Database) → StoresEach version rows receipts db → StoresRows version A (IsRowIn T) db → AreRowsOf T receipts
 rows_of_receipts T rows receipts db h k = record { each = one_receipts h.stores k; once = h.once_receipts }

@@ -89,6 +89,14 @@ module _ {X : Type 0} {t : Table} {of : PlanRow → Option X} {row : X → Row} 
         (r.0, r.1, own.0, it.2 ∙ sym own.1),
   )
 
+-- of rows of other tables there are no values
+pub none_picked : {X : Type 0} {t : Table} {of : PlanRow → Option X} {row : X → Row} → IsTableOf t of row → (rows : List PlanRow) → ((r : PlanRow) → Has rows r → table_for r ≢ t) → filter_map of rows ≡ []
+none_picked {of = of} is rows other = none_in (filter_map of rows) (λ x there. let it = picked_from of rows x there in other it.0 it.1 (subst (IsTold _ _ it.0) it.2 (is.told it.0)).0)
+  where
+    none_in : {Y : Type 0} (ys : List Y) → ((y : Y) → Has ys y → ⊥) → ys ≡ []
+    none_in [] none = refl
+    none_in (y ∷ ys) none = absurd (none y (inl refl))
+
 -- the values of the rows of a list are those of the rows that it contains
 pub picked : {X : Type 0} (of : PlanRow → Option X) (rows : List PlanRow) (x : X) → Has (filter_map of rows) x ↔ ((r : PlanRow) × Contains rows r × (of r ≡ Some x))
 picked of rows x = (

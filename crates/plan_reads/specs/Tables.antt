@@ -1,5 +1,5 @@
 -- The rows that stand in each table, and those of a plan and of receipts that a database stores.
-use Rattle.std.specs.Prelude.{◌≡◌, ◌≢◌, ◌↔◌, ◌⊎◌, ℕ, List, [], ◌∷◌, map, AllPairs, Contains}
+use Rattle.std.specs.Prelude.{◌≡◌, ◌≢◌, ◌↔◌, ◌⊎◌, ℕ, List, [], ◌∷◌, map, AllPairs, Contains, ⊤}
 use Rattle.std.specs.List.{AllZip}
 use Rattle.std.specs.List.Sorted.{IsPermutation}
 use Rattle.sqlite.specs.Effect.{Database}
@@ -8,8 +8,10 @@ use Rattle.sqlite.specs.Tree.{Trees, IsAscending}
 use Rattle.sqlite_rules.specs.Lists.{Has}
 use Rattle.stored_rows.specs.table_rows.specs.Rows.{AreNumbered, shown_by_rowid}
 use Rattle.plan_records.specs.declared.PlanRow.{PlanRow}
-use Rattle.plan_schema.specs.Stored.{Held, StoredReceipt, Stores}
-use Rattle.plan_schema.specs.declared.TheConstants.{READ_META, READ_WORKSTATION, READ_INTERVAL, READ_RESOURCE, READ_OCCURRENCE, READ_OPERATION, READ_DEPENDENCY, READ_NEED}
+use Rattle.plan_schema.specs.Stored.{Held, StoredReceipt, StoresIn}
+use Rattle.plan_schema.specs.declared.Version.{Version}
+use Rattle.plan_schema.specs.declared.Version.TheVariants.{First, Second}
+use Rattle.plan_schema.specs.declared.TheConstants.{READ_META, READ_WORKSTATION, READ_INTERVAL, READ_RESOURCE, READ_OCCURRENCE, READ_OPERATION, READ_DEPENDENCY, READ_NEED, READ_QUANTITY, READ_AMOUNT}
 use Rattle.stored_rows.specs.plan_columns.specs.Receipts.{stored_receipt}
 use Rattle.stored_rows.specs.plan_columns.specs.Tables.{HoldRows}
 use Rattle.stored_rows.specs.Receipts.{IsNoReceipt, IsReceiptStoredAs}
@@ -28,6 +30,8 @@ text_for table.Occurrence = READ_OCCURRENCE.now
 text_for table.Operation = READ_OPERATION.now
 text_for table.Dependency = READ_DEPENDENCY.now
 text_for table.Need = READ_NEED.now
+text_for table.Quantity = READ_QUANTITY.now
+text_for table.Amount = READ_AMOUNT.now
 
 -- the rows of a table, as they are read: the rowid, and then each column. In `meta` the rowid is the first column too
 abbrev pub rows_of : Table → Trees → List Row
@@ -39,29 +43,38 @@ rows_of table.Occurrence trees = trees 7
 rows_of table.Operation trees = trees 9
 rows_of table.Dependency trees = trees 11
 rows_of table.Need trees = trees 13
+rows_of table.Quantity trees = trees 17
+rows_of table.Amount trees = trees 19
 
 -- the rows of the table of receipts, as they are read
 abbrev pub receipt_rows : Trees → List Row
 receipt_rows trees = trees 15
 
 -- all tables of a plan, in the order in which they are read
-abbrev pub all_tables : List Table
-all_tables = table.Meta ∷ table.Workstation ∷ table.Interval ∷ table.Resource ∷ table.Occurrence ∷ table.Operation ∷ table.Dependency ∷ table.Need ∷ []
+abbrev pub tables_of : Version → List Table
+tables_of First = table.Meta ∷ table.Workstation ∷ table.Interval ∷ table.Resource ∷ table.Occurrence ∷ table.Operation ∷ table.Dependency ∷ table.Need ∷ []
+tables_of Second = table.Meta ∷ table.Workstation ∷ table.Interval ∷ table.Resource ∷ table.Occurrence ∷ table.Operation ∷ table.Dependency ∷ table.Need ∷ table.Quantity ∷ table.Amount ∷ []
+
+-- a version has this table
+abbrev pub IsIn : Version → Table → Type 0
+IsIn First table.Quantity = ⊥
+IsIn First table.Amount = ⊥
+IsIn _ _ = ⊤
 
 -- a row in a table of a plan is none of a plan, since a value is out of its range; or one of receipts is no receipt's
-abbrev pub HasOtherRow : Trees → Type 0
-HasOtherRow trees = ((t : Table) × (stored : Row) × Has (rows_of t trees) stored × IsNoRow t stored) ⊎ ((stored : Row) × Has (receipt_rows trees) stored × IsNoReceipt stored)
+abbrev pub HasOtherRow : Version → Trees → Type 0
+HasOtherRow version trees = ((t : Table) × (stored : Row) × IsIn version t × Has (rows_of t trees) stored × IsNoRow t stored) ⊎ ((stored : Row) × Has (receipt_rows trees) stored × IsNoReceipt stored)
 
--- the nine tables are there, and hold these rows of a plan and these of receipts, and no others
-pub record StoresRows (IsIn : PlanRow → Type 0) (HasReceipt : Columns → Type 0) (db : Database) : Type 0 where
+-- the tables of this version are there, and hold these rows of a plan and these of receipts, and no others
+pub record StoresRows (version : Version) (IsRow : PlanRow → Type 0) (HasReceipt : Columns → Type 0) (db : Database) : Type 0 where
   pub held : Held
-  pub stores : Stores db held
-  pub rows : HoldRows IsIn held
+  pub stores : StoresIn version db held
+  pub rows : HoldRows IsRow held
   pub receipts : (x : StoredReceipt) → Has held.receipts x ↔ ((c : Columns) × HasReceipt c × (x ≡ stored_receipt c))
 
--- the nine tables are there, and hold just these rows of a plan, each once, and of receipts, no two of one tracker
-pub record StoresEach (rows : List PlanRow) (receipts : List Columns) (db : Database) : Type 0 where
-  pub stores : StoresRows (Contains rows) (Contains receipts) db
+-- the tables of this version are there, and hold just these rows of a plan, each once, and of receipts, no two of one tracker
+pub record StoresEach (version : Version) (rows : List PlanRow) (receipts : List Columns) (db : Database) : Type 0 where
+  pub stores : StoresRows version (Contains rows) (Contains receipts) db
   pub once : AllPairs (λ a b. a ≢ b) rows
   pub once_receipts : AllPairs (λ a b. a.tracker ≢ b.tracker) receipts
 

@@ -4,13 +4,14 @@ ghost use Rattle.std.specs.List.Sorted.{IsPermutation};
 ghost use Rattle.sqlite.specs.Effect.{IsDatabase};
 ghost use Rattle.sqlite.specs.Held.{state};
 ghost use Rattle.sqlite.specs.State.{HasCleanDisk, IsLive, IsUnchanged};
-ghost use Rattle.plan_schema.specs.Schema.{schema_9};
+ghost use Rattle.plan_schema.specs.Schema.{schema_of};
+ghost use Rattle.plan_schema.specs.declared.Version.{Version};
 ghost use Rattle.plan_reads.specs.Reads.{IsNotOfTables, OnlyReads};
-ghost use Rattle.plan_reads.specs.Tables.{receipt_rows, rows_of, text_for};
+ghost use Rattle.plan_reads.specs.Tables.{IsIn, receipt_rows, rows_of, text_for};
 
 use plan_schema::{
-    READ_DEPENDENCY, READ_INTERVAL, READ_META, READ_NEED, READ_OCCURRENCE, READ_OPERATION,
-    READ_RECEIPT, READ_RESOURCE, READ_WORKSTATION,
+    READ_AMOUNT, READ_DEPENDENCY, READ_INTERVAL, READ_META, READ_NEED, READ_OCCURRENCE,
+    READ_OPERATION, READ_QUANTITY, READ_RECEIPT, READ_RESOURCE, READ_WORKSTATION,
 };
 use sqlite::{Alter, Connection, Error, Row};
 use stored_rows::Table;
@@ -28,6 +29,8 @@ fn read_text(table: Table) -> &'static str
         Table::Operation => READ_OPERATION,
         Table::Dependency => READ_DEPENDENCY,
         Table::Need => READ_NEED,
+        Table::Quantity => READ_QUANTITY,
+        Table::Amount => READ_AMOUNT,
     }
 }
 
@@ -36,8 +39,8 @@ pub fn query_table<S: Alter>(conn: &mut Connection<S>, table: Table) -> Result<V
     ensures idle { conn.old.in_transaction ≡ false → conn.new.in_transaction ≡ false }
     ensures reads { OnlyReads (state S.Store conn.old) (state S.Store conn.new) }
     ensures same { HasCleanDisk (state S.Store conn.new) → OnOk result (IsUnchanged (state S.Store conn.old) (state S.Store conn.new)) }
-    ensures rows { HasCleanDisk (state S.Store conn.new) → IsLive (state S.Store conn.old) → (state S.Store conn.old).now.schema ≡ schema_9 → IfOk result (λ rows. IsPermutation (rows_of table (state S.Store conn.old).now.trees) rows.items) }
-    ensures understood { HasCleanDisk (state S.Store conn.new) → (state S.Store conn.old).now.schema ≡ schema_9 → IfErr result IsNotOfTables }
+    ensures rows { HasCleanDisk (state S.Store conn.new) → IsLive (state S.Store conn.old) → (version : Version) → IsIn version table → (state S.Store conn.old).now.schema ≡ schema_of version → IfOk result (λ rows. IsPermutation (rows_of table (state S.Store conn.old).now.trees) rows.items) }
+    ensures understood { HasCleanDisk (state S.Store conn.new) → (version : Version) → IsIn version table → (state S.Store conn.old).now.schema ≡ schema_of version → IfErr result IsNotOfTables }
 {
     conn.query_all(read_text(table), &[])
 }
@@ -47,8 +50,8 @@ pub fn query_receipts<S: Alter>(conn: &mut Connection<S>) -> Result<Vec<Row>, Er
     ensures idle { conn.old.in_transaction ≡ false → conn.new.in_transaction ≡ false }
     ensures reads { OnlyReads (state S.Store conn.old) (state S.Store conn.new) }
     ensures same { HasCleanDisk (state S.Store conn.new) → OnOk result (IsUnchanged (state S.Store conn.old) (state S.Store conn.new)) }
-    ensures rows { HasCleanDisk (state S.Store conn.new) → IsLive (state S.Store conn.old) → (state S.Store conn.old).now.schema ≡ schema_9 → IfOk result (λ rows. IsPermutation (receipt_rows (state S.Store conn.old).now.trees) rows.items) }
-    ensures understood { HasCleanDisk (state S.Store conn.new) → (state S.Store conn.old).now.schema ≡ schema_9 → IfErr result IsNotOfTables }
+    ensures rows { HasCleanDisk (state S.Store conn.new) → IsLive (state S.Store conn.old) → (version : Version) → (state S.Store conn.old).now.schema ≡ schema_of version → IfOk result (λ rows. IsPermutation (receipt_rows (state S.Store conn.old).now.trees) rows.items) }
+    ensures understood { HasCleanDisk (state S.Store conn.new) → (version : Version) → (state S.Store conn.old).now.schema ≡ schema_of version → IfErr result IsNotOfTables }
 {
     conn.query_all(READ_RECEIPT, &[])
 }

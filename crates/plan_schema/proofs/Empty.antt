@@ -4,13 +4,13 @@ use Rattle.sqlite.specs.Effect.{Database, IsDatabase}
 use Rattle.sqlite.specs.Order.{Row}
 use Rattle.table_rows.specs.Rows.{IsEmpty}
 use Rattle.table_rows.specs.Stored.{Holds, HoldsByRowid}
-use Rattle.plan_schema.specs.Schema.{schema_9}
-use Rattle.plan_schema.specs.Stored.{Stores, none_held, meta_row, workstation_row, interval_row, resource_row, occurrence_row, operation_row, dependency_row, need_row, receipt_row}
+use Rattle.plan_schema.specs.Schema.{desk_schema}
+use Rattle.plan_schema.specs.Stored.{Stores, none_held, meta_row, workstation_row, interval_row, resource_row, occurrence_row, operation_row, dependency_row, need_row, receipt_row, quantity_row, amount_row}
 
-none : {X : Type 0} (row : X → Row) (rows : List Row) → rows ≡ [] → Holds row rows []
+pub none : {X : Type 0} (row : X → Row) (rows : List Row) → rows ≡ [] → Holds row rows []
 none row rows empty = subst (λ rows. Holds row rows []) (sym empty) (record { numbered = (tt, tt); sound = λ r there. absurd there; complete = λ x there. absurd there })
 
-pub stores_none : (db : Database) → IsEmpty schema_9 db → IsDatabase db → Stores db none_held
+pub stores_none : (db : Database) → IsEmpty desk_schema db → IsDatabase db → Stores db none_held
 stores_none db h sound = record {
   sound = sound;
   schema_is = h.schema_is;
@@ -23,4 +23,6 @@ stores_none db h sound = record {
   dependencies = none dependency_row (db.trees 11) h.empty.1.1.1.1.1.1.0;
   needs = none need_row (db.trees 13) h.empty.1.1.1.1.1.1.1.0;
   receipts = none receipt_row (db.trees 15) h.empty.1.1.1.1.1.1.1.1.0;
+  quantities = none quantity_row (db.trees 17) h.empty.1.1.1.1.1.1.1.1.1.0;
+  amounts = none amount_row (db.trees 19) h.empty.1.1.1.1.1.1.1.1.1.1.0;
 }

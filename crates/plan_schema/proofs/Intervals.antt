@@ -9,7 +9,7 @@ use Rattle.sqlite.specs.declared.types.Value.TheVariants.{Text, Int}
 use Rattle.table_rows.specs.Rows.{IsEmpty}
 use Rattle.table_rows.specs.Stored.{without_key}
 use Rattle.table_rows.proofs.Stored.{cast_int, or_no, value_dropped}
-use Rattle.plan_schema.specs.Schema.{interval, schema_2, schema_3, schema_9}
+use Rattle.plan_schema.specs.Schema.{interval, schema_2, schema_3, desk_schema}
 use Rattle.plan_schema.specs.Stored.{StoredInterval, interval_row, with_interval, without_interval, Turns}
 use Rattle.plan_schema.specs.declared.TheConstants.{CREATE_INTERVAL, PUT_INTERVAL, READ_INTERVAL, DROP_INTERVAL}
 use Rattle.plan_schema.proofs.Tables.{IsTable, turned, table_made, row_put, all_read}
@@ -23,7 +23,7 @@ table = record {
   filled = (refl, (refl, (refl, (refl, (refl, (refl, tt))))));
   wide = omega arith;
   held = λ db was holds. holds.intervals;
-  told = λ db was xs it. (refl, refl, it, refl, refl, refl, refl, refl, refl);
+  told = λ db was xs it. (refl, refl, it, refl, refl, refl, refl, refl, refl, refl, refl);
 }
 
 -- a row is put in
@@ -35,12 +35,12 @@ pub interval_dropped : (old new : State) (ws : List ℕ) (start : ℤ) (r : Resu
 interval_dropped old new ws start r =
     let k = Text ws ∷ Int start ∷ [] in
     turned table DROP_INTERVAL.now k (without_key 2 interval_row k) old new r
-    (λ xs count. value_dropped schema_9 interval.name interval.columns 2 3 2 table.fits table.listed interval_row table.rows DROP_INTERVAL.now drop.plain drop.is old new k xs count)
+    (λ xs count. value_dropped desk_schema interval.name interval.columns 2 3 2 table.fits table.listed interval_row table.rows DROP_INTERVAL.now drop.plain drop.is old new k xs count)
 
 -- the table is made
 pub interval_made : (old new : State) (r : Result ℕ Error) → ExecutesInside 0 CREATE_INTERVAL.now [] old new r → OnOk r (IsEmpty schema_2 old.now → IsEmpty schema_3 new.now × IsDatabase new.now)
 interval_made = table_made schema_2 CREATE_INTERVAL.now interval create_is create_plain refl
 
 -- all rows are read, each once
-pub interval_read : (old new : State) (rows : List Row) → IsDatabase old.now → old.now.schema ≡ schema_9 → Shown READ_INTERVAL.now [] old new rows → IsPermutation (old.now.trees 3) rows
+pub interval_read : (old new : State) (rows : List Row) → IsDatabase old.now → old.now.schema ≡ desk_schema → Shown READ_INTERVAL.now [] old new rows → IsPermutation (old.now.trees 3) rows
 interval_read = all_read table read

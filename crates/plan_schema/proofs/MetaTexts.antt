@@ -7,7 +7,7 @@ use Rattle.sqlite.proofs.Callers.{IsPlain, command_of, statement_of}
 use Rattle.sqlite_tied.specs.Compute.{everything}
 use Rattle.table_rows.specs.Commands.{upsert_by_rowid, select_by_rowid}
 use Rattle.table_rows.specs.Tables.{no_schema}
-use Rattle.plan_schema.specs.Schema.{meta, schema_9}
+use Rattle.plan_schema.specs.Schema.{meta, desk_schema}
 use Rattle.plan_schema.specs.declared.TheConstants.{CREATE_META, PUT_META, READ_META}
 use Rattle.plan_schema.proofs.Tables.{Means}
 
@@ -19,11 +19,11 @@ pub create_plain : IsPlain (understood no_schema CREATE_META.now)
 unfolding understood everything
 create_plain = (refl, refl)
 
-pub put_is : command_of (understood schema_9 PUT_META.now) ≡ upsert_by_rowid 0 0 4
+pub put_is : command_of (understood desk_schema PUT_META.now) ≡ upsert_by_rowid 0 0 4
 unfolding understood everything
 put_is = refl
 
-pub put_plain : IsPlain (understood schema_9 PUT_META.now)
+pub put_plain : IsPlain (understood desk_schema PUT_META.now)
 unfolding understood everything
 put_plain = (refl, refl)
 

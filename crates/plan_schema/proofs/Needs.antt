@@ -1,18 +1,19 @@
 -- The table `need` after each text.
-use Rattle.std.proofs.Common.{◌≡◌, ℕ, List, [], ◌∷◌, inl, inr, refl, arith, Result, OnOk}
+use Rattle.std.proofs.Common.{ℤ, ◌≡◌, ℕ, List, [], ◌∷◌, inl, inr, refl, arith, Result, OnOk}
 use Rattle.std.specs.List.Sorted.{IsPermutation}
 use Rattle.sqlite.specs.Effect.{IsDatabase}
 use Rattle.sqlite.specs.Order.{Row}
 use Rattle.sqlite.specs.State.{State, ExecutesInside, Shown}
 use Rattle.sqlite.specs.declared.error.Error.{Error}
-use Rattle.sqlite.specs.declared.types.Value.TheVariants.{Text}
+use Rattle.sqlite.specs.declared.types.Value.TheVariants.{Text, Int}
 use Rattle.table_rows.specs.Rows.{IsEmpty}
-use Rattle.table_rows.proofs.Stored.{cast_int, or_no}
-use Rattle.plan_schema.specs.Schema.{need, schema_7, schema_8, schema_9}
-use Rattle.plan_schema.specs.Stored.{StoredNeed, need_row, with_need, Turns}
-use Rattle.plan_schema.specs.declared.TheConstants.{CREATE_NEED, PUT_NEED, READ_NEED}
-use Rattle.plan_schema.proofs.Tables.{IsTable, table_made, row_put, all_read}
-use Rattle.plan_schema.proofs.NeedTexts.{create_is, create_plain, put, read}
+use Rattle.table_rows.specs.Stored.{without_key}
+use Rattle.table_rows.proofs.Stored.{cast_int, or_no, value_dropped}
+use Rattle.plan_schema.specs.Schema.{need, schema_7, schema_8, desk_schema}
+use Rattle.plan_schema.specs.Stored.{StoredNeed, need_row, with_need, Turns, without_need}
+use Rattle.plan_schema.specs.declared.TheConstants.{CREATE_NEED, PUT_NEED, READ_NEED, DROP_NEED}
+use Rattle.plan_schema.proofs.Tables.{IsTable, table_made, row_put, all_read, turned}
+use Rattle.plan_schema.proofs.NeedTexts.{create_is, create_plain, put, read, drop}
 
 table : IsTable need 4 13 7 need_row (λ was. was.needs) (λ xs was. record was { needs = xs })
 table = record {
@@ -22,7 +23,7 @@ table = record {
   filled = (refl, (refl, (refl, (refl, (refl, (refl, tt))))));
   wide = omega arith;
   held = λ db was holds. holds.needs;
-  told = λ db was xs it. (refl, refl, refl, refl, refl, refl, refl, it, refl);
+  told = λ db was xs it. (refl, refl, refl, refl, refl, refl, refl, it, refl, refl, refl);
 }
 
 -- a row is put in
@@ -34,5 +35,12 @@ pub need_made : (old new : State) (r : Result ℕ Error) → ExecutesInside 0 CR
 need_made = table_made schema_7 CREATE_NEED.now need create_is create_plain refl
 
 -- all rows are read, each once
-pub need_read : (old new : State) (rows : List Row) → IsDatabase old.now → old.now.schema ≡ schema_9 → Shown READ_NEED.now [] old new rows → IsPermutation (old.now.trees 13) rows
+pub need_read : (old new : State) (rows : List Row) → IsDatabase old.now → old.now.schema ≡ desk_schema → Shown READ_NEED.now [] old new rows → IsPermutation (old.now.trees 13) rows
 need_read = all_read table read
+
+-- a row is taken out
+pub need_dropped : (old new : State) (app : List ℕ) (ia : ℤ) (num : ℤ) (resource : List ℕ) (r : Result ℕ Error) → ExecutesInside 0 DROP_NEED.now (Text app ∷ Int ia ∷ Int num ∷ Text resource ∷ []) old new r → OnOk r (Turns (without_need app ia num resource) old.now new.now)
+need_dropped old new app ia num resource r =
+    let k = Text app ∷ Int ia ∷ Int num ∷ Text resource ∷ [] in
+    turned table DROP_NEED.now k (without_key 4 need_row k) old new r
+    (λ xs count. value_dropped desk_schema need.name need.columns 4 13 7 table.fits table.listed need_row table.rows DROP_NEED.now drop.plain drop.is old new k xs count)

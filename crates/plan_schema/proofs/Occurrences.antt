@@ -1,18 +1,19 @@
 -- The table `occurrence` after each text.
-use Rattle.std.proofs.Common.{◌≡◌, ℕ, List, [], ◌∷◌, inl, inr, refl, arith, Result, OnOk}
+use Rattle.std.proofs.Common.{ℤ, ◌≡◌, ℕ, List, [], ◌∷◌, inl, inr, refl, arith, Result, OnOk}
 use Rattle.std.specs.List.Sorted.{IsPermutation}
 use Rattle.sqlite.specs.Effect.{IsDatabase}
 use Rattle.sqlite.specs.Order.{Row}
 use Rattle.sqlite.specs.State.{State, ExecutesInside, Shown}
 use Rattle.sqlite.specs.declared.error.Error.{Error}
-use Rattle.sqlite.specs.declared.types.Value.TheVariants.{Text}
+use Rattle.sqlite.specs.declared.types.Value.TheVariants.{Text, Int}
 use Rattle.table_rows.specs.Rows.{IsEmpty}
-use Rattle.table_rows.proofs.Stored.{cast_int, or_no}
-use Rattle.plan_schema.specs.Schema.{occurrence, schema_4, schema_5, schema_9}
-use Rattle.plan_schema.specs.Stored.{StoredOccurrence, occurrence_row, with_occurrence, Turns}
-use Rattle.plan_schema.specs.declared.TheConstants.{CREATE_OCCURRENCE, PUT_OCCURRENCE, READ_OCCURRENCE}
-use Rattle.plan_schema.proofs.Tables.{IsTable, table_made, row_put, all_read}
-use Rattle.plan_schema.proofs.OccurrenceTexts.{create_is, create_plain, put, read}
+use Rattle.table_rows.specs.Stored.{without_key}
+use Rattle.table_rows.proofs.Stored.{cast_int, or_no, value_dropped}
+use Rattle.plan_schema.specs.Schema.{occurrence, schema_4, schema_5, desk_schema}
+use Rattle.plan_schema.specs.Stored.{StoredOccurrence, occurrence_row, with_occurrence, Turns, without_occurrence}
+use Rattle.plan_schema.specs.declared.TheConstants.{CREATE_OCCURRENCE, PUT_OCCURRENCE, READ_OCCURRENCE, DROP_OCCURRENCE}
+use Rattle.plan_schema.proofs.Tables.{IsTable, table_made, row_put, all_read, turned}
+use Rattle.plan_schema.proofs.OccurrenceTexts.{create_is, create_plain, put, read, drop}
 
 table : IsTable occurrence 2 7 4 occurrence_row (λ was. was.occurrences) (λ xs was. record was { occurrences = xs })
 table = record {
@@ -22,7 +23,7 @@ table = record {
   filled = (refl, (refl, (refl, (refl, (refl, tt)))));
   wide = omega arith;
   held = λ db was holds. holds.occurrences;
-  told = λ db was xs it. (refl, refl, refl, refl, it, refl, refl, refl, refl);
+  told = λ db was xs it. (refl, refl, refl, refl, it, refl, refl, refl, refl, refl, refl);
 }
 
 -- a row is put in
@@ -34,5 +35,12 @@ pub occurrence_made : (old new : State) (r : Result ℕ Error) → ExecutesInsid
 occurrence_made = table_made schema_4 CREATE_OCCURRENCE.now occurrence create_is create_plain refl
 
 -- all rows are read, each once
-pub occurrence_read : (old new : State) (rows : List Row) → IsDatabase old.now → old.now.schema ≡ schema_9 → Shown READ_OCCURRENCE.now [] old new rows → IsPermutation (old.now.trees 7) rows
+pub occurrence_read : (old new : State) (rows : List Row) → IsDatabase old.now → old.now.schema ≡ desk_schema → Shown READ_OCCURRENCE.now [] old new rows → IsPermutation (old.now.trees 7) rows
 occurrence_read = all_read table read
+
+-- a row is taken out
+pub occurrence_dropped : (old new : State) (app : List ℕ) (ia : ℤ) (r : Result ℕ Error) → ExecutesInside 0 DROP_OCCURRENCE.now (Text app ∷ Int ia ∷ []) old new r → OnOk r (Turns (without_occurrence app ia) old.now new.now)
+occurrence_dropped old new app ia r =
+    let k = Text app ∷ Int ia ∷ [] in
+    turned table DROP_OCCURRENCE.now k (without_key 2 occurrence_row k) old new r
+    (λ xs count. value_dropped desk_schema occurrence.name occurrence.columns 2 7 4 table.fits table.listed occurrence_row table.rows DROP_OCCURRENCE.now drop.plain drop.is old new k xs count)

@@ -1,18 +1,19 @@
 -- The table `operation` after each text.
-use Rattle.std.proofs.Common.{◌≡◌, ℕ, List, [], ◌∷◌, inl, inr, refl, arith, Result, OnOk}
+use Rattle.std.proofs.Common.{ℤ, ◌≡◌, ℕ, List, [], ◌∷◌, inl, inr, refl, arith, Result, OnOk}
 use Rattle.std.specs.List.Sorted.{IsPermutation}
 use Rattle.sqlite.specs.Effect.{IsDatabase}
 use Rattle.sqlite.specs.Order.{Row}
 use Rattle.sqlite.specs.State.{State, ExecutesInside, Shown}
 use Rattle.sqlite.specs.declared.error.Error.{Error}
-use Rattle.sqlite.specs.declared.types.Value.TheVariants.{Text}
+use Rattle.sqlite.specs.declared.types.Value.TheVariants.{Text, Int}
 use Rattle.table_rows.specs.Rows.{IsEmpty}
-use Rattle.table_rows.proofs.Stored.{cast_int, or_no}
-use Rattle.plan_schema.specs.Schema.{operation, schema_5, schema_6, schema_9}
-use Rattle.plan_schema.specs.Stored.{StoredOperation, operation_row, with_operation, Turns}
-use Rattle.plan_schema.specs.declared.TheConstants.{CREATE_OPERATION, PUT_OPERATION, READ_OPERATION}
-use Rattle.plan_schema.proofs.Tables.{IsTable, table_made, row_put, all_read}
-use Rattle.plan_schema.proofs.OperationTexts.{create_is, create_plain, put, read}
+use Rattle.table_rows.specs.Stored.{without_key}
+use Rattle.table_rows.proofs.Stored.{cast_int, or_no, value_dropped}
+use Rattle.plan_schema.specs.Schema.{operation, schema_5, schema_6, desk_schema}
+use Rattle.plan_schema.specs.Stored.{StoredOperation, operation_row, with_operation, Turns, without_operation}
+use Rattle.plan_schema.specs.declared.TheConstants.{CREATE_OPERATION, PUT_OPERATION, READ_OPERATION, DROP_OPERATION}
+use Rattle.plan_schema.proofs.Tables.{IsTable, table_made, row_put, all_read, turned}
+use Rattle.plan_schema.proofs.OperationTexts.{create_is, create_plain, put, read, drop}
 
 table : IsTable operation 3 9 5 operation_row (λ was. was.operations) (λ xs was. record was { operations = xs })
 table = record {
@@ -22,7 +23,7 @@ table = record {
   filled = (refl, (refl, (refl, (refl, (refl, (refl, (refl, (refl, (refl, (refl, (refl, (refl, (refl, (refl, (refl, (refl, tt))))))))))))))));
   wide = omega arith;
   held = λ db was holds. holds.operations;
-  told = λ db was xs it. (refl, refl, refl, refl, refl, it, refl, refl, refl);
+  told = λ db was xs it. (refl, refl, refl, refl, refl, it, refl, refl, refl, refl, refl);
 }
 
 -- a row is put in
@@ -34,5 +35,12 @@ pub operation_made : (old new : State) (r : Result ℕ Error) → ExecutesInside
 operation_made = table_made schema_5 CREATE_OPERATION.now operation create_is create_plain refl
 
 -- all rows are read, each once
-pub operation_read : (old new : State) (rows : List Row) → IsDatabase old.now → old.now.schema ≡ schema_9 → Shown READ_OPERATION.now [] old new rows → IsPermutation (old.now.trees 9) rows
+pub operation_read : (old new : State) (rows : List Row) → IsDatabase old.now → old.now.schema ≡ desk_schema → Shown READ_OPERATION.now [] old new rows → IsPermutation (old.now.trees 9) rows
 operation_read = all_read table read
+
+-- a row is taken out
+pub operation_dropped : (old new : State) (app : List ℕ) (ia : ℤ) (num : ℤ) (r : Result ℕ Error) → ExecutesInside 0 DROP_OPERATION.now (Text app ∷ Int ia ∷ Int num ∷ []) old new r → OnOk r (Turns (without_operation app ia num) old.now new.now)
+operation_dropped old new app ia num r =
+    let k = Text app ∷ Int ia ∷ Int num ∷ [] in
+    turned table DROP_OPERATION.now k (without_key 3 operation_row k) old new r
+    (λ xs count. value_dropped desk_schema operation.name operation.columns 3 9 5 table.fits table.listed operation_row table.rows DROP_OPERATION.now drop.plain drop.is old new k xs count)

@@ -1,12 +1,12 @@
--- What a text on one table leaves of all nine.
+-- What a text on one table leaves of all eleven.
 use Rattle.std.proofs.Common.{◌≡◌, ◌≢◌, ◌==◌, ℕ, Bool, true, false, List, refl, sym, subst₂}
 use Rattle.std.proofs.lemmas.Bool.{eqb-false}
 use Rattle.sqlite.specs.Effect.{Database}
 use Rattle.sqlite.specs.Order.{Row}
 use Rattle.table_rows.specs.Rows.{Leaves}
 use Rattle.table_rows.specs.Stored.{Holds, HoldsByRowid}
-use Rattle.plan_schema.specs.Schema.{schema_9}
-use Rattle.plan_schema.specs.Stored.{Held, Stores, meta_row, workstation_row, interval_row, resource_row, occurrence_row, operation_row, dependency_row, need_row, receipt_row}
+use Rattle.plan_schema.specs.Schema.{desk_schema}
+use Rattle.plan_schema.specs.Stored.{Held, Stores, meta_row, workstation_row, interval_row, resource_row, occurrence_row, operation_row, dependency_row, need_row, receipt_row, quantity_row, amount_row}
 
 -- values of the table that was written stand in it as told, and those of another are as they were
 abbrev pub IsTold : {X : Type 0} → Bool → (List Row → List X → Type 0) → List Row → List X → List X → Type 0
@@ -25,8 +25,10 @@ AreTold tree after was is =
     × IsTold (11 == tree) (Holds dependency_row) (after.trees 11) was.dependencies is.dependencies
     × IsTold (13 == tree) (Holds need_row) (after.trees 13) was.needs is.needs
     × IsTold (15 == tree) (Holds receipt_row) (after.trees 15) was.receipts is.receipts
+    × IsTold (17 == tree) (Holds quantity_row) (after.trees 17) was.quantities is.quantities
+    × IsTold (19 == tree) (Holds amount_row) (after.trees 19) was.amounts is.amounts
 
-pub stored : (tree : ℕ) (before after : Database) (was is : Held) → Leaves schema_9 tree before after → Stores before was → AreTold tree after was is → Stores after is
+pub stored : (tree : ℕ) (before after : Database) (was is : Held) → Leaves desk_schema tree before after → Stores before was → AreTold tree after was is → Stores after is
 stored tree before after was is left h told =
     let stay = left.others in
     record {
@@ -41,6 +43,8 @@ stored tree before after was is left h told =
       dependencies = stand 11 (Holds dependency_row) stay.1.1.1.1.1.1.0 h.dependencies told.6;
       needs = stand 13 (Holds need_row) stay.1.1.1.1.1.1.1.0 h.needs told.7;
       receipts = stand 15 (Holds receipt_row) stay.1.1.1.1.1.1.1.1.0 h.receipts told.8;
+      quantities = stand 17 (Holds quantity_row) stay.1.1.1.1.1.1.1.1.1.0 h.quantities told.9;
+      amounts = stand 19 (Holds amount_row) stay.1.1.1.1.1.1.1.1.1.1.0 h.amounts told.10;
     }
   where
     by : {X : Type 0} (b : Bool) (P : List Row → List X → Type 0) (old new : List Row) (xs ys : List X) → (b ≡ false → new ≡ old) → P old xs → IsTold b P new xs ys → P new ys

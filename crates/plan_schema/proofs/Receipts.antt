@@ -8,7 +8,7 @@ use Rattle.sqlite.specs.declared.error.Error.{Error}
 use Rattle.sqlite.specs.declared.types.Value.TheVariants.{Blob, Text}
 use Rattle.table_rows.specs.Rows.{IsEmpty}
 use Rattle.table_rows.proofs.Stored.{cast_int, or_no}
-use Rattle.plan_schema.specs.Schema.{receipt, schema_8, schema_9}
+use Rattle.plan_schema.specs.Schema.{receipt, schema_8, first_schema, desk_schema}
 use Rattle.plan_schema.specs.Stored.{StoredReceipt, receipt_row, with_receipt, Turns}
 use Rattle.plan_schema.specs.declared.TheConstants.{CREATE_RECEIPT, PUT_RECEIPT, READ_RECEIPT}
 use Rattle.plan_schema.proofs.Tables.{IsTable, table_made, row_put, all_read}
@@ -22,7 +22,7 @@ table = record {
   filled = (refl, (refl, (refl, (refl, tt))));
   wide = omega arith;
   held = λ db was holds. holds.receipts;
-  told = λ db was xs it. (refl, refl, refl, refl, refl, refl, refl, refl, it);
+  told = λ db was xs it. (refl, refl, refl, refl, refl, refl, refl, refl, it, refl, refl);
 }
 
 -- a row is put in
@@ -30,9 +30,9 @@ pub receipt_put : (old new : State) (x : StoredReceipt) (r : Result ℕ Error) �
 receipt_put = row_put table put
 
 -- the table is made
-pub receipt_made : (old new : State) (r : Result ℕ Error) → ExecutesInside 0 CREATE_RECEIPT.now [] old new r → OnOk r (IsEmpty schema_8 old.now → IsEmpty schema_9 new.now × IsDatabase new.now)
+pub receipt_made : (old new : State) (r : Result ℕ Error) → ExecutesInside 0 CREATE_RECEIPT.now [] old new r → OnOk r (IsEmpty schema_8 old.now → IsEmpty first_schema new.now × IsDatabase new.now)
 receipt_made = table_made schema_8 CREATE_RECEIPT.now receipt create_is create_plain refl
 
 -- all rows are read, each once
-pub receipt_read : (old new : State) (rows : List Row) → IsDatabase old.now → old.now.schema ≡ schema_9 → Shown READ_RECEIPT.now [] old new rows → IsPermutation (old.now.trees 15) rows
+pub receipt_read : (old new : State) (rows : List Row) → IsDatabase old.now → old.now.schema ≡ desk_schema → Shown READ_RECEIPT.now [] old new rows → IsPermutation (old.now.trees 15) rows
 receipt_read = all_read table read

@@ -8,7 +8,7 @@ use Rattle.sqlite.specs.declared.error.Error.{Error}
 use Rattle.sqlite.specs.declared.types.Value.TheVariants.{Text}
 use Rattle.table_rows.specs.Rows.{IsEmpty}
 use Rattle.table_rows.proofs.Stored.{cast_int, or_no}
-use Rattle.plan_schema.specs.Schema.{resource, schema_3, schema_4, schema_9}
+use Rattle.plan_schema.specs.Schema.{resource, schema_3, schema_4, desk_schema}
 use Rattle.plan_schema.specs.Stored.{StoredResource, resource_row, with_resource, Turns}
 use Rattle.plan_schema.specs.declared.TheConstants.{CREATE_RESOURCE, PUT_RESOURCE, READ_RESOURCE}
 use Rattle.plan_schema.proofs.Tables.{IsTable, table_made, row_put, all_read}
@@ -22,7 +22,7 @@ table = record {
   filled = (refl, (refl, tt));
   wide = omega arith;
   held = λ db was holds. holds.resources;
-  told = λ db was xs it. (refl, refl, refl, it, refl, refl, refl, refl, refl);
+  told = λ db was xs it. (refl, refl, refl, it, refl, refl, refl, refl, refl, refl, refl);
 }
 
 -- a row is put in
@@ -34,5 +34,5 @@ pub resource_made : (old new : State) (r : Result ℕ Error) → ExecutesInside 
 resource_made = table_made schema_3 CREATE_RESOURCE.now resource create_is create_plain refl
 
 -- all rows are read, each once
-pub resource_read : (old new : State) (rows : List Row) → IsDatabase old.now → old.now.schema ≡ schema_9 → Shown READ_RESOURCE.now [] old new rows → IsPermutation (old.now.trees 5) rows
+pub resource_read : (old new : State) (rows : List Row) → IsDatabase old.now → old.now.schema ≡ desk_schema → Shown READ_RESOURCE.now [] old new rows → IsPermutation (old.now.trees 5) rows
 resource_read = all_read table read

@@ -28,15 +28,15 @@ use Rattle.table_rows.proofs.Inside.{ran_inside}
 use Rattle.table_rows.proofs.Reading.{rows_read, row_width}
 use Rattle.table_rows.proofs.Stored.{value_put}
 use Rattle.table_rows.proofs.Writes.{Fits}
-use Rattle.plan_schema.specs.Schema.{schema_9}
+use Rattle.plan_schema.specs.Schema.{desk_schema}
 use Rattle.plan_schema.specs.Stored.{Held, Stores, Turns}
 use Rattle.plan_schema.proofs.Others.{AreTold, stored}
 
 -- in the schema of all tables the text is this command and no more
 pub record Means (sql : List ℕ) (command : Command) : Type 0 where
-  pub is : command_of (understood schema_9 sql) ≡ command
-  pub plain : IsPlain (understood schema_9 sql)
-  pub unlisted : reads_listing schema_9 sql ≡ false
+  pub is : command_of (understood desk_schema sql) ≡ command
+  pub plain : IsPlain (understood desk_schema sql)
+  pub unlisted : reads_listing desk_schema sql ≡ false
 
 -- what a read of a table calls its columns: the rowid, and then each by its name
 abbrev pub names_of : Table → List (List ℕ)
@@ -49,9 +49,9 @@ table_made schema sql t is plain bare old new r = ran_inside old new sql [] r (I
 
 -- a table whose key is so many of its first columns, which has its rows in this tree and this place in the schema: what is computed of it, and which of the values that are held it holds
 pub record IsTable {X : Type 0} (t : Table) (key tree at : ℕ) (row : X → Row) (values : Held → List X) (with_values : List X → Held → Held) : Type 0 where
-  pub listed : slice_get schema_9.tables at ≡ Some (placed t.name t.columns key tree)
+  pub listed : slice_get desk_schema.tables at ≡ Some (placed t.name t.columns key tree)
   -- it has no rule in the schema but its key
-  pub fits : Fits schema_9 Enforced (placed t.name t.columns key tree) key
+  pub fits : Fits desk_schema Enforced (placed t.name t.columns key tree) key
   -- its values stand as rows of it
   pub rows : AreRowsOf t.name t.columns key tree row
   pub filled : AllByRecursion (λ (c : Column). c.not_null ≡ true) t.columns
@@ -62,7 +62,7 @@ pub record IsTable {X : Type 0} (t : Table) (key tree at : ℕ) (row : X → Row
 module _ {X : Type 0} {t : Table} {key tree at : ℕ} {row : X → Row} {values : Held → List X} {with_values : List X → Held → Held} (table : IsTable t key tree at row values with_values) where
   -- what a text makes of the rows of such values it makes of those that are held
   pub turned : (sql : List ℕ) (params : Row) (change : List X → List X) (old new : State) (r : Result ℕ Error)
-      → ((xs : List X) (count : ℕ) → old.now.schema ≡ schema_9 → Holds row (old.now.trees tree) xs → Executes sql params old new (Ok count) → Holds row (new.now.trees tree) (change xs) × Leaves schema_9 tree old.now new.now)
+      → ((xs : List X) (count : ℕ) → old.now.schema ≡ desk_schema → Holds row (old.now.trees tree) xs → Executes sql params old new (Ok count) → Holds row (new.now.trees tree) (change xs) × Leaves desk_schema tree old.now new.now)
       → ExecutesInside 0 sql params old new r → OnOk r (Turns (λ was. with_values (change (values was)) was) old.now new.now)
   turned sql params change old new r makes = ran_inside old new sql params r (Turns (λ was. with_values (change (values was)) was) old.now new.now) (λ count ran was holds.
       let it = makes (values was) count holds.schema_is (table.held old.now was holds) ran in
@@ -71,9 +71,9 @@ module _ {X : Type 0} {t : Table} {key tree at : ℕ} {row : X → Row} {values 
   -- a row is put in
   pub row_put : {sql : List ℕ} → Means sql (upsert at tree (length t.columns) key) → (old new : State) (x : X) (r : Result ℕ Error) → ExecutesInside 0 sql (row x) old new r
       → OnOk r (Turns (λ was. with_values (with_value key row x (values was)) was) old.now new.now)
-  row_put {sql} means old new x r = turned sql (row x) (with_value key row x) old new r (λ xs count. value_put schema_9 t.name t.columns key tree at table.fits table.listed row table.rows sql means.plain means.is old new x xs count)
+  row_put {sql} means old new x r = turned sql (row x) (with_value key row x) old new r (λ xs count. value_put desk_schema t.name t.columns key tree at table.fits table.listed row table.rows sql means.plain means.is old new x xs count)
 
   -- all rows are read, each once
-  pub all_read : {sql : List ℕ} → Means sql (select tree (names_of t)) → (old new : State) (rows : List Row) → IsDatabase old.now → old.now.schema ≡ schema_9 → Shown sql [] old new rows → IsPermutation (old.now.trees tree) rows
-  all_read {sql} means old new rows sound has = rows_read schema_9 sql tree (names_of t) table.fits.low means.is means.plain means.unlisted old new rows has
+  pub all_read : {sql : List ℕ} → Means sql (select tree (names_of t)) → (old new : State) (rows : List Row) → IsDatabase old.now → old.now.schema ≡ desk_schema → Shown sql [] old new rows → IsPermutation (old.now.trees tree) rows
+  all_read {sql} means old new rows sound has = rows_read desk_schema sql tree (names_of t) table.fits.low means.is means.plain means.unlisted old new rows has
       (λ r there. omega (arith, length-map t.columns (λ (c : Column). c.name), row_width old.now sound t.name t.columns key tree (subst (λ s. Has s.tables (placed t.name t.columns key tree)) (sym has) table.fits.listed) table.filled table.wide r there))

@@ -8,7 +8,7 @@ use Rattle.sqlite.specs.declared.error.Error.{Error}
 use Rattle.sqlite.specs.declared.types.Value.TheVariants.{Text}
 use Rattle.table_rows.specs.Rows.{IsEmpty}
 use Rattle.table_rows.proofs.Stored.{or_no}
-use Rattle.plan_schema.specs.Schema.{workstation, schema_1, schema_2, schema_9}
+use Rattle.plan_schema.specs.Schema.{workstation, schema_1, schema_2, desk_schema}
 use Rattle.plan_schema.specs.Stored.{StoredWorkstation, workstation_row, with_workstation, Turns}
 use Rattle.plan_schema.specs.declared.TheConstants.{CREATE_WORKSTATION, PUT_WORKSTATION, READ_WORKSTATION}
 use Rattle.plan_schema.proofs.Tables.{IsTable, table_made, row_put, all_read}
@@ -22,7 +22,7 @@ table = record {
   filled = (refl, (refl, tt));
   wide = omega arith;
   held = λ db was holds. holds.workstations;
-  told = λ db was xs it. (refl, it, refl, refl, refl, refl, refl, refl, refl);
+  told = λ db was xs it. (refl, it, refl, refl, refl, refl, refl, refl, refl, refl, refl);
 }
 
 -- a row is put in
@@ -34,5 +34,5 @@ pub workstation_made : (old new : State) (r : Result ℕ Error) → ExecutesInsi
 workstation_made = table_made schema_1 CREATE_WORKSTATION.now workstation create_is create_plain refl
 
 -- all rows are read, each once
-pub workstation_read : (old new : State) (rows : List Row) → IsDatabase old.now → old.now.schema ≡ schema_9 → Shown READ_WORKSTATION.now [] old new rows → IsPermutation (old.now.trees 1) rows
+pub workstation_read : (old new : State) (rows : List Row) → IsDatabase old.now → old.now.schema ≡ desk_schema → Shown READ_WORKSTATION.now [] old new rows → IsPermutation (old.now.trees 1) rows
 workstation_read = all_read table read

@@ -1,10 +1,12 @@
--- The nine tables, and the schemas that making them one after another makes.
+-- The eleven tables, and the schemas that making them one after another makes.
 use Rattle.std.specs.Prelude.{[], ◌∷◌, codes}
 use Rattle.sqlite.specs.Kind.TheVariants.{Integer, Text, Blob}
 use Rattle.sqlite.specs.Schema.{Schema}
 use Rattle.sqlite.specs.Table.{Table}
 use Rattle.sqlite_catalog.specs.Change.{created}
 use Rattle.table_rows.specs.Tables.{field, table, placed_by_rowid, no_schema}
+use Rattle.plan_schema.specs.declared.Version.{Version}
+use Rattle.plan_schema.specs.declared.Version.TheVariants.{First, Second}
 
 -- whether a plan is loaded, and the clock; the key is the rowid
 abbrev pub meta : Table
@@ -42,6 +44,14 @@ need = table (codes "need") (field (codes "app") Text ∷ field (codes "ia") Int
 abbrev pub receipt : Table
 receipt = table (codes "receipt") (field (codes "tracker") Text ∷ field (codes "number") Integer ∷ field (codes "request") Blob ∷ field (codes "reply") Text ∷ []) 1
 
+-- how much there is of special resources of which there isn't as much as can be
+abbrev pub quantity : Table
+quantity = table (codes "quantity") (field (codes "resource") Text ∷ field (codes "quantity") Integer ∷ []) 1
+
+-- how much operations need of special resources that they share, where it isn't 1
+abbrev pub amount : Table
+amount = table (codes "amount") (field (codes "app") Text ∷ field (codes "ia") Integer ∷ field (codes "num") Integer ∷ field (codes "resource") Text ∷ field (codes "amount") Integer ∷ []) 4
+
 -- ---- the schema after each
 
 -- the table `meta` alone
@@ -76,6 +86,19 @@ schema_7 = created schema_6 dependency
 abbrev pub schema_8 : Schema
 schema_8 = created schema_7 need
 
--- all nine tables
-abbrev pub schema_9 : Schema
-schema_9 = created schema_8 receipt
+-- the nine tables of the first version
+abbrev pub first_schema : Schema
+first_schema = created schema_8 receipt
+
+-- with `quantity` besides
+abbrev pub schema_10 : Schema
+schema_10 = created first_schema quantity
+
+-- all eleven tables
+abbrev pub desk_schema : Schema
+desk_schema = created schema_10 amount
+
+-- the tables of a version
+abbrev pub schema_of : Version → Schema
+schema_of First = first_schema
+schema_of Second = desk_schema

@@ -4,7 +4,9 @@ use Rattle.sqlite.specs.Effect.{Database, IsDatabase}
 use Rattle.sqlite.specs.Order.{Row}
 use Rattle.sqlite.specs.declared.types.Value.TheVariants.{Null, Int, Text, Blob}
 use Rattle.table_rows.specs.Stored.{Holds, HoldsByRowid, with_value, without_key, with_value_at}
-use Rattle.plan_schema.specs.Schema.{schema_9}
+use Rattle.plan_schema.specs.Schema.{schema_of}
+use Rattle.plan_schema.specs.declared.Version.{Version}
+use Rattle.plan_schema.specs.declared.Version.TheVariants.{First, Second}
 
 -- whether a plan is loaded, and the clock
 pub record StoredMeta : Type 0 where
@@ -84,6 +86,19 @@ pub record StoredReceipt : Type 0 where
   pub request : List ℕ
   pub reply : List ℕ
 
+-- how much there is of a special resource
+pub record StoredQuantity : Type 0 where
+  pub resource : List ℕ
+  pub quantity : ℤ
+
+-- how much an operation needs of a special resource that it shares
+pub record StoredAmount : Type 0 where
+  pub app : List ℕ
+  pub ia : ℤ
+  pub num : ℤ
+  pub resource : List ℕ
+  pub amount : ℤ
+
 -- ---- their rows
 
 -- as parameters
@@ -126,6 +141,14 @@ need_row x = Text x.app ∷ Int x.ia ∷ Int x.num ∷ Text x.resource ∷ Text 
 abbrev pub receipt_row : StoredReceipt → Row
 receipt_row x = Text x.tracker ∷ Int x.number ∷ Blob x.request ∷ Text x.reply ∷ []
 
+-- the columns of `quantity`, in their order
+abbrev pub quantity_row : StoredQuantity → Row
+quantity_row x = Text x.resource ∷ Int x.quantity ∷ []
+
+-- the columns of `amount`, in their order
+abbrev pub amount_row : StoredAmount → Row
+amount_row x = Text x.app ∷ Int x.ia ∷ Int x.num ∷ Text x.resource ∷ Int x.amount ∷ []
+
 -- ---- all of them
 
 -- the values of all tables
@@ -139,15 +162,22 @@ pub record Held : Type 0 where
   pub dependencies : List StoredDependency
   pub needs : List StoredNeed
   pub receipts : List StoredReceipt
+  pub quantities : List StoredQuantity
+  pub amounts : List StoredAmount
 
 -- no value in any table
 abbrev pub none_held : Held
-none_held = record { metas = []; workstations = []; intervals = []; resources = []; occurrences = []; operations = []; dependencies = []; needs = []; receipts = [] }
+none_held = record { metas = []; workstations = []; intervals = []; resources = []; occurrences = []; operations = []; dependencies = []; needs = []; receipts = []; quantities = []; amounts = [] }
 
--- the database is sound and has the nine tables, and they hold these values and no others
-pub record Stores (db : Database) (held : Held) : Type 0 where
+-- a table that the second version alone has holds these values and no others; in the first there are none
+abbrev pub HoldsIn : {X : Type 0} → Version → (X → Row) → List Row → List X → Type 0
+HoldsIn First row rows xs = xs ≡ []
+HoldsIn Second row rows xs = Holds row rows xs
+
+-- the database is sound and has the tables of this version, and they hold these values and no others
+pub record StoresIn (version : Version) (db : Database) (held : Held) : Type 0 where
   pub sound : IsDatabase db
-  pub schema_is : db.schema ≡ schema_9
+  pub schema_is : db.schema ≡ schema_of version
   pub metas : HoldsByRowid meta_row (db.trees 0) held.metas
   pub workstations : Holds workstation_row (db.trees 1) held.workstations
   pub intervals : Holds interval_row (db.trees 3) held.intervals
@@ -157,6 +187,16 @@ pub record Stores (db : Database) (held : Held) : Type 0 where
   pub dependencies : Holds dependency_row (db.trees 11) held.dependencies
   pub needs : Holds need_row (db.trees 13) held.needs
   pub receipts : Holds receipt_row (db.trees 15) held.receipts
+  pub quantities : HoldsIn version quantity_row (db.trees 17) held.quantities
+  pub amounts : HoldsIn version amount_row (db.trees 19) held.amounts
+
+-- so it is of the tables of a desk
+abbrev pub Stores : Database → Held → Type 0
+Stores = StoresIn Second
+
+-- and of those of the first version
+abbrev pub StoresFirst : Database → Held → Type 0
+StoresFirst = StoresIn First
 
 -- whatever values the tables of the one database hold, those of the other hold what the change makes of them
 abbrev pub Turns : (Held → Held) → Database → Database → Type 0
@@ -200,6 +240,34 @@ with_need x held = record held { needs = with_value 4 need_row x held.needs }
 abbrev pub with_receipt : StoredReceipt → Held → Held
 with_receipt x held = record held { receipts = with_value 1 receipt_row x held.receipts }
 
+-- this row is in, in place of the one that has its key
+abbrev pub with_quantity : StoredQuantity → Held → Held
+with_quantity x held = record held { quantities = with_value 1 quantity_row x held.quantities }
+
+-- this row is in, in place of the one that has its key
+abbrev pub with_amount : StoredAmount → Held → Held
+with_amount x held = record held { amounts = with_value 4 amount_row x held.amounts }
+
 -- the interval of this workstation and first minute is gone
 abbrev pub without_interval : List ℕ → ℤ → Held → Held
 without_interval ws start held = record held { intervals = without_key 2 interval_row (Text ws ∷ Int start ∷ []) held.intervals }
+
+-- the occurrence of this application and input arrival is gone
+abbrev pub without_occurrence : List ℕ → ℤ → Held → Held
+without_occurrence app ia held = record held { occurrences = without_key 2 occurrence_row (Text app ∷ Int ia ∷ []) held.occurrences }
+
+-- the operation of this occurrence and number is gone
+abbrev pub without_operation : List ℕ → ℤ → ℤ → Held → Held
+without_operation app ia num held = record held { operations = without_key 3 operation_row (Text app ∷ Int ia ∷ Int num ∷ []) held.operations }
+
+-- the pair of these operations is gone
+abbrev pub without_dependency : List ℕ → ℤ → ℤ → List ℕ → ℤ → ℤ → Held → Held
+without_dependency papp pia pnum sapp sia snum held = record held { dependencies = without_key 6 dependency_row (Text papp ∷ Int pia ∷ Int pnum ∷ Text sapp ∷ Int sia ∷ Int snum ∷ []) held.dependencies }
+
+-- the need of this operation and special resource is gone
+abbrev pub without_need : List ℕ → ℤ → ℤ → List ℕ → Held → Held
+without_need app ia num resource held = record held { needs = without_key 4 need_row (Text app ∷ Int ia ∷ Int num ∷ Text resource ∷ []) held.needs }
+
+-- the amount of this operation and special resource is gone
+abbrev pub without_amount : List ℕ → ℤ → ℤ → List ℕ → Held → Held
+without_amount app ia num resource held = record held { amounts = without_key 4 amount_row (Text app ∷ Int ia ∷ Int num ∷ Text resource ∷ []) held.amounts }

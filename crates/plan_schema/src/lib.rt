@@ -1,4 +1,4 @@
-//! The nine tables in which a plan is kept, and the SQL texts that make, write and read them.
+//! The eleven tables in which a plan is kept, and the SQL texts that make, write and read them.
 //!
 //! | Table | Columns | Key |
 //! |---|---|---|
@@ -11,10 +11,21 @@
 //! | dependency | papp TEXT, pia INTEGER, pnum INTEGER, sapp TEXT, sia INTEGER, snum INTEGER | papp, pia, pnum, sapp, sia, snum |
 //! | need | app TEXT, ia INTEGER, num INTEGER, resource TEXT, mode TEXT, keep TEXT | app, ia, num, resource |
 //! | receipt | tracker TEXT, number INTEGER, request BLOB, reply TEXT | tracker |
+//! | quantity | resource TEXT, quantity INTEGER | resource |
+//! | amount | app TEXT, ia INTEGER, num INTEGER, resource TEXT, amount INTEGER | app, ia, num, resource |
 //!
 //! All tables are STRICT, and each column is NOT NULL. Moments are minutes. The values of a row are the parameters of a
 //! text, in the order of the columns. A text that reads gives the rowid and then the columns, by rising rowids.
 #![tactic(auto)]
+
+/// Which tables a database has.
+#[derive(Clone, Copy, Debug, PartialEq, Eq)]
+pub enum Version {
+    /// The nine from `meta` to `receipt`.
+    First,
+    /// These, and `quantity` and `amount`.
+    Second,
+}
 
 /// Makes the table `meta`. Whether a plan is loaded, and the clock.
 pub const CREATE_META: &str =
@@ -156,3 +167,50 @@ pub const PUT_RECEIPT: &str =
 /// Reads the rows of `receipt`.
 pub const READ_RECEIPT: &str =
     "SELECT rowid, tracker, number, request, reply FROM receipt ORDER BY rowid";
+
+/// Makes the table `quantity`. How much there is of special resources, where that isn't as much as can be.
+pub const CREATE_QUANTITY: &str =
+    "CREATE TABLE quantity (resource TEXT NOT NULL, quantity INTEGER NOT NULL, \
+     PRIMARY KEY (resource)) STRICT";
+
+/// Puts a row into `quantity`, in place of the one that has its key.
+pub const PUT_QUANTITY: &str =
+    "INSERT INTO quantity (resource, quantity) VALUES (?1, ?2) ON CONFLICT (resource) \
+     DO UPDATE SET quantity = excluded.quantity";
+
+/// Reads the rows of `quantity`.
+pub const READ_QUANTITY: &str = "SELECT rowid, resource, quantity FROM quantity ORDER BY rowid";
+
+/// Makes the table `amount`. How much operations need of special resources that they share, where that isn't 1.
+pub const CREATE_AMOUNT: &str =
+    "CREATE TABLE amount (app TEXT NOT NULL, ia INTEGER NOT NULL, num INTEGER NOT NULL, \
+     resource TEXT NOT NULL, amount INTEGER NOT NULL, PRIMARY KEY (app, ia, num, \
+     resource)) STRICT";
+
+/// Puts a row into `amount`, in place of the one that has its key.
+pub const PUT_AMOUNT: &str =
+    "INSERT INTO amount (app, ia, num, resource, amount) VALUES (?1, ?2, ?3, ?4, ?5) \
+     ON CONFLICT (app, ia, num, resource) DO UPDATE SET amount = excluded.amount";
+
+/// Reads the rows of `amount`.
+pub const READ_AMOUNT: &str =
+    "SELECT rowid, app, ia, num, resource, amount FROM amount ORDER BY rowid";
+
+/// Takes the row out of `occurrence` that has this key.
+pub const DROP_OCCURRENCE: &str = "DELETE FROM occurrence WHERE app = ?1 AND ia = ?2";
+
+/// Takes the row out of `operation` that has this key.
+pub const DROP_OPERATION: &str = "DELETE FROM operation WHERE app = ?1 AND ia = ?2 AND num = ?3";
+
+/// Takes the row out of `dependency` that has this key.
+pub const DROP_DEPENDENCY: &str =
+    "DELETE FROM dependency WHERE papp = ?1 AND pia = ?2 AND pnum = ?3 AND sapp = ?4 \
+     AND sia = ?5 AND snum = ?6";
+
+/// Takes the row out of `need` that has this key.
+pub const DROP_NEED: &str =
+    "DELETE FROM need WHERE app = ?1 AND ia = ?2 AND num = ?3 AND resource = ?4";
+
+/// Takes the row out of `amount` that has this key.
+pub const DROP_AMOUNT: &str =
+    "DELETE FROM amount WHERE app = ?1 AND ia = ?2 AND num = ?3 AND resource = ?4";

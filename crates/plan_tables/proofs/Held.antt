@@ -12,21 +12,25 @@ use Rattle.numbered_steps.specs.declared.steps.NumberedStep.{NumberedStep}
 use Rattle.numbered_steps.specs.plan_core.specs.State.{plan_after}
 use Rattle.plan_basics.specs.declared.keys.OpKey.{OpKey}
 use Rattle.plan_reads.specs.plan_columns.proofs.PlanWritten.{step_written}
-use Rattle.plan_reads.specs.plan_columns.proofs.ReceiptPut.{none_are_held, receipt_written, receipts_stay, rows_beside_receipt}
+use Rattle.plan_reads.specs.plan_columns.proofs.ReceiptPut.{none_are_held, receipt_written, receipts_alike, receipts_stay, rows_beside_receipt}
+use Rattle.plan_reads.specs.plan_columns.proofs.RowPut.{receipts_beside_row}
 use Rattle.plan_reads.specs.plan_columns.proofs.Start.{held_at_first}
+use Rattle.plan_reads.specs.plan_columns.proofs.Upgraded.{upgraded}
 use Rattle.plan_reads.specs.plan_columns.specs.Receipts.{HoldReceipts, stored_receipt, written_numbered}
-use Rattle.plan_reads.specs.plan_columns.specs.Tables.{HoldRows, written}
+use Rattle.plan_reads.specs.plan_columns.specs.Tables.{HoldRows, with_row, written}
 use Rattle.numbered_steps.specs.plan_model.specs.Plan.{Plan, IsSoundPlan}
 use Rattle.plan_records.specs.Answer.{accepted}
 use Rattle.plan_records.specs.Rows.{IsRow}
+use Rattle.plan_records.specs.declared.PlanRow.TheVariants as row
 use Rattle.plan_records.specs.Run.{Call, CallStep, State, empty_state, numbered, plain}
 use Rattle.plan_records.specs.Step.{Numbered as NumberedRequest, NumberedMayBeAccepted, Receipts, Step, StepBy, StepsAnew}
 use Rattle.plan_reads.specs.plan_schema.specs.Stored.{Held, Stores, Turns}
 use Rattle.plan_tables.specs.Calls.{change_of, named_by, state_after, IsPreparedAt}
-use Rattle.plan_tables.specs.Desk.{DeskState, HasTables, HoldsState, IsKept, IsStepCommitted, state_of}
+use Rattle.plan_tables.specs.Desk.{DeskState, HasTables, HoldsFirstState, HoldsState, IsKept, IsStepCommitted, state_of}
 use Rattle.plan_tables.specs.Stops.{MayCommitStep}
 use Rattle.plan_tables.specs.declared.calls.PreparedCall.{PreparedCall}
 use Rattle.plan_tables.specs.declared.calls.PreparedCall.TheVariants.{Plain, Numbered}
+use Rattle.plan_writes.specs.Upgrading.{Upgrades}
 use Rattle.plan_writes.specs.Within.{Begins, IsCommitted, IsUndone, LeavesMade, Rewrites, first_held}
 
 -- ---- where a desk begins
@@ -38,6 +42,17 @@ begun_held db stores = record { held = first_held; stores = stores; rows = held_
 -- the tables that a desk begins with, where there was none before
 pub begun_so : (before after : Database) → Begins before after → before.schema ≡ no_schema → HoldsState empty_state after
 begun_so before after begins none = begun_held after (begins.stores (record { schema_is = none; empty = tt }))
+
+-- tables of the first version that hold a state hold it as those of the second
+pub brought_up : (s : State) (before after : Database) → Upgrades s.plan.loaded s.plan.clock before after → HoldsFirstState s before → HoldsState s after
+brought_up s before after up h =
+    let is = row.Meta 2 s.plan.loaded s.plan.clock in
+    record {
+      held = with_row is h.held;
+      stores = up.stores h.held h.stores;
+      rows = upgraded s.plan h.held h.rows;
+      receipts = receipts_alike s.receipts h.held (with_row is h.held) (receipts_beside_row is h.held) h.receipts;
+    }
 
 -- ---- a step
 

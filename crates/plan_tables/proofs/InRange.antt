@@ -11,7 +11,8 @@ use Rattle.plan_basics.specs.declared.keys.OpKey.{OpKey}
 use Rattle.status_rules.specs.Texts.{HasLegalCode}
 use Rattle.status_rules.specs.declared.Mark.{Mark}
 use Rattle.status_rules.specs.declared.Mark.TheVariants as mark
-use Rattle.plan_writes.specs.special_resources.specs.Holdings.{usage_of}
+use Rattle.plan_writes.specs.special_resources.specs.Holders.{IsAmount}
+use Rattle.plan_writes.specs.special_resources.specs.declared.Claim.{Claim}
 use Rattle.numbered_steps.specs.plan_model.specs.Contents.{Contents, IsInPlan}
 use Rattle.numbered_steps.specs.plan_model.specs.Plan.{Plan, IsSoundPlan}
 use Rattle.numbered_steps.specs.plan_model.specs.Valid.{IsValid}
@@ -25,6 +26,9 @@ use Rattle.plan_records.specs.declared.PlanRow.{PlanRow}
 use Rattle.plan_records.specs.declared.PlanRow.TheVariants as row
 use Rattle.numbered_steps.specs.plan_laws.proofs.Sorted.{sorted_unique}
 use Rattle.numbered_steps.specs.plan_status.proofs.Counting.{Within, all_within}
+use Rattle.plan_reads.specs.Versions.{IsRowBy}
+use Rattle.plan_reads.specs.plan_schema.specs.declared.Version.{Version}
+use Rattle.plan_reads.specs.plan_schema.specs.declared.Version.TheVariants.{First, Second}
 use Rattle.plan_reads.specs.stored_rows.specs.Rows.{IsInRange, IsKeyInRange, IsOperationInRange}
 
 -- no more operations are counted than the plan has
@@ -85,12 +89,27 @@ module _ (P : Plan) (sound : IsSoundPlan P) where
   sound_in_range (row.Meta version loaded clock) h = (omega (arith, h.0), subst IsMoment (sym h.2) sound.clock)
   sound_in_range (row.Workstation name a) h = let found = mapped (λ ws. ws.attribute) (get P.contents.workstations name) a h in (valid.workstations name found.0 found.1).0
   sound_in_range (row.Interval w i) h = let is = valid.workstations w h.0 h.1 in (is.0, (is.1.intervals i.from i h.2).1)
-  sound_in_range (row.Resource name available) h = valid.resources name (some_is (get P.contents.resources name) available h)
+  sound_in_range (row.Resource name available) h = (valid.resources name h.0 h.1).0
   sound_in_range (row.Occurrence c priority deadline status) h =
       let is = valid.occurrences.each_occurrence c (record { priority = priority; deadline = deadline }) h.0 in
       (is.key, omega (arith, is.priority.1), is.deadline)
   sound_in_range (row.Operation r) h = operation_in_range r h
   sound_in_range (row.Dependency p s) h = let ends = valid.pairs p s h in (key_in_range p ends.0, key_in_range s ends.1)
-  sound_in_range (row.Need o n) h =
+  sound_in_range (row.Need o r mode keep) h =
       let is = (valid.occurrences.each_operation o h.0 h.1).0 in
-      (key_in_range o (some_is (get P.contents.operations o) h.0 h.1), is.needs n.name (usage_of n) h.2)
+      (key_in_range o (some_is (get P.contents.operations o) h.0 h.1), (is.needs r h.2.0 h.2.1).0)
+  sound_in_range (row.Quantity r quantity) h =
+      let is = valid.resources r h.0 h.1 in
+      let few = is.2 in
+      (is.0, omega (arith, few, h.2))
+  sound_in_range (row.Amount o r amount) h =
+      let is = (valid.occurrences.each_operation o h.0 h.1).0 in
+      let need = is.needs r h.2.0 h.2.1 in
+      let most = (subst (λ (claim : Claim). IsAmount claim.mode claim.amount) h.2.2 need.1).1 in
+      (key_in_range o (some_is (get P.contents.operations o) h.0 h.1), need.0, omega (arith, most))
+
+  -- and in the tables of either version
+  pub in_range : (version : Version) (r : PlanRow) → IsRowBy version P r → IsInRange r
+  in_range Second r h = sound_in_range r h
+  in_range First (row.Meta version loaded clock) h = (omega (arith, h.0), subst IsMoment (sym h.2) sound.clock)
+  in_range First r h = sound_in_range r h

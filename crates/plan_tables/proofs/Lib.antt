@@ -4,4 +4,5 @@ pub mod Answered
 pub mod Running
 pub mod InRange
 pub mod Opened
+pub mod BroughtUp
 pub mod Stopped

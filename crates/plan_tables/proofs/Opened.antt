@@ -1,5 +1,5 @@
 -- What the rows tell that the tables hold: the plan and the receipts whose rows they are, or that there are none.
-use Rattle.std.proofs.Common.{◌≡◌, refl, sym, ap, subst, arith, eqb, ◌∙◌, Bool, true, false, List, [], ◌∷◌, length, Some}
+use Rattle.std.proofs.Common.{◌≡◌, refl, sym, ap, subst, subst₂, arith, eqb, ◌∙◌, Bool, true, false, List, [], ◌∷◌, length, Some}
 use Rattle.std.proofs.lemmas.Bool.{eqb-false, eqb-true}
 use Rattle.std.proofs.lemmas.List.{nil_from_length}
 use Rattle.std.proofs.lemmas.Option.{none-some}
@@ -15,20 +15,22 @@ use Rattle.numbered_steps.specs.plan_laws.proofs.Receipts.{empty_is_desk_state}
 use Rattle.numbered_steps.specs.plan_model.specs.Plan.{Plan}
 use Rattle.numbered_steps.specs.plan_opening.specs.Opening.{AreOfNoPlan, IsPlanOf}
 use Rattle.plan_reads.proofs.ReceiptsStored.{IsRowIn, hold_receipts, receipts_stored, rows_of_receipts}
-use Rattle.plan_reads.proofs.RowsStored.{none_stored, plan_stored, rows_of_plan}
+use Rattle.plan_reads.proofs.RowsStored.{listed_stored, none_stored, rows_listed}
+use Rattle.plan_reads.proofs.Turned.{are_turned, turned_are}
 use Rattle.plan_reads.specs.Reads.{IsNotOfTables}
 use Rattle.plan_reads.specs.Tables.{HasOtherRow, StoresEach, StoresRows}
+use Rattle.plan_reads.specs.Versions.{as_second, IsRowBy}
+use Rattle.plan_reads.specs.plan_schema.specs.declared.Version.{Version}
 use Rattle.plan_records.specs.Receipts.{AreReceipts}
-use Rattle.plan_records.specs.Rows.{IsRow}
 use Rattle.plan_records.specs.Run.{State}
 use Rattle.plan_records.specs.Step.{Receipts}
 use Rattle.plan_records.specs.declared.PlanRow.{PlanRow}
 use Rattle.plan_records.specs.declared.PlanRow.TheVariants as row
 use Rattle.tracker_receipts.specs.Stored.{AreRowsOf, Columns}
-use Rattle.plan_tables.specs.Desk.{HoldsNoState, HoldsState}
+use Rattle.plan_tables.specs.Desk.{HoldsNoStateIn, HoldsStateIn}
 use Rattle.plan_tables.specs.Faults.{opening_refusal}
 use Rattle.plan_tables.specs.Opening.{AreOfNoState, IsStateOf}
-use Rattle.plan_tables.proofs.InRange.{sound_in_range}
+use Rattle.plan_tables.proofs.InRange.{in_range}
 
 -- ---- the receipts that have these rows
 
@@ -75,33 +77,44 @@ no_plan_of rows receipts none s is = none s.plan (record { sound = is.legal.0; a
 -- nor where no well formed receipts beside their plan have the others
 pub no_receipts_of : (P : Plan) (loaded : Bool) (rows : List PlanRow) (receipts : List Columns) → loaded ≡ P.loaded → IsPlanOf rows P → ((T : Receipts) → AreReceipts loaded T → ¬ AreRowsOf T receipts) → AreOfNoState rows receipts
 no_receipts_of P loaded rows receipts same plan none s is =
-    let meta = (is.are_rows.has_all (row.Meta 1 P.loaded P.clock)).0 ((plan.are_rows.has_all (row.Meta 1 P.loaded P.clock)).1 (refl, refl, refl)) in
+    let meta = (is.are_rows.has_all (row.Meta 2 P.loaded P.clock)).0 ((plan.are_rows.has_all (row.Meta 2 P.loaded P.clock)).1 (refl, refl, refl)) in
     none s.receipts (subst (λ b. AreReceipts b s.receipts) (sym (same ∙ meta.1)) is.legal.1) is.are_receipts
 
 -- ---- the tables
 
 -- tables that hold just the rows of a state hold that state
-pub state_opened : (s : State) (rows : List PlanRow) (receipts : List Columns) (db : Database) → IsStateOf rows receipts s → StoresEach rows receipts db → HoldsState s db
-state_opened s rows receipts db is h = record {
+state_in : (version : Version) (s : State) (rows : List PlanRow) (receipts : List Columns) (db : Database) → IsStateOf (as_second version rows) receipts s → StoresEach version rows receipts db → HoldsStateIn version s db
+state_in version s rows receipts db is h = record {
   held = h.stores.held;
   stores = h.stores.stores;
-  rows = plan_stored s.plan rows receipts db is.are_rows h;
+  rows = listed_stored rows receipts db (turned_are version s.plan rows is.are_rows) h;
   receipts = receipts_stored s.receipts rows receipts db is.are_receipts h;
 }
 
 -- what tables of a state hold, as rows of a plan and columns of receipts
-pub as_stored : (s : State) (db : Database) → HoldsState s db → StoresRows (IsRow s.plan) (IsRowIn s.receipts) db
-as_stored s db h = record { held = h.held; stores = h.stores; rows = h.rows; receipts = (hold_receipts s.receipts h.held).1 h.receipts }
+pub as_stored : (version : Version) (s : State) (db : Database) → HoldsStateIn version s db → StoresRows version (IsRowBy version s.plan) (IsRowIn s.receipts) db
+as_stored version s db h = record { held = h.held; stores = h.stores; rows = h.rows; receipts = (hold_receipts s.receipts h.held).1 h.receipts }
 
 -- where the rows are those of no state, the tables hold none
-pub none_opened : (rows : List PlanRow) (receipts : List Columns) (db : Database) → AreOfNoState rows receipts → StoresEach rows receipts db → HoldsNoState db
-none_opened rows receipts db none h s legal holds =
-    let k = as_stored s db holds in
-    none s (record { legal = legal; are_rows = rows_of_plan s.plan rows receipts db h k; are_receipts = rows_of_receipts s.receipts rows receipts db h k })
+none_in : (version : Version) (rows : List PlanRow) (receipts : List Columns) (db : Database) → AreOfNoState (as_second version rows) receipts → StoresEach version rows receipts db → HoldsNoStateIn version db
+none_in version rows receipts db none h s legal holds =
+    let k = as_stored version s db holds in
+    none s (record { legal = legal; are_rows = are_turned version s.plan rows (rows_listed rows receipts db h k) h.once; are_receipts = rows_of_receipts s.receipts rows receipts db h k })
+
+-- so it is of what was read of tables, whose rows were then turned into those of the second version
+module _ (version named : Version) (rows turned : List PlanRow) (receipts read : List Columns) (db : Database) (is_named : named ≡ version) (are : turned ≡ as_second named rows) (same : read ≡ receipts) (h : StoresEach version rows receipts db) where
+  turned_by : turned ≡ as_second version rows
+  turned_by = are ∙ ap (λ v. as_second v rows) is_named
+
+  pub state_opened : (s : State) → IsStateOf turned read s → HoldsStateIn version s db
+  state_opened s is = state_in version s rows receipts db (subst₂ (λ a b. IsStateOf a b s) turned_by same is) h
+
+  pub none_opened : AreOfNoState turned read → HoldsNoStateIn version db
+  none_opened none = none_in version rows receipts db (subst₂ AreOfNoState turned_by same none) h
 
 -- where a row is none of a plan, the tables hold none: the rows of a sound plan are in their ranges
-pub other_opened : (db : Database) → HasOtherRow db.trees → HoldsNoState db
-other_opened db other s legal holds = none_stored other (sound_in_range s.plan legal.0) (as_stored s db holds)
+pub other_opened : (version : Version) (db : Database) → HasOtherRow version db.trees → HoldsNoStateIn version db
+other_opened version db other s legal holds = none_stored other (in_range s.plan legal.0 version) (as_stored version s db holds)
 
 -- a fault that isn't one of the tables isn't told as one
 pub not_told_damaged : (e : Error) → IsNotOfTables e → ¬ (opening_refusal e ≡ refusal.Damaged)

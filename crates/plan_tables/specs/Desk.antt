@@ -10,15 +10,17 @@ use Rattle.plan_basics.specs.declared.keys.OpKey.{OpKey}
 use Rattle.plan_basics.specs.declared.Refusal.TheVariants as refusal
 use Rattle.plan_reads.specs.plan_columns.specs.Receipts.{HoldReceipts}
 use Rattle.plan_reads.specs.plan_columns.specs.Tables.{HoldRows}
+use Rattle.plan_reads.specs.Versions.{IsRowBy}
 use Rattle.numbered_steps.specs.plan_model.specs.Code.{plan_code}
 use Rattle.numbered_steps.specs.plan_model.specs.Plan.{Plan}
 use Rattle.plan_records.specs.Answer.{Answer, accepted, refused}
-use Rattle.plan_records.specs.Rows.{IsRow}
 use Rattle.plan_records.specs.Run.{Call, CallStep, State, Usable, usable, to_be_reopened}
 use Rattle.plan_records.specs.Schedules.{IsDeskState}
 use Rattle.plan_records.specs.Step.{Receipts}
-use Rattle.plan_reads.specs.plan_schema.specs.Schema.{schema_9}
-use Rattle.plan_reads.specs.plan_schema.specs.Stored.{Held, Stores}
+use Rattle.plan_reads.specs.plan_schema.specs.Schema.{desk_schema, first_schema}
+use Rattle.plan_reads.specs.plan_schema.specs.Stored.{Held, StoresIn}
+use Rattle.plan_reads.specs.plan_schema.specs.declared.Version.{Version}
+use Rattle.plan_reads.specs.plan_schema.specs.declared.Version.TheVariants.{First, Second}
 use Rattle.tracker_receipts.specs.Codes.{receipts_code}
 
 -- the plan, the receipts of trackers, whether requests are carried out, and the connection to the store
@@ -49,20 +51,35 @@ usability false = to_be_reopened
 abbrev pub IsClean : StoreState → Type 0
 IsClean s = HasCleanDisk s × IsTrue s.is_open
 
--- the nine tables are there, and hold the rows of this plan and of these receipts, and no others
-pub record HoldsState (s : State) (db : Database) : Type 0 where
+-- the tables of this version are there, and hold the rows of this plan and of these receipts, and no others
+pub record HoldsStateIn (version : Version) (s : State) (db : Database) : Type 0 where
   pub held : Held
-  pub stores : Stores db held
-  pub rows : HoldRows (IsRow s.plan) held
+  pub stores : StoresIn version db held
+  pub rows : HoldRows (IsRowBy version s.plan) held
   pub receipts : HoldReceipts s.receipts held
 
+-- so it is of the tables of a desk
+abbrev pub HoldsState : State → Database → Type 0
+HoldsState = HoldsStateIn Second
+
+-- and of those of the first version
+abbrev pub HoldsFirstState : State → Database → Type 0
+HoldsFirstState = HoldsStateIn First
+
 -- the tables hold the rows of no sound plan with well formed receipts beside it
+abbrev pub HoldsNoStateIn : Version → Database → Type 0
+HoldsNoStateIn version db = (s : State) → IsDeskState s → ¬ HoldsStateIn version s db
+
 abbrev pub HoldsNoState : Database → Type 0
-HoldsNoState db = (s : State) → IsDeskState s → ¬ HoldsState s db
+HoldsNoState = HoldsNoStateIn Second
 
 -- the tables are those that a desk makes
 abbrev pub HasTables : StoreState → Type 0
-HasTables s = s.committed.schema ≡ schema_9
+HasTables s = s.committed.schema ≡ desk_schema
+
+-- they are those of the first version
+abbrev pub HasFirstTables : StoreState → Type 0
+HasFirstTables s = s.committed.schema ≡ first_schema
 
 -- the plan is sound and the receipts are well formed, no transaction is open, and the tables of a clean store are those of both
 pub record IsKept {S : Type 0} (g : Ghosts S) (d : DeskState S) : Type 0 where
@@ -70,9 +87,12 @@ pub record IsKept {S : Type 0} (g : Ghosts S) (d : DeskState S) : Type 0 where
   pub idle : d.conn.in_transaction ≡ false
   pub tables : IsClean (state g d.conn) → HasTables (state g d.conn) → HoldsState (state_of d) (state g d.conn).committed
 
--- these are the trees of a database that holds the rows of this state, and no others
+-- these are the trees of a database that holds the rows of this state in the tables of this version, and no others
+abbrev pub TreesHoldIn : Version → State → Trees → Type 0
+TreesHoldIn version s trees = (db : Database) × HoldsStateIn version s db × (trees ≡ db.trees)
+
 abbrev pub TreesHold : State → Trees → Type 0
-TreesHold s trees = (db : Database) × HoldsState s db × (trees ≡ db.trees)
+TreesHold = TreesHoldIn Second
 
 -- these are the tables after some accepted step of this state by this call: the plan's and the receipts' together
 abbrev pub IsStepCommitted : State → Call → Trees → Type 0

@@ -12,18 +12,22 @@ ghost use Rattle.plan_records.specs.Run.{Answers, State, empty_state, numbered, 
 ghost use Rattle.plan_records.specs.Schedules.{found, nothing, opening, stopped, IsDeskState};
 ghost use Rattle.plan_records.specs.Step.{AnswersAgain};
 ghost use Rattle.plan_tables.specs.Calls.{change_of, named_by, state_after, IsPreparedAt};
-ghost use Rattle.plan_tables.specs.Desk.{state_of, usability, IsCarriedOut, IsClean, HasTables, HoldsNoState, HoldsState, TreesHold};
+ghost use Rattle.plan_reads.specs.plan_schema.specs.Schema.{schema_of};
+ghost use Rattle.plan_reads.specs.plan_schema.specs.declared.Version.{Version};
+ghost use Rattle.plan_reads.specs.plan_schema.specs.declared.Version.TheVariants.{First};
+ghost use Rattle.plan_tables.specs.Desk.{state_of, usability, IsCarriedOut, IsClean, HasFirstTables, HasTables, HoldsNoStateIn, HoldsState, TreesHold, TreesHoldIn};
 ghost use Rattle.plan_tables.specs.Errors.{AreErrorRows};
 ghost use Rattle.plan_tables.specs.Faults.{IsOpeningRefusal};
+ghost use Rattle.plan_tables.specs.Opening.{IsOpenedFirst};
 ghost use Rattle.plan_tables.specs.Shut.{may_have_shut, IsOpenAfter};
-ghost use Rattle.plan_tables.specs.Stops.{connection_after, AreLeftBy, AreLeftByMaking, MayCommitStep, StopsLeave};
+ghost use Rattle.plan_tables.specs.Stops.{connection_after, AreLeftBy, AreLeftByMaking, AreLeftIn, MayCommitStep, StopsLeave};
 ghost use Rattle.plan_writes.specs.Within.{LeavesMade, Rewrites};
 ghost use Rattle.tracker_receipts.specs.Judging.{numbered_by};
 
 use super::calls::PreparedCall;
 use super::errors::ErrorRows;
 use super::faults::{opening_refusal, request_refusal};
-use super::opening::stored_state;
+use super::opening::opened_state;
 use super::writing::write_call;
 use numbered_steps::{Outcome, Plan, prepare_numbered};
 use plan_basics::{Refusal, TrackerName};
@@ -58,7 +62,7 @@ impl<S: Alter + Drop> Model for Desk<S> {
 }
 
 impl<S: Alter + Drop> Desk<S> {
-    /// Makes the nine tables in a database that has none of them, and a desk over it at which nothing is loaded and no
+    /// Makes the tables in a database that has none of them, and a desk over it at which nothing is loaded and no
     /// receipt is kept.
     ///
     /// Refused as `Damaged` where one of the tables' names is taken, and never in a database that has no table, no index
@@ -100,33 +104,42 @@ impl<S: Alter + Drop> Desk<S> {
     }
 
     /// Opens the desk whose tables a database holds: its plan and its receipts are the sound plan and the well formed
-    /// receipts that have just their rows.
+    /// receipts that have just their rows. Tables of the first version, in which no quantity and no amount is kept, are
+    /// then made those of the second, in one transaction.
     ///
     /// Refused as `Damaged` where the tables hold the rows of no such plan and receipts: each column is compared, those too
-    /// that follow from others, as a status or a latest start; no receipt is kept before a plan is loaded; and a table that
-    /// lacks is no plan's. As `Memory` for want of memory, as `Store` where a transaction is open on the connection and for
-    /// any other fault of the store. Nothing is written, and where it is refused the connection is given back.
+    /// that follow from others, as a status or a latest start; no receipt is kept before a plan is loaded; a table that
+    /// lacks is no plan's; and so is one beside tables of the first version that has the name of one that they lack. As
+    /// `Memory` for want of memory, as `Store` where a transaction is open on the connection and for any other fault of the
+    /// store. Of a desk's own tables nothing is written (`reads`, `unchanged`). Where it is refused the connection is given
+    /// back, and the store holds what it held (`undone`).
     ///
     /// Where the disk returns what was written, the store of the desk is open (`is_open`). Of trees that a desk, or a stop
-    /// at one, left, it finds just the state that they hold (`found`), and doesn't find them damaged (`undamaged`). A stop
-    /// at any moment of it leaves what there was (`stops`).
+    /// at one, left, it finds just the state that they hold (`found`, `found_first`), and doesn't find them damaged
+    /// (`undamaged`). A stop at any moment of it leaves what there was (`stops`), or of tables of the first version those of
+    /// the second (`stops_first`).
     pub fn open(alloc: Global, mut conn: Connection<S>) -> Result<Desk<S>, (Refusal, Connection<S>)>
         ensures sound { IfOk result (λ desk. IsDeskState (state_of desk)) }
         ensures usable { IfOk result (λ desk. desk.is_usable ≡ true) }
         ensures is_open { IfOk result (λ desk. HasCleanDisk (state S.Store desk.conn) → IsTrue (state S.Store desk.conn).is_open) }
         ensures tables { IfOk result (λ desk. HasCleanDisk (state S.Store desk.conn) → HasTables (state S.Store desk.conn) → HoldsState (state_of desk) (state S.Store desk.conn).committed) }
-        ensures reads { IfOk result (λ desk. OnlyReads (state S.Store conn) (state S.Store desk.conn)) }
+        ensures reads { IfOk result (λ desk. IsTrue (state S.Store conn).is_open → HasTables (state S.Store conn) → OnlyReads (state S.Store conn) (state S.Store desk.conn)) }
+        ensures of_first { IfOk result (λ desk. HasCleanDisk (state S.Store desk.conn) → HasFirstTables (state S.Store conn) → IsOpenedFirst (state_of desk) (state S.Store conn) (state S.Store desk.conn)) }
+        ensures kept { IfOk result (λ desk. HasCleanDisk (state S.Store desk.conn) → IsTrue (state S.Store conn).is_open) }
         ensures refused { IfErr result (λ e. IsOpeningRefusal e.0) }
-        ensures damaged { IfErr result (λ e. e.0 ≡ Refusal.Damaged → IsClean (state S.Store e.1) → HasTables (state S.Store e.1) → HoldsNoState (state S.Store e.1).committed) }
-        ensures unchanged { IfErr result (λ e. OnlyReads (state S.Store conn) (state S.Store e.1)) }
+        ensures damaged { IfErr result (λ e. e.0 ≡ Refusal.Damaged → IsClean (state S.Store e.1) → (version : Version) → (state S.Store e.1).committed.schema ≡ schema_of version → HoldsNoStateIn version (state S.Store e.1).committed) }
+        ensures unchanged { IfErr result (λ e. IsTrue (state S.Store conn).is_open → HasTables (state S.Store conn) → OnlyReads (state S.Store conn) (state S.Store e.1)) }
+        ensures undone { IfErr result (λ e. IsClean (state S.Store e.1) → (state S.Store e.1).committed ≡ (state S.Store conn).committed) }
         ensures found { IfOk result (λ desk. HasCleanDisk (state S.Store desk.conn) → (s : State) → IsDeskState s → TreesHold s (state S.Store conn).committed.trees → HasTables (state S.Store desk.conn) × AreLeftBy s None (opening (found (state_of desk))) (state S.Store desk.conn).committed.trees) }
-        ensures undamaged { IfErr result (λ e. e.0 ≡ Refusal.Damaged → IsClean (state S.Store e.1) → (s : State) → IsDeskState s → ¬ TreesHold s (state S.Store conn).committed.trees) }
+        ensures found_first { IfOk result (λ desk. HasCleanDisk (state S.Store desk.conn) → (s : State) → IsDeskState s → TreesHoldIn First s (state S.Store conn).committed.trees → HasTables (state S.Store desk.conn) × AreLeftIn First s None (opening (found (state_of desk))) (state S.Store desk.conn).committed.trees) }
+        ensures undamaged { IfErr result (λ e. e.0 ≡ Refusal.Damaged → IsClean (state S.Store e.1) → (s : State) → IsDeskState s → (version : Version) → ¬ TreesHoldIn version s (state S.Store conn).committed.trees) }
         ensures stops { IsTrue (state S.Store conn).is_open → (s : State) → TreesHold s (state S.Store conn).committed.trees → StopsLeave (state S.Store (connection_after result)) (AreLeftBy s None (opening nothing)) }
+        ensures stops_first { IsTrue (state S.Store conn).is_open → (s : State) → IsDeskState s → TreesHoldIn First s (state S.Store conn).committed.trees → StopsLeave (state S.Store (connection_after result)) (AreLeftIn First s None (opening nothing)) }
     {
         if !conn.is_autocommit() {
             return Err((Refusal::Store, conn));
         }
-        let (plan, receipts) = match stored_state(alloc, &mut conn) {
+        let (plan, receipts) = match opened_state(alloc, &mut conn) {
             Ok(found) => found,
             Err(refusal) => return Err((refusal, conn)),
         };

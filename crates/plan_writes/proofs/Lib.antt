@@ -5,4 +5,6 @@ pub mod Growth
 pub mod Texts
 pub mod Faults
 pub mod Making
-pub mod NineTables
+pub mod AllTables
+pub mod Upgraded
+pub mod ReadFirst

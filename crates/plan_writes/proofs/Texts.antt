@@ -2,7 +2,7 @@
 use Rattle.std.proofs.Common.{◌≡◌, true, refl}
 use Rattle.sqlite_resolve.specs.Compile.{first}
 use Rattle.sqlite_tied.specs.Compute.{everything}
-use Rattle.plan_schema.specs.declared.TheConstants.{PUT_META, PUT_RESOURCE, PUT_NEED, PUT_WORKSTATION, PUT_INTERVAL, PUT_OCCURRENCE, PUT_OPERATION, PUT_DEPENDENCY, PUT_RECEIPT, DROP_INTERVAL}
+use Rattle.plan_schema.specs.declared.TheConstants.{PUT_META, PUT_RESOURCE, PUT_NEED, PUT_WORKSTATION, PUT_INTERVAL, PUT_OCCURRENCE, PUT_OPERATION, PUT_DEPENDENCY, PUT_RECEIPT, PUT_QUANTITY, PUT_AMOUNT, DROP_INTERVAL}
 use Rattle.plan_writes.proofs.Growth.{reads_as, writes_rows}
 
 pub writes_meta : reads_as writes_rows (first PUT_META.now) ≡ true
@@ -40,6 +40,14 @@ writes_dependency = refl
 pub writes_receipt : reads_as writes_rows (first PUT_RECEIPT.now) ≡ true
 unfolding first everything
 writes_receipt = refl
+
+pub writes_quantity : reads_as writes_rows (first PUT_QUANTITY.now) ≡ true
+unfolding first everything
+writes_quantity = refl
+
+pub writes_amount : reads_as writes_rows (first PUT_AMOUNT.now) ≡ true
+unfolding first everything
+writes_amount = refl
 
 pub drops_interval : reads_as writes_rows (first DROP_INTERVAL.now) ≡ true
 unfolding first everything

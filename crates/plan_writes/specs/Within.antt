@@ -9,7 +9,7 @@ use Rattle.sqlite.specs.declared.error.Error.{Error}
 use Rattle.table_rows.specs.Rows.{IsEmpty}
 use Rattle.table_rows.specs.Tables.{no_schema}
 use Rattle.plan_records.specs.declared.PlanRow.TheVariants as row
-use Rattle.plan_schema.specs.Schema.{schema_9}
+use Rattle.plan_schema.specs.Schema.{desk_schema}
 use Rattle.plan_schema.specs.Stored.{Held, Stores, Turns, none_held}
 use Rattle.plan_columns.specs.Tables.{with_row}
 
@@ -50,9 +50,9 @@ pub record Rewrites (change : Held → Held) (before after : Database) : Type 0 
 
 -- what the tables hold before a plan is loaded: that none is, and a clock at the first minute
 abbrev pub first_held : Held
-first_held = with_row (row.Meta 1 false 0) none_held
+first_held = with_row (row.Meta 2 false 0) none_held
 
--- a database without tables becomes one with the nine tables, before a plan is loaded, and one that comes to have these tables and no others had none
+-- a database without tables becomes one with all tables, before a plan is loaded, and one that comes to have these tables and no others had none
 pub record Begins (before after : Database) : Type 0 where
   pub stores : IsEmpty no_schema before → Stores after first_held
-  pub back : after.schema ≡ schema_9 → before.schema ≡ no_schema
+  pub back : after.schema ≡ desk_schema → before.schema ≡ no_schema

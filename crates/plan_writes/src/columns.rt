@@ -35,7 +35,7 @@ pub fn flag<'a>(value: bool) -> ValueRef<'a>
 }
 
 /// How a special resource is needed: its letter.
-pub fn mode<'a>(mode: Mode) -> ValueRef<'a>
+pub fn mode_text<'a>(mode: Mode) -> ValueRef<'a>
     ensures { owned result ≡ Text (mode_letter mode) }
 {
     match mode {

@@ -1,23 +1,23 @@
-// The nine tables of a desk at which nothing is loaded.
+// The tables of a desk at which nothing is loaded.
 ghost use Rattle.std.specs.Prelude.{◌≡◌, ◌≢◌, false, IfErr, IsTrue, OnErr, OnOk};
 ghost use Rattle.sqlite.specs.Held.{state};
 ghost use Rattle.sqlite.specs.State.{HasCleanDisk, Survives};
 ghost use Rattle.table_rows.specs.Tables.{no_schema};
-ghost use Rattle.plan_schema.specs.Schema.{schema_9};
+ghost use Rattle.plan_schema.specs.Schema.{desk_schema};
 ghost use Rattle.plan_writes.specs.Faults.{FindsNamesFree, IsOfNames};
 ghost use Rattle.plan_writes.specs.Within.{Begins, Grows, IsCommitted, IsUndone, LeavesMade, RunsWithin};
 
-use crate::resource_rows::put_meta;
+use crate::resource_rows::{VERSION, put_meta};
 use crate::runs::run_text;
 use plan_basics::Moment;
 use plan_schema::{
-    CREATE_DEPENDENCY, CREATE_INTERVAL, CREATE_META, CREATE_NEED, CREATE_OCCURRENCE,
-    CREATE_OPERATION, CREATE_RECEIPT, CREATE_RESOURCE, CREATE_WORKSTATION,
+    CREATE_AMOUNT, CREATE_DEPENDENCY, CREATE_INTERVAL, CREATE_META, CREATE_NEED, CREATE_OCCURRENCE,
+    CREATE_OPERATION, CREATE_QUANTITY, CREATE_RECEIPT, CREATE_RESOURCE, CREATE_WORKSTATION,
 };
 use sqlite::{Alter, Connection, Error, Transaction};
 
-// The texts that make the nine tables, in the order in which the tables are made.
-const CREATIONS: [&str; 9] = [
+// The texts that make the tables, in the order in which the tables are made.
+const CREATIONS: [&str; 11] = [
     CREATE_META,
     CREATE_WORKSTATION,
     CREATE_INTERVAL,
@@ -27,12 +27,14 @@ const CREATIONS: [&str; 9] = [
     CREATE_DEPENDENCY,
     CREATE_NEED,
     CREATE_RECEIPT,
+    CREATE_QUANTITY,
+    CREATE_AMOUNT,
 ];
 
-// The nine tables are made in a database that has none.
-fn create_nine<S: Alter>(tx: &mut Transaction<'_, S>) -> Result<(), Error>
+// All tables are made in a database that has none.
+fn create_empty<S: Alter>(tx: &mut Transaction<'_, S>) -> Result<(), Error>
     ensures same_reference { tx.new.conn.ghost_name ≡ tx.old.conn.ghost_name }
-    ensures made { RunsWithin (Grows no_schema schema_9) (state S.Store tx.old.conn.now) (state S.Store tx.new.conn.now) result }
+    ensures made { RunsWithin (Grows no_schema desk_schema) (state S.Store tx.old.conn.now) (state S.Store tx.new.conn.now) result }
     ensures names { FindsNamesFree no_schema (state S.Store tx.old.conn.now) (state S.Store tx.new.conn.now) result }
 {
     for text in &CREATIONS {
@@ -48,17 +50,17 @@ fn first_minute() -> Moment
     Moment::new(0).unwrap()
 }
 
-// The nine tables are made, with the one row that there is before a plan is loaded.
+// All tables are made, with the one row that there is before a plan is loaded.
 fn create_all<S: Alter>(tx: &mut Transaction<'_, S>) -> Result<(), Error>
     ensures same_reference { tx.new.conn.ghost_name ≡ tx.old.conn.ghost_name }
     ensures made { RunsWithin Begins (state S.Store tx.old.conn.now) (state S.Store tx.new.conn.now) result }
     ensures names { FindsNamesFree no_schema (state S.Store tx.old.conn.now) (state S.Store tx.new.conn.now) result }
 {
-    create_nine(tx)?;
-    put_meta(tx, 1, false, first_minute())
+    create_empty(tx)?;
+    put_meta(tx, VERSION, false, first_minute())
 }
 
-/// Makes the nine tables of a desk at which nothing is loaded, in one transaction: wholly or not at all.
+/// Makes the tables of a desk at which nothing is loaded, in one transaction: wholly or not at all.
 pub fn create_tables<S: Alter>(conn: &mut Connection<S>) -> Result<(), Error>
     requires { conn.old.in_transaction ≡ false }
     ensures idle { conn.new.in_transaction ≡ false }

@@ -1,19 +1,22 @@
 // The tables `meta`, `resource` and `need`.
 ghost use Rattle.std.specs.Prelude.{◌≡◌};
 ghost use Rattle.sqlite.specs.Held.{state};
-ghost use Rattle.plan_schema.specs.Schema.{schema_9};
+ghost use Rattle.plan_schema.specs.Schema.{desk_schema};
 ghost use Rattle.plan_schema.specs.Stored.{with_meta, with_resource, with_need};
 ghost use Rattle.plan_columns.specs.Columns.{meta_columns, resource_columns, need_columns};
-ghost use Rattle.plan_writes.specs.Faults.{FindsNamesFree};
+ghost use Rattle.plan_writes.specs.Faults.{FindsFree};
 ghost use Rattle.plan_writes.specs.Within.{Rewrites, RunsWithin};
 
-use crate::columns::{flag, keeping, minute, mode, number};
+use crate::columns::{flag, keeping, minute, mode_text, number};
 use crate::runs::run_text;
 use plan_basics::{Moment, OpKey, ResName};
 use plan_schema::{PUT_META, PUT_NEED, PUT_RESOURCE};
-use special_resources::Need;
+use special_resources::Mode;
 use sqlite::{Alter, Error, Transaction};
 use table_rows::letters;
+
+/// The version of the tables that are made here.
+pub const VERSION: u32 = 2;
 
 /// Puts the one row of `meta` in: the version of the tables, whether a plan is loaded, and the clock.
 pub fn put_meta<S: Alter>(
@@ -24,7 +27,7 @@ pub fn put_meta<S: Alter>(
 ) -> Result<(), Error>
     ensures same_reference { tx.new.conn.ghost_name ≡ tx.old.conn.ghost_name }
     ensures written { RunsWithin (Rewrites (with_meta (meta_columns version loaded clock))) (state S.Store tx.old.conn.now) (state S.Store tx.new.conn.now) result }
-    ensures names { FindsNamesFree schema_9 (state S.Store tx.old.conn.now) (state S.Store tx.new.conn.now) result }
+    ensures names { FindsFree desk_schema (state S.Store tx.old.conn.now) (state S.Store tx.new.conn.now) result }
 {
     run_text(
         tx,
@@ -50,9 +53,15 @@ pub fn put_resource<S: Alter>(
 }
 
 /// Puts an operation's need in, in place of its need of the same special resource.
-pub fn put_need<S: Alter>(tx: &mut Transaction<'_, S>, op: &OpKey, need: &Need) -> Result<(), Error>
+pub fn put_need<S: Alter>(
+    tx: &mut Transaction<'_, S>,
+    op: &OpKey,
+    resource: &ResName,
+    mode: Mode,
+    keep: bool,
+) -> Result<(), Error>
     ensures same_reference { tx.new.conn.ghost_name ≡ tx.old.conn.ghost_name }
-    ensures written { RunsWithin (Rewrites (with_need (need_columns op.now need.now))) (state S.Store tx.old.conn.now) (state S.Store tx.new.conn.now) result }
+    ensures written { RunsWithin (Rewrites (with_need (need_columns op.now resource.now mode keep))) (state S.Store tx.old.conn.now) (state S.Store tx.new.conn.now) result }
 {
     run_text(
         tx,
@@ -61,9 +70,9 @@ pub fn put_need<S: Alter>(tx: &mut Transaction<'_, S>, op: &OpKey, need: &Need) 
             letters(op.occurrence.app.as_bytes()),
             minute(op.occurrence.arrival),
             number(u32::from(op.number)),
-            letters(need.name.as_bytes()),
-            mode(need.mode),
-            keeping(need.keep),
+            letters(resource.as_bytes()),
+            mode_text(mode),
+            keeping(keep),
         ],
     )
 }

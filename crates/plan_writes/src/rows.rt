@@ -5,6 +5,7 @@ ghost use Rattle.plan_columns.specs.Tables.{with_row, without_row, with_rows, wi
 ghost use Rattle.plan_writes.specs.Within.{Rewrites, RunsWithin};
 
 use crate::operation_rows::{put_dependency, put_occurrence, put_operation};
+use crate::quantity_rows::{put_amount, put_quantity};
 use crate::resource_rows::{put_meta, put_need, put_resource};
 use crate::workstation_rows::{drop_interval, put_interval, put_workstation};
 use plan_records::{PlanRow, RowKey};
@@ -35,7 +36,18 @@ pub fn write_row<S: Alter>(tx: &mut Transaction<'_, S>, row: &PlanRow) -> Result
             predecessor,
             successor,
         } => put_dependency(tx, predecessor, successor),
-        PlanRow::Need { op, need } => put_need(tx, op, need),
+        PlanRow::Need {
+            op,
+            resource,
+            mode,
+            keep,
+        } => put_need(tx, op, resource, *mode, *keep),
+        PlanRow::Quantity { resource, quantity } => put_quantity(tx, resource, *quantity),
+        PlanRow::Amount {
+            op,
+            resource,
+            amount,
+        } => put_amount(tx, op, resource, *amount),
     }
 }
 

@@ -7,8 +7,8 @@ use Rattle.sqlite.specs.declared.types.Value.TheVariants.{Blob, Int, Text}
 use Rattle.sqlite_rules.specs.Lists.{Has}
 use Rattle.plan_records.specs.declared.PlanRow.{PlanRow}
 use Rattle.plan_records.specs.declared.PlanRow.TheVariants as row
-use Rattle.plan_columns.specs.plan_schema.specs.Stored.{StoredMeta, StoredWorkstation, StoredInterval, StoredResource, StoredOccurrence, StoredOperation, StoredDependency, StoredNeed}
-use Rattle.plan_columns.proofs.SameColumns.{meta_columns_injective, workstation_columns_injective, interval_columns_injective, resource_columns_injective, occurrence_columns_injective, operation_columns_injective, dependency_columns_injective, need_columns_injective}
+use Rattle.plan_columns.specs.plan_schema.specs.Stored.{StoredMeta, StoredWorkstation, StoredInterval, StoredResource, StoredOccurrence, StoredOperation, StoredDependency, StoredNeed, StoredQuantity, StoredAmount}
+use Rattle.plan_columns.proofs.SameColumns.{meta_columns_injective, workstation_columns_injective, interval_columns_injective, resource_columns_injective, occurrence_columns_injective, operation_columns_injective, dependency_columns_injective, need_columns_injective, quantity_columns_injective, amount_columns_injective}
 use Rattle.stored_rows.specs.Receipts.{IsReceiptStoredAs}
 use Rattle.stored_rows.specs.Rows.{table_for, columns_of, IsStoredAs}
 use Rattle.stored_rows.specs.declared.Table.{Table}
@@ -76,6 +76,12 @@ dependency_in v = record { papp = text_at 0 v; pia = number_at 1 v; pnum = numbe
 abbrev need_in : Row → StoredNeed
 need_in v = record { app = text_at 0 v; ia = number_at 1 v; num = number_at 2 v; resource = text_at 3 v; mode = text_at 4 v; keep = text_at 5 v }
 
+abbrev quantity_in : Row → StoredQuantity
+quantity_in v = record { resource = text_at 0 v; quantity = number_at 1 v }
+
+abbrev amount_in : Row → StoredAmount
+amount_in v = record { app = text_at 0 v; ia = number_at 1 v; num = number_at 2 v; resource = text_at 3 v; amount = number_at 4 v }
+
 abbrev receipt_in : Row → Columns
 receipt_in v = record { tracker = text_at 0 v; number = number_at 1 v; text = bytes_in (column v 2); reply = text_at 3 v }
 
@@ -90,7 +96,9 @@ one_of_columns (row.Resource v a) (row.Resource w b) t e = resource_columns_inje
 one_of_columns (row.Occurrence c p m s) (row.Occurrence d q n u) t e = occurrence_columns_injective c d p q m n s u (ap occurrence_in e)
 one_of_columns (row.Operation r) (row.Operation q) t e = operation_columns_injective r q (ap operation_in e)
 one_of_columns (row.Dependency p s) (row.Dependency q u) t e = dependency_columns_injective p q s u (ap dependency_in e)
-one_of_columns (row.Need o m) (row.Need p n) t e = need_columns_injective o p m n (ap need_in e)
+one_of_columns (row.Need o v m k) (row.Need p w n l) t e = need_columns_injective o p v w m n k l (ap need_in e)
+one_of_columns (row.Quantity v m) (row.Quantity w n) t e = quantity_columns_injective v w m n (ap quantity_in e)
+one_of_columns (row.Amount o v m) (row.Amount p w n) t e = amount_columns_injective o p v w m n (ap amount_in e)
 one_of_columns _ _ t e = absurd (cc t)
 
 -- a row of a table is one row of a plan

@@ -8,13 +8,13 @@ use Rattle.plan_basics.specs.Names.{IsName, IsResourceName}
 use Rattle.plan_basics.specs.declared.Attr.{Attr}
 use Rattle.plan_basics.specs.declared.keys.OccKey.{OccKey}
 use Rattle.plan_basics.specs.declared.keys.OpKey.{OpKey}
-use Rattle.special_resources.specs.declared.Need.{Need}
+use Rattle.special_resources.specs.declared.Mode.{Mode}
 use Rattle.status_rules.specs.declared.OccStatus.{OccStatus}
 use Rattle.plan_records.specs.declared.OperationRow.{OperationRow}
 use Rattle.plan_records.specs.declared.PlanRow.{PlanRow}
 use Rattle.plan_records.specs.declared.PlanRow.TheVariants as row
-use Rattle.plan_columns.specs.plan_schema.specs.Stored.{meta_values, workstation_row, interval_row, resource_row, occurrence_row, operation_row, dependency_row, need_row}
-use Rattle.plan_columns.specs.Columns.{meta_columns, workstation_columns, interval_columns, resource_columns, occurrence_columns, operation_columns, dependency_columns, need_columns}
+use Rattle.plan_columns.specs.plan_schema.specs.Stored.{meta_values, workstation_row, interval_row, resource_row, occurrence_row, operation_row, dependency_row, need_row, quantity_row, amount_row}
+use Rattle.plan_columns.specs.Columns.{meta_columns, workstation_columns, interval_columns, resource_columns, occurrence_columns, operation_columns, dependency_columns, need_columns, quantity_columns, amount_columns}
 use Rattle.plan_columns.specs.table_rows.proofs.Keys.{behind}
 use Rattle.plan_columns.specs.table_rows.proofs.Reading.{shown_behind, shown_whole}
 use Rattle.stored_rows.specs.Rows.{IsStoredAs, IsInRange, IsKeyInRange, IsOperationInRange}
@@ -69,6 +69,14 @@ pub no_dependency : (s : Row) → ((p q : OpKey) → IsKeyInRange p → IsKeyInR
 no_dependency s none (row.Dependency p q) h = none p q h.1.0 h.1.1 h.2
 no_dependency s none _ h = absurd (let e = h.0 in cc)
 
-pub no_need : (s : Row) → ((o : OpKey) (n : Need) → IsKeyInRange o → IsResourceName n.name → drop 1 s ≡ need_row (need_columns o n) → ⊥) → (r : PlanRow) → ¬ IsStoredAs table.Need s r
-no_need s none (row.Need o n) h = none o n h.1.0 h.1.1 h.2
+pub no_need : (s : Row) → ((o : OpKey) (r : Name) (mode : Mode) (keep : Bool) → IsKeyInRange o → IsResourceName r → drop 1 s ≡ need_row (need_columns o r mode keep) → ⊥) → (r : PlanRow) → ¬ IsStoredAs table.Need s r
+no_need s none (row.Need o r mode keep) h = none o r mode keep h.1.0 h.1.1 h.2
 no_need s none _ h = absurd (let e = h.0 in cc)
+
+pub no_quantity : (s : Row) → ((r : Name) (quantity : ℕ) → IsInRange (row.Quantity r quantity) → drop 1 s ≡ quantity_row (quantity_columns r quantity) → ⊥) → (r : PlanRow) → ¬ IsStoredAs table.Quantity s r
+no_quantity s none (row.Quantity r quantity) h = none r quantity h.1 h.2
+no_quantity s none _ h = absurd (let e = h.0 in cc)
+
+pub no_amount : (s : Row) → ((o : OpKey) (r : Name) (amount : ℕ) → IsInRange (row.Amount o r amount) → drop 1 s ≡ amount_row (amount_columns o r amount) → ⊥) → (r : PlanRow) → ¬ IsStoredAs table.Amount s r
+no_amount s none (row.Amount o r amount) h = none o r amount h.1 h.2
+no_amount s none _ h = absurd (let e = h.0 in cc)

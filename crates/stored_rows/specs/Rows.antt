@@ -11,8 +11,8 @@ use Rattle.status_rules.specs.Texts.{HasLegalCode}
 use Rattle.plan_records.specs.declared.OperationRow.{OperationRow}
 use Rattle.plan_records.specs.declared.PlanRow.{PlanRow}
 use Rattle.plan_records.specs.declared.PlanRow.TheVariants as row
-use Rattle.plan_columns.specs.plan_schema.specs.Stored.{meta_values, workstation_row, interval_row, resource_row, occurrence_row, operation_row, dependency_row, need_row}
-use Rattle.plan_columns.specs.Columns.{meta_columns, workstation_columns, interval_columns, resource_columns, occurrence_columns, operation_columns, dependency_columns, need_columns}
+use Rattle.plan_columns.specs.plan_schema.specs.Stored.{meta_values, workstation_row, interval_row, resource_row, occurrence_row, operation_row, dependency_row, need_row, quantity_row, amount_row}
+use Rattle.plan_columns.specs.Columns.{meta_columns, workstation_columns, interval_columns, resource_columns, occurrence_columns, operation_columns, dependency_columns, need_columns, quantity_columns, amount_columns}
 use Rattle.stored_rows.specs.declared.Table.{Table}
 use Rattle.stored_rows.specs.declared.Table.TheVariants as table
 
@@ -25,7 +25,9 @@ table_for (row.Resource name available) = table.Resource
 table_for (row.Occurrence c priority deadline status) = table.Occurrence
 table_for (row.Operation r) = table.Operation
 table_for (row.Dependency p s) = table.Dependency
-table_for (row.Need o n) = table.Need
+table_for (row.Need o r mode keep) = table.Need
+table_for (row.Quantity r quantity) = table.Quantity
+table_for (row.Amount o r amount) = table.Amount
 
 -- its columns, in their order
 abbrev pub columns_of : PlanRow → Row
@@ -36,7 +38,9 @@ columns_of (row.Resource name available) = resource_row (resource_columns name a
 columns_of (row.Occurrence c priority deadline status) = occurrence_row (occurrence_columns c priority deadline status)
 columns_of (row.Operation r) = operation_row (operation_columns r)
 columns_of (row.Dependency p s) = dependency_row (dependency_columns p s)
-columns_of (row.Need o n) = need_row (need_columns o n)
+columns_of (row.Need o r mode keep) = need_row (need_columns o r mode keep)
+columns_of (row.Quantity r quantity) = quantity_row (quantity_columns r quantity)
+columns_of (row.Amount o r amount) = amount_row (amount_columns o r amount)
 
 -- an operation's key whose names and numbers are in the ranges of their types
 abbrev pub IsKeyInRange : OpKey → Type 0
@@ -63,7 +67,9 @@ IsInRange (row.Resource name available) = IsResourceName name
 IsInRange (row.Occurrence c priority deadline status) = IsOccurrenceKey c × (priority < 2 ^ 8) × IsMoment deadline
 IsInRange (row.Operation r) = IsOperationInRange r
 IsInRange (row.Dependency p s) = IsKeyInRange p × IsKeyInRange s
-IsInRange (row.Need o n) = IsKeyInRange o × IsResourceName n.name
+IsInRange (row.Need o r mode keep) = IsKeyInRange o × IsResourceName r
+IsInRange (row.Quantity r quantity) = IsResourceName r × (quantity < 2 ^ 32)
+IsInRange (row.Amount o r amount) = IsKeyInRange o × IsResourceName r × (amount < 2 ^ 32)
 
 -- a row that is read of a table, its rowid first, is this row of a plan
 abbrev pub IsStoredAs : Table → Row → PlanRow → Type 0

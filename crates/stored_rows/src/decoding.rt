@@ -6,8 +6,8 @@ ghost use Rattle.stored_rows.specs.Rows.{AppendsRows, IsNoRow, IsStoredAs};
 use super::Table;
 use super::operations::read_operation;
 use super::records::{
-    read_dependency, read_interval, read_meta, read_need, read_occurrence, read_resource,
-    read_workstation,
+    read_amount, read_dependency, read_interval, read_meta, read_need, read_occurrence,
+    read_quantity, read_resource, read_workstation,
 };
 use plan_records::PlanRow;
 use sqlite::Row;
@@ -26,6 +26,8 @@ pub fn decode(table: Table, row: &Row) -> Option<PlanRow>
         Table::Operation => read_operation(row),
         Table::Dependency => read_dependency(row),
         Table::Need => read_need(row),
+        Table::Quantity => read_quantity(row),
+        Table::Amount => read_amount(row),
     }
 }
 

@@ -14,7 +14,7 @@ mod records;
 pub use decoding::{decode, decode_all};
 pub use receipts::decode_receipts;
 
-/// One of the eight tables of a plan.
+/// One of the ten tables of a plan.
 #[derive(Clone, Copy, Debug, PartialEq, Eq)]
 pub enum Table {
     /// Whether a plan is loaded, and the clock.
@@ -33,4 +33,8 @@ pub enum Table {
     Dependency,
     /// Special resources that operations need.
     Need,
+    /// How much there is of special resources.
+    Quantity,
+    /// How much operations need of special resources.
+    Amount,
 }

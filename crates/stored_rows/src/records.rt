@@ -9,7 +9,6 @@ use super::columns::{
 };
 use plan_basics::Interval;
 use plan_records::PlanRow;
-use special_resources::Need;
 use sqlite::Row;
 
 // A row of `meta`, whose id is 1.
@@ -116,9 +115,42 @@ pub fn read_need(row: &Row) -> Option<PlanRow>
         return None;
     }
     let op = operation_key(row, 1)?;
-    let name = resource(row, 4)?;
+    let resource = resource(row, 4)?;
     let mode = mode(row, 5)?;
     let keep = keep(row, 6)?;
-    let need = Need { name, mode, keep };
-    Some(PlanRow::Need { op, need })
+    Some(PlanRow::Need {
+        op,
+        resource,
+        mode,
+        keep,
+    })
+}
+
+// A row of `quantity`.
+pub fn read_quantity(row: &Row) -> Option<PlanRow>
+    ensures { IsReading (IsStoredAs table.Quantity row.now) result }
+{
+    if row.column_count() != 3 {
+        return None;
+    }
+    let resource = resource(row, 1)?;
+    let quantity = count(row, 2)?;
+    Some(PlanRow::Quantity { resource, quantity })
+}
+
+// A row of `amount`.
+pub fn read_amount(row: &Row) -> Option<PlanRow>
+    ensures { IsReading (IsStoredAs table.Amount row.now) result }
+{
+    if row.column_count() != 6 {
+        return None;
+    }
+    let op = operation_key(row, 1)?;
+    let resource = resource(row, 4)?;
+    let amount = count(row, 5)?;
+    Some(PlanRow::Amount {
+        op,
+        resource,
+        amount,
+    })
 }

@@ -1,9 +1,15 @@
-use Rattle.std.proofs.Common.{w64, FitsSigned, arith, to_z-of_z}
+use Rattle.std.proofs.Common.{◌≡◌, w64, FitsSigned, arith, inl, rules, to_z-of_z}
 use Rattle.sqlite.specs.Held.{state}
 use Rattle.plan_records.specs.Answer.{answer_of}
-use Rattle.plan_tables.specs.Desk.{state_of}
+use Rattle.plan_tables.specs.Desk.{state_of, IsClean}
 use Rattle.plan_loads.proofs.Databases.{load_answered}
 use Rattle.plan_loads.proofs.database.load_into.Goals as goal
+
+pub returns-in-Err : goal.returns-in-Err
+returns-in-Err g c =
+    let new = state g.S.Store c.in-Err.conn in
+    let same : IsClean new → new.committed ≡ (state g.S.Store c.args.conn).committed = search rules in
+    (inl (search rules, search rules), λ clean has. same clean, λ clean has. inl (same clean))
 
 pub returns : goal.returns
 returns g c =
@@ -13,5 +19,5 @@ returns g c =
     let after = c.call-reply.new.self in
     rw c.close.ensures.conn
     (load_answered old (state g.S.Store desk.conn) (state g.S.Store after.conn) (state_of desk) (state_of after) c.args.at c.args.draft desk.is_usable after.is_usable
-    c.in-Ok.ensures.state c.in-Ok.ensures.usable c.in-Ok.ensures.is_open c.in-Ok.ensures.made c.in-Ok.ensures.opened (λ clean. omega (arith, clean, c.call-reply.ensures.survives.clean))
+    c.in-Ok.ensures.state c.in-Ok.ensures.usable c.in-Ok.ensures.is_open c.in-Ok.ensures.made c.in-Ok.ensures.opened c.in-Ok.ensures.opened_first (λ clean. omega (arith, clean, c.call-reply.ensures.survives.clean))
     (answer_of c.call-reply.result) (simp to_z-of_z at c.call-reply.ensures.answers) c.call-reply.ensures.is_open c.call-reply.ensures.tables c.call-reply.ensures.refused)

@@ -1,10 +1,9 @@
 use Rattle.sqlite.specs.Held.{state}
-use Rattle.plan_schema.proofs.ReceiptTexts.{read}
-use Rattle.plan_schema.proofs.Receipts.{receipt_read}
+use Rattle.plan_schema.specs.Schema.{schema_of}
 use Rattle.plan_schema.specs.declared.TheConstants.{READ_RECEIPT}
 use Rattle.plan_reads.specs.Tables.{receipt_rows}
-use Rattle.plan_reads.proofs.Faults.{query_faults}
-use Rattle.plan_reads.proofs.Queried.{all_shown, only_reads, same_shown}
+use Rattle.plan_reads.proofs.Faults.{query_faults, receipts_plain}
+use Rattle.plan_reads.proofs.Queried.{all_shown, only_reads, receipts_shown, same_shown}
 use Rattle.plan_reads.proofs.QueryTexts.{receipt_is_query}
 use Rattle.plan_reads.proofs.queries.query_receipts.Goals as goal
 
@@ -22,11 +21,11 @@ returns-clause-same g c clean =
     same_shown READ_RECEIPT.now receipt_is_query (state g.S.Store c.args.conn.now) (state g.S.Store c.query_all.new.self) c.query_all.result (c.query_all.ensures.ok clean)
 
 pub returns-clause-rows : goal.returns-clause-rows
-returns-clause-rows g c clean live has =
+returns-clause-rows g c clean live version has =
     let old = state g.S.Store c.args.conn.now in
     let new = state g.S.Store c.query_all.new.self in
-    all_shown READ_RECEIPT.now receipt_is_query old new (receipt_rows old.now.trees) (λ rows sound. receipt_read old new rows sound has) c.query_all.result live (c.query_all.ensures.ok clean)
+    all_shown READ_RECEIPT.now receipt_is_query old new (receipt_rows old.now.trees) (λ rows sound. receipts_shown version old new rows sound has) c.query_all.result live (c.query_all.ensures.ok clean)
 
 pub returns-clause-understood : goal.returns-clause-understood
-returns-clause-understood g c clean has =
-    query_faults READ_RECEIPT.now receipt_is_query read.plain (state g.S.Store c.args.conn.now) (state g.S.Store c.query_all.new.self) has c.query_all.result (c.query_all.ensures.err clean)
+returns-clause-understood g c clean version has =
+    query_faults READ_RECEIPT.now receipt_is_query (schema_of version) (receipts_plain version) (state g.S.Store c.args.conn.now) (state g.S.Store c.query_all.new.self) has c.query_all.result (c.query_all.ensures.err clean)

@@ -1,4 +1,5 @@
 use Rattle.sqlite.specs.Held.{state}
+use Rattle.plan_schema.specs.Schema.{schema_of}
 use Rattle.plan_reads.specs.Tables.{rows_of, text_for}
 use Rattle.plan_reads.proofs.Faults.{each_plain, query_faults}
 use Rattle.plan_reads.proofs.Queried.{all_shown, only_reads, rows_shown, same_shown}
@@ -19,11 +20,11 @@ returns-clause-same g c clean =
     same_shown (text_for c.args.table) (each_is_query c.args.table) (state g.S.Store c.args.conn.now) (state g.S.Store c.query_all.new.self) c.query_all.result (rw c.read_text.ensures at (c.query_all.ensures.ok clean))
 
 pub returns-clause-rows : goal.returns-clause-rows
-returns-clause-rows g c clean live has =
+returns-clause-rows g c clean live version is_in has =
     let old = state g.S.Store c.args.conn.now in
     let new = state g.S.Store c.query_all.new.self in
-    all_shown (text_for c.args.table) (each_is_query c.args.table) old new (rows_of c.args.table old.now.trees) (λ rows sound. rows_shown c.args.table old new rows sound has) c.query_all.result live (rw c.read_text.ensures at (c.query_all.ensures.ok clean))
+    all_shown (text_for c.args.table) (each_is_query c.args.table) old new (rows_of c.args.table old.now.trees) (λ rows sound. rows_shown version c.args.table is_in old new rows sound has) c.query_all.result live (rw c.read_text.ensures at (c.query_all.ensures.ok clean))
 
 pub returns-clause-understood : goal.returns-clause-understood
-returns-clause-understood g c clean has =
-    query_faults (text_for c.args.table) (each_is_query c.args.table) (each_plain c.args.table) (state g.S.Store c.args.conn.now) (state g.S.Store c.query_all.new.self) has c.query_all.result (rw c.read_text.ensures at (c.query_all.ensures.err clean))
+returns-clause-understood g c clean version is_in has =
+    query_faults (text_for c.args.table) (each_is_query c.args.table) (schema_of version) (each_plain version c.args.table is_in) (state g.S.Store c.args.conn.now) (state g.S.Store c.query_all.new.self) has c.query_all.result (rw c.read_text.ensures at (c.query_all.ensures.err clean))

@@ -5,6 +5,6 @@ use Rattle.plan_reads.proofs.Reading.{receipts_decoded}
 use Rattle.plan_reads.proofs.rows.read_receipts.Goals as goal
 
 pub returns-clause-rows : goal.returns-clause-rows
-returns-clause-rows g c clean live has =
+returns-clause-rows g c clean live version has =
     let rises : rise_above None c.in_ok-stored.stored.items ≡ true = cc in
-    receipts_decoded (state g.S.Store c.args.conn.now).now.trees c.in_ok-stored.stored.items c.in_ok-decode_receipts.field-0 (c.in_ok-stored.ensures.rows clean live has) rises (rw c.deref-2.ensures.value at c.in_ok-decode_receipts.ensures)
+    receipts_decoded version (state g.S.Store c.args.conn.now).now.trees c.in_ok-stored.stored.items c.in_ok-decode_receipts.field-0 (c.in_ok-stored.ensures.rows clean live version has) rises (rw c.deref-2.ensures.value at c.in_ok-decode_receipts.ensures)

@@ -1,5 +1,5 @@
 use Rattle.sqlite.specs.Held.{state}
-use Rattle.plan_schema.specs.Schema.{schema_9}
+use Rattle.plan_schema.specs.Schema.{desk_schema}
 use Rattle.plan_schema.specs.Stored.{with_meta, meta_values}
 use Rattle.plan_schema.specs.declared.TheConstants.{PUT_META}
 use Rattle.plan_schema.proofs.MetaTexts.{put_is, put_plain}
@@ -22,5 +22,5 @@ returns-clause-written g c =
 pub returns-clause-names : goal.returns-clause-names
 returns-clause-names g c =
     let x = meta_columns c.args.version c.args.loaded c.args.clock in
-    finds_table_named schema_9 PUT_META.now (meta_values x) _ _ _ _ put_is put_plain (state g.S.Store c.args.tx.now.conn.now) (state g.S.Store c.run_text.new.tx.conn.now) c.run_text.result
+    finds_table_named desk_schema PUT_META.now (meta_values x) _ _ _ _ put_is put_plain (state g.S.Store c.args.tx.now.conn.now) (state g.S.Store c.run_text.new.tx.conn.now) c.run_text.result
     (λ clean inside. rw (c.number.ensures, c.number-2.ensures, c.flag.ensures, c.minute.ensures) at (c.run_text.ensures.runs clean inside))

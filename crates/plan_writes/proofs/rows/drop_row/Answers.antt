@@ -18,6 +18,8 @@ stays (key.Occurrence c) other held = refl
 stays (key.Operation o) other held = refl
 stays (key.Dependency p s) other held = refl
 stays (key.Need o name) other held = refl
+stays (key.Quantity name) other held = refl
+stays (key.Amount o name) other held = refl
 
 pub returns-in-Interval-clause-written : goal.returns-in-Interval-clause-written
 returns-in-Interval-clause-written g c = rw c.in-Interval.is c.drop_interval.ensures.written

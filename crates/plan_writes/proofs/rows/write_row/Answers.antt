@@ -23,3 +23,9 @@ returns-in-Dependency-clause-written g c = rw c.in-Dependency.is c.put_dependenc
 
 pub returns-in-Need-clause-written : goal.returns-in-Need-clause-written
 returns-in-Need-clause-written g c = rw c.in-Need.is c.put_need.ensures.written
+
+pub returns-in-Quantity-clause-written : goal.returns-in-Quantity-clause-written
+returns-in-Quantity-clause-written g c = rw c.in-Quantity.is c.put_quantity.ensures.written
+
+pub returns-in-Amount-clause-written : goal.returns-in-Amount-clause-written
+returns-in-Amount-clause-written g c = rw c.in-Amount.is c.put_amount.ensures.written

@@ -1,10 +1,10 @@
--- The nine texts make the nine tables.
+-- Each text makes its table, one after another.
 use Rattle.std.proofs.Common.{[], ◌∷◌, refl}
 use Rattle.sqlite_resolve.specs.Compile.{first}
 use Rattle.sqlite_tied.specs.Compute.{everything}
 use Rattle.table_rows.specs.Tables.{no_schema}
-use Rattle.plan_schema.specs.Schema.{meta, workstation, interval, resource, occurrence, operation, dependency, need, receipt, schema_1, schema_2, schema_3, schema_4, schema_5, schema_6, schema_7, schema_8, schema_9}
-use Rattle.plan_schema.specs.declared.TheConstants.{CREATE_META, CREATE_WORKSTATION, CREATE_INTERVAL, CREATE_RESOURCE, CREATE_OCCURRENCE, CREATE_OPERATION, CREATE_DEPENDENCY, CREATE_NEED, CREATE_RECEIPT}
+use Rattle.plan_schema.specs.Schema.{meta, workstation, interval, resource, occurrence, operation, dependency, need, receipt, quantity, amount, schema_1, schema_2, schema_3, schema_4, schema_5, schema_6, schema_7, schema_8, first_schema, schema_10, desk_schema}
+use Rattle.plan_schema.specs.declared.TheConstants.{CREATE_META, CREATE_WORKSTATION, CREATE_INTERVAL, CREATE_RESOURCE, CREATE_OCCURRENCE, CREATE_OPERATION, CREATE_DEPENDENCY, CREATE_NEED, CREATE_RECEIPT, CREATE_QUANTITY, CREATE_AMOUNT}
 use Rattle.plan_schema.proofs.MetaTexts as of_meta
 use Rattle.plan_schema.proofs.WorkstationTexts as of_workstation
 use Rattle.plan_schema.proofs.IntervalTexts as of_interval
@@ -14,6 +14,8 @@ use Rattle.plan_schema.proofs.OperationTexts as of_operation
 use Rattle.plan_schema.proofs.DependencyTexts as of_dependency
 use Rattle.plan_schema.proofs.NeedTexts as of_need
 use Rattle.plan_schema.proofs.ReceiptTexts as of_receipt
+use Rattle.plan_schema.proofs.QuantityTexts as of_quantity
+use Rattle.plan_schema.proofs.AmountTexts as of_amount
 use Rattle.plan_writes.proofs.Making.{LeadOn, Makes}
 
 meta_is_made : Makes no_schema meta CREATE_META.now
@@ -52,5 +54,13 @@ receipt_is_made : Makes schema_8 receipt CREATE_RECEIPT.now
 unfolding first everything
 receipt_is_made = record { is = of_receipt.create_is; plain = of_receipt.create_plain; reads = refl; free = record { name = refl; keys = (refl, tt) }; bare = refl; bare_after = refl }
 
-pub nine_lead : LeadOn no_schema (CREATE_META.now ∷ CREATE_WORKSTATION.now ∷ CREATE_INTERVAL.now ∷ CREATE_RESOURCE.now ∷ CREATE_OCCURRENCE.now ∷ CREATE_OPERATION.now ∷ CREATE_DEPENDENCY.now ∷ CREATE_NEED.now ∷ CREATE_RECEIPT.now ∷ []) schema_9
-nine_lead = (meta, meta_is_made, (workstation, workstation_is_made, (interval, interval_is_made, (resource, resource_is_made, (occurrence, occurrence_is_made, (operation, operation_is_made, (dependency, dependency_is_made, (need, need_is_made, (receipt, receipt_is_made, refl)))))))))
+pub quantity_is_made : Makes first_schema quantity CREATE_QUANTITY.now
+unfolding first everything
+quantity_is_made = record { is = of_quantity.create_is; plain = of_quantity.create_plain; reads = refl; free = record { name = refl; keys = (refl, tt) }; bare = refl; bare_after = refl }
+
+pub amount_is_made : Makes schema_10 amount CREATE_AMOUNT.now
+unfolding first everything
+amount_is_made = record { is = of_amount.create_is; plain = of_amount.create_plain; reads = refl; free = record { name = refl; keys = (refl, tt) }; bare = refl; bare_after = refl }
+
+pub all_lead : LeadOn no_schema (CREATE_META.now ∷ CREATE_WORKSTATION.now ∷ CREATE_INTERVAL.now ∷ CREATE_RESOURCE.now ∷ CREATE_OCCURRENCE.now ∷ CREATE_OPERATION.now ∷ CREATE_DEPENDENCY.now ∷ CREATE_NEED.now ∷ CREATE_RECEIPT.now ∷ CREATE_QUANTITY.now ∷ CREATE_AMOUNT.now ∷ []) desk_schema
+all_lead = (meta, meta_is_made, (workstation, workstation_is_made, (interval, interval_is_made, (resource, resource_is_made, (occurrence, occurrence_is_made, (operation, operation_is_made, (dependency, dependency_is_made, (need, need_is_made, (receipt, receipt_is_made, (quantity, quantity_is_made, (amount, amount_is_made, refl)))))))))))

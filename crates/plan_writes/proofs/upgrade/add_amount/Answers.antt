@@ -1,0 +1,18 @@
+use Rattle.std.proofs.Common.{[]}
+use Rattle.sqlite.specs.Held.{state}
+use Rattle.plan_schema.specs.Schema.{amount, schema_10}
+use Rattle.plan_schema.specs.declared.TheConstants.{CREATE_AMOUNT}
+use Rattle.plan_writes.specs.Upgrading.{Adds}
+use Rattle.plan_writes.proofs.AllTables.{amount_is_made}
+use Rattle.plan_writes.proofs.Upgraded.{adds_named, adds_so}
+use Rattle.plan_writes.proofs.Within.{executed}
+use Rattle.plan_writes.proofs.upgrade.add_amount.Goals as goal
+
+pub returns-clause-made : goal.returns-clause-made
+returns-clause-made g c =
+    let old = state g.S.Store c.args.tx.now.conn.now in
+    let new = state g.S.Store c.run_text.new.tx.conn.now in
+    executed (Adds schema_10 amount) CREATE_AMOUNT.now [] old new c.run_text.result (adds_so schema_10 amount CREATE_AMOUNT.now amount_is_made old new c.run_text.result) c.run_text.ensures.runs c.run_text.ensures.survives
+
+pub returns-clause-names : goal.returns-clause-names
+returns-clause-names g c = adds_named schema_10 amount CREATE_AMOUNT.now amount_is_made (state g.S.Store c.args.tx.now.conn.now) (state g.S.Store c.run_text.new.tx.conn.now) c.run_text.result c.run_text.ensures.runs
