@@ -16,7 +16,7 @@ may_occurrence : (x : Item) (c : OccKey) → occurrence_said (Some x) ≡ Some c
 may_occurrence (item.Occurrence d p t) c e = tt
 may_occurrence (item.Workstation w a) c e = absurd (none-some c e)
 may_occurrence (item.Interval w i) c e = absurd (none-some c e)
-may_occurrence (item.Resource r a) c e = absurd (none-some c e)
+may_occurrence (item.Resource r a q) c e = absurd (none-some c e)
 may_occurrence _ c e = tt
 
 -- one thing at most

@@ -98,7 +98,7 @@ module _ (records : List Fields) (items : List Item) (none : (place : ℕ) (k : 
   may_come : (x : Item) (place : ℕ) → slice_get items place ≡ Some x → MayComeIn x
   may_come (item.Workstation w a) place at = absurd (none place of_addition.NotAdded (item.Workstation w a, says_put items place (item.Workstation w a) at, λ h. h))
   may_come (item.Interval w i) place at = absurd (none place of_addition.NotAdded (item.Interval w i, says_put items place (item.Interval w i) at, λ h. h))
-  may_come (item.Resource r a) place at = absurd (none place of_addition.NotAdded (item.Resource r a, says_put items place (item.Resource r a) at, λ h. h))
+  may_come (item.Resource r a q) place at = absurd (none place of_addition.NotAdded (item.Resource r a q, says_put items place (item.Resource r a q) at, λ h. h))
   may_come _ place at = tt
 
   may : All MayComeIn items
@@ -198,7 +198,7 @@ module _ (records : List Fields) (items : List Item) (none : (place : ℕ) (k : 
       | inr le ↦ omega (arith, count_needs o items, le)
       | inl more ↦
           let first = first_of (group.NeedsOf o) (groups_in items) (omega (arith, more)) in
-          absurd (of_record first.0 (fault.TooMany (group.NeedsOf o) (count_of (group.NeedsOf o) (groups_in items))) tt (inl (inr (inr (inr (inr (inr (inr (first.1, refl, more)))))))))
+          absurd (of_record first.0 (fault.TooMany (group.NeedsOf o) (count_of (group.NeedsOf o) (groups_in items))) tt (inl (inr (inr (inr (inr (inr (inr (inl (first.1, refl, more))))))))))
     ]
 
     some_operation : 0 < length (operations_in items)
@@ -219,13 +219,13 @@ module _ (records : List Fields) (items : List Item) (none : (place : ℕ) (k : 
         unowned (item.Operation o ∷ xs) size i e = omega (arith, size)
         unowned (item.Workstation w a ∷ xs) size zero e = none-some (key.Occurrence c) (same_Some None (Some (key.Occurrence c)) e)
         unowned (item.Interval w j ∷ xs) size zero e = none-some (key.Occurrence c) (same_Some None (Some (key.Occurrence c)) e)
-        unowned (item.Resource r a ∷ xs) size zero e = none-some (key.Occurrence c) (same_Some None (Some (key.Occurrence c)) e)
+        unowned (item.Resource r a q ∷ xs) size zero e = none-some (key.Occurrence c) (same_Some None (Some (key.Occurrence c)) e)
         unowned (item.Occurrence d p t ∷ xs) size zero e = none-some (key.Occurrence c) (same_Some None (Some (key.Occurrence c)) e)
         unowned (item.Dependency p s ∷ xs) size zero e = none-some (key.Occurrence c) (same_Some None (Some (key.Occurrence c)) e)
         unowned (item.Need o n ∷ xs) size zero e = none-some (key.Occurrence c) (same_Some None (Some (key.Occurrence c)) e)
         unowned (item.Workstation w a ∷ xs) size (suc i) e = unowned xs size i e
         unowned (item.Interval w j ∷ xs) size (suc i) e = unowned xs size i e
-        unowned (item.Resource r a ∷ xs) size (suc i) e = unowned xs size i e
+        unowned (item.Resource r a q ∷ xs) size (suc i) e = unowned xs size i e
         unowned (item.Occurrence d p t ∷ xs) size (suc i) e = unowned xs size i e
         unowned (item.Dependency p s ∷ xs) size (suc i) e = unowned xs size i e
         unowned (item.Need o n ∷ xs) size (suc i) e = unowned xs size i e

@@ -29,7 +29,7 @@ use Rattle.record_faults.specs.declared.groups.Group.{Group}
 use Rattle.record_faults.specs.declared.groups.Group.TheVariants as group
 use Rattle.record_faults.specs.Sayings.{Sayings, SaysAt, owner_of, owned, given, IsGiven}
 use Rattle.record_faults.specs.Groups.{group_of, count_of}
-use Rattle.record_faults.specs.Faults.{name_of, IsSilent, IsRepetition, IsOverlap, IsUndefined, IsUnused, IsCrowd, IsMissing, IsFaultAt}
+use Rattle.record_faults.specs.Faults.{name_of, IsSilent, IsRepetition, IsOverlap, IsUndefined, IsUnused, IsCrowd, IsBeyondStock, IsMissing, IsFaultAt}
 use Rattle.record_faults.proofs.Denoted.{no_gap, says_put, given_get, given_put}
 use Rattle.record_faults.proofs.Limits.{groups_in, count_occurrences, count_needs}
 use Rattle.addition_faults.specs.declared.faults.AdditionFault.{AdditionFault}
@@ -61,7 +61,7 @@ entered_in items place c e = let there = entered_given (map Some items) place c 
     of (item.Occurrence d p t) f = (record { priority = p; deadline = t }, ap (λ (z : OccKey). Some (z, record { priority = p; deadline = t })) (same_Some d c f))
     of (item.Workstation w a) f = absurd (none-some c f)
     of (item.Interval w i) f = absurd (none-some c f)
-    of (item.Resource r a) f = absurd (none-some c f)
+    of (item.Resource r a q) f = absurd (none-some c f)
     of (item.Operation o) f = absurd (none-some c f)
     of (item.Dependency p s) f = absurd (none-some c f)
     of (item.Need o n) f = absurd (none-some c f)
@@ -175,6 +175,8 @@ module _ (c : OccKey) (terms : Occurrence) (items : List Item) (come : ComeIn c 
   never_undefined naming place (fault.Undefined (key.Resource r)) h j = j
   never_undefined naming place (fault.Undefined (key.Dependency p s)) h j = j
   never_undefined naming place (fault.Undefined (key.Need o r)) h j = j
+  never_undefined naming place (fault.Undefined (key.Quantity r)) h j = j
+  never_undefined naming place (fault.Undefined (key.Amount o r)) h j = j
   never_undefined naming place _ h j = h
 
   -- the occurrence has an operation
@@ -230,6 +232,11 @@ module _ (c : OccKey) (terms : Occurrence) (items : List Item) (come : ComeIn c 
   never_crowded place (fault.TooMany group.Dependencies count) h j = j
   never_crowded place _ h j = h
 
+  -- what there is of a resource isn't judged
+  never_beyond : (place : ℕ) (f : Fault) → IsBeyondStock Said place f → ¬ IsJudged Said place f
+  never_beyond place (fault.BeyondStock other) h j = j
+  never_beyond place _ h j = h
+
   never_without_workstation : (place : ℕ) (f : Fault) → IsMissing group.Workstations Said place f → ¬ IsJudged Said place f
   never_without_workstation place (fault.Missing group.Occurrences) h j = let never : group.Occurrences ≢ group.Workstations = cc in never h.0
   never_without_workstation place (fault.Missing group.Workstations) h j = j
@@ -254,7 +261,8 @@ module _ (c : OccKey) (terms : Occurrence) (items : List Item) (come : ComeIn c 
   never_of_record records place f (inl (inr (inr (inr (inl h))))) j = never_undefined First place f h j
   never_of_record records place f (inl (inr (inr (inr (inr (inl h)))))) j = never_undefined Second place f h j
   never_of_record records place f (inl (inr (inr (inr (inr (inr (inl h))))))) j = never_unused place f h
-  never_of_record records place f (inl (inr (inr (inr (inr (inr (inr h))))))) j = never_crowded place f h j
+  never_of_record records place f (inl (inr (inr (inr (inr (inr (inr (inl h)))))))) j = never_crowded place f h j
+  never_of_record records place f (inl (inr (inr (inr (inr (inr (inr (inr h)))))))) j = never_beyond place f h j
   never_of_record records place f (inr (inl h)) j = never_without_workstation place f h j
   never_of_record records place f (inr (inr h)) j = never_missing place f h
 

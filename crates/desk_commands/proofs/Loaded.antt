@@ -15,8 +15,8 @@ use Rattle.command_answers.specs.declared.endings.Fault.{Fault}
 -- the answer at a database is that of a desk
 load_answer : (before after : StoreState) (at : ℤ) (found : Option Contents) (a : Answer) → IsAnswerToLoad before after at found a → IsLoadAnswer at found a
 load_answer before after at found (accepted named) (s, t, from, step, holds) = inl (s, t, step)
-load_answer before after at found (refused r) (inl opening, stays) = inr (r, opening.0, refl)
-load_answer before after at found (refused r) (inr (s, from, step), stays) = inl (s, s, step)
+load_answer before after at found (refused r) (inl opening, stays, brought) = inr (r, opening.0, refl)
+load_answer before after at found (refused r) (inr (s, from, step), stays, brought) = inl (s, s, step)
 
 -- it was shown
 pub load_told : (at : ℤ) (found : Option Contents) (before after : StoreState) (a : Answer) (r : Result Ending Fault) (old new : Option (List ℕ))

@@ -89,8 +89,9 @@ module _ (P : Contents) (o : OpKey) (op : Operation) (m : ℕ) where
   starts (reason.Lacks x) high h = h.0
   starts (reason.Unavailable r) high h = h.0
   starts (reason.HeldBy x) high h = h.0
+  starts (reason.TooLittleLeft x) high h = h.0
 
-  pub without_start : (found : List Reason) → needs_start P op ≡ false → AreBefore P o op m 3 found → AreBefore P o op m 10 found
+  pub without_start : (found : List Reason) → needs_start P op ≡ false → AreBefore P o op m 3 found → AreBefore P o op m 11 found
   without_start found none a = record {
     in_order = a.in_order;
     exactly = λ r. (
@@ -100,7 +101,7 @@ module _ (P : Contents) (o : OpKey) (op : Operation) (m : ℕ) where
   }
 
   -- the reasons of all kinds are all
-  pub all_found : (found : List Reason) → get P.operations o ≡ Some op → AreBefore P o op m 10 found → AreReasons P o m found
+  pub all_found : (found : List Reason) → get P.operations o ≡ Some op → AreBefore P o op m 11 found → AreReasons P o m found
   all_found found is a = record {
     in_order = a.in_order;
     exactly = λ r. (

@@ -1,5 +1,5 @@
 -- No reason is left exactly where an operation may start.
-use Rattle.std.proofs.Common.{◌≡◌, inl, inr, refl, sym, ap, subst, ◌∙◌, arith, ℕ, zero, suc, ◌+◌, ◌<◌, ◌≤◌, Bool, true, false, true≢false, not, ◌&&◌, List, [], ◌∷◌, get_or, length, map, Contains, Option, Some, None, MatchOption}
+use Rattle.std.proofs.Common.{◌≡◌, inl, inr, refl, sym, ap, subst, ◌∙◌, arith, ℕ, zero, suc, ◌+◌, ◌-◌, ◌<◌, ◌≤◌, Bool, true, false, true≢false, not, ◌&&◌, List, [], ◌∷◌, get_or, length, map, Contains, Option, Some, None, MatchOption}
 use Rattle.std.specs.FinMap.{entries, from_entries, get, nat_cmp-IsAntisymmetric}
 use Rattle.std.specs.Cmp.{nat_cmp_total}
 use Rattle.std.specs.List.Sorted.{IsStrictlySortedBy}
@@ -7,7 +7,8 @@ use Rattle.std.specs.Map.{keys_of}
 use Rattle.std.specs.Option.{is_none}
 use Rattle.std.specs.Ordering.{nat_cmp}
 use Rattle.std.proofs.lemmas.Bool.{cases_lt}
-use Rattle.std.proofs.lemmas.Option.{same_Some, slice_get-get_or}
+use Rattle.std.proofs.lemmas.List.Elements.{All-head}
+use Rattle.std.proofs.lemmas.Option.{none-some, same_Some, slice_get-get_or}
 use Rattle.plan_basics.specs.Intervals.{OpenInterval}
 use Rattle.plan_basics.specs.declared.Refusal.{Refusal}
 use Rattle.plan_basics.specs.declared.Refusal.TheVariants as refusal
@@ -23,16 +24,20 @@ use Rattle.plan_basics.proofs.Members.{place_of}
 use Rattle.plan_core.specs.plan_drafts.proofs.EntryRows.{row_in}
 use Rattle.plan_core.specs.plan_drafts.proofs.Lists.{contains_none, no_members}
 use Rattle.plan_core.specs.plan_drafts.proofs.Tables.{is_found}
-use Rattle.plan_core.specs.plan_laws.proofs.Allowing.{may_start_told, told_available}
+use Rattle.plan_core.specs.plan_laws.proofs.Allowing.{may_start_told, others}
+use Rattle.plan_core.specs.plan_laws.proofs.Entries.{same_operation}
 use Rattle.plan_core.specs.plan_laws.proofs.Classes.{ready_told, satisfied_decides}
 use Rattle.plan_core.specs.plan_laws.proofs.Starts.{interrupted_mark, ready_in_order}
 use Rattle.plan_core.specs.plan_laws.proofs.Standing.{one_status, satisfied_told, some_status}
 use Rattle.plan_model.proofs.Entries.{entries_are, entries_in_order}
 use Rattle.plan_model.specs.Contents.{Contents, Operation, attribute_at}
-use Rattle.plan_model.specs.Holdings.{given_out, takes}
+use Rattle.plan_model.specs.Holdings.{Holds, given_out, takes}
+use Rattle.plan_model.specs.declared.Stock.{Stock}
 use Rattle.plan_model.specs.Starts.{FitsAt, MayStart}
 use Rattle.plan_model.specs.Status.{AllPredecessorsSatisfied, HasStatus, IsSatisfied, UnmarkedStatus}
 use Rattle.plan_model.specs.Valid.{IsValid}
+use Rattle.special_resources.proofs.Amounts.{AreAllHolders, some_of_all}
+use Rattle.special_resources.specs.Holders.{AreHolders, HoldsAmount, IsAmount, LeavesEnough, OtherHolds, SharesWithHolders, amount_held}
 use Rattle.workstations.specs.Workstations.{HasCapacity, IsWorkstation, Workstation}
 use Rattle.workstations.specs.declared.Capacity.{Capacity}
 use Rattle.plan_reasons.specs.Laws.{EmptyWhereItMayStart}
@@ -151,8 +156,16 @@ module _ (P : Contents) (valid : IsValid P) (o : OpKey) (op : Operation) (is : g
   no_reason may (reason.Closed w) h = never_closed None h.2 (may refusal.Closed)
   no_reason may (reason.ClosedUntil x) h = never_closed (Some x.until) h.2 (may refusal.Closed)
   no_reason may (reason.Lacks x) h = lacking_may x.supply x refl h.1 may
-  no_reason may (reason.Unavailable r) h = h.2 (may refusal.ResourceBusy r h.1.0 h.1.1).0
-  no_reason may (reason.HeldBy x) h = let k = h.1 in k.in_the_way ((may refusal.ResourceBusy x.resource k.usage k.needs).1 x.holder k.held k.another k.holds)
+  no_reason may (reason.Unavailable r) h = let fit = may refusal.ResourceBusy r h.1.0 h.1.1 in h.2 (fit.0, fit.1, fit.2)
+  no_reason may (reason.HeldBy x) h = let k = h.1 in k.in_the_way ((may refusal.ResourceBusy x.resource k.usage k.needs).3.0 x.holder k.held k.another k.holds)
+  no_reason may (reason.TooLittleLeft x) h =
+      let k = h.1 in
+      let fit = may refusal.ResourceBusy x.resource k.usage k.needs in
+      let stock : fit.0 ≡ k.stock = same_Some fit.0 k.stock (sym fit.1 ∙ k.there) in
+      let quantity : fit.0.quantity ≡ k.stock.quantity = ap (λ (s : Stock). s.quantity) stock in
+      let enough = fit.3.1 k.others k.are.are in
+      let lacks = k.lacks in
+      omega (arith, enough, quantity, k.left, k.needed, lacks)
 
   -- ---- what has no reason may start
 
@@ -222,27 +235,76 @@ module _ (P : Contents) (valid : IsValid P) (o : OpKey) (op : Operation) (is : g
     ]
 
     usable : MayStart P o op m refusal.ResourceBusy
-    usable r usage need = (
-      available,
-      λ other held apart holds. elim (both_shared usage.mode held.mode) [
-        | inr both ↦ both
-        | inl off ↦ absurd (none (reason.HeldBy (record { resource = r; holder = other; mode = held.mode })) (
-          start,
-          record {
-            usage = usage;
-            needs = need;
-            another = apart;
-            held = held;
-            holds = holds;
-            mode = refl;
-            in_the_way = λ both. let on : is_shared usage.mode && is_shared held.mode ≡ true = λ i. is_shared (both.0 i) && is_shared (both.1 i) in true≢false (sym on ∙ off);
-          },
-        ))
-      ],
-    )
+    usable r usage need = (available.0, available.1, available.2, (shares, leaves))
       where
-        available : get P.resources r ≡ Some true
-        available = elim (told_available (get P.resources r) true) [ inl on ↦ on | inr off ↦ absurd (none (reason.Unavailable r) (start, (usage, need), off)) ]
+        available : (stock : Stock) × (get P.resources r ≡ Some stock) × (stock.available ≡ true)
+        available = by_stock (get P.resources r) refl
+          where
+            by_test : (stock : Stock) → get P.resources r ≡ Some stock → (b : Bool) → stock.available ≡ b → (stock : Stock) × (get P.resources r ≡ Some stock) × (stock.available ≡ true)
+            by_test stock there true on = (stock, there, on)
+            by_test stock there false off = absurd (none (reason.Unavailable r) (
+              start,
+              (usage, need),
+              λ on.
+                  true≢false (sym on.2 ∙ ap (λ (s : Stock). s.available) (same_Some on.0 stock (sym on.1 ∙ there)) ∙ off),
+            ))
+
+            by_stock : (stock : Option Stock) → get P.resources r ≡ stock → (stock : Stock) × (get P.resources r ≡ Some stock) × (stock.available ≡ true)
+            by_stock None away = absurd (none (reason.Unavailable r) (start, (usage, need), λ on. none-some on.0 (sym away ∙ on.1)))
+            by_stock (Some stock) there = by_test stock there stock.available refl
+
+        shares : SharesWithHolders (Holds P) o r usage
+        shares other held apart holds = elim (both_shared usage.claim.mode held.claim.mode) [
+          | inr both ↦ both
+          | inl off ↦ absurd (none (reason.HeldBy (record { resource = r; holder = other; mode = held.claim.mode })) (
+            start,
+            record {
+              usage = usage;
+              needs = need;
+              another = apart;
+              held = held;
+              holds = holds;
+              mode = refl;
+              in_the_way = λ both. let on : is_shared usage.claim.mode && is_shared held.claim.mode ≡ true = λ i. is_shared (both.0 i) && is_shared (both.1 i) in true≢false (sym on ∙ off);
+            },
+          ))
+        ]
+
+        all : (hs : List (OpKey × ℕ)) × AreAllHolders same_operation (OtherHolds (Holds P) o) r hs
+        all = others P o r
+
+        -- where another holds it, o shares it, and so needs some
+        some_needed : (h : OpKey × ℕ) (some : List (OpKey × ℕ)) → AreHolders (OtherHolds (Holds P) o) r (h ∷ some) → 1 ≤ usage.claim.amount
+        some_needed h some are =
+            let first = All-head (λ (g : OpKey × ℕ). HoldsAmount (OtherHolds (Holds P) o) g.0 r g.1) h some are.hold in
+            let shared = (shares h.0 first.0 first.1.0 first.1.1).0 in
+            (subst (λ m. IsAmount m usage.claim.amount) shared ((valid.occurrences.each_operation o op is).0.needs r usage need).1).0
+
+        enough_left : usage.claim.amount ≤ available.0.quantity - amount_held all.0
+        enough_left = elim (cases_lt (available.0.quantity - amount_held all.0) usage.claim.amount) [
+          | inr fits ↦ fits
+          | inl short ↦ absurd (none (reason.TooLittleLeft (record { resource = r; left = available.0.quantity - amount_held all.0; needed = usage.claim.amount })) (
+            start,
+            record {
+              usage = usage;
+              needs = need;
+              stock = available.0;
+              there = available.1;
+              others = all.0;
+              are = record { are = all.1.are; all = all.1.all };
+              left = refl;
+              needed = refl;
+              lacks = short;
+            },
+          ))
+        ]
+
+        leaves : LeavesEnough available.0.quantity (Holds P) o r usage
+        leaves [] are = let few = valid.amounts o op is r usage need available.0 available.1 in omega (arith, few)
+        leaves (h ∷ some) are =
+            let most = some_of_all same_operation (OtherHolds (Holds P) o) r all.0 all.1 (h ∷ some) are in
+            let one = some_needed h some are in
+            omega (arith, most, one, enough_left)
 
     may_start : (line : Refusal) → MayStart P o op m line
     may_start refusal.WrongStatus = begins

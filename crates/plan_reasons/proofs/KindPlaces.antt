@@ -6,6 +6,7 @@ use Rattle.plan_reasons.specs.declared.reasons.Closing.{Closing}
 use Rattle.plan_reasons.specs.declared.reasons.Obstacle.{Obstacle}
 use Rattle.plan_reasons.specs.declared.reasons.Reason.{Reason}
 use Rattle.plan_reasons.specs.declared.reasons.Reason.TheVariants as reason
+use Rattle.plan_reasons.specs.declared.reasons.Scarcity.{Scarcity}
 use Rattle.plan_reasons.specs.declared.reasons.Shortage.{Shortage}
 use Rattle.plan_reasons.specs.declared.reasons.Supply.{Supply}
 use Rattle.plan_reasons.specs.declared.reasons.Supply.TheVariants as supply
@@ -23,8 +24,8 @@ same_supply supply.R1 supply.R1 e = refl
 same_supply supply.R2 supply.R2 e = refl
 same_supply a b e = absurd (omega (arith, e))
 
--- there are ten kinds
-pub kind_low : (r : Reason) → reason_place r < 10
+-- there are eleven kinds
+pub kind_low : (r : Reason) → reason_place r < 11
 kind_low (reason.Lacks x) = omega (arith, supply_low x.supply)
 kind_low r = omega arith
 
@@ -33,6 +34,7 @@ pub before_by_kind : (a b : Reason) → reason_place a < reason_place b → Come
 before_by_kind (reason.WaitsFor x) (reason.WaitsFor y) lt = absurd (omega (arith, lt))
 before_by_kind (reason.Unavailable r) (reason.Unavailable s) lt = absurd (omega (arith, lt))
 before_by_kind (reason.HeldBy x) (reason.HeldBy y) lt = absurd (omega (arith, lt))
+before_by_kind (reason.TooLittleLeft x) (reason.TooLittleLeft y) lt = absurd (omega (arith, lt))
 before_by_kind a b lt = lt
 
 -- what is so of the reasons of a kind is so of each reason that has its place
@@ -71,3 +73,8 @@ module _ (Q : Reason → Type 0) where
   only_held_by f (reason.HeldBy x) e = f x
   only_held_by f (reason.Lacks x) e = absurd (omega (arith, e, supply_low x.supply))
   only_held_by f r e = absurd (omega (arith, e))
+
+  pub only_too_little : ((x : Scarcity) → Q (reason.TooLittleLeft x)) → (r : Reason) → reason_place r ≡ 10 → Q r
+  only_too_little f (reason.TooLittleLeft x) e = f x
+  only_too_little f (reason.Lacks x) e = absurd (omega (arith, e, supply_low x.supply))
+  only_too_little f r e = absurd (omega (arith, e))

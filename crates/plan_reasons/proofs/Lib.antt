@@ -11,3 +11,4 @@ pub mod Waits
 pub mod Emptying
 pub mod PassedOver
 pub mod ReadyWaits
+pub mod TooLittle

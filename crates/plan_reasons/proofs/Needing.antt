@@ -1,5 +1,5 @@
 -- The reasons that special resources aren't available.
-use Rattle.std.proofs.Common.{◌≡◌, ◌≢◌, inl, inr, refl, sym, ap, subst, ◌∙◌, ℕ, ◌+◌, ◌<◌, Bool, true, false, true≢false, cond, List, [], ◌∷◌, ◌++◌, drop, get_or, length, map, take, Contains, Option, Some, None, unwrap_or}
+use Rattle.std.proofs.Common.{◌≡◌, ◌≢◌, inl, inr, refl, sym, ap, subst, ◌∙◌, ℕ, ◌+◌, ◌<◌, Bool, true, false, true≢false, cond, List, [], ◌∷◌, ◌++◌, drop, get_or, length, map, take, Contains, Option, Some, None}
 use Rattle.std.specs.FinMap.{get}
 use Rattle.std.specs.List.{filter_map}
 use Rattle.std.specs.List.Sorted.{IsStrictlySortedBy}
@@ -8,6 +8,7 @@ use Rattle.std.specs.declared.cmp.Ordering.TheVariants.{Less}
 use Rattle.std.proofs.lemmas.List.Elements.{All-contains, All-from_recursion, Contains-append_right}
 use Rattle.std.proofs.lemmas.List.{drop_more, take-append-drop}
 use Rattle.std.proofs.lemmas.Map.Keys.{sorted_head, sorted_tail}
+use Rattle.std.proofs.lemmas.Bool.{false_from_ne_true}
 use Rattle.std.proofs.lemmas.Option.{none-some, same_Some}
 use Rattle.plan_basics.specs.Keys.{Name, name_cmp}
 use Rattle.plan_basics.specs.declared.keys.OpKey.{OpKey}
@@ -17,9 +18,10 @@ use Rattle.special_resources.specs.declared.Need.{Need}
 use Rattle.special_resources.proofs.MoreNeeds.{need_by_usage, usage_by_need}
 use Rattle.plan_core.specs.plan_drafts.proofs.Lists.{Differ, contains_cases, contains_head, contains_none, differ_filter, differ_unmap, from_filter, in_filter, pairs_from_differ}
 use Rattle.plan_model.specs.Contents.{Contents, Operation}
+use Rattle.plan_model.specs.declared.Stock.{Stock}
 use Rattle.plan_reasons.specs.Order.{ComesBefore, reason_place}
 use Rattle.plan_reasons.specs.Parts.{AreOfKind}
-use Rattle.plan_reasons.specs.Places.{unavailable_of}
+use Rattle.plan_reasons.specs.Places.{is_available, unavailable_of}
 use Rattle.plan_reasons.specs.Reasons.{IsReasonOf, needs_start}
 use Rattle.plan_reasons.specs.declared.reasons.Reason.{Reason}
 use Rattle.plan_reasons.specs.declared.reasons.Reason.TheVariants as reason
@@ -50,13 +52,12 @@ told_off : (t : Bool) (name : Name) (r : Reason) → cond t None (Some (reason.U
 told_off true name r e = absurd (none-some r e)
 told_off false name r e = (refl, same_Some (reason.Unavailable name) r e)
 
-off : (x : Option Bool) → x ≢ Some true → unwrap_or x false ≡ false
+off : (x : Option Stock) → ¬ ((stock : Stock) × (x ≡ Some stock) × (stock.available ≡ true)) → is_available x ≡ false
 off None h = refl
-off (Some false) h = refl
-off (Some true) h = absurd (h refl)
+off (Some stock) h = false_from_ne_true stock.available (λ on. h (stock, refl, on))
 
-not_on : (x : Option Bool) → unwrap_or x false ≡ false → x ≢ Some true
-not_on x h e = true≢false (sym (ap (λ z. unwrap_or z false) e) ∙ h)
+not_on : (x : Option Stock) → is_available x ≡ false → ¬ ((stock : Stock) × (x ≡ Some stock) × (stock.available ≡ true))
+not_on x h (stock, e, on) = true≢false (sym on ∙ sym (ap is_available e) ∙ h)
 
 module _ (P : Contents) (o : OpKey) (op : Operation) (m : ℕ) (start : needs_start P op ≡ true) (needs : List Need) (in_order : AreInNameOrder needs) (are : op.needs ≡ usages_of needs) where
   abbrev tell : Need → Option Reason
@@ -67,13 +68,13 @@ module _ (P : Contents) (o : OpKey) (op : Operation) (m : ℕ) (start : needs_st
 
   ordered : (a b : Need) (r s : Reason) → tell a ≡ Some r → tell b ≡ Some s → name_cmp a.name b.name ≡ Less → ComesBefore r s
   ordered a b r s e k less =
-      subst (λ z. ComesBefore z s) (told_off (unwrap_or (get P.resources a.name) false) a.name r e).1
-      (subst (ComesBefore (reason.Unavailable a.name)) (told_off (unwrap_or (get P.resources b.name) false) b.name s k).1 less)
+      subst (λ z. ComesBefore z s) (told_off (is_available (get P.resources a.name)) a.name r e).1
+      (subst (ComesBefore (reason.Unavailable a.name)) (told_off (is_available (get P.resources b.name)) b.name s k).1 less)
 
   sound : (r : Reason) → Contains (filter_map tell needs) r → IsReasonOf P o op m r × (reason_place r ≡ 8)
   sound r has =
       let (need, there, e) = from_filter tell needs r has in
-      let t = told_off (unwrap_or (get P.resources need.name) false) need.name r e in
+      let t = told_off (is_available (get P.resources need.name)) need.name r e in
       subst (λ z. IsReasonOf P o op m z × (reason_place z ≡ 8)) t.1
       ((start, (usage_of need, ap (λ (u : Usages). get u need.name) are ∙ usage_by_need needs in_order need there), not_on (get P.resources need.name) t.0), refl)
 
@@ -81,7 +82,7 @@ module _ (P : Contents) (o : OpKey) (op : Operation) (m : ℕ) (start : needs_st
   complete name h =
       let used = h.1 in
       let (need, there, same, u) = need_by_usage needs in_order name used.0 (sym (ap (λ (x : Usages). get x name) are) ∙ used.1) in
-      let t : unwrap_or (get P.resources need.name) false ≡ false = ap (λ z. unwrap_or (get P.resources z) false) same ∙ off (get P.resources name) h.2 in
+      let t : is_available (get P.resources need.name) ≡ false = ap (λ z. is_available (get P.resources z)) same ∙ off (get P.resources name) h.2 in
       in_filter tell needs need (reason.Unavailable name) there (ap (λ b. cond b None (Some (reason.Unavailable need.name))) t ∙ ap (λ z. Some (reason.Unavailable z)) same)
 
   -- those that aren't available, need by need

@@ -20,7 +20,6 @@ use Rattle.special_resources.proofs.MoreNeeds.{need_by_usage, usage_by_need}
 use Rattle.plan_choice.specs.Choices.{AreHeldIn}
 use Rattle.plan_core.specs.plan_drafts.proofs.Lists.{contains_none, differ_filter, differ_unmap, from_filter, in_filter, pairs_from_differ}
 use Rattle.plan_model.specs.Contents.{Contents, Operation}
-use Rattle.plan_model.specs.Holdings.{Holds}
 use Rattle.plan_reasons.specs.Order.{ComesBefore, reason_place}
 use Rattle.plan_reasons.specs.Parts.{AreOfKind}
 use Rattle.plan_reasons.specs.Places.{held_by, is_in_way, is_shared, obstacle_of}
@@ -50,20 +49,20 @@ both_shared a b = inl refl
 
 module _ (o : OpKey) (m : Mode) (h : Holder) where
   -- it is another, and not both share the resource
-  in_way : is_in_way o m h ≡ true → (h.operation ≢ o) × ¬ ((m ≡ mode.Shared) × (h.mode ≡ mode.Shared))
+  in_way : is_in_way o m h ≡ true → (h.operation ≢ o) × ¬ ((m ≡ mode.Shared) × (h.claim.mode ≡ mode.Shared))
   in_way e =
-      let parts = both_off (eq_by_cmp operation_cmp h.operation o) (is_shared m && is_shared h.mode) e in (
+      let parts = both_off (eq_by_cmp operation_cmp h.operation o) (is_shared m && is_shared h.claim.mode) e in (
         λ same. true≢false (sym ((eq_by_cmp_equiv operation_cmp_total).refl o) ∙ ap (λ k. eq_by_cmp operation_cmp k o) (sym same) ∙ parts.0),
-        λ both. let on : is_shared m && is_shared h.mode ≡ true = λ i. is_shared (both.0 i) && is_shared (both.1 i) in true≢false (sym on ∙ parts.1),
+        λ both. let on : is_shared m && is_shared h.claim.mode ≡ true = λ i. is_shared (both.0 i) && is_shared (both.1 i) in true≢false (sym on ∙ parts.1),
       )
 
-  by_way : h.operation ≢ o → ¬ ((m ≡ mode.Shared) × (h.mode ≡ mode.Shared)) → is_in_way o m h ≡ true
-  by_way apart alone = elim (both_shared m h.mode) [
+  by_way : h.operation ≢ o → ¬ ((m ≡ mode.Shared) × (h.claim.mode ≡ mode.Shared)) → is_in_way o m h ≡ true
+  by_way apart alone = elim (both_shared m h.claim.mode) [
     | inl off ↦ at (eq_by_cmp operation_cmp h.operation o) refl off
     | inr both ↦ absurd (alone both)
   ]
     where
-      at : (b : Bool) → eq_by_cmp operation_cmp h.operation o ≡ b → is_shared m && is_shared h.mode ≡ false → is_in_way o m h ≡ true
+      at : (b : Bool) → eq_by_cmp operation_cmp h.operation o ≡ b → is_shared m && is_shared h.claim.mode ≡ false → is_in_way o m h ≡ true
       at false e off = λ i. not (e i) && not (off i)
       at true e off = absurd (apart (operation_cmp-IsAntisymmetric h.operation o ((Equal-is (operation_cmp h.operation o)).0 e)))
 
@@ -77,7 +76,7 @@ module _ (o : OpKey) (m : Mode) (h : Holder) where
 -- the holder holds the resource of the need, and is in the way
 pub record IsInWay (o : OpKey) (held : Held) (need : Need) (h : Holder) : Type 0 where
   pub resource : h.resource ≡ need.name
-  pub holds : get held (holding_of h) ≡ Some h.mode
+  pub holds : get held (holding_of h) ≡ Some h.claim
   pub way : is_in_way o need.mode h ≡ true
 
 -- the reasons that holders are of these needs' resources, in order
@@ -95,7 +94,7 @@ module _ (o : OpKey) (held : Held) where
   }
 
   module _ (needs : List Need) (found : List Reason) (a : IsObstructed o held needs found) (need : Need) (holders : List Holder)
-      (members : (h : Holder) → (Contains holders h → (h.resource ≡ need.name) × (get held (holding_of h) ≡ Some h.mode)) × ((h.resource ≡ need.name) × (get held (holding_of h) ≡ Some h.mode) → Contains holders h))
+      (members : (h : Holder) → (Contains holders h → (h.resource ≡ need.name) × (get held (holding_of h) ≡ Some h.claim)) × ((h.resource ≡ need.name) × (get held (holding_of h) ≡ Some h.claim) → Contains holders h))
       (ascends : AreInOrder holders) (later : (n : Need) → Contains needs n → name_cmp n.name need.name ≡ Less) where
     abbrev tell : Holder → Option Reason
     tell = obstacle_of o need.mode
@@ -148,15 +147,15 @@ module _ (o : OpKey) (held : Held) where
 
 module _ (P : Contents) (o : OpKey) (op : Operation) (m : ℕ) (start : needs_start P op ≡ true) (held : Held) (holders : AreHeldIn P held) (needs : List Need) (in_order : AreInNameOrder needs) (are : op.needs ≡ usages_of needs)
     (found : List Reason) (a : IsObstructed o held needs found) where
-  obstacle : (need : Need) (h : Holder) → Contains needs need → IsInWay o held need h → IsObstacle P o op (record { resource = h.resource; holder = h.operation; mode = h.mode })
+  obstacle : (need : Need) (h : Holder) → Contains needs need → IsInWay o held need h → IsObstacle P o op (record { resource = h.resource; holder = h.operation; mode = h.claim.mode })
   obstacle need h there way =
-      let (keep, holds) = (holders h.operation h.resource h.mode).0 way.holds in
+      let (keep, holds) = (holders h.operation h.resource h.claim).0 way.holds in
       let apart = in_way o need.mode h way.way in
       record {
         usage = usage_of need;
         needs = ap (λ (u : Usages). get u h.resource) are ∙ ap (get (usages_of needs)) way.resource ∙ usage_by_need needs in_order need there;
         another = apart.0;
-        held = record { mode = h.mode; keep = keep };
+        held = record { claim = h.claim; keep = keep };
         holds = holds;
         mode = refl;
         in_the_way = apart.1;
@@ -171,14 +170,14 @@ module _ (P : Contents) (o : OpKey) (op : Operation) (m : ℕ) (start : needs_st
   complete x h =
       let k = h.1 in
       let (need, there, same, u) = need_by_usage needs in_order x.resource k.usage (sym (ap (λ (z : Usages). get z x.resource) are) ∙ k.needs) in
-      let holder : Holder = record { resource = x.resource; operation = x.holder; mode = x.mode } in
-      let is_mode : need.mode ≡ k.usage.mode = ap (λ (z : Usage). z.mode) u in
-      let holds : Holds P x.holder x.resource (record { mode = x.mode; keep = k.held.keep }) = subst (λ z. Holds P x.holder x.resource (record { mode = z; keep = k.held.keep })) (sym k.mode) k.holds in
-      a.complete need holder there (record {
+      let holder : Holder = record { resource = x.resource; operation = x.holder; claim = k.held.claim } in
+      let is_mode : need.mode ≡ k.usage.claim.mode = ap (λ (z : Usage). z.claim.mode) u in
+      subst (λ z. Contains found (reason.HeldBy (record { resource = x.resource; holder = x.holder; mode = z }))) (sym k.mode)
+      (a.complete need holder there (record {
         resource = sym same;
-        holds = (holders x.holder x.resource x.mode).1 (k.held.keep, holds);
-        way = by_way o need.mode holder k.another (λ both. k.in_the_way (sym is_mode ∙ both.0, sym k.mode ∙ both.1));
-      })
+        holds = (holders x.holder x.resource k.held.claim).1 (k.held.keep, k.holds);
+        way = by_way o need.mode holder k.another (λ both. k.in_the_way (sym is_mode ∙ both.0, both.1));
+      }))
 
   pub obstacles_found : AreOfKind P o op m 9 found
   obstacles_found = record { in_order = a.in_order; exactly = λ r. (sound r, λ h. only_held_by (λ z. IsReasonOf P o op m z → Contains found z) complete r h.1 h.0) }

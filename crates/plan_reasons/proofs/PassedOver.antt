@@ -14,6 +14,7 @@ use Rattle.plan_basics.specs.declared.keys.OpKey.{OpKey}
 use Rattle.plan_core.specs.ready_list.proofs.Members.{contains_from_filter}
 use Rattle.plan_core.specs.ready_list.specs.Choice.{among, is_among, operations_of}
 use Rattle.plan_core.specs.ready_list.specs.declared.ReadyKey.{ReadyKey}
+use Rattle.special_resources.proofs.Amounts.{leaves_alike, same_operation}
 use Rattle.special_resources.specs.Holders.{Usage}
 use Rattle.status_rules.specs.Table.{marked_status}
 use Rattle.status_rules.specs.declared.Mark.TheVariants as mark
@@ -133,7 +134,16 @@ module _ (P : Contents) (os all : List OpKey) (within : (o : OpKey) → is_among
         let fit = may refusal.NoFixed in
         (fit.0, fit.1, λ c has. let room = fit.2 c has in (omega (arith, room.0, sum_no_less op.workstation (λ x. x.r1) (λ x. refl)), omega (arith, room.1, sum_no_less op.workstation (λ x. x.r2) (λ x. refl))))
     line_before may refusal.ResourceBusy =
-        λ r usage need. let both = may refusal.ResourceBusy r usage need in (both.0, λ other held apart holds. both.1 other held apart (holds_no_less other r held holds))
+        λ r usage need.
+        let fit = may refusal.ResourceBusy r usage need in (
+          fit.0,
+          fit.1,
+          fit.2,
+          (
+            λ other held apart holds. fit.3.0 other held apart (holds_no_less other r held holds),
+            leaves_alike same_operation r fit.0.quantity (Holds (named all P)) (Holds (named os P)) o usage (λ k x held. (x, holds_no_less k r x held, refl)) fit.3.1,
+          ),
+        )
     line_before may line = tt
 
     allowed_before : IsAllowedToStart (named all P) o m → IsAllowedToStart (named os P) o m

@@ -25,10 +25,12 @@ reason_place (reason.ClosedUntil x) = 4
 reason_place (reason.Lacks x) = 5 + supply_place x.supply
 reason_place (reason.Unavailable r) = 8
 reason_place (reason.HeldBy x) = 9
+reason_place (reason.TooLittleLeft x) = 10
 
 -- by kind; of one kind, by predecessor, by resource, or by resource and then holder
 abbrev pub ComesBefore : Reason → Reason → Type 0
 ComesBefore (reason.WaitsFor x) (reason.WaitsFor y) = operation_cmp x.op y.op ≡ Less
 ComesBefore (reason.Unavailable r) (reason.Unavailable s) = name_cmp r s ≡ Less
 ComesBefore (reason.HeldBy x) (reason.HeldBy y) = holding_cmp (x.resource, x.holder) (y.resource, y.holder) ≡ Less
+ComesBefore (reason.TooLittleLeft x) (reason.TooLittleLeft y) = name_cmp x.resource y.resource ≡ Less
 ComesBefore a b = reason_place a < reason_place b

@@ -1,5 +1,5 @@
 -- Operations by the indices of their rows, and what is told of needs and holders one by one.
-use Rattle.std.specs.Prelude.{◌≡◌, ◌&&◌, ℕ, Bool, true, false, cond, not, List, map, All, Option, Some, None, slice_get, unwrap_or}
+use Rattle.std.specs.Prelude.{◌≡◌, ◌&&◌, ℕ, Bool, true, false, cond, not, List, map, All, Option, Some, None, slice_get}
 use Rattle.std.specs.FinMap.{entries, get}
 use Rattle.std.specs.Map.{keys_of}
 use Rattle.std.specs.Ordering.{eq_by_cmp}
@@ -16,6 +16,7 @@ use Rattle.status_rules.specs.declared.Status.{Status}
 use Rattle.status_rules.specs.declared.Status.TheVariants.{Interrupted}
 use Rattle.plan_model.specs.Contents.{Contents, Operation, Resources}
 use Rattle.plan_model.specs.Status.{HasStatus}
+use Rattle.plan_model.specs.declared.Stock.{Stock}
 use Rattle.plan_reasons.specs.declared.reasons.Reason.{Reason}
 use Rattle.plan_reasons.specs.declared.reasons.Reason.TheVariants as reason
 use Rattle.plan_reasons.specs.declared.reasons.Unsatisfied.{Unsatisfied}
@@ -44,9 +45,14 @@ abbrev pub closed_by : Name → Option ℕ → Reason
 closed_by w (Some n) = reason.ClosedUntil (record { workstation = w; until = n })
 closed_by w None = reason.Closed w
 
+-- whether there is a special resource and it is available
+abbrev pub is_available : Option Stock → Bool
+is_available (Some stock) = stock.available
+is_available None = false
+
 -- the reason that the resource of a need isn't available
 abbrev pub unavailable_of : Resources → Need → Option Reason
-unavailable_of resources need = cond (unwrap_or (get resources need.name) false) None (Some (reason.Unavailable need.name))
+unavailable_of resources need = cond (is_available (get resources need.name)) None (Some (reason.Unavailable need.name))
 
 -- whether the mode is shared
 abbrev pub is_shared : Mode → Bool
@@ -55,11 +61,11 @@ is_shared _ = false
 
 -- whether a holder is in the way of o, which needs its resource in this mode
 abbrev pub is_in_way : OpKey → Mode → Holder → Bool
-is_in_way o mode h = not (eq_by_cmp operation_cmp h.operation o) && not (is_shared mode && is_shared h.mode)
+is_in_way o mode h = not (eq_by_cmp operation_cmp h.operation o) && not (is_shared mode && is_shared h.claim.mode)
 
 -- the reason that a holder is
 abbrev pub held_by : Holder → Reason
-held_by h = reason.HeldBy (record { resource = h.resource; holder = h.operation; mode = h.mode })
+held_by h = reason.HeldBy (record { resource = h.resource; holder = h.operation; mode = h.claim.mode })
 
 -- the reason that a holder is, if it is in the way
 abbrev pub obstacle_of : OpKey → Mode → Holder → Option Reason

@@ -1,5 +1,5 @@
 -- Why an operation doesn't start, complete or pass at a moment: each reason by itself.
-use Rattle.std.specs.Prelude.{◌≡◌, ◌≢◌, ℕ, ◌+◌, ◌<◌, ◌≤◌, ◌&&◌, Bool, true, not, Option, Some, None}
+use Rattle.std.specs.Prelude.{◌≡◌, ◌≢◌, ℕ, ◌+◌, ◌-◌, ◌<◌, ◌≤◌, ◌&&◌, Bool, List, Contains, true, not, Option, Some, None}
 use Rattle.std.specs.Option.{is_none}
 use Rattle.std.specs.FinMap.{get}
 use Rattle.plan_basics.specs.Intervals.{OpenInterval}
@@ -8,17 +8,19 @@ use Rattle.plan_basics.specs.declared.Refusal.TheVariants.{WrongStatus}
 use Rattle.plan_basics.specs.declared.keys.OpKey.{OpKey}
 use Rattle.workstations.specs.Workstations.{HasCapacity, Workstation}
 use Rattle.workstations.specs.declared.Capacity.{Capacity}
-use Rattle.special_resources.specs.Holders.{Usage}
+use Rattle.special_resources.specs.Holders.{AreHolders, OtherHolds, Usage, amount_held}
 use Rattle.special_resources.specs.declared.Mode.TheVariants.{Shared}
 use Rattle.status_rules.specs.Table.{marked_status}
 use Rattle.status_rules.specs.declared.Status.TheVariants.{Waiting}
 use Rattle.plan_model.specs.Contents.{Contents, Has, IsLive, Operation, Precedes, attribute_at}
 use Rattle.plan_model.specs.Holdings.{Holds, given_out, takes}
 use Rattle.plan_model.specs.Starts.{MayStart}
+use Rattle.plan_model.specs.declared.Stock.{Stock}
 use Rattle.plan_model.specs.Status.{HasStatus, IsSatisfied}
 use Rattle.plan_reasons.specs.declared.reasons.Obstacle.{Obstacle}
 use Rattle.plan_reasons.specs.declared.reasons.Reason.{Reason}
 use Rattle.plan_reasons.specs.declared.reasons.Reason.TheVariants as reason
+use Rattle.plan_reasons.specs.declared.reasons.Scarcity.{Scarcity}
 use Rattle.plan_reasons.specs.declared.reasons.Shortage.{Shortage}
 use Rattle.plan_reasons.specs.declared.reasons.Supply.{Supply}
 use Rattle.plan_reasons.specs.declared.reasons.Supply.TheVariants as supply
@@ -89,8 +91,25 @@ pub record IsObstacle (P : Contents) (o : OpKey) (op : Operation) (x : Obstacle)
   pub another : x.holder ≢ o
   pub held : Usage
   pub holds : Holds P x.holder x.resource held
-  pub mode : x.mode ≡ held.mode
-  pub in_the_way : ¬ ((usage.mode ≡ Shared) × (held.mode ≡ Shared))
+  pub mode : x.mode ≡ held.claim.mode
+  pub in_the_way : ¬ ((usage.claim.mode ≡ Shared) × (held.claim.mode ≡ Shared))
+
+-- these are all others that hold the resource, each once, with how much each holds
+pub record AreAllOthers (holds : OpKey → Name → Usage → Type 0) (o : OpKey) (r : Name) (others : List (OpKey × ℕ)) : Type 0 where
+  pub are : AreHolders (OtherHolds holds o) r others
+  pub all : (other : OpKey) (usage : Usage) → OtherHolds holds o other r usage → Contains others (other, usage.claim.amount)
+
+-- o needs more of the resource than all others that hold it leave
+pub record IsScarce (P : Contents) (o : OpKey) (op : Operation) (x : Scarcity) : Type 0 where
+  pub usage : Usage
+  pub needs : get op.needs x.resource ≡ Some usage
+  pub stock : Stock
+  pub there : get P.resources x.resource ≡ Some stock
+  pub others : List (OpKey × ℕ)
+  pub are : AreAllOthers (Holds P) o x.resource others
+  pub left : x.left ≡ stock.quantity - amount_held others
+  pub needed : x.needed ≡ usage.claim.amount
+  pub lacks : x.left < x.needed
 
 -- ---- the reasons
 
@@ -103,8 +122,9 @@ IsReasonOf P o op m (reason.TooEarly t) = (needs_start P op ≡ true) × (t ≡ 
 IsReasonOf P o op m (reason.Closed w) = (needs_start P op ≡ true) × (w ≡ op.workstation) × IsClosedUntil P op.workstation m None
 IsReasonOf P o op m (reason.ClosedUntil x) = (needs_start P op ≡ true) × (x.workstation ≡ op.workstation) × IsClosedUntil P op.workstation m (Some x.until)
 IsReasonOf P o op m (reason.Lacks x) = (needs_start P op ≡ true) × IsShortage P op m x
-IsReasonOf P o op m (reason.Unavailable r) = (needs_start P op ≡ true) × ((usage : Usage) × (get op.needs r ≡ Some usage)) × (get P.resources r ≢ Some true)
+IsReasonOf P o op m (reason.Unavailable r) = (needs_start P op ≡ true) × ((usage : Usage) × (get op.needs r ≡ Some usage)) × ¬ ((stock : Stock) × (get P.resources r ≡ Some stock) × (stock.available ≡ true))
 IsReasonOf P o op m (reason.HeldBy x) = (needs_start P op ≡ true) × IsObstacle P o op x
+IsReasonOf P o op m (reason.TooLittleLeft x) = (needs_start P op ≡ true) × IsScarce P o op x
 
 -- it is a reason why o, an operation of the plan, doesn't go on at m
 abbrev pub IsReason : Contents → OpKey → ℕ → Reason → Type 0

@@ -15,6 +15,7 @@ use super::lacking::{closed, lacks};
 use super::lists::{note, note_all};
 use super::predecessors::{look_at, roots, waits};
 use super::reasons::{Reason, Supply, Unsatisfied};
+use super::scarce::all_scarce;
 use super::single::{at_rest, held, needs_start, too_early};
 use plan_basics::{Moment, OpKey, Refusal};
 use plan_choice::{Beside, briefs_of, given_out_of, holdings_in};
@@ -30,8 +31,8 @@ use workstations::{Capacity, Workstation};
 pub struct Why {
     pub status: Status,
     /// The reasons, in the order of the lines that it has to meet: its status, its predecessors in key order, that it is
-    /// held, its not-before, its workstation, servers, R1 and R2, special resources that aren't available, and holders of
-    /// special resources by name and then key.
+    /// held, its not-before, its workstation, servers, R1 and R2, special resources that aren't available, holders of
+    /// special resources by name and then key, and special resources of which others leave too little.
     pub reasons: Vec<Reason>,
     /// The operations that hold the chain that it waits for, in key order.
     pub roots: Vec<Unsatisfied>,
@@ -71,7 +72,7 @@ fn note_start(
     at: Moment,
 ) -> Result<(), Refusal>
     requires { IsReported contents.now key.now reported.now }
-    ensures noted { OnOk result (GoesOn contents.now key.now reported.now.operation.now at 3 10 reasons.old.items reasons.new.items) }
+    ensures noted { OnOk result (GoesOn contents.now key.now reported.now.operation.now at 3 11 reasons.old.items reasons.new.items) }
     ensures refused { IfErr result (λ r. r ≡ Refusal.Memory) }
 {
     if !needs_start(reported) {
@@ -97,6 +98,10 @@ fn note_start(
     note_all(reasons, all_unavailable(alloc, contents, operation)?)?;
     let holdings = holdings_in(alloc, contents.valid())?;
     note_all(reasons, all_held(alloc, key, operation, &holdings)?)?;
+    note_all(
+        reasons,
+        all_scarce(alloc, contents, key, operation, &holdings)?,
+    )?;
     Ok(())
 }
 

@@ -5,22 +5,32 @@ ghost use Rattle.plan_basics.specs.declared.keys.OpKey.{OpKey};
 ghost use Rattle.plan_choice.specs.Choices.{AreHeldIn};
 ghost use Rattle.plan_model.specs.Contents.{Contents};
 ghost use Rattle.plan_reasons.specs.Parts.{AreOfKind};
-ghost use Rattle.plan_reasons.specs.Places.{is_in_way, is_shared, obstacle_of, unavailable_of};
+ghost use Rattle.plan_reasons.specs.Places.{is_available, is_in_way, is_shared, obstacle_of, unavailable_of};
 ghost use Rattle.plan_reasons.specs.Reasons.{needs_start};
 
 use super::lists::note;
 use super::reasons::{Obstacle, Reason};
 use plan_basics::OpKey;
-use plan_model::OperationRecord;
+use plan_model::{OperationRecord, Stock};
 use plan_status::SoundContents;
 use special_resources::{Holder, Holdings, Mode, Need};
 use std::alloc::{AllocError, Global};
+
+// Whether there is a special resource and it is available.
+fn is_available(stock: Option<Stock>) -> bool
+    ensures { result ≡ is_available stock }
+{
+    match stock {
+        Some(stock) => stock.available,
+        None => false,
+    }
+}
 
 // The reason that the resource of a need isn't available.
 fn unavailable(contents: &SoundContents, need: &Need) -> Option<Reason>
     ensures { result ≡ unavailable_of contents.now.resources need.now }
 {
-    if contents.resource(&need.name).unwrap_or(false) {
+    if is_available(contents.resource(&need.name)) {
         None
     } else {
         Some(Reason::Unavailable(need.name))
@@ -54,7 +64,7 @@ fn is_shared(mode: Mode) -> bool
 fn is_in_way(key: &OpKey, mode: Mode, holder: &Holder) -> bool
     ensures { result ≡ is_in_way key.now mode holder.now }
 {
-    !holder.operation.order(key).is_eq() && !(is_shared(mode) && is_shared(holder.mode))
+    !holder.operation.order(key).is_eq() && !(is_shared(mode) && is_shared(holder.claim.mode))
 }
 
 // The reason that a holder is, if it is in the way.
@@ -65,7 +75,7 @@ fn obstacle(key: &OpKey, mode: Mode, holder: &Holder) -> Option<Reason>
         Some(Reason::HeldBy(Obstacle {
             resource: holder.resource,
             holder: holder.operation,
-            mode: holder.mode,
+            mode: holder.claim.mode,
         }))
     } else {
         None

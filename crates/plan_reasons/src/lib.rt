@@ -10,11 +10,12 @@ mod lists;
 mod plan;
 mod predecessors;
 mod reasons;
+mod scarce;
 mod single;
 
 pub use answer::{Why, explain};
 pub use plan::why;
-pub use reasons::{Closing, Obstacle, Reason, Shortage, Supply, Unsatisfied};
+pub use reasons::{Closing, Obstacle, Reason, Scarcity, Shortage, Supply, Unsatisfied};
 
 /// The law that of an operation on a workstation of attribute A or S no reason is listed exactly where it is allowed to
 /// start. It does nothing.

@@ -48,6 +48,16 @@ pub struct Obstacle {
     pub mode: Mode,
 }
 
+/// A special resource of which others leave too little.
+#[derive(Clone, Copy, Debug, PartialEq, Eq)]
+pub struct Scarcity {
+    pub resource: ResName,
+    /// How much of it those that hold it leave.
+    pub left: u32,
+    /// How much of it the operation needs.
+    pub needed: u32,
+}
+
 /// A reason why an operation doesn't start at a moment; on a workstation of attribute C, why it doesn't complete; on one
 /// that doesn't report, and of a NOP, why it doesn't pass (IBM OPC/ESA, Controlling and Monitoring the Workload; the
 /// reasons and their order are this project's own).
@@ -71,4 +81,6 @@ pub enum Reason {
     Unavailable(ResName),
     /// Another operation holds a special resource that it needs, and not both share it.
     HeldBy(Obstacle),
+    /// Others leave less of a special resource than it needs.
+    TooLittleLeft(Scarcity),
 }

@@ -45,6 +45,7 @@ reason_pieces (reason.ClosedUntil x) = x.workstation ∷ codes " closed until " 
 reason_pieces (reason.Lacks x) =
     x.workstation ∷ codes " lacks " ∷ supply_word x.supply ∷ codes ": given out " ∷ decimal x.given ∷ codes ", open " ∷ decimal x.offered ∷ codes ", needed " ∷ decimal x.needed ∷ []
 reason_pieces (reason.Unavailable r) = r ∷ codes " not available" ∷ []
+reason_pieces (reason.TooLittleLeft x) = x.resource ∷ codes " lacks: left " ∷ decimal x.left ∷ codes ", needed " ∷ decimal x.needed ∷ []
 reason_pieces (reason.HeldBy x) = x.resource ∷ codes " held by " ∷ operation_text x.holder ∷ codes " " ∷ mode_word x.mode ∷ []
 
 -- the line of a reason

@@ -6,7 +6,7 @@ ghost use Rattle.plan_basics.specs.MomentTexts.{moment_text};
 ghost use Rattle.plan_reasons.specs.declared.reasons.Reason.{Reason as Told};
 
 use plan_basics::{Moment, OpKey};
-use plan_reasons::{Closing, Obstacle, Reason, Shortage, Supply, Unsatisfied};
+use plan_reasons::{Closing, Obstacle, Reason, Scarcity, Shortage, Supply, Unsatisfied};
 use special_resources::Mode;
 use status_rules::Status;
 use std::alloc::{AllocError, Global};
@@ -147,6 +147,25 @@ fn put_obstacle(text: &mut Vec<u8>, obstacle: &Obstacle) -> Result<(), AllocErro
     )
 }
 
+// Puts the line of a special resource of which others leave too little behind a text.
+fn put_scarcity(text: &mut Vec<u8>, scarcity: &Scarcity) -> Result<(), AllocError>
+    ensures { OnOk result (text.new.items ≡ text.old.items ++ reason_line (Told.TooLittleLeft scarcity.now)) }
+{
+    let alloc = *text.allocator();
+    let left = number_text(alloc, scarcity.left)?;
+    let wanted = number_text(alloc, scarcity.needed)?;
+    put_line(
+        text,
+        &[
+            scarcity.resource.as_bytes(),
+            b" lacks: left ",
+            left.as_bytes(),
+            b", needed ",
+            wanted.as_bytes(),
+        ],
+    )
+}
+
 // Puts the line of what an operation waits for behind a text.
 fn put_awaited(text: &mut Vec<u8>, awaited: &Unsatisfied) -> Result<(), AllocError>
     ensures { OnOk result (text.new.items ≡ text.old.items ++ reason_line (Told.WaitsFor awaited.now)) }
@@ -176,6 +195,7 @@ pub(crate) fn put_reason(text: &mut Vec<u8>, reason: &Reason) -> Result<(), Allo
         Reason::Lacks(shortage) => put_shortage(text, shortage),
         Reason::Unavailable(resource) => put_line(text, &[resource.as_bytes(), b" not available"]),
         Reason::HeldBy(obstacle) => put_obstacle(text, obstacle),
+        Reason::TooLittleLeft(scarcity) => put_scarcity(text, scarcity),
     }
 }
 

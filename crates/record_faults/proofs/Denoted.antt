@@ -2,6 +2,7 @@
 use Rattle.std.proofs.Common.{◌≡◌, ◌≢◌, ◌↔◌, inl, inr, refl, sym, ap, ap₂, subst, ◌∙◌, arith, ℕ, zero, suc, ◌+◌, ◌<◌, ◌≤◌, List, [], ◌∷◌, ◌++◌, length, map, take, get_or, slice_get, Contains, Bool, IsTrue, Option, Some, None, Result, Ok, Err, IfOk}
 use Rattle.std.specs.List.{AllZip}
 use Rattle.std.specs.Map.{keys_of}
+use Rattle.std.specs.Option.{option_and_then}
 use Rattle.std.proofs.lemmas.Option.{none-some, same_Some, slice_get_within, get_or_from_slice_get}
 use Rattle.std.proofs.lemmas.List.Elements.{All-contains}
 use Rattle.plan_basics.proofs.Members.{at_place, place_of}
@@ -21,15 +22,15 @@ use Rattle.plan_drafts.specs.plan_model.specs.Contents.{Contents}
 use Rattle.plan_drafts.specs.declared.RowKey.{RowKey}
 use Rattle.plan_drafts.specs.declared.RowKey.TheVariants as key
 use Rattle.plan_drafts.specs.Records.{key_of, StandsIn, AreItemsOf}
-use Rattle.plan_drafts.specs.PlanItems.{CanBeLoaded, Fits, IsNeedIn, IsPairIn, keys_said, needs_of, occurrence_of}
+use Rattle.plan_drafts.specs.PlanItems.{CanBeLoaded, Fits, IsNeedIn, IsWithinStock, IsPairIn, keys_said, needs_of, occurrence_of}
 use Rattle.plan_drafts.proofs.Lists.{in_filter, from_map}
 use Rattle.plan_drafts.proofs.Needed.{mapped, needed}
 use Rattle.plan_drafts.proofs.ItemsHeld.{held_by_plan, occurrences_count}
 use Rattle.plan_drafts.proofs.Tables.{some_is}
 use Rattle.plan_drafts.proofs.Denoting.{are_denoted, denoted_items}
 use Rattle.plan_drafts.proofs.ItemKinds as kinds
-use Rattle.plan_drafts.proofs.ItemKinds.{workstations_in, intervals_in, resources_in, occurrences_in, operations_in, needs_in, pairs_in, key_out, read_in, read_stands, so_many}
-use Rattle.plan_drafts.specs.PlanItems.{as_interval, as_operation, as_pair, as_need}
+use Rattle.plan_drafts.proofs.ItemKinds.{workstations_in, intervals_in, resources_in, occurrences_in, operations_in, pairs_in, needs_in, key_out, of_kind, read_in, read_stands, so_many}
+use Rattle.plan_drafts.specs.PlanItems.{as_interval, as_operation, as_pair, as_need, as_resource}
 use Rattle.record_faults.specs.declared.faults.Fault.{Fault}
 use Rattle.record_faults.specs.declared.faults.Fault.TheVariants as fault
 use Rattle.record_faults.specs.declared.names.Naming.{Naming}
@@ -38,7 +39,7 @@ use Rattle.record_faults.specs.Sayings.{Sayings, AreSayings, SaysAt, given, owne
 use Rattle.record_faults.specs.declared.groups.Group.{Group}
 use Rattle.record_faults.specs.declared.groups.Group.TheVariants as group
 use Rattle.record_faults.specs.Groups.{group_of, most_of, count_of}
-use Rattle.record_faults.specs.Faults.{name_of, IsSilent, IsRepetition, interval_said, IsOverlap, IsUndefined, IsUnused, IsCrowd, IsMissing, IsOwnFault, IsFaultAt, DenoteSome}
+use Rattle.record_faults.specs.Faults.{name_of, IsSilent, IsRepetition, interval_said, IsOverlap, IsUndefined, IsUnused, IsCrowd, IsBeyondStock, IsMissing, IsOwnFault, IsFaultAt, DenoteSome}
 use Rattle.record_faults.specs.Plans.{MakeSome, SaySome}
 use Rattle.record_faults.proofs.PlanIntervals.{opening_in_plan, apart_in_plan}
 use Rattle.record_faults.proofs.Limits.{groups_in, count_workstations, count_intervals, count_resources, count_occurrences, count_operations, count_pairs, count_needs}
@@ -130,6 +131,12 @@ owned_put : (items : List Item) (place : ℕ) (x : Item) (k : RowKey) → slice_
 owned_put [] place x k e o = absurd (none-some x e)
 owned_put (y ∷ ys) zero x k e o = ap (λ z. Some (owner_of z)) (same_Some y x e) ∙ ap Some o
 owned_put (y ∷ ys) (suc place) x k e o = owned_put ys place x k e o
+
+-- what is read of what a place says is read of the item there
+read_said : {Y : Type 0} (read : Item → Option Y) (items : List Item) (place : ℕ) (y : Y) → option_and_then read (get_or {A = Option Item} (map Some items) place None) ≡ Some y → (x : Item) × (slice_get items place ≡ Some x) × (read x ≡ Some y)
+read_said read [] place y e = absurd (none-some y e)
+read_said read (x ∷ xs) zero y e = (x, refl, e)
+read_said read (x ∷ xs) (suc place) y e = read_said read xs place y e
 
 owner_by_key : (x : Item) (k : OpKey) → key_of x ≡ key.Operation k → owner_of x ≡ Some (key.Occurrence k.occurrence)
 owner_by_key (item.Operation o) k e = let same : o.key ≡ k = cc in ap (λ (z : OpKey). Some (key.Occurrence z.occurrence)) same
@@ -231,7 +238,7 @@ module _ (items : List Item) (P : Contents) (are : AreItemsOf items P) where
       let named = All-contains (λ z. Contains (keys_of (workstations_in items)) z.0) (intervals_in items) (w, x) can.workstations.no_others (in_filter as_interval items (item.Interval w x) (w, x) has refl) in
       let few = (opening_in_plan items can w named).few in
       omega (arith, count_intervals w items, few)
-  within_limit (item.Resource r a) has = let few = can.resources.few in omega (arith, count_resources items, few)
+  within_limit (item.Resource r a q) has = let few = can.resources.few in omega (arith, count_resources items, few)
   within_limit (item.Occurrence c p d) has = let few = can.occurrences.few in omega (arith, count_occurrences items, few)
   within_limit (item.Operation o) has = let few = can.operations.few in omega (arith, count_operations items, few)
   within_limit (item.Dependency p s) has = let few = can.pairs.few in omega (arith, count_pairs items, few)
@@ -251,6 +258,21 @@ module _ (items : List Item) (P : Contents) (are : AreItemsOf items P) where
       omega (arith, le, is, more)
   never_crowded place _ h = h
 
+  never_beyond : (place : ℕ) (f : Fault) → ¬ IsBeyondStock Said place f
+  never_beyond place (fault.BeyondStock other) h =
+      let y = read_said as_need items place h.0 h.2 in
+      let z = read_said as_resource items other h.1 h.4 in
+      let x = given_get items other (key.Resource h.0.1.name) h.3.here in
+      let one : x.0 ≡ z.0 = same_Some x.0 z.0 (sym x.1 ∙ z.1) in
+      let keys : key.Resource h.1.0 ≡ key.Resource h.0.1.name = sym (of_kind kinds.resources z.0 h.1 z.2).1 ∙ ap key_of (sym one) ∙ x.2 in
+      let same : h.1.0 ≡ h.0.1.name = cc in
+      let wanted = in_filter as_need items y.0 h.0 (at_place items place y.0 y.1) y.2 in
+      let listed = in_filter as_resource items z.0 h.1 (at_place items other z.0 z.1) z.2 in
+      let le = (All-contains (IsWithinStock (resources_in items)) (needs_in items) h.0 can.amounts wanted).within h.1.1 (subst (λ n. Contains (resources_in items) (n, h.1.1)) same listed) in
+      let more = h.5 in
+      omega (arith, le, more)
+  never_beyond place _ h = h
+
   pub no_own_fault : (records : List Fields) (place : ℕ) (f : Fault) → ¬ IsOwnFault records Said place f
   no_own_fault records place f (inl h) = never_silent records place f h
   no_own_fault records place f (inr (inl h)) = never_repeated place f h
@@ -258,7 +280,8 @@ module _ (items : List Item) (P : Contents) (are : AreItemsOf items P) where
   no_own_fault records place f (inr (inr (inr (inl h)))) = never_undefined First place f h
   no_own_fault records place f (inr (inr (inr (inr (inl h))))) = never_undefined Second place f h
   no_own_fault records place f (inr (inr (inr (inr (inr (inl h)))))) = never_unused place f h
-  no_own_fault records place f (inr (inr (inr (inr (inr (inr h)))))) = never_crowded place f h
+  no_own_fault records place f (inr (inr (inr (inr (inr (inr (inl h))))))) = never_crowded place f h
+  no_own_fault records place f (inr (inr (inr (inr (inr (inr (inr h))))))) = never_beyond place f h
 
   -- nor is there none of a group of which there are some
   never_missing : (g : Group) → 0 < count_of g (groups_in items) → (place : ℕ) (f : Fault) → ¬ IsMissing g Said place f

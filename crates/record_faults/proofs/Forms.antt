@@ -1,5 +1,5 @@
 -- A record whose fields are all of the forms of its kind says an item.
-use Rattle.std.proofs.Common.{◌≡◌, ◌⊎◌, inl, inr, refl, ap, subst, ◌∙◌, arith, ℕ, zero, suc, ◌+◌, ◌<◌, List, [], ◌∷◌, length, drop, replicate, Bool, true, false, Option, Some, None}
+use Rattle.std.proofs.Common.{◌≡◌, ◌≢◌, ◌⊎◌, inl, inr, refl, ap, subst, ◌∙◌, arith, ℕ, zero, suc, ◌+◌, ◌<◌, List, [], ◌∷◌, length, drop, replicate, Bool, true, false, Option, Some, None}
 use Rattle.std.specs.Prelude.{codes, slice_get}
 use Rattle.std.proofs.Math.Seq.{drop-cons}
 use Rattle.std.proofs.lemmas.List.{drop_all}
@@ -8,33 +8,34 @@ use Rattle.plan_items.specs.declared.Item.{Item}
 use Rattle.plan_items.specs.declared.Item.TheVariants as item
 use Rattle.plan_items.specs.Items.{Fields, Says}
 use Rattle.plan_items.specs.declared.OperationItem.{OperationItem}
-use Rattle.plan_items.specs.Parts.{IsNumberText, IsOperationAt, IsNotBefore, IsMomentOrEmpty, available_letter, mode_letter, keep_letter}
+use Rattle.plan_items.specs.Parts.{IsNumberText, IsOperationAt, IsNotBefore, IsMomentOrEmpty, IsQuantityText, IsAmountText, available_letter, mode_letter, keep_letter}
 use Rattle.plan_basics.specs.Attributes.{attribute_letter}
 use Rattle.plan_basics.specs.Names.{IsName}
 use Rattle.plan_basics.specs.Intervals.{interval_by}
 use Rattle.plan_basics.specs.declared.keys.OccKey.{OccKey}
 use Rattle.plan_basics.specs.declared.keys.OpKey.{OpKey}
-use Rattle.plan_basics.specs.declared.limits.TheConstants.{MOST_SERVERS, SHORTEST_DURATION, LONGEST_DURATION, LOWEST_PRIORITY, HIGHEST_PRIORITY, LEAST_NUMBER, GREATEST_NUMBER}
+use Rattle.plan_basics.specs.declared.limits.TheConstants.{MOST_QUANTITY, MOST_SERVERS, SHORTEST_DURATION, LONGEST_DURATION, LOWEST_PRIORITY, HIGHEST_PRIORITY, LEAST_NUMBER, GREATEST_NUMBER}
 use Rattle.std.proofs.lemmas.Bool.{cases_lt}
 use Rattle.plan_drafts.specs.special_resources.specs.declared.Need.{Need}
 use Rattle.plan_drafts.specs.special_resources.specs.declared.Mode.{Mode}
 use Rattle.plan_drafts.specs.special_resources.specs.declared.Mode.TheVariants.{Shared, Exclusive}
-use Rattle.plan_items.proofs.KindLaws.{made_interval, made_occurrence, made_operation, made_dependency, made_need, whole}
+use Rattle.plan_items.proofs.PartLaws.{empty_number}
+use Rattle.plan_items.proofs.KindLaws.{made_interval, made_resource, made_occurrence, made_operation, made_dependency, made_need, whole}
 use Rattle.record_faults.specs.declared.kinds.Kind.{Kind}
 use Rattle.record_faults.specs.declared.kinds.Kind.TheVariants as kind
 use Rattle.record_faults.specs.declared.kinds.Form.{Form}
 use Rattle.record_faults.specs.declared.kinds.Form.TheVariants as form
-use Rattle.record_faults.specs.Shapes.{text_at, forms_of, operation_number, fixed_amount, Reads, AreRead, IsOfKind, EndsEarly}
+use Rattle.record_faults.specs.Shapes.{text_at, forms_of, operation_number, fixed_amount, quantity, Reads, AreRead, IsOfKind, EndsEarly, HasExclusiveAmount}
 
 -- a record that says an item has ten fields
 pub said_ten : (fields : Fields) (x : Item) → Says fields x → length fields ≡ 10
 said_ten fields (item.Workstation n a) h = ap length h.1
 said_ten fields (item.Interval w x) h = ap length h.1.4
-said_ten fields (item.Resource n a) h = ap length h.1
+said_ten fields (item.Resource n a q) h = ap length h.1.2
 said_ten fields (item.Occurrence k p d) h = ap length h.1.4
 said_ten fields (item.Operation o) h = ap length h.1.6
 said_ten fields (item.Dependency p s) h = ap length h.1.4
-said_ten fields (item.Need o n) h = ap length h.1.2
+said_ten fields (item.Need o n) h = ap length h.1.4
 
 -- nine fields follow a letter
 pub nine : (k : Kind) → length (forms_of k) ≡ 9
@@ -87,10 +88,21 @@ module _ (fields : Fields) where
   deadline_at t (inl e) = (None, e)
   deadline_at t (inr h) = (Some h.0, h.1)
 
-  abbrev Outcome : Kind → Type 0
-  Outcome k = ((x : Item) × Says fields x) ⊎ ((k ≡ kind.Interval) × EndsEarly fields)
+  quantity_at : (t : List ℕ) → (t ≡ []) ⊎ ((n : ℕ) × IsNumberText 1 MOST_QUANTITY t n) → (n : ℕ) × IsQuantityText t n
+  quantity_at t (inl e) = (MOST_QUANTITY, inl (e, refl))
+  quantity_at t (inr h) = (h.0, inr h.1)
 
-  -- a record whose fields are of the forms of its kind says an item of the kind, or an interval ends early
+  -- an exclusive need that has an amount has none that is of its form
+  amount_at : (m : Mode) (t : List ℕ) → (t ≡ []) ⊎ ((n : ℕ) × IsNumberText 1 MOST_QUANTITY t n) → ((n : ℕ) × IsAmountText m t n) ⊎ ((m ≡ Exclusive) × (t ≢ []))
+  amount_at Exclusive t (inl e) = inl (0, (e, refl))
+  amount_at Exclusive t (inr h) = inr (refl, λ e. empty_number 1 MOST_QUANTITY t h.0 (omega arith) e h.1)
+  amount_at Shared t (inl e) = inl (1, inl (e, refl))
+  amount_at Shared t (inr h) = inl (h.0, inr h.1)
+
+  abbrev Outcome : Kind → Type 0
+  Outcome k = ((x : Item) × Says fields x) ⊎ ((k ≡ kind.Interval) × EndsEarly fields) ⊎ ((k ≡ kind.Need) × HasExclusiveAmount fields)
+
+  -- a record whose fields are of the forms of its kind says an item of the kind, or an interval ends early, or an exclusive need has an amount
   pub says : (k : Kind) → IsOfKind k fields → AreRead (forms_of k) 9 fields → Outcome k
   says kind.Workstation is r =
       let ten : length fields ≡ 10 = is.0 in
@@ -103,9 +115,10 @@ module _ (fields : Fields) where
       let ten : length fields ≡ 10 = is.0 in
       let name = r 0 form.ResourceName (omega arith) refl in
       let available = available_at (text_at fields 2) (r 1 (form.OneOf 89 78) (omega arith) refl) in
+      let amount = quantity_at (text_at fields 3) (r 2 quantity (omega arith) refl) in
       let e : (i : ℕ) → i < 9 → slice_get (forms_of kind.Resource) i ≡ Some form.Empty → text_at fields (i + 1) ≡ [] = λ i lt f. r i form.Empty lt f in
-      let rest = empties fields 3 7 ten (e 2 (omega arith) refl, (e 3 (omega arith) refl, (e 4 (omega arith) refl, (e 5 (omega arith) refl, (e 6 (omega arith) refl, (e 7 (omega arith) refl, (e 8 (omega arith) refl, tt))))))) in
-      inl (item.Resource (text_at fields 1) available.0, (name, whole fields (codes "X" ∷ text_at fields 1 ∷ available_letter available.0 ∷ []) (replicate 7 []) (omega (arith, ten)) (is.1, (refl, (available.1, tt))) rest))
+      let rest = empties fields 4 6 ten (e 3 (omega arith) refl, (e 4 (omega arith) refl, (e 5 (omega arith) refl, (e 6 (omega arith) refl, (e 7 (omega arith) refl, (e 8 (omega arith) refl, tt)))))) in
+      inl (item.Resource (text_at fields 1) available.0 amount.0, made_resource fields ten is.1 (text_at fields 1) available.0 amount.0 name refl available.1 amount.1 rest)
   says kind.Occurrence is r =
       let ten : length fields ≡ 10 = is.0 in
       let name = r 0 form.ApplicationName (omega arith) refl in
@@ -138,9 +151,13 @@ module _ (fields : Fields) where
       let name = r 3 form.ResourceName (omega arith) refl in
       let mode = mode_at (text_at fields 5) (r 4 (form.OneOf 83 88) (omega arith) refl) in
       let keep = keep_at (text_at fields 6) (r 5 (form.OneOf 75 70) (omega arith) refl) in
-      let need : Need = record { name = text_at fields 4; mode = mode.0; keep = keep.0 } in
-      let rest = empties fields 7 3 ten (r 6 form.Empty (omega arith) refl, (r 7 form.Empty (omega arith) refl, (r 8 form.Empty (omega arith) refl, tt))) in
-      inl (item.Need o.0 need, made_need fields ten is.1 o.0 need o.1 (name, refl, mode.1, keep.1) rest)
+      let rest = empties fields 8 2 ten (r 7 form.Empty (omega arith) refl, (r 8 form.Empty (omega arith) refl, tt)) in
+      elim (amount_at mode.0 (text_at fields 7) (r 6 quantity (omega arith) refl)) [
+        | inl amount ↦
+            let need : Need = record { name = text_at fields 4; mode = mode.0; amount = amount.0; keep = keep.0 } in
+            inl (item.Need o.0 need, made_need fields ten is.1 o.0 need o.1 (name, refl, mode.1, keep.1, amount.1) rest)
+        | inr more ↦ inr (inr (refl, (subst (λ m. text_at fields 5 ≡ mode_letter m) more.0 mode.1, more.1)))
+      ]
   says kind.Interval is r =
       let ten : length fields ≡ 10 = is.0 in
       let name = r 0 form.WorkstationName (omega arith) refl in
@@ -157,5 +174,5 @@ module _ (fields : Fields) where
           made_interval fields ten is.1 (text_at fields 1) x name refl
               (record { not_empty = lt; end = end.1.0; servers = servers.1.0.1; fixed = (first.1.0.1, second.1.0.1) }, from.1, end.1, servers.1.1, first.1.1, second.1.1) rest,
         )
-        | inr le ↦ inr (refl, (from.0, end.0, from.1, end.1, le))
+        | inr le ↦ inr (inl (refl, (from.0, end.0, from.1, end.1, le)))
       ]

@@ -19,7 +19,7 @@ use Rattle.record_faults.specs.declared.groups.Group.TheVariants as group
 use Rattle.record_faults.specs.Groups.{grouped}
 use Rattle.record_faults.specs.Sayings.{Sayings, IsGiven, given}
 use Rattle.record_faults.proofs.Overlapping.{no_second}
-use Rattle.record_faults.specs.Faults.{IsAnswer, IsSilent, IsRepetition, interval_said, IsOverlap, IsUndefined, IsUnused, IsCrowd, IsMissing, IsOwnFault, IsFaultAt, StayOnce, AreInOrderTo, AreFaultsBelow, AreFaults}
+use Rattle.record_faults.specs.Faults.{IsAnswer, IsSilent, IsRepetition, interval_said, IsOverlap, IsUndefined, IsUnused, IsCrowd, need_said, IsBeyondStock, IsMissing, IsOwnFault, IsFaultAt, StayOnce, AreInOrderTo, AreFaultsBelow, AreFaults}
 
 -- what is read of a list within it
 pub at_read : {X : Type 0} (xs : List X) (i : ℕ) (d v : X) → i < length xs → get_or xs i d ≡ v → slice_get xs i ≡ Some v
@@ -186,6 +186,13 @@ crowd_within : (said : Sayings) (place : ℕ) (f : Fault) → IsCrowd said place
 crowd_within said place (fault.TooMany g count) h = grouped_within said g place h.0.here
 crowd_within said place _ h = absurd h
 
+beyond_within : (said : Sayings) (place : ℕ) (f : Fault) → IsBeyondStock said place f → place < length said
+beyond_within said place (fault.BeyondStock other) h = elim (cases_lt place (length said)) [
+  | inl lt ↦ lt
+  | inr le ↦ absurd (none-some h.0 (sym (ap need_said (past said place le)) ∙ h.2))
+]
+beyond_within said place _ h = absurd h
+
 pub own_within : (records : List Fields) (said : Sayings) (place : ℕ) (f : Fault) → IsOwnFault records said place f → place < length said
 own_within records said place f (inl h) = silent_within records said place f h
 own_within records said place f (inr (inl h)) = repetition_within said place f h
@@ -193,7 +200,8 @@ own_within records said place f (inr (inr (inl h))) = overlap_within said place 
 own_within records said place f (inr (inr (inr (inl h)))) = undefined_within First said place f h
 own_within records said place f (inr (inr (inr (inr (inl h))))) = undefined_within Second said place f h
 own_within records said place f (inr (inr (inr (inr (inr (inl h)))))) = unused_within said place f h
-own_within records said place f (inr (inr (inr (inr (inr (inr h)))))) = crowd_within said place f h
+own_within records said place f (inr (inr (inr (inr (inr (inr (inl h))))))) = crowd_within said place f h
+own_within records said place f (inr (inr (inr (inr (inr (inr (inr h))))))) = beyond_within said place f h
 
 -- ---- after all places
 missing_at : (g : Group) (said : Sayings) (place : ℕ) (f : Fault) → IsMissing g said place f → place ≡ length said

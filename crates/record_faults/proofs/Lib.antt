@@ -3,6 +3,7 @@ pub mod Indexes
 pub mod GroupOrder
 pub mod Counting
 pub mod Limits
+pub mod Beyond
 pub mod Telling
 pub mod Overlapping
 pub mod Gathering

@@ -46,7 +46,7 @@ pub count_workstations : (items : List Item) → count_of group.Workstations (gr
 count_workstations = counted as_workstation group.Workstations (elim [ item.Workstation n a ↦ refl | _ ↦ refl ])
 
 pub count_resources : (items : List Item) → count_of group.Resources (groups_in items) ≡ length (resources_in items)
-count_resources = counted as_resource group.Resources (elim [ item.Resource n a ↦ refl | _ ↦ refl ])
+count_resources = counted as_resource group.Resources (elim [ item.Resource n a q ↦ refl | _ ↦ refl ])
 
 pub count_occurrences : (items : List Item) → count_of group.Occurrences (groups_in items) ≡ length (occurrences_in items)
 count_occurrences = counted as_occurrence group.Occurrences (elim [ item.Occurrence c p d ↦ refl | _ ↦ refl ])

@@ -1,5 +1,5 @@
 -- Items that can be loaded are those of a plan.
-use Rattle.std.proofs.Common.{◌≡◌, ◌≢◌, refl, ap, subst, Bool, List, [], ◌∷◌, map, All}
+use Rattle.std.proofs.Common.{◌≡◌, ◌≢◌, refl, ap, subst, List, [], ◌∷◌, map, All}
 use Rattle.std.specs.List.Sorted.{IsPermutation, IsStrictlySortedBy}
 use Rattle.std.specs.Map.{keys_of}
 use Rattle.plan_basics.specs.declared.Attr.{Attr}
@@ -8,6 +8,7 @@ use Rattle.plan_basics.specs.declared.keys.OpKey.{OpKey}
 use Rattle.plan_basics.specs.Keys.{Name, name_cmp, name_cmp_total, name_cmp-IsAntisymmetric, occurrence_cmp, occurrence_cmp_total, occurrence_cmp-IsAntisymmetric, operation_cmp, operation_cmp_total, operation_cmp-IsAntisymmetric}
 use Rattle.plan_drafts.specs.workstations.specs.Timetables.{NamedWorkstation}
 use Rattle.plan_drafts.specs.plan_model.specs.declared.Occurrence.{Occurrence}
+use Rattle.plan_drafts.specs.plan_model.specs.declared.Stock.{Stock}
 use Rattle.plan_drafts.specs.plan_model.specs.Contents.{Contents, Operation, pair_cmp}
 use Rattle.plan_items.specs.declared.Item.{Item}
 use Rattle.plan_items.specs.declared.OperationItem.{OperationItem}
@@ -35,8 +36,8 @@ module _ (items : List Item) (legal : All IsItem items) (can : CanBeLoaded items
       in_order name_cmp_total name_cmp-IsAntisymmetric (λ (r : NamedWorkstation). r.0) Opened
       (differ_map (opened_in (intervals_in items)) (λ (a b : NamedWorkstation). a.0 ≢ b.0) (workstations_in items) (differ_from_pairs (λ (a b : Name × Attr). a.0 ≢ b.0) (workstations_in items) can.workstations.distinct))
 
-  resources : (rows : List (Name × Bool)) × IsPermutation (resources_in items) rows × IsStrictlySortedBy name_cmp (keys_of rows)
-  resources = in_order name_cmp_total name_cmp-IsAntisymmetric (λ (r : Name × Bool). r.0) (resources_in items) (differ_from_pairs (λ (a b : Name × Bool). a.0 ≢ b.0) (resources_in items) can.resources.distinct)
+  resources : (rows : List (Name × Stock)) × IsPermutation (resources_in items) rows × IsStrictlySortedBy name_cmp (keys_of rows)
+  resources = in_order name_cmp_total name_cmp-IsAntisymmetric (λ (r : Name × Stock). r.0) (resources_in items) (differ_from_pairs (λ (a b : Name × Stock). a.0 ≢ b.0) (resources_in items) can.resources.distinct)
 
   occurrences : (rows : List (OccKey × Occurrence)) × IsPermutation (occurrences_in items) rows × IsStrictlySortedBy occurrence_cmp (keys_of rows)
   occurrences =

@@ -13,7 +13,7 @@ use Rattle.record_faults.specs.declared.faults.Fault.TheVariants as fault
 use Rattle.record_faults.specs.declared.faults.RecordFault.{RecordFault}
 use Rattle.record_faults.specs.declared.names.Naming.TheVariants.{First, Second}
 use Rattle.record_faults.specs.Sayings.{Sayings}
-use Rattle.record_faults.specs.Faults.{name_of, IsToItself, IsAnswer, IsSilent, IsRepetition, IsOverlap, IsUndefined, IsUnused, IsCrowd, StayOnce}
+use Rattle.record_faults.specs.Faults.{name_of, IsToItself, IsAnswer, IsSilent, IsRepetition, IsOverlap, IsUndefined, IsUnused, IsCrowd, IsBeyondStock, StayOnce}
 use Rattle.record_faults.proofs.Gathering.{by_property, told_is}
 
 module _ {X : Type 0} where
@@ -78,7 +78,8 @@ turn (fault.Overlaps other) = 2
 turn (fault.Undefined k) = 3
 turn fault.NoOperation = 4
 turn (fault.TooMany g count) = 5
-turn _ = 6
+turn (fault.BeyondStock other) = 6
+turn _ = 7
 
 -- of the place only kinds of earlier turns are told, and none twice
 pub record IsToldTo (place n : ℕ) (faults : List RecordFault) : Type 0 where
@@ -125,3 +126,7 @@ unused_turn said place _ h = absurd h
 pub crowd_turn : (said : Sayings) (place : ℕ) (f : Fault) → IsCrowd said place f → turn f ≡ 5
 crowd_turn said place (fault.TooMany g count) h = refl
 crowd_turn said place _ h = absurd h
+
+pub beyond_turn : (said : Sayings) (place : ℕ) (f : Fault) → IsBeyondStock said place f → turn f ≡ 6
+beyond_turn said place (fault.BeyondStock other) h = refl
+beyond_turn said place _ h = absurd h

@@ -17,6 +17,6 @@ not_below : (m n : ℕ) → ¬ (m < n) → n ≤ m
 not_below m n h = omega arith
 
 -- what `parse` reads of a plain numeral
-pub parsed : {E : Type 0} (t : List ℕ) (r : Result ℕ E) → IsPlainNumeral t → ParsesUnsigned 16 10 t r → MatchOption (result_ok r) (65536 ≤ digits_value 10 t) (λ n. n ≡ digits_value 10 t)
-parsed {E = E} t (Ok x) p h = (parse_digits own {E = E} 16 t (Ok x) h p.digits).1
-parsed {E = E} t (Err e) p h = let k = parse_digits own {E = E} 16 t (Err e) h p.digits in not_below (digits_value 10 t) 65536 (λ l. k (p.some, l))
+pub parsed : {E : Type 0} (t : List ℕ) (r : Result ℕ E) → IsPlainNumeral t → ParsesUnsigned 32 10 t r → MatchOption (result_ok r) (4294967296 ≤ digits_value 10 t) (λ n. n ≡ digits_value 10 t)
+parsed {E = E} t (Ok x) p h = (parse_digits own {E = E} 32 t (Ok x) h p.digits).1
+parsed {E = E} t (Err e) p h = let k = parse_digits own {E = E} 32 t (Err e) h p.digits in not_below (digits_value 10 t) 4294967296 (λ l. k (p.some, l))

@@ -36,7 +36,8 @@ not_at records said place (inl (inr (inr (inl h)))) = h
 not_at records said place (inl (inr (inr (inr (inl h))))) = h
 not_at records said place (inl (inr (inr (inr (inr (inl h)))))) = h
 not_at records said place (inl (inr (inr (inr (inr (inr (inl h))))))) = h
-not_at records said place (inl (inr (inr (inr (inr (inr (inr h))))))) = h
+not_at records said place (inl (inr (inr (inr (inr (inr (inr (inl h)))))))) = h
+not_at records said place (inl (inr (inr (inr (inr (inr (inr (inr h)))))))) = h
 not_at records said place (inr (inl h)) = h
 not_at records said place (inr (inr h)) = h
 

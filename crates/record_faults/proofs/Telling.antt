@@ -17,11 +17,12 @@ use Rattle.record_faults.specs.declared.kinds.Form.{Form}
 use Rattle.record_faults.specs.declared.kinds.Shape.{Shape}
 use Rattle.record_faults.specs.declared.kinds.Shape.TheVariants as shape
 use Rattle.record_faults.specs.declared.names.Naming.{Naming}
-use Rattle.record_faults.specs.Shapes.{text_at, letter_of, forms_of, IsOfKind, IsFirstUnread, IsShapeFault}
+use Rattle.record_faults.specs.Shapes.{text_at, letter_of, forms_of, AreRead, IsOfKind, IsFirstUnread, IsShapeFault}
 use Rattle.record_faults.specs.Sayings.{texts_of, Sayings, SaysAt, PlacedKeys, given, owned, IsGiven, IsFirst, IsNowhere}
 use Rattle.record_faults.specs.declared.groups.Group.{Group}
 use Rattle.record_faults.specs.Groups.{grouped, most_of, count_of, IsLast}
 use Rattle.record_faults.specs.Faults.{name_of, IsSilent, IsRepetition, IsUndefined, IsUnused, IsCrowd, IsMissing, IsAnswer}
+use Rattle.record_faults.proofs.Forms.{nine}
 use Rattle.record_faults.proofs.Indexes.{one_given, none_given}
 
 -- ---- lists side by side
@@ -83,11 +84,14 @@ module _ (fields : Fields) (forms : List Form) where
   one_form p q f g first second = same_Some f g (sym first.form ∙ subst (λ z. slice_get forms z ≡ Some g) (sym (one_place p q f g first second)) second.form)
 
 -- where a field isn't of its form, not all are
-not_early : (fields : Fields) (c : Kind) (p : ℕ) (f : Form) → IsShapeFault fields (shape.Field c p f) → ¬ IsShapeFault fields shape.EndsEarly
-not_early fields c p f h k =
-    let same : c ≡ kind.Interval = same_kind fields c kind.Interval h.0 k.0 in
-    let first = subst (λ z. IsFirstUnread (forms_of z) fields p f) same h.1 in
-    first.unread (k.2 p f (slice_get_within (forms_of kind.Interval) p f first.form) first.form)
+not_read : (fields : Fields) (c k : Kind) (p : ℕ) (f : Form) → IsShapeFault fields (shape.Field c p f) → IsOfKind k fields → ¬ AreRead (forms_of k) 9 fields
+not_read fields c k p f h is read =
+    let first = subst (λ z. IsFirstUnread (forms_of z) fields p f) (same_kind fields c k h.0 is) h.1 in
+    let within = slice_get_within (forms_of k) p f first.form in
+    first.unread (read p f (omega (arith, within, nine k)) first.form)
+
+not_both : (fields : Fields) → IsOfKind kind.Interval fields → ¬ IsOfKind kind.Need fields
+not_both fields one other = let same : kind.Interval ≡ kind.Need = same_kind fields kind.Interval kind.Need one other in cc
 
 -- one thing is wrong with a record by itself
 pub one_shape : (fields : Fields) (s t : Shape) → IsShapeFault fields s → IsShapeFault fields t → s ≡ t
@@ -95,10 +99,12 @@ one_shape fields (shape.Length m) (shape.Length n) h k = ap (λ z. shape.Length 
 one_shape fields (shape.Length m) shape.UnknownKind h k = absurd (h.1 (sym h.0 ∙ k.0))
 one_shape fields (shape.Length m) (shape.Field c p f) h k = absurd (h.1 (sym h.0 ∙ k.0.0))
 one_shape fields (shape.Length m) shape.EndsEarly h k = absurd (h.1 (sym h.0 ∙ k.0.0))
+one_shape fields (shape.Length m) shape.ExclusiveAmount h k = absurd (h.1 (sym h.0 ∙ k.0.0))
 one_shape fields shape.UnknownKind (shape.Length n) h k = absurd (k.1 (sym k.0 ∙ h.0))
 one_shape fields shape.UnknownKind shape.UnknownKind h k = refl
 one_shape fields shape.UnknownKind (shape.Field c p f) h k = absurd (h.1 c k.0.1)
 one_shape fields shape.UnknownKind shape.EndsEarly h k = absurd (h.1 kind.Interval k.0.1)
+one_shape fields shape.UnknownKind shape.ExclusiveAmount h k = absurd (h.1 kind.Need k.0.1)
 one_shape fields (shape.Field c p f) (shape.Length n) h k = absurd (k.1 (sym k.0 ∙ h.0.0))
 one_shape fields (shape.Field c p f) shape.UnknownKind h k = absurd (k.1 c h.0.1)
 one_shape fields (shape.Field c p f) (shape.Field d q g) h k =
@@ -107,11 +113,18 @@ one_shape fields (shape.Field c p f) (shape.Field d q g) h k =
     let place = one_place fields (forms_of d) p q f g first k.1 in
     let form = one_form fields (forms_of d) p q f g first k.1 in
     λ i. shape.Field (same i) (place i) (form i)
-one_shape fields (shape.Field c p f) shape.EndsEarly h k = absurd (not_early fields c p f h k)
+one_shape fields (shape.Field c p f) shape.EndsEarly h k = absurd (not_read fields c kind.Interval p f h k.0 k.2)
+one_shape fields (shape.Field c p f) shape.ExclusiveAmount h k = absurd (not_read fields c kind.Need p f h k.0 k.2)
 one_shape fields shape.EndsEarly (shape.Length n) h k = absurd (k.1 (sym k.0 ∙ h.0.0))
 one_shape fields shape.EndsEarly shape.UnknownKind h k = absurd (k.1 kind.Interval h.0.1)
-one_shape fields shape.EndsEarly (shape.Field d q g) h k = absurd (not_early fields d q g k h)
+one_shape fields shape.EndsEarly (shape.Field d q g) h k = absurd (not_read fields d kind.Interval q g k h.0 h.2)
 one_shape fields shape.EndsEarly shape.EndsEarly h k = refl
+one_shape fields shape.EndsEarly shape.ExclusiveAmount h k = absurd (not_both fields h.0 k.0)
+one_shape fields shape.ExclusiveAmount (shape.Length n) h k = absurd (k.1 (sym k.0 ∙ h.0.0))
+one_shape fields shape.ExclusiveAmount shape.UnknownKind h k = absurd (k.1 kind.Need h.0.1)
+one_shape fields shape.ExclusiveAmount (shape.Field d q g) h k = absurd (not_read fields d kind.Need q g k h.0 h.2)
+one_shape fields shape.ExclusiveAmount shape.EndsEarly h k = absurd (not_both fields k.0 h.0)
+one_shape fields shape.ExclusiveAmount shape.ExclusiveAmount h k = refl
 
 -- ---- a record that says nothing
 module _ (records : List Fields) (said : Sayings) (place : ℕ) where
@@ -135,7 +148,7 @@ module _ (said : Sayings) (place : ℕ) where
   not_given e (fault.Repeated k first) h = none_given Keys place k e h.0
   not_given e _ h = h
 
-  one_first : (k : RowKey) (a b : ℕ) → IsFirst Keys k a → IsFirst Keys k b → a ≡ b
+  pub one_first : (k : RowKey) (a b : ℕ) → IsFirst Keys k a → IsFirst Keys k b → a ≡ b
   one_first k a b first second = elim (cases_lt a b) [
     | inl lt ↦ absurd (second.none_before a lt first.here)
     | inr le ↦ elim (cases_lt b a) [

@@ -8,7 +8,7 @@ use Rattle.std.specs.Cmp.{IsTotalOrder}
 use Rattle.std.specs.Ordering.{eq_by_cmp}
 use Rattle.std.specs.declared.cmp.Ordering.{Ordering}
 use Rattle.std.proofs.lemmas.Bool.{cases_lt}
-use Rattle.std.proofs.lemmas.Option.{none-some, same_Some, slice_get-get_or, slice_get_within}
+use Rattle.std.proofs.lemmas.Option.{none-some, same_Some, get_or_from_slice_get, slice_get-get_or, slice_get_within}
 use Rattle.plan_basics.proofs.Members.{tied_is, all_by_members, at_place, place_of, contains_head, contains_later}
 use Rattle.plan_basics.specs.Intervals.{OpenInterval, AreApart}
 use Rattle.plan_basics.specs.Keys.{Name, name_cmp_total, name_cmp-IsAntisymmetric}
@@ -27,7 +27,7 @@ use Rattle.plan_drafts.specs.declared.RowKey.TheVariants as key
 use Rattle.plan_drafts.specs.contracts.RowKeyOrd.TheImpl.Laws as laws
 use Rattle.plan_drafts.specs.RowKeys.{derived_exact}
 use Rattle.plan_drafts.specs.Records.{key_of}
-use Rattle.plan_drafts.specs.PlanItems.{CanBeLoaded, AreWorkstations, AreResources, AreOccurrenceRows, AreOperations, AreNeeds, ArePairs, Fits, IsNeedIn, IsPairIn, CanOpen, IsOpening, as_interval, as_operation, own_interval, intervals_of, keys_said, occurrence_of}
+use Rattle.plan_drafts.specs.PlanItems.{CanBeLoaded, AreWorkstations, AreResources, AreOccurrenceRows, AreOperations, AreNeeds, ArePairs, Fits, IsNeedIn, IsWithinStock, IsPairIn, CanOpen, IsOpening, as_interval, as_operation, own_interval, intervals_of, keys_said, occurrence_of}
 use Rattle.plan_drafts.proofs.Lists.{differ_from_pairs, pairs_from_differ, differ_filter, in_filter, in_map}
 use Rattle.plan_drafts.proofs.Tables.{itself, from_set}
 use Rattle.plan_drafts.proofs.Pairs.{pair_cmp_total, pair_cmp-IsAntisymmetric}
@@ -51,7 +51,7 @@ use Rattle.record_faults.specs.Sayings.{Sayings, SaysOrNot, AreSayings, owned, o
 use Rattle.record_faults.specs.Groups.{is_of, most_of, count_of}
 use Rattle.record_faults.specs.Circles.{StandsAt, JoinsGiven, NoCircle}
 use Rattle.record_faults.specs.Plans.{SaySome}
-use Rattle.record_faults.specs.Faults.{name_of, DoOverlap, OverlapAt, IsUndefined, IsMissing, IsFaultAt}
+use Rattle.record_faults.specs.Faults.{name_of, need_said, resource_said, DoOverlap, OverlapAt, IsUndefined, IsMissing, IsFaultAt}
 use Rattle.record_faults.proofs.Forms.{says, nine, read_more}
 use Rattle.record_faults.proofs.GroupOrder.{exact}
 use Rattle.record_faults.proofs.Limits.{groups_in, count_workstations, count_intervals, count_resources, count_occurrences, count_operations, count_pairs, count_needs}
@@ -88,7 +88,10 @@ module _ (fields : Fields) (never : (x : Item) → ¬ Says fields x) (none : (s 
     no_kind : ⊥
     no_kind = may_read 9 (omega arith) (λ read. elim (says fields k is read) [
       | inl said ↦ never said.0 said.1
-      | inr early ↦ none shape.EndsEarly (subst (λ z. IsOfKind z fields) early.0 is, early.1, subst (λ z. AreRead (forms_of z) 9 fields) early.0 read)
+      | inr other ↦ elim other [
+        | inl early ↦ none shape.EndsEarly (subst (λ z. IsOfKind z fields) early.0 is, early.1, subst (λ z. AreRead (forms_of z) 9 fields) early.0 read)
+        | inr more ↦ none shape.ExclusiveAmount (subst (λ z. IsOfKind z fields) more.0 is, more.1, subst (λ z. AreRead (forms_of z) 9 fields) more.0 read)
+      ]
     ])
 
   pub some_shape : ⊥
@@ -194,7 +197,7 @@ module _ (records : List Fields) (items : List Item) (none : (place : ℕ) (f : 
     | inr le ↦ le
     | inl more ↦
         let first = first_of g (groups_in items) (omega (arith, more)) in
-        absurd (none first.0 (fault.TooMany g (count_of g (groups_in items))) (inl (inr (inr (inr (inr (inr (inr (first.1, refl, more)))))))))
+        absurd (none first.0 (fault.TooMany g (count_of g (groups_in items))) (inl (inr (inr (inr (inr (inr (inr (inl (first.1, refl, more))))))))))
   ]
 
   some_of : (g : Group) → (IsMissing g Said (length Said) (fault.Missing g) → IsFaultAt records Said (length Said) (fault.Missing g)) → 0 < count_of g (groups_in items)
@@ -313,6 +316,27 @@ module _ (records : List Fields) (items : List Item) (none : (place : ℕ) (f : 
     distinct = read_distinct kinds.needs items distinct;
   }
 
+  -- an item that is there stands at a place, which is the first of its key
+  placed : (x : Item) → Contains items x → (i : ℕ) × IsFirst Keys (key_of x) i × (get_or Said i None ≡ Some x)
+  placed x has =
+      let at = place_of items x has in
+      let given_at = given_put items at.0 x at.1 in
+      (at.0, record { here = given_at; none_before = λ i lt. never_before (suc i) (key_of x) at.0 given_at i (omega arith) lt }, get_or_from_slice_get Said at.0 (Some x) None (says_put items at.0 x at.1))
+
+  themselves : All (Contains items) items
+  themselves = all_by_members (Contains items) items (λ x has. has)
+
+  amounts : All (IsWithinStock (resources_in items)) (needs_in items)
+  amounts = all_by_members (IsWithinStock (resources_in items)) (needs_in items) (λ y has. record {
+    within = λ stock listed.
+        let need = placed (item.Need y.0 y.1) (read_stands kinds.needs (Contains items) items themselves y has) in
+        let resource = placed (item.Resource y.1.name stock.available stock.quantity) (read_stands kinds.resources (Contains items) items themselves (y.1.name, stock) listed) in
+        elim (cases_lt stock.quantity y.1.amount) [
+          | inr le ↦ le
+          | inl more ↦ absurd (none need.0 (fault.BeyondStock resource.0) (inl (inr (inr (inr (inr (inr (inr (inr (y, (y.1.name, stock), ap need_said need.2, resource.1, ap resource_said resource.2, more))))))))))
+        ];
+  })
+
   pairs_within : All (IsPairIn (keys_said (operations_in items))) (pairs_in items)
   pairs_within = all_by_members (IsPairIn (keys_said (operations_in items))) (pairs_in items) (λ y has. record {
     first = operation_in y.0 (read_stands kinds.pairs (NamesDefined First) items (all_defined First) y has (key.Operation y.0) refl);
@@ -344,7 +368,7 @@ module _ (records : List Fields) (items : List Item) (none : (place : ℕ) (f : 
     pairs = record { few = let few = limit group.Dependencies in omega (arith, count_pairs items, few); within = pairs_within; distinct = read_distinct kinds.pairs items distinct; acyclic = acyclic }
 
     can : CanBeLoaded items
-    can = record { workstations = workstations; resources = resources; occurrences = occurrences; operations = operations; needs = needs; pairs = pairs }
+    can = record { workstations = workstations; resources = resources; occurrences = occurrences; operations = operations; needs = needs; amounts = amounts; pairs = pairs }
 
     whole_items : All IsItem items → SaySome Said
     whole_items legal =

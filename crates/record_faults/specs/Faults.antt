@@ -4,7 +4,9 @@ use Rattle.std.specs.List.{AllPairs}
 use Rattle.std.specs.Option.{option_and_then}
 use Rattle.plan_basics.specs.Intervals.{OpenInterval, AreApart}
 use Rattle.plan_basics.specs.Keys.{Name}
-use Rattle.plan_drafts.specs.PlanItems.{as_interval}
+use Rattle.plan_drafts.specs.PlanItems.{as_interval, as_need, as_resource}
+use Rattle.plan_drafts.specs.special_resources.specs.declared.Need.{Need}
+use Rattle.plan_drafts.specs.plan_model.specs.declared.Stock.{Stock}
 use Rattle.plan_basics.specs.declared.keys.OccKey.{OccKey}
 use Rattle.plan_basics.specs.declared.keys.OpKey.{OpKey}
 use Rattle.plan_items.specs.declared.Item.{Item}
@@ -87,6 +89,20 @@ abbrev pub IsOverlap : Sayings → ℕ → Fault → Type 0
 IsOverlap said place (fault.Overlaps other) = (other < place) × OverlapAt said other place × ((i : ℕ) → other < i → i < place → ¬ OverlapAt said i place)
 IsOverlap said place _ = ⊥
 
+-- the need that is said, if one is, with its operation
+abbrev pub need_said : Option Item → Option (OpKey × Need)
+need_said o = option_and_then as_need o
+
+-- the special resource that is said, if one is, and what there is of it
+abbrev pub resource_said : Option Item → Option (Name × Stock)
+resource_said o = option_and_then as_resource o
+
+-- it needs more than there is of a resource, which the record at this place says first
+abbrev pub IsBeyondStock : Sayings → ℕ → Fault → Type 0
+IsBeyondStock said place (fault.BeyondStock other) = (y : OpKey × Need) × (z : Name × Stock) × (need_said (slice_index_or said place None) ≡ Some y) × IsFirst (given said) (key.Resource y.1.name) other
+    × (resource_said (slice_index_or said other None) ≡ Some z) × (z.1.quantity < y.1.amount)
+IsBeyondStock said place _ = ⊥
+
 -- it is the first of its group, of which there are so many and more than a plan may hold
 abbrev pub IsCrowd : Sayings → ℕ → Fault → Type 0
 IsCrowd said place (fault.TooMany g count) = IsFirst (grouped said) g place × (count ≡ count_of g (grouped said)) × (most_of g < count)
@@ -101,6 +117,7 @@ IsMissing g said place _ = ⊥
 abbrev pub IsOwnFault : List Fields → Sayings → ℕ → Fault → Type 0
 IsOwnFault records said place f =
     IsSilent records said place f ⊎ IsRepetition said place f ⊎ IsOverlap said place f ⊎ IsUndefined First said place f ⊎ IsUndefined Second said place f ⊎ IsUnused said place f ⊎ IsCrowd said place f
+    ⊎ IsBeyondStock said place f
 
 -- such a fault, or after all records that there is no workstation or no occurrence
 abbrev pub IsFaultAt : List Fields → Sayings → ℕ → Fault → Type 0

@@ -15,7 +15,7 @@ use Rattle.record_faults.specs.contracts.groups.GroupOrd.TheImpl as derived
 abbrev pub group_of : Item → Group
 group_of (item.Workstation w a) = group.Workstations
 group_of (item.Interval w x) = group.IntervalsOf w
-group_of (item.Resource r a) = group.Resources
+group_of (item.Resource r a q) = group.Resources
 group_of (item.Occurrence c p d) = group.Occurrences
 group_of (item.Operation o) = group.Operations
 group_of (item.Dependency p s) = group.Dependencies

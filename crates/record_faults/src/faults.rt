@@ -17,6 +17,8 @@ pub enum Fault {
     NoOperation,
     /// It says an interval that overlaps another of the same workstation, which the record at this place says.
     Overlaps(usize),
+    /// It says a need of more than there is of its resource, which the record at this place says first.
+    BeyondStock(usize),
     /// It is the first of its group, of which there are so many: more than a plan may hold.
     TooMany(Group, usize),
     /// There is none of this group, of which a plan has at least one. It stands after all records.

@@ -22,10 +22,10 @@ fn is_plain(text: &[u8]) -> bool
     }
 }
 
-// The value of such a text, if it is below 65,536.
-fn plain_value(text: &[u8]) -> Option<u16>
+// The value of such a text, if it is of four bytes.
+fn plain_value(text: &[u8]) -> Option<u32>
     requires { IsPlainNumeral text.now }
-    ensures { MatchOption result (2 ^ 16 ≤ digits_value 10 text.now) (λ n. n ≡ digits_value 10 text.now) }
+    ensures { MatchOption result (2 ^ 32 ≤ digits_value 10 text.now) (λ n. n ≡ digits_value 10 text.now) }
 {
     match str::from_utf8(text) {
         Ok(digits) => digits.parse().ok(),
@@ -34,7 +34,7 @@ fn plain_value(text: &[u8]) -> Option<u16>
 }
 
 // Whether a text is that of a whole number from the least to the most.
-fn is_number_within(text: &[u8], least: u16, most: u16) -> bool
+fn is_number_within(text: &[u8], least: u32, most: u32) -> bool
     ensures { IsTrue result ↔ ((n : ℕ) × IsNumberText least most text.now n) }
 {
     if !is_plain(text) {
@@ -84,6 +84,9 @@ pub fn reads(form: Form, text: &[u8]) -> bool
         Form::Attribute => is_attribute(text),
         Form::OneOf(first, second) => is_one_of(text, first, second),
         Form::Number(least, most) => is_number_within(text, least, most),
+        Form::NumberOrEmpty(least, most) => {
+            text.is_empty() || is_number_within(text, least, most)
+        }
         Form::Moment => is_moment(text),
         Form::MomentOrEmpty => text.is_empty() || is_moment(text),
         Form::Empty => text.is_empty(),

@@ -14,6 +14,7 @@ use super::names::{Naming, is_to_itself};
 use super::overlaps::overlapping;
 use super::readings::Reading;
 use super::sayings::Fields;
+use super::stocks::beyond_stock;
 use std::alloc::{AllocError, Global};
 
 // A fault that is found goes to the end.
@@ -78,6 +79,7 @@ fn tell_place(
         place,
         crowd(groups, &reading.counts, earlier, said, place),
     )?;
+    tell(faults, place, beyond_stock(&reading.index, said, place))?;
     Ok(())
 }
 

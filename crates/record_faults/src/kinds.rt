@@ -5,7 +5,7 @@ ghost use Rattle.record_faults.specs.Shapes.{letter_of, forms_of};
 
 use plan_basics::limits::{
     GREATEST_NUMBER, HIGHEST_PRIORITY, LEAST_NUMBER, LONGEST_DURATION, LOWEST_PRIORITY, MOST_FIXED,
-    MOST_SERVERS, SHORTEST_DURATION,
+    MOST_QUANTITY, MOST_SERVERS, SHORTEST_DURATION,
 };
 
 /// The kind of a record, which its first field tells by a letter.
@@ -34,7 +34,9 @@ pub enum Form {
     /// One of two letters.
     OneOf(u8, u8),
     /// A whole number from the first to the second, in decimal digits without sign and without leading zeros.
-    Number(u16, u16),
+    Number(u32, u32),
+    /// Such a number, or nothing.
+    NumberOrEmpty(u32, u32),
     /// A moment.
     Moment,
     /// A moment, or nothing.
@@ -58,6 +60,8 @@ pub enum Shape {
     },
     /// The interval's end isn't after its first minute.
     EndsEarly,
+    /// The need is exclusive, and has an amount.
+    ExclusiveAmount,
 }
 
 // The kind that a letter stands for.
@@ -86,15 +90,17 @@ pub fn kind_of(text: &[u8]) -> Option<Kind>
     }
 }
 
-const OPERATION_NUMBER: Form = Form::Number(LEAST_NUMBER as u16, GREATEST_NUMBER as u16);
+const OPERATION_NUMBER: Form = Form::Number(LEAST_NUMBER as u32, GREATEST_NUMBER as u32);
 
-const FIXED_AMOUNT: Form = Form::Number(0, MOST_FIXED as u16);
+const FIXED_AMOUNT: Form = Form::Number(0, MOST_FIXED as u32);
 
-const SERVERS: Form = Form::Number(0, MOST_SERVERS as u16);
+const SERVERS: Form = Form::Number(0, MOST_SERVERS as u32);
 
-const PRIORITY: Form = Form::Number(LOWEST_PRIORITY as u16, HIGHEST_PRIORITY as u16);
+const PRIORITY: Form = Form::Number(LOWEST_PRIORITY as u32, HIGHEST_PRIORITY as u32);
 
-const DURATION: Form = Form::Number(SHORTEST_DURATION, LONGEST_DURATION);
+const DURATION: Form = Form::Number(SHORTEST_DURATION as u32, LONGEST_DURATION as u32);
+
+const QUANTITY: Form = Form::NumberOrEmpty(1, MOST_QUANTITY);
 
 // The forms of the nine fields after a kind's letter.
 pub fn forms(kind: Kind) -> [Form; 9]
@@ -130,7 +136,7 @@ pub fn forms(kind: Kind) -> [Form; 9]
         Kind::Resource => [
             ResourceName,
             OneOf(b'Y', b'N'),
-            Empty,
+            QUANTITY,
             Empty,
             Empty,
             Empty,
@@ -178,7 +184,7 @@ pub fn forms(kind: Kind) -> [Form; 9]
             ResourceName,
             OneOf(b'S', b'X'),
             OneOf(b'K', b'F'),
-            Empty,
+            QUANTITY,
             Empty,
             Empty,
         ],

@@ -17,6 +17,7 @@ mod overlaps;
 mod readings;
 mod sayings;
 mod shapes;
+mod stocks;
 
 pub use circles::Circle;
 pub use faults::{Fault, RecordFault};

@@ -46,7 +46,10 @@ fn shape_of_kind(kind: Kind, fields: &[Vec<u8>]) -> Shape
             place,
             form: forms[place],
         },
-        None => Shape::EndsEarly,
+        None => match kind {
+            Kind::Need => Shape::ExclusiveAmount,
+            _ => Shape::EndsEarly,
+        },
     }
 }
 

@@ -37,7 +37,7 @@ fn field_names(kind: Kind) -> [&'static str; 9] {
         Kind::Resource => [
             "name",
             "available",
-            "field 4",
+            "quantity",
             "field 5",
             "field 6",
             "field 7",
@@ -85,7 +85,7 @@ fn field_names(kind: Kind) -> [&'static str; 9] {
             "special resource",
             "mode",
             "keep",
-            "field 8",
+            "amount",
             "field 9",
             "field 10",
         ],
@@ -124,6 +124,9 @@ fn may_be(alloc: Global, form: Form) -> Result<String, AllocError> {
             char::from(second)
         ),
         Form::Number(least, most) => format!(in alloc; "a whole number from {least} to {most}"),
+        Form::NumberOrEmpty(least, most) => format!(in alloc;
+            "a whole number from {least} to {most}, or empty"
+        ),
         Form::Moment => format!(in alloc; "a moment YYYY-MM-DDTHH:MM"),
         Form::MomentOrEmpty => format!(in alloc; "a moment YYYY-MM-DDTHH:MM, or empty"),
         Form::Empty => format!(in alloc; "empty"),
@@ -141,6 +144,8 @@ fn key_text(alloc: Global, key: &RowKey) -> Result<String, AllocError> {
         RowKey::Operation(key) => format!(in alloc; "operation {key}"),
         RowKey::Dependency(before, after) => format!(in alloc; "dependency of {after} on {before}"),
         RowKey::Need(key, name) => format!(in alloc; "need of {name} by {key}"),
+        RowKey::Quantity(name) => format!(in alloc; "quantity of {name}"),
+        RowKey::Amount(key, name) => format!(in alloc; "amount of {name} for {key}"),
     }
 }
 
@@ -161,6 +166,9 @@ fn shape_text(alloc: Global, shape: Shape) -> Result<String, AllocError> {
             format!(in alloc; "{}: {name}: must be {form}", kind_name(kind))
         }
         Shape::EndsEarly => format!(in alloc; "open interval: end: must be after the first minute"),
+        Shape::ExclusiveAmount => format!(in alloc;
+            "need: amount: must be empty, since the need is exclusive"
+        ),
     }
 }
 
@@ -219,6 +227,10 @@ fn wrong_text(alloc: Global, fault: &Fault, told: &TextFaults) -> Result<String,
             format!(in alloc;
                 "open interval: overlaps that of line {other}: intervals of a workstation may only touch"
             )
+        }
+        Fault::BeyondStock(other) => {
+            let other = line_of(&told.lines, other);
+            format!(in alloc; "need: amount: more than there is of the resource, by line {other}")
         }
         Fault::TooMany(group, count) => {
             let text = group_text(alloc, &group)?;

@@ -17,11 +17,11 @@ use Rattle.text_records.specs.Denoting.{DenotesPlansOf, DenotesAdditionsOf}
 ten_said : (x : Item) (fields : Fields) → IsRecordOf x fields → IsTen fields
 ten_said (item.Workstation name attribute) fields h = rw h refl
 ten_said (item.Interval workstation interval) fields h = rw (h.4) refl
-ten_said (item.Resource name available) fields h = rw h refl
+ten_said (item.Resource name available quantity) fields h = rw (h.2) refl
 ten_said (item.Occurrence key priority deadline) fields h = rw (h.4) refl
 ten_said (item.Operation o) fields h = rw (h.6) refl
 ten_said (item.Dependency p s) fields h = rw (h.4) refl
-ten_said (item.Need o need) fields h = rw (h.2) refl
+ten_said (item.Need o need) fields h = rw (h.4) refl
 
 -- so have records that each say an item
 all_ten : (records : List Fields) (items : List Item) → AllZip Says records items → AllByRecursion IsTen records

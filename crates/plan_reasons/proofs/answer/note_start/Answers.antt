@@ -5,6 +5,9 @@ use Rattle.plan_reasons.specs.Reasons.{needs_start}
 use Rattle.plan_reasons.proofs.Collecting.{more_of_kind, more_of_list}
 use Rattle.plan_reasons.proofs.answer.note_start.Goals as goal
 
+pub all_scarce-requires : goal.all_scarce-requires
+all_scarce-requires c = subst (λ (Q : Contents). AreHeldIn Q c.in_ok-holdings.holdings.held) c.valid.ensures.contents c.in_ok-holdings.ensures.held
+
 pub returns-clause-noted : goal.returns-clause-noted
 returns-clause-noted c before =
     let P = c.args.contents.now in
@@ -22,4 +25,5 @@ returns-clause-noted c before =
     let r6 = more_of_kind P o op m 6 c.note-3.new.reasons.items c.note-4.new.reasons.items c.lacks-2.result c.in_ok-note-4.ensures (c.lacks-2.ensures P o start name known given) r5 in
     let r7 = more_of_kind P o op m 7 c.note-4.new.reasons.items c.note-5.new.reasons.items c.lacks-3.result c.in_ok-note-5.ensures (c.lacks-3.ensures P o start name known given) r6 in
     let r8 = more_of_list P o op m 8 c.note-5.new.reasons.items c.note_all.new.reasons.items c.in_ok-all_unavailable.field-0.items c.in_ok-note_all.ensures (c.in_ok-all_unavailable.ensures o m start) r7 in
-    more_of_list P o op m 9 c.note_all.new.reasons.items c.note_all-2.new.reasons.items c.in_ok-all_held.field-0.items c.in_ok-note_all-2.ensures (c.in_ok-all_held.ensures P m start held) r8
+    let r9 = more_of_list P o op m 9 c.note_all.new.reasons.items c.note_all-2.new.reasons.items c.in_ok-all_held.field-0.items c.in_ok-note_all-2.ensures (c.in_ok-all_held.ensures P m start held) r8 in
+    more_of_list P o op m 10 c.note_all-2.new.reasons.items c.note_all-3.new.reasons.items c.in_ok-all_scarce.field-0.items c.in_ok-note_all-3.ensures (c.in_ok-all_scarce.ensures m start) r9
