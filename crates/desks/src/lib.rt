@@ -21,6 +21,7 @@ mod reports;
 mod samples;
 mod scarce;
 mod stored;
+mod versions;
 mod wire_faults;
 mod written;
 
@@ -47,6 +48,7 @@ pub use scarce::{reports_in_want_of_memory, why_in_want_of_memory};
 pub use stored::{
     name_of_a_table_is_taken, operation_in_error_is_handed_out, waiting_predecessors_are_stored,
 };
+pub use versions::{changes_of_tables, tables_of_the_first_version_are_opened};
 pub use wire_faults::{a_reader_that_fails_at_each_read, a_writer_that_fails_at_each_write};
 pub use written::rows_that_are_written;
 

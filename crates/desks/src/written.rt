@@ -92,6 +92,39 @@ const STEPS: [Step; 10] = [
     },
 ];
 
+// The quantity is written by the load alone.
+const TAPES: [Step; 4] = [
+    // The workstation, its interval, the tape drives and their quantity, and of each of the three the occurrence, the operation
+    // and the need; an amount of one of them; and the row of the plan itself.
+    Step {
+        number: None,
+        turn: "22:00 load DRIVES IN_TURN HALF_HOURS ONE_TWO_ONE | -",
+        rows: 15,
+        new: 14,
+    },
+    // The plan's row and the tape drives.
+    Step {
+        number: None,
+        turn: "22:05 away TAPE | -",
+        rows: 2,
+        new: 0,
+    },
+    // The plan's row, and what is new: the occurrence, its operation, its need and the amount.
+    Step {
+        number: None,
+        turn: "22:06 add URGENT TWO_DRIVES | -",
+        rows: 5,
+        new: 4,
+    },
+    // The plan's row, the occurrence and its operation.
+    Step {
+        number: None,
+        turn: "22:10 ended AAA.10 | -",
+        rows: 3,
+        new: 0,
+    },
+];
+
 // A desk over a store that counts.
 fn begun(alloc: Global) -> Option<Bench<Counted<MemStore>>> {
     let store = MemStore::new(alloc, &[]).ok()?;
@@ -160,12 +193,17 @@ fn is_last_written(alloc: Global, steps: &[Step]) -> Result<(), &'static str> {
     }
 }
 
-/// How many rows are written by each step.
-pub fn rows_that_are_written(alloc: Global) -> Result<(), &'static str> {
-    let steps: &[Step] = &STEPS;
+// How many rows are written by each of these steps.
+fn each_is_written(alloc: Global, steps: &[Step]) -> Result<(), &'static str> {
     for count in 1..=steps.len() {
         let (taken, _) = steps.split_at(count);
         is_last_written(alloc, taken)?;
     }
     Ok(())
+}
+
+/// How many rows are written by each step.
+pub fn rows_that_are_written(alloc: Global) -> Result<(), &'static str> {
+    each_is_written(alloc, &STEPS)?;
+    each_is_written(alloc, &TAPES)
 }

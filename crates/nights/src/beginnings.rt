@@ -31,4 +31,8 @@ keys 5 10 20 30 40 / PAYROLL
 21:00 load STATIONS RUNS PRINTING CHAIN LAST FILE KEEPS | names -
 21:00 add BILLS BILLS_LAST | names -
 
+TAPES_IN: three occurrences are loaded, of which the first and the last take both tape drives
+keys AAA.10 BBB.10 CCC.10 / AAA BBB CCC
+22:00 load DRIVES IN_TURN HALF_HOURS ONE_TWO_ONE | names AAA.10 CCC.10
+
 ";

@@ -1,8 +1,8 @@
 // The rows of the tables that a request changes, each as a line: its table and its columns, with bars between.
 use super::words::listed;
-use plan_basics::{OpKey, minute_text};
+use plan_basics::{Interval, OpKey, ResName, WsName, minute_text};
 use plan_records::{Changes, OperationRow, PlanRow};
-use special_resources::{Mode, Need};
+use special_resources::Mode;
 use std::alloc::Global;
 
 // The columns of an operation that requests set: its mark, the code beside it, and whether it is held and to be passed.
@@ -40,17 +40,47 @@ fn operation_line(alloc: Global, row: &OperationRow) -> Option<String> {
     ).ok()
 }
 
-fn need_line(alloc: Global, op: &OpKey, need: &Need) -> Option<String> {
-    let name = need.name;
-    let mode = match need.mode {
+fn need_line(
+    alloc: Global,
+    op: &OpKey,
+    resource: &ResName,
+    mode: Mode,
+    keep: bool,
+) -> Option<String> {
+    let mode = match mode {
         Mode::Shared => 'S',
         Mode::Exclusive => 'X',
     };
-    let keep = if need.keep { 'K' } else { 'F' };
-    format!(in alloc; "need|{op}|{name}|{mode}|{keep}").ok()
+    let keep = if keep { 'K' } else { 'F' };
+    format!(in alloc; "need|{op}|{resource}|{mode}|{keep}").ok()
 }
 
-// The line of a row; none for one of a workstation, an interval or a resource, which no step changes.
+fn interval_line(alloc: Global, ws: &WsName, interval: &Interval) -> Option<String> {
+    let (from, end) = (interval.from(), interval.end());
+    let (servers, r1, r2) = (interval.servers(), interval.r1(), interval.r2());
+    format!(in alloc; "interval|{ws}|{from}|{end}|{servers}|{r1}|{r2}").ok()
+}
+
+// The line of a row of what comes with a load alone; none for any other.
+fn loaded_line(alloc: Global, row: &PlanRow) -> Option<String> {
+    match row {
+        PlanRow::Workstation { name, attr } => {
+            let attr = char::from(attr.letter());
+            format!(in alloc; "workstation|{name}|{attr}").ok()
+        }
+        PlanRow::Interval { ws, interval } => interval_line(alloc, ws, interval),
+        PlanRow::Resource { name, available } => {
+            let available = u8::from(*available);
+            format!(in alloc; "resource|{name}|{available}").ok()
+        }
+        PlanRow::Quantity { resource, quantity } => {
+            format!(in alloc; "quantity|{resource}|{quantity}").ok()
+        }
+        _ => None,
+    }
+}
+
+// The line of a row.
 fn line_of(alloc: Global, row: &PlanRow) -> Option<String> {
     match row {
         PlanRow::Meta {
@@ -75,8 +105,18 @@ fn line_of(alloc: Global, row: &PlanRow) -> Option<String> {
             predecessor,
             successor,
         } => format!(in alloc; "dependency|{predecessor}|{successor}").ok(),
-        PlanRow::Need { op, need } => need_line(alloc, op, need),
-        PlanRow::Workstation { .. } | PlanRow::Interval { .. } | PlanRow::Resource { .. } => None,
+        PlanRow::Need {
+            op,
+            resource,
+            mode,
+            keep,
+        } => need_line(alloc, op, resource, *mode, *keep),
+        PlanRow::Amount {
+            op,
+            resource,
+            amount,
+        } => format!(in alloc; "amount|{op}|{resource}|{amount}").ok(),
+        _ => loaded_line(alloc, row),
     }
 }
 

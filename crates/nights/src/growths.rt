@@ -45,7 +45,13 @@ LOADED
 LOADED
 21:00 depend 5 on 40 | refused 19
 21:00 add BILLS | names -
-21:00 depend BILLING.10 on 40 | names -";
+21:00 depend BILLING.10 on 40 | names -
+
+-
+22:00 load DRIVES IN_TURN HALF_HOURS ONE_TWO_ONE | names AAA.10 CCC.10
+22:05 add URGENT THREE_DRIVES | refused 20
+22:05 add URGENT TWO_DRIVES | names -
+22:20 ended CCC.10 | names -";
 
 // What comes of a turn's reply.
 fn outcome(reply: &Reply, turn: &str) -> Outcome {
@@ -160,7 +166,7 @@ fn play_after<'a>(alloc: Global, night: &'a str) -> Result<(), &'a str> {
     }
 }
 
-/// Five nights in want of memory; or the turn that is answered otherwise, or leaves another plan.
+/// Six nights in want of memory; or the turn that is answered otherwise, or leaves another plan.
 pub fn nights_in_want_of_memory(alloc: Global) -> Result<(), &'static str> {
     for night in NIGHTS.split("\n\n") {
         play_after(alloc, night)?;

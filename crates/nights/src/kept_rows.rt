@@ -2,8 +2,8 @@
 use plan_records::{Changes, PlanRow, RowKey};
 use std::alloc::{AllocError, Global};
 
-// Puts a row into the place of the one of its key, or behind all.
-fn put(rows: &mut Vec<PlanRow>, row: PlanRow) -> Result<(), AllocError> {
+/// Puts a row into the place of the one of its key, or behind all.
+pub fn put(rows: &mut Vec<PlanRow>, row: PlanRow) -> Result<(), AllocError> {
     for kept in rows.iter_mut() {
         if kept.key() == row.key() {
             *kept = row;

@@ -33,6 +33,7 @@ mod rows;
 mod sections;
 mod small_day;
 mod steps;
+mod tapes;
 mod told;
 mod topics;
 mod words;
@@ -40,6 +41,7 @@ mod words;
 pub use chains::looks_at_a_plan_of_chains;
 pub use growths::nights_in_want_of_memory;
 pub use imports::imports_are_refused_growth_by_growth;
+pub use looks::is_told;
 pub use memory::{
     a_draft_without_memory_is_refused, a_load_without_memory_changes_nothing,
     a_run_without_memory_changes_nothing, an_addition_without_memory_is_refused,
@@ -52,8 +54,8 @@ pub use plays::{
 };
 pub use requests::request;
 pub use rows::{
-    columns_that_follow_are_not_believed, row_given_twice_is_of_no_plan,
-    rows_in_another_order_are_the_same_plan,
+    columns_that_follow_are_not_believed, quantities_and_amounts_among_rows,
+    row_given_twice_is_of_no_plan, rows_in_another_order_are_the_same_plan,
 };
 pub use steps::rows_that_a_request_changes;
 pub use told::{nothing_of_what_is_not_in_the_plan, reasons_and_roots};

@@ -275,4 +275,101 @@ MORE: one more occurrence, of one operation
 O,MORE,2024-03-01T22:00,5,2024-03-02T05:00,,,,,
 P,MORE,2024-03-01T22:00,10,PRT1,30,0,0,,
 
+DRIVES: an automatic workstation with nine servers, and two tape drives
+W,CPU1,A,,,,,,,
+I,CPU1,2024-03-01T22:00,2024-03-02T06:00,9,0,0,,,
+X,TAPE,Y,2,,,,,,
+
+PAPER: the same workstation, and paper, of which no quantity is told
+W,CPU1,A,,,,,,,
+I,CPU1,2024-03-01T22:00,2024-03-02T06:00,9,0,0,,,
+X,PAPER,Y,,,,,,,
+
+IN_TURN: three occurrences, of which the first has to end first, and the last last
+O,AAA,2024-03-01T22:00,5,2024-03-02T03:00,,,,,
+O,BBB,2024-03-01T22:00,5,2024-03-02T04:00,,,,,
+O,CCC,2024-03-01T22:00,5,2024-03-02T05:00,,,,,
+
+ONE_TWO_ONE: the second of the three needs both drives, the others one each
+N,AAA,2024-03-01T22:00,10,TAPE,S,F,,,
+N,BBB,2024-03-01T22:00,10,TAPE,S,F,2,,
+N,CCC,2024-03-01T22:00,10,TAPE,S,F,1,,
+
+ONE_KEPT: so, but an error of the first keeps its drive
+N,AAA,2024-03-01T22:00,10,TAPE,S,K,,,
+N,BBB,2024-03-01T22:00,10,TAPE,S,F,2,,
+N,CCC,2024-03-01T22:00,10,TAPE,S,F,1,,
+
+ONE_ALL_ONE: so, but the second needs them for itself
+N,AAA,2024-03-01T22:00,10,TAPE,S,F,,,
+N,BBB,2024-03-01T22:00,10,TAPE,X,F,,,
+N,CCC,2024-03-01T22:00,10,TAPE,S,F,1,,
+
+ONE_THREE_ONE: so, but the second needs three, of which there are two
+N,AAA,2024-03-01T22:00,10,TAPE,S,F,,,
+N,BBB,2024-03-01T22:00,10,TAPE,S,F,3,,
+N,CCC,2024-03-01T22:00,10,TAPE,S,F,1,,
+
+PRINTED_WITH_BOTH: a printing that needs both drives, and keeps them on error, on a workstation of completions
+W,PRT1,C,,,,,,,
+P,CCC,2024-03-01T22:00,20,PRT1,20,0,0,,
+N,CCC,2024-03-01T22:00,20,TAPE,S,K,2,,
+
+NEARLY_ALL_TWO_ONE: the first needs all paper but one, the second two, the last one
+N,AAA,2024-03-01T22:00,10,PAPER,S,F,999998,,
+N,BBB,2024-03-01T22:00,10,PAPER,S,F,2,,
+N,CCC,2024-03-01T22:00,10,PAPER,S,F,1,,
+
+SET_UPS_WITH_DRIVES: two set-ups on a workstation of two servers, of which the first needs both of two drives, and the second one
+W,SETP,S,,,,,,,
+I,SETP,2024-03-01T22:00,2024-03-02T02:00,2,0,0,,,
+X,TAPE,Y,2,,,,,,
+O,PAYROLL,2024-03-01T22:00,5,2024-03-02T05:00,,,,,
+P,PAYROLL,2024-03-01T22:00,5,SETP,10,0,0,,
+P,PAYROLL,2024-03-01T22:00,6,SETP,10,0,0,,
+N,PAYROLL,2024-03-01T22:00,5,TAPE,S,K,2,,
+N,PAYROLL,2024-03-01T22:00,6,TAPE,S,F,,,
+
+URGENT: one more occurrence, which has to end before those three
+O,DDD,2024-03-01T22:00,5,2024-03-02T02:30,,,,,
+P,DDD,2024-03-01T22:00,10,CPU1,30,0,0,,
+
+ONE_DRIVE: it needs a drive
+N,DDD,2024-03-01T22:00,10,TAPE,S,F,,,
+
+TWO_DRIVES: it needs both drives
+N,DDD,2024-03-01T22:00,10,TAPE,S,F,2,,
+
+THREE_DRIVES: it needs three
+N,DDD,2024-03-01T22:00,10,TAPE,S,F,3,,
+
+NO_DRIVE: it needs none of them, which no need may say
+N,DDD,2024-03-01T22:00,10,TAPE,S,F,0,,
+
+A_MILLION_DRIVES: it needs more than any need may say
+N,DDD,2024-03-01T22:00,10,TAPE,S,F,1000000,,
+
+ALL_AND_ONE: it needs them for itself, and says how many
+N,DDD,2024-03-01T22:00,10,TAPE,X,F,1,,
+
+MORE_PAPER: it needs paper, too, which is not in the plan
+N,DDD,2024-03-01T22:00,10,PAPER,S,F,,,
+
+FROM_NOTHING: it comes after an operation that is not there
+D,AAA,2024-03-01T22:00,20,DDD,2024-03-01T22:00,10,,,
+
+ELSEWHERE: it has an operation on a workstation that is not there
+P,DDD,2024-03-01T22:00,20,XXXX,30,0,0,,
+
+BEFORE_THE_FIRST: it comes before the first of the three, which is started
+D,DDD,2024-03-01T22:00,10,AAA,2024-03-01T22:00,10,,,
+
+BEFORE_ITSELF: it comes before itself
+D,DDD,2024-03-01T22:00,10,DDD,2024-03-01T22:00,10,,,
+
+THE_FIRST_AGAIN: the first of the three once more, with three drives
+O,AAA,2024-03-01T22:00,5,2024-03-02T03:00,,,,,
+P,AAA,2024-03-01T22:00,10,CPU1,30,0,0,,
+N,AAA,2024-03-01T22:00,10,TAPE,S,F,3,,
+
 ";

@@ -55,19 +55,19 @@ fn are_all(passed: Result<u32, Deviation<'static>>, nights: u32) -> Result<(), D
     }
 }
 
-/// All 74 nights, by a plan of which all requests are made at once.
+/// All 85 nights, by a plan of which all requests are made at once.
 pub fn nights_at_once(alloc: Global) -> Result<(), Deviation<'static>> {
-    are_all(play_all::<AtOnce>(alloc), 74)
+    are_all(play_all::<AtOnce>(alloc), 85)
 }
 
-/// All 74 nights, by a plan of which one request after the other is prepared and applied.
+/// All 85 nights, by a plan of which one request after the other is prepared and applied.
 pub fn nights_one_by_one(alloc: Global) -> Result<(), Deviation<'static>> {
-    are_all(play_all::<OneByOne>(alloc), 74)
+    are_all(play_all::<OneByOne>(alloc), 85)
 }
 
-/// All 74 nights, by a plan that is moved along: it answers as the plan that is made of its rows, and keeps the same.
+/// All 85 nights, by a plan that is moved along: it answers as the plan that is made of its rows, and keeps the same.
 pub fn kept_as_worked_out_afresh(alloc: Global) -> Result<(), Deviation<'static>> {
-    are_all(play_all::<Kept>(alloc), 74)
+    are_all(play_all::<Kept>(alloc), 85)
 }
 
 /// Three plans that are as full as may be, made at once and one by one.

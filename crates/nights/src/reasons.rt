@@ -187,4 +187,53 @@ ADDED_WITH_PAIR
 21:00 delete PAYROLL | names -
 why PAYROLL/2024-03-01T22:00/040 D 2024-03-01T21:00
 status D
+END 1
+
+TAPES_IN: fewer tape drives are left than it needs, and are away besides
+why BBB/2024-03-01T22:00/010 A 2024-03-01T22:00
+TAPE lacks: left 0, needed 2
+END 1
+
+TAPES_IN
+22:10 ended AAA.10 | names -
+why BBB/2024-03-01T22:00/010 A 2024-03-01T22:10
+TAPE lacks: left 1, needed 2
+END 1
+
+TAPES_IN
+22:05 away TAPE | names -
+why BBB/2024-03-01T22:00/010 A 2024-03-01T22:05
+TAPE not available
+TAPE lacks: left 0, needed 2
+END 2
+
+-: who needs the tape drives alone is in the way of who shares them, and they of it, however many there are
+22:00 load DRIVES IN_TURN HALF_HOURS ONE_ALL_ONE | names AAA.10 CCC.10
+why BBB/2024-03-01T22:00/010 A 2024-03-01T22:00
+TAPE held by AAA/2024-03-01T22:00/010 shared
+TAPE held by CCC/2024-03-01T22:00/010 shared
+END 2
+
+-
+22:00 load DRIVES IN_TURN HALF_HOURS ONE_ALL_ONE | names AAA.10 CCC.10
+22:10 ended AAA.10 | names -
+22:20 ended CCC.10 | names BBB.10
+22:25 add URGENT ONE_DRIVE | names -
+why DDD/2024-03-01T22:00/010 A 2024-03-01T22:25
+TAPE held by BBB/2024-03-01T22:00/010 exclusive
+END 1
+
+-: what is interrupted has the tape drives, and leaves none to another
+21:00 load SET_UPS_WITH_DRIVES | names -
+22:00 started 5 | names -
+22:05 interrupted 5 | names -
+why PAYROLL/2024-03-01T22:00/005 I 2024-03-01T22:06
+END 0
+
+-
+21:00 load SET_UPS_WITH_DRIVES | names -
+22:00 started 5 | names -
+22:05 interrupted 5 | names -
+why PAYROLL/2024-03-01T22:00/006 A 2024-03-01T22:06
+TAPE lacks: left 0, needed 1
 END 1";

@@ -14,7 +14,7 @@ use std::alloc::Global;
 const STEPS: &str = "LOADED
 22:00 started 5 | names -
 changes
-meta|1|1|2024-03-01T22:00
+meta|2|1|2024-03-01T22:00
 occurrence|PAYROLL/2024-03-01T22:00|5|2024-03-02T05:00|S
 operation|PAYROLL/2024-03-01T22:00/005|SETP|10|0|0|1972-01-01T00:00|2024-03-02T05:00|running||0|0|S|2024-03-02T02:59|0
 
@@ -22,7 +22,7 @@ LOADED
 22:00 started 5 | names -
 22:10 ended 5 | names 10
 changes
-meta|1|1|2024-03-01T22:10
+meta|2|1|2024-03-01T22:10
 operation|PAYROLL/2024-03-01T22:00/005|SETP|10|0|0|1972-01-01T00:00|2024-03-02T05:00|done||0|0|C|2024-03-02T02:59|0
 operation|PAYROLL/2024-03-01T22:00/010|CPU1|30|0|0|1972-01-01T00:00|2024-03-02T05:00|named||0|0|S|2024-03-02T03:09|0
 
@@ -32,7 +32,7 @@ LOADED
 22:40 ended 10 | names 20
 22:45 add BILLS | names -
 changes
-meta|1|1|2024-03-01T22:45
+meta|2|1|2024-03-01T22:45
 occurrence|BILLING/2024-03-01T22:00|5|2024-03-02T03:00|W
 operation|BILLING/2024-03-01T22:00/010|CPU1|30|0|0|1972-01-01T00:00|2024-03-02T03:00|none||0|0|A|2024-03-02T02:30|0
 need|BILLING/2024-03-01T22:00/010|CUSTFILE|S|F
@@ -40,14 +40,14 @@ need|BILLING/2024-03-01T22:00/010|CUSTFILE|S|F
 BILLS_IN
 23:00 error 20 S0C7 | names -
 changes
-meta|1|1|2024-03-01T23:00
+meta|2|1|2024-03-01T23:00
 occurrence|PAYROLL/2024-03-01T22:00|5|2024-03-02T05:00|E
 operation|PAYROLL/2024-03-01T22:00/020|CPU1|60|0|0|1972-01-01T00:00|2024-03-02T05:00|error|S0C7|0|0|E|2024-03-02T03:39|0
 
 BILLS_IN
 23:40 ended 20 | names BILLING.10
 changes
-meta|1|1|2024-03-01T23:40
+meta|2|1|2024-03-01T23:40
 occurrence|BILLING/2024-03-01T22:00|5|2024-03-02T03:00|S
 operation|BILLING/2024-03-01T22:00/010|CPU1|30|0|0|1972-01-01T00:00|2024-03-02T03:00|named||0|0|S|2024-03-02T02:30|0
 operation|PAYROLL/2024-03-01T22:00/020|CPU1|60|0|0|1972-01-01T00:00|2024-03-02T05:00|done||0|0|C|2024-03-02T03:39|0
@@ -81,7 +81,41 @@ operation|PAYROLL/2024-03-01T22:00/040|PRT1|20|0|0|1972-01-01T00:00|2024-03-02T0
 LOADED
 21:00 tick | names -
 changes
--";
+-
+
+-
+22:00 load DRIVES IN_TURN HALF_HOURS ONE_TWO_ONE | names AAA.10 CCC.10
+changes
+meta|2|1|2024-03-01T22:00
+workstation|CPU1|A
+interval|CPU1|2024-03-01T22:00|2024-03-02T06:00|9|0|0
+resource|TAPE|1
+occurrence|AAA/2024-03-01T22:00|5|2024-03-02T03:00|S
+occurrence|BBB/2024-03-01T22:00|5|2024-03-02T04:00|W
+occurrence|CCC/2024-03-01T22:00|5|2024-03-02T05:00|S
+operation|AAA/2024-03-01T22:00/010|CPU1|30|0|0|1972-01-01T00:00|2024-03-02T03:00|named||0|0|S|2024-03-02T02:30|0
+operation|BBB/2024-03-01T22:00/010|CPU1|30|0|0|1972-01-01T00:00|2024-03-02T04:00|none||0|0|A|2024-03-02T03:30|0
+operation|CCC/2024-03-01T22:00/010|CPU1|30|0|0|1972-01-01T00:00|2024-03-02T05:00|named||0|0|S|2024-03-02T04:30|0
+need|AAA/2024-03-01T22:00/010|TAPE|S|F
+need|BBB/2024-03-01T22:00/010|TAPE|S|F
+need|CCC/2024-03-01T22:00/010|TAPE|S|F
+quantity|TAPE|2
+amount|BBB/2024-03-01T22:00/010|TAPE|2
+
+TAPES_IN
+22:05 away TAPE | names -
+changes
+meta|2|1|2024-03-01T22:05
+resource|TAPE|0
+
+TAPES_IN
+22:05 add URGENT TWO_DRIVES | names -
+changes
+meta|2|1|2024-03-01T22:05
+occurrence|DDD/2024-03-01T22:00|5|2024-03-02T02:30|W
+operation|DDD/2024-03-01T22:00/010|CPU1|30|0|0|1972-01-01T00:00|2024-03-02T02:30|none||0|0|A|2024-03-02T02:00|0
+need|DDD/2024-03-01T22:00/010|TAPE|S|F
+amount|DDD/2024-03-01T22:00/010|TAPE|2";
 
 // Whether a request changes the rows of these lines, and no others.
 fn changes_rows(alloc: Global, plan: &mut Plan, request: &Request, changed: &str) -> bool {
@@ -115,7 +149,7 @@ fn is_so(alloc: Global, step: &str) -> Option<bool> {
     Some(changes_after(alloc, name, before, turn, changed))
 }
 
-/// Eight requests, each of which makes of some rows what is told, and changes no others; or the step of which that isn't so.
+/// Eleven requests, each of which makes of some rows what is told, and changes no others; or the step of which that isn't so.
 pub fn rows_that_a_request_changes(alloc: Global) -> Result<(), &'static str> {
     for step in STEPS.split("\n\n") {
         if is_so(alloc, step) != Some(true) {

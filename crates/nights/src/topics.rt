@@ -7,6 +7,7 @@ use super::pairs::PAIRS;
 use super::playing::{Deviation, Player, pass};
 use super::reports::REPORTS;
 use super::resources::RESOURCES;
+use super::tapes::TAPES;
 use std::alloc::Global;
 
 /// Plays the nights of all topics. Returns how many there are, where each goes as it says.
@@ -16,10 +17,11 @@ pub fn play_all<P: Player>(alloc: Global) -> Result<u32, Deviation<'static>> {
     let latest = pass::<P>(alloc, LATEST_STARTS)?;
     let commands = pass::<P>(alloc, COMMANDS)?;
     let resources = pass::<P>(alloc, RESOURCES)?;
+    let tapes = pass::<P>(alloc, TAPES)?;
     let pairs = pass::<P>(alloc, PAIRS)?;
     let additions = pass::<P>(alloc, ADDITIONS)?;
     let by_time = reports.saturating_add(days).saturating_add(latest);
-    let by_others = commands.saturating_add(resources);
+    let by_others = commands.saturating_add(resources).saturating_add(tapes);
     let by_what_comes_in = pairs.saturating_add(additions);
     Ok(
         by_time

@@ -1,5 +1,6 @@
 //! The records of a worked plan, and records that say nothing.
 use super::named::{EVENING, moment, occurrence, operation, workstation};
+use plan_basics::limits::MOST_QUANTITY;
 use plan_basics::{Attr, Interval, Moment, ResName};
 use plan_items::{Item, OperationItem, read_item};
 use special_resources::{Mode, Need};
@@ -65,17 +66,23 @@ pub fn reads_intervals(alloc: Global) -> bool {
         && reads(alloc, other, interval("SETP", "2024-03-02T02:00", 1, 0))
 }
 
-fn reads_file(alloc: Global, line: &str, available: bool) -> bool {
-    match ResName::from_text(b"CUSTFILE") {
-        Some(name) => reads(alloc, line, Some(Item::Resource { name, available })),
-        None => false,
-    }
+// The file, whether it is available, and how much there is of it.
+fn file_item(available: bool, quantity: u32) -> Option<Item> {
+    let name = ResName::from_text(b"CUSTFILE")?;
+    Some(Item::Resource {
+        name,
+        available,
+        quantity,
+    })
 }
 
-/// Special resources.
+/// Special resources. Where no quantity is told there is as much as can be.
 pub fn reads_resources(alloc: Global) -> bool {
-    reads_file(alloc, "X,CUSTFILE,Y,,,,,,,", true)
-        && reads_file(alloc, "X,CUSTFILE,N,,,,,,,", false)
+    reads(alloc, "X,CUSTFILE,Y,,,,,,,", file_item(true, MOST_QUANTITY))
+        && reads(alloc, "X,CUSTFILE,N,,,,,,,", file_item(false, 999_999))
+        && reads(alloc, "X,CUSTFILE,Y,1,,,,,,", file_item(true, 1))
+        && reads(alloc, "X,CUSTFILE,N,20,,,,,,", file_item(false, 20))
+        && reads(alloc, "X,CUSTFILE,Y,999999,,,,,,", file_item(true, 999_999))
 }
 
 // An operation that needs no fixed resource and has no moments of its own.
@@ -167,28 +174,43 @@ pub fn reads_occurrences(alloc: Global) -> bool {
     )
 }
 
-// An operation that needs the file, how, and whether an error keeps it.
-fn need_item(application: &str, number: u8, mode: Mode, keep: bool) -> Option<Item> {
+// An operation that needs the file, how, how much of it, and whether an error keeps it.
+fn need_item(application: &str, number: u8, mode: Mode, amount: u32, keep: bool) -> Option<Item> {
     let name = ResName::from_text(b"CUSTFILE")?;
+    let need = Need {
+        name,
+        mode,
+        amount,
+        keep,
+    };
     Some(Item::Need {
         operation: operation(application, number)?,
-        need: Need { name, mode, keep },
+        need,
     })
 }
 
-/// Needs.
-pub fn reads_needs(alloc: Global) -> bool {
-    let payroll = "N,PAYROLL,2024-03-01T22:00,20,CUSTFILE,X,K,,,";
-    let billing = "N,BILLING,2024-03-01T22:00,10,CUSTFILE,S,F,,,";
+// Whether a line says that the bills share so much of the file, which an error frees.
+fn reads_shared(alloc: Global, line: &str, amount: u32) -> bool {
     reads(
         alloc,
-        payroll,
-        need_item("PAYROLL", 20, Mode::Exclusive, true),
-    ) && reads(
-        alloc,
-        billing,
-        need_item("BILLING", 10, Mode::Shared, false),
+        line,
+        need_item("BILLING", 10, Mode::Shared, amount, false),
     )
+}
+
+/// Needs. Where no amount is told one is shared.
+pub fn reads_needs(alloc: Global) -> bool {
+    let payroll = "N,PAYROLL,2024-03-01T22:00,20,CUSTFILE,X,K,,,";
+    let one = "N,BILLING,2024-03-01T22:00,10,CUSTFILE,S,F,,,";
+    let told = "N,BILLING,2024-03-01T22:00,10,CUSTFILE,S,F,1,,";
+    let some = "N,BILLING,2024-03-01T22:00,10,CUSTFILE,S,F,30,,";
+    let most = "N,BILLING,2024-03-01T22:00,10,CUSTFILE,S,F,999999,,";
+    let alone = need_item("PAYROLL", 20, Mode::Exclusive, 0, true);
+    reads(alloc, payroll, alone)
+        && reads_shared(alloc, one, 1)
+        && reads_shared(alloc, told, 1)
+        && reads_shared(alloc, some, 30)
+        && reads_shared(alloc, most, 999_999)
 }
 
 // An operation of PAYROLL, and the one that comes after it.
@@ -233,8 +255,26 @@ O,payroll,2024-03-01T22:00,5,2024-03-02T05:00,,,,,
 N,PAYROLL,2024-03-01T22:00,20,CUSTFILE,Y,K,,,
 N,PAYROLL,2024-03-01T22:00,20,CUSTFILE,X,X,,,
 N,PAYROLL,2024-03-01T22:00,20,,X,K,,,
+N,PAYROLL,2024-03-01T22:00,20,CUSTFILE,X,K,1,,
+N,PAYROLL,2024-03-01T22:00,20,CUSTFILE,X,K,0,,
+N,BILLING,2024-03-01T22:00,10,CUSTFILE,S,F,0,,
+N,BILLING,2024-03-01T22:00,10,CUSTFILE,S,F,1000000,,
+N,BILLING,2024-03-01T22:00,10,CUSTFILE,S,F,01,,
+N,BILLING,2024-03-01T22:00,10,CUSTFILE,S,F,+1,,
+N,BILLING,2024-03-01T22:00,10,CUSTFILE,S,F, ,,
+N,BILLING,2024-03-01T22:00,10,CUSTFILE,S,F,1,1,
+N,BILLING,2024-03-01T22:00,10,CUSTFILE,S,F,,1,
 X,CUSTFILE,Y,,,, ,,,
 X,CUSTFILE,YES,,,,,,,
+X,CUSTFILE,Y,0,,,,,,
+X,CUSTFILE,Y,1000000,,,,,,
+X,CUSTFILE,Y,4294967297,,,,,,
+X,CUSTFILE,Y,02,,,,,,
+X,CUSTFILE,Y,+2,,,,,,
+X,CUSTFILE,Y,-1,,,,,,
+X,CUSTFILE,Y, ,,,,,,
+X,CUSTFILE,Y,2,2,,,,,
+X,CUSTFILE,Y,,2,,,,,
 W,CPU12,A,,,,,,,
 W,CPU1,B,,,,,,,
 W,CPU1,A, ,,,,,,

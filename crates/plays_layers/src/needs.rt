@@ -24,7 +24,13 @@ fn pushes(needs: &mut Needs, need: &Need, is_refused: bool) -> bool {
 
 fn need(name: &[u8], mode: Mode, keep: bool) -> Option<Need> {
     let name = ResName::from_text(name)?;
-    Some(Need { name, mode, keep })
+    let amount = u32::from(mode == Mode::Shared);
+    Some(Need {
+        name,
+        mode,
+        amount,
+        keep,
+    })
 }
 
 fn are_by_name(file: &Need, copy: &Need) -> bool {

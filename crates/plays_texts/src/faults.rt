@@ -111,6 +111,15 @@ N,DAILY,2024-03-01T22:00,010,TAPE,S,K,,,|;line 7: need: number: must be a whole 
 N,DAILY,2024-03-01T22:00,10,tape,S,K,,,|;line 7: need: special resource: must be a name of 1 to 44 characters of A-Z, 0-9, @, #, $, . and -|
 N,DAILY,2024-03-01T22:00,10,TAPE,E,K,,,|;line 7: need: mode: must be S or X|
 N,DAILY,2024-03-01T22:00,10,TAPE,S,Y,,,|;line 7: need: keep: must be K or F|
+X,TAPE,Y,0,,,,,,|;line 7: special resource: quantity: must be a whole number from 1 to 999999, or empty|
+X,TAPE,Y,1000000,,,,,,|;line 7: special resource: quantity: must be a whole number from 1 to 999999, or empty|
+X,TAPE,Y,05,,,,,,|;line 7: special resource: quantity: must be a whole number from 1 to 999999, or empty|
+X,TAPE,Y,5,5,,,,,|;line 7: special resource: field 5: must be empty|
+N,DAILY,2024-03-01T22:00,10,TAPE,S,K,0,,|;line 7: need: amount: must be a whole number from 1 to 999999, or empty|
+N,DAILY,2024-03-01T22:00,10,TAPE,S,K,1000000,,|;line 7: need: amount: must be a whole number from 1 to 999999, or empty|
+N,DAILY,2024-03-01T22:00,10,TAPE,S,K,05,,|;line 7: need: amount: must be a whole number from 1 to 999999, or empty|
+N,DAILY,2024-03-01T22:00,10,TAPE,X,K,1,,|;line 7: need: amount: must be empty, since the need is exclusive|
+N,DAILY,2024-03-01T22:00,10,TAPE,S,K,5,5,|;line 7: need: field 9: must be empty|
 ";
 
 // The plan, with a special resource and a need of it.
@@ -136,10 +145,33 @@ P,WEEKLY,2024-03-01T22:00,1,CPU1,30,0,0,,|;line 9: occurrence WEEKLY/2024-03-01T
 W,CPU1,C,,,,,,,|;line 9: workstation CPU1: given before, in line 1: each is given once|
 ";
 
-/// Each field of each kind and each kind of key is told by its words.
+// The plan, with a special resource of which there are five, and a need of one of it.
+const STOCKED: &str = "W,CPU1,A,,,,,,,
+I,CPU1,2024-03-01T22:00,2024-03-02T06:00,2,0,0,,,
+O,DAILY,2024-03-01T22:00,5,2024-03-02T05:00,,,,,
+P,DAILY,2024-03-01T22:00,10,CPU1,30,0,0,,
+P,DAILY,2024-03-01T22:00,20,CPU1,60,0,0,,
+D,DAILY,2024-03-01T22:00,10,DAILY,2024-03-01T22:00,20,,,
+X,TAPE,Y,5,,,,,,
+N,DAILY,2024-03-01T22:00,20,TAPE,S,K,,,
+";
+
+// Needs of as much as there is and of more, and of what no record defines.
+const AMOUNTS: &str = "N,DAILY,2024-03-01T22:00,10,TAPE,S,K,5,,|;
+N,DAILY,2024-03-01T22:00,10,TAPE,X,K,,,|;
+N,DAILY,2024-03-01T22:00,10,TAPE,S,K,6,,|;line 9: need: amount: more than there is of the resource, by line 7|
+N,DAILY,2024-03-01T22:00,10,TAPE,S,F,999999,,|;line 9: need: amount: more than there is of the resource, by line 7|
+N,DAILY,2024-03-01T22:00,10,DISK,S,K,6,,|;line 9: special resource DISK: no record defines it|
+N,DAILY,2024-03-01T22:00,10,DISK,S,K,999999,,|X,DISK,Y,,,,,,,|;
+N,DAILY,2024-03-01T22:00,10,DISK,S,K,6,,||X,DISK,Y,5,,,,,,|;line 9: need: amount: more than there is of the resource, by line 11|
+X,TAPE,Y,6,,,,,,|;line 9: special resource TAPE: given before, in line 7: each is given once|
+";
+
+/// Each field of each kind and each kind of key is told by its words, and so is a need of more than there is.
 pub fn words_of_fields_and_keys(alloc: Global) -> Result<(), &'static str> {
     each(alloc, Claim::Told, PLAN, FIELDS)?;
-    each(alloc, Claim::Told, NEEDY, KEYS)
+    each(alloc, Claim::Told, NEEDY, KEYS)?;
+    each(alloc, Claim::Told, STOCKED, AMOUNTS)
 }
 
 // What is told of seven of a group.
@@ -213,6 +245,9 @@ N,PAYROLL,2024-03-01T22:00,40,CUSTFILE,X,K,,,|;line 5: operation PAYROLL/2024-03
 D,PAYROLL,2024-03-01T22:00,30,PAYROLL,2024-03-01T22:00,40,,,|;line 5: dependency: one of its operations must be of the occurrence that is added|
 D,BILLING,2024-03-01T22:00,10,BILLING,2024-03-01T22:00,20,,,|;line 5: operation BILLING/2024-03-01T22:00/020: no record defines it|
 D,BILLING,2024-03-01T22:00,10,PAYROLL,2024-03-01T22:00,40,,,|;
+N,BILLING,2024-03-01T22:00,10,TAPE,S,F,999999,,|;
+N,BILLING,2024-03-01T22:00,10,TAPE,S,F,1000000,,|;line 5: need: amount: must be a whole number from 1 to 999999, or empty|
+N,BILLING,2024-03-01T22:00,10,TAPE,X,F,1,,|;line 5: need: amount: must be empty, since the need is exclusive|
 ";
 
 // Whole texts of additions, and what is told.

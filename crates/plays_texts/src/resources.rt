@@ -31,12 +31,12 @@ W,DUMM,N,
 W,PRT1,C,
 W,SETP,S,
 I,SETP,2024-03-01T22:00,2024-03-02T02:00,1,0,0,
-X,CUSTFILE,Y,
+X,CUSTFILE,Y,999999,
 O,PAYROLL/2024-03-01T22:00,5,2024-03-02T05:00,
 P,PAYROLL/2024-03-01T22:00/005,SETP,10,0,0,1972-01-01T00:00,2024-03-02T05:00,
 P,PAYROLL/2024-03-01T22:00/010,CPU1,30,0,0,1972-01-01T00:00,2024-03-02T05:00,
 P,PAYROLL/2024-03-01T22:00/020,CPU1,60,0,0,1972-01-01T00:00,2024-03-02T05:00,
-N,PAYROLL/2024-03-01T22:00/020,CUSTFILE,X,K,
+N,PAYROLL/2024-03-01T22:00/020,CUSTFILE,X,K,0,
 P,PAYROLL/2024-03-01T22:00/030,DUMM,1,0,0,1972-01-01T00:00,2024-03-02T05:00,
 P,PAYROLL/2024-03-01T22:00/040,PRT1,20,0,0,1972-01-01T00:00,2024-03-02T05:00,
 D,PAYROLL/2024-03-01T22:00/005,PAYROLL/2024-03-01T22:00/010,
@@ -69,12 +69,12 @@ W,DUMM,N,
 W,PRT1,C,
 W,SETP,S,
 I,SETP,2024-03-01T22:00,2024-03-02T02:00,1,0,0,
-X,CUSTFILE,Y,
+X,CUSTFILE,Y,999999,
 O,PAYROLL/2024-03-01T22:00,5,2024-03-02T05:00,
 P,PAYROLL/2024-03-01T22:00/005,SETP,10,0,0,1972-01-01T00:00,2024-03-02T05:00,
 P,PAYROLL/2024-03-01T22:00/010,CPU1,30,0,0,1972-01-01T00:00,2024-03-02T05:00,
 P,PAYROLL/2024-03-01T22:00/020,CPU1,60,0,0,1972-01-01T00:00,2024-03-02T05:00,
-N,PAYROLL/2024-03-01T22:00/020,CUSTFILE,X,K,
+N,PAYROLL/2024-03-01T22:00/020,CUSTFILE,X,K,0,
 P,PAYROLL/2024-03-01T22:00/030,DUMM,1,0,0,1972-01-01T00:00,2024-03-02T05:00,
 P,PAYROLL/2024-03-01T22:00/040,PRT1,20,0,0,1972-01-01T00:00,2024-03-02T05:00,
 D,PAYROLL/2024-03-01T22:00/040,PAYROLL/2024-03-01T22:00/005,
@@ -98,6 +98,63 @@ a need of an unknown operation||N,PAYROLL,2024-03-01T22:00,50,CUSTFILE,X,K,,,
 a need of an operation of no occurrence||N,BILLING,2024-03-01T22:00,20,CUSTFILE,X,K,,,
 a closed path||D,PAYROLL,2024-03-01T22:00,40,PAYROLL,2024-03-01T22:00,5,,,
 ";
+
+// A plan in which an operation needs all five of a special resource. The need comes first, and the special resource last.
+const STOCKED: &str = "N,PAYROLL,2024-03-01T22:00,10,TAPE,S,F,5,,
+W,CPU1,A,,,,,,,
+I,CPU1,2024-03-01T22:00,2024-03-02T06:00,2,3,0,,,
+O,PAYROLL,2024-03-01T22:00,5,2024-03-02T05:00,,,,,
+P,PAYROLL,2024-03-01T22:00,10,CPU1,30,0,0,,
+P,PAYROLL,2024-03-01T22:00,20,CPU1,60,0,0,,
+X,TAPE,Y,5,,,,,,
+";
+
+const THE_STOCKED: &str = "W,CPU1,A,
+I,CPU1,2024-03-01T22:00,2024-03-02T06:00,2,3,0,
+X,TAPE,Y,5,
+O,PAYROLL/2024-03-01T22:00,5,2024-03-02T05:00,
+P,PAYROLL/2024-03-01T22:00/010,CPU1,30,0,0,1972-01-01T00:00,2024-03-02T05:00,
+N,PAYROLL/2024-03-01T22:00/010,TAPE,S,F,5,
+P,PAYROLL/2024-03-01T22:00/020,CPU1,60,0,0,1972-01-01T00:00,2024-03-02T05:00,
+";
+
+// What is so, the line that this plan is without, and the line that is added to it.
+const AMOUNTS: &str = "more in all than there is||N,PAYROLL,2024-03-01T22:00,20,TAPE,S,F,5,,
+one more, for itself||N,PAYROLL,2024-03-01T22:00,20,TAPE,X,K,,,
+no quantity|X,TAPE,Y,5,,,,,,|X,TAPE,Y,,,,,,,
+the greatest quantity|X,TAPE,Y,5,,,,,,|X,TAPE,Y,999999,,,,,,
+not available|X,TAPE,Y,5,,,,,,|X,TAPE,N,5,,,,,,
+the least amount|N,PAYROLL,2024-03-01T22:00,10,TAPE,S,F,5,,|N,PAYROLL,2024-03-01T22:00,10,TAPE,S,F,1,,
+less of another operation||N,PAYROLL,2024-03-01T22:00,20,TAPE,S,F,4,,
+";
+
+// What is wrong, and the two lines.
+const NO_AMOUNTS: &str = "an amount above the quantity||N,PAYROLL,2024-03-01T22:00,20,TAPE,S,F,6,,
+the greatest amount||N,PAYROLL,2024-03-01T22:00,20,TAPE,S,F,999999,,
+a quantity below the amount|X,TAPE,Y,5,,,,,,|X,TAPE,Y,4,,,,,,
+a quantity of 0|X,TAPE,Y,5,,,,,,|X,TAPE,Y,0,,,,,,
+a quantity of 1,000,000|X,TAPE,Y,5,,,,,,|X,TAPE,Y,1000000,,,,,,
+a quantity with a leading zero|X,TAPE,Y,5,,,,,,|X,TAPE,Y,05,,,,,,
+a quantity with a sign|X,TAPE,Y,5,,,,,,|X,TAPE,Y,+5,,,,,,
+a quantity of a blank|X,TAPE,Y,5,,,,,,|X,TAPE,Y, ,,,,,,
+an amount of 0||N,PAYROLL,2024-03-01T22:00,20,TAPE,S,F,0,,
+an amount of 1,000,000||N,PAYROLL,2024-03-01T22:00,20,TAPE,S,F,1000000,,
+an amount with a leading zero||N,PAYROLL,2024-03-01T22:00,20,TAPE,S,F,05,,
+an amount of an exclusive need||N,PAYROLL,2024-03-01T22:00,20,TAPE,X,F,1,,
+all of it as an amount of an exclusive need||N,PAYROLL,2024-03-01T22:00,20,TAPE,X,F,5,,
+a special resource twice, with another quantity||X,TAPE,Y,6,,,,,,
+a need twice, of another amount||N,PAYROLL,2024-03-01T22:00,10,TAPE,S,F,4,,
+";
+
+/// Amounts of a special resource are at most what there is of it, each by itself; both are from 1 to 999,999.
+pub fn tells_amounts_within_their_quantity(alloc: Global) -> Result<(), &'static str> {
+    so(
+        is_built(alloc, STOCKED, THE_STOCKED),
+        "five of which one needs all",
+    )?;
+    each(alloc, Claim::Plan, STOCKED, AMOUNTS)?;
+    each(alloc, Claim::NoPlan, STOCKED, NO_AMOUNTS)
+}
 
 /// The night of payroll is built, with its chain and with one pair back; resources and needs that fit are told from
 /// others.

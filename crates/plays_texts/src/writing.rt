@@ -1,6 +1,6 @@
 // Plans and additions, written down: a line for each row, in the order of the tables, with a comma behind each field.
 use plan_basics::{Interval, OccKey, OpKey, ResName, WsName};
-use plan_records::{AdditionParts, Occurrence, OperationRecord, PlanContents};
+use plan_records::{AdditionParts, Occurrence, OperationRecord, PlanContents, Stock};
 use special_resources::{Mode, Need};
 use status_rules::Mark;
 use std::alloc::{AllocError, Global};
@@ -43,16 +43,17 @@ fn push_workstations(text: &mut String, workstations: &[Workstation]) -> Result<
     Ok(())
 }
 
-fn push_resource(text: &mut String, name: &ResName, available: bool) -> Result<(), AllocError> {
+fn push_resource(text: &mut String, name: &ResName, stock: &Stock) -> Result<(), AllocError> {
     push(text, &'X')?;
     push(text, name)?;
-    push(text, if available { &'Y' } else { &'N' })?;
+    push(text, if stock.available { &'Y' } else { &'N' })?;
+    push(text, &stock.quantity)?;
     text.push('\n')
 }
 
-fn push_resources(text: &mut String, resources: &[(ResName, bool)]) -> Result<(), AllocError> {
-    for (name, available) in resources {
-        push_resource(text, name, *available)?;
+fn push_resources(text: &mut String, resources: &[(ResName, Stock)]) -> Result<(), AllocError> {
+    for (name, stock) in resources {
+        push_resource(text, name, stock)?;
     }
     Ok(())
 }
@@ -88,6 +89,7 @@ fn push_need(text: &mut String, key: &OpKey, need: &Need) -> Result<(), AllocErr
         },
     )?;
     push(text, if need.keep { &'K' } else { &'F' })?;
+    push(text, &need.amount)?;
     text.push('\n')
 }
 

@@ -144,13 +144,57 @@ $ load --db @night.db --plan @day.csv --at 2072-01-01T00:00
 refused 2 MomentRange
 =1
 # a second meta row
-% night.db INSERT INTO meta VALUES (2, 1, 0, 0)
+% night.db INSERT INTO meta VALUES (2, 2, 0, 0)
 $ load --db @night.db --plan @day.csv --at 2024-03-01T22:00
 refused 28 Damaged
 =1
 # a receipt
 % night.db DELETE FROM meta WHERE id = 2; INSERT INTO receipt VALUES ('T1', 1, x'', '')
 $ load --db @night.db --plan @day.csv --at 2024-03-01T22:00
+refused 28 Damaged
+=1
+";
+
+/// A night of the first version, which another program wrote, goes on. What only shows makes it one of the second.
+pub const FIRST_NIGHT: &str = "$ report --db @first.db --kind occurrences
+OCCURRENCES AT 2024-03-01T22:45
+BILLING          2024-03-01T22:00 5 W 2024-03-02T03:00     1     0
+PAYROLL          2024-03-01T22:00 5 S 2024-03-02T05:00     5     2
+END 2
+% first.db INSERT INTO quantity VALUES ('CUSTFILE', 7); DELETE FROM quantity; DELETE FROM amount
+$ do --db @first.db --request {\"at\":\"2024-03-01T23:40\",\"do\":\"ended\",\"op\":\"PAYROLL/2024-03-01T22:00/020\"}
+accepted
+starts BILLING/2024-03-01T22:00/010
+$ do --db @first.db --request {\"at\":\"2024-03-01T23:50\",\"do\":\"ended\",\"op\":\"PAYROLL/2024-03-01T22:00/040\"}
+accepted
+$ report --db @first.db --kind occurrences
+OCCURRENCES AT 2024-03-01T23:50
+BILLING          2024-03-01T22:00 5 S 2024-03-02T03:00     1     0
+PAYROLL          2024-03-01T22:00 5 C 2024-03-02T05:00     5     5
+END 2
+";
+
+/// A database of the first version, which has no quantities and amounts, and is of the second once it is opened.
+pub const FIRST_VERSION: &str = "# what makes a desk one of the first version
+$ load --db @night.db --plan @night.csv --at 2024-03-01T21:00
+accepted
+% night.db DROP TABLE quantity; DROP TABLE amount; UPDATE meta SET version = 1
+# what only shows makes it one of the second again
+$ report --db @night.db --kind ready --ws SETP
+READY SETP AT 2024-03-01T21:00
+PAYROLL          2024-03-01T22:00   5 A - 5   10 2024-03-02T02:59
+END 1
+% night.db INSERT INTO quantity VALUES ('CUSTFILE', 1)
+$ do --db @night.db --request {\"at\":\"2024-03-01T22:00\",\"do\":\"started\",\"op\":\"PAYROLL/2024-03-01T22:00/005\"}
+accepted
+# a quantity that isn't told apart from none
+% night.db UPDATE quantity SET quantity = 999999
+$ report --db @night.db --kind late
+refused 28 Damaged
+=1
+# a version that there isn't
+% night.db DELETE FROM quantity; UPDATE meta SET version = 3
+$ report --db @night.db --kind late
 refused 28 Damaged
 =1
 ";

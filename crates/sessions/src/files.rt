@@ -40,6 +40,21 @@ P,OLD,1972-01-01T00:00,20,CPU1,20,0,0,,
 D,OLD,1972-01-01T00:00,10,OLD,1972-01-01T00:00,20,,,
 ";
 
+// Two tape drives, and three operations of which the first and the last need one each, and the second both.
+const TAPES: &str = "W,CPU1,A,,,,,,,
+I,CPU1,2024-03-01T22:00,2024-03-02T06:00,9,0,0,,,
+X,TAPE,Y,2,,,,,,
+O,AAA,2024-03-01T22:00,5,2024-03-02T03:00,,,,,
+O,BBB,2024-03-01T22:00,5,2024-03-02T04:00,,,,,
+O,CCC,2024-03-01T22:00,5,2024-03-02T05:00,,,,,
+P,AAA,2024-03-01T22:00,10,CPU1,30,0,0,,
+P,BBB,2024-03-01T22:00,10,CPU1,30,0,0,,
+P,CCC,2024-03-01T22:00,10,CPU1,30,0,0,,
+N,AAA,2024-03-01T22:00,10,TAPE,S,F,,,
+N,BBB,2024-03-01T22:00,10,TAPE,S,F,2,,
+N,CCC,2024-03-01T22:00,10,TAPE,S,F,1,,
+";
+
 // Requests that are played. The line with only blanks is passed over.
 const PLAYED: &str =
     "{\"at\":\"2024-03-01T21:59\",\"do\":\"started\",\"op\":\"PAYROLL/2024-03-01T22:00/005\"}
@@ -62,11 +77,12 @@ D,DAILY,2024-03-01T22:00,10,DAILY,2024-03-01T22:00,20,,,
 ";
 
 /// The files that stand in a session's folder.
-pub const FILES: [(&str, &str); 10] = [
+pub const FILES: [(&str, &str); 11] = [
     ("empty", ""),
     ("night.csv", NIGHT),
     ("wrong.csv", WRONG),
     ("old.csv", OLD),
+    ("tapes.csv", TAPES),
     ("played", PLAYED),
     ("broken_off", BROKEN_OFF),
     ("other.db", "a letter, and no database"),

@@ -1,6 +1,7 @@
 // Folders of plays.
 use super::FAILED;
 use super::files::FILES;
+use super::packed::unpacked;
 use std::path::PathBuf;
 use std::{env, fs, process};
 
@@ -20,6 +21,12 @@ fn own_folder(rt: &HostRuntime, name: &str) -> Option<PathBuf> {
 pub fn write_file(rt: &HostRuntime, folder: &PathBuf, name: &str, text: &[u8]) -> Option<()> {
     let path = folder.join(rt.alloc(), name).ok()?;
     fs::write(rt, path.as_path(), text).ok()
+}
+
+/// Writes a file of a folder, whose bytes a text stands for.
+pub fn write_packed(rt: &HostRuntime, folder: &PathBuf, name: &str, text: &str) -> Option<()> {
+    let bytes = unpacked(rt.alloc(), text)?;
+    write_file(rt, folder, name, bytes.as_slice())
 }
 
 /// Whether a folder has no file of this name.

@@ -7,8 +7,10 @@ mod answers;
 mod connections;
 mod faults;
 mod files;
+mod first_file;
 mod folders;
 mod helps;
+mod packed;
 mod plays;
 mod runs;
 mod scripts;
@@ -18,8 +20,9 @@ mod streams;
 pub use answers::texts_and_their_answers;
 pub use helps::each_command_tells_its_help;
 pub use plays::{
-    databases_without_a_desk, empty_desks_take_a_load, faults_are_told, loaded_desks_are_opened,
-    other_databases_are_told_apart, samples_of_reports, sessions,
+    databases_without_a_desk, desks_of_the_first_version_are_opened, empty_desks_take_a_load,
+    faults_are_told, loaded_desks_are_opened, other_databases_are_told_apart, samples_of_reports,
+    sessions,
 };
 pub use serving::{
     a_silent_client_is_let_go, ports_that_are_not_had, three_clients_are_served_in_turn,

@@ -1,14 +1,17 @@
 // Sessions, each in a folder of its own.
-use super::faults::{EMPTY_DESKS, FAULTS, LOADED_DESKS, NO_DESKS, OTHER_DATABASES};
-use super::runs::play;
-use super::scripts::{JUDGED, ORDER, PLAYS, SAMPLES, SESSION, VERSION, WHYS};
+use super::faults::{
+    EMPTY_DESKS, FAULTS, FIRST_NIGHT, FIRST_VERSION, LOADED_DESKS, NO_DESKS, OTHER_DATABASES,
+};
+use super::first_file::FIRST_FILE;
+use super::runs::{play, play_with};
+use super::scripts::{JUDGED, ORDER, PLAYS, SAMPLES, SESSION, TAPES, VERSION, WHYS};
 
-/// A night, why its operations don't go on, what is tried out, what is judged, and the version.
+/// A night, why its operations don't go on, what is tried out, what is judged, tape drives, and the version.
 pub fn sessions(rt: &HostRuntime) -> Result<(), &'static str> {
     play(
         rt,
         "sessions",
-        &[SESSION, WHYS, PLAYS, JUDGED, ORDER, VERSION],
+        &[SESSION, WHYS, PLAYS, JUDGED, TAPES, ORDER, VERSION],
     )
 }
 
@@ -30,6 +33,12 @@ pub fn databases_without_a_desk(rt: &HostRuntime) -> Result<(), &'static str> {
 /// A load makes a desk, once.
 pub fn loaded_desks_are_opened(rt: &HostRuntime) -> Result<(), &'static str> {
     play(rt, "loaded", &[LOADED_DESKS])
+}
+
+/// Databases of the first version are opened, one of which another program wrote.
+pub fn desks_of_the_first_version_are_opened(rt: &HostRuntime) -> Result<(), &'static str> {
+    let sessions = [FIRST_NIGHT, FIRST_VERSION];
+    play_with(rt, "first_version", "first.db", FIRST_FILE, &sessions)
 }
 
 /// Desks at which nothing is loaded.

@@ -1,6 +1,6 @@
 // Runs: what goes to both streams, and the exit status.
 use super::FAILED;
-use super::folders::{is_absent, removed, session_folder};
+use super::folders::{is_absent, removed, session_folder, write_packed};
 use desk_runs::desk_run;
 use plan_basics::Watched;
 use sqlite::Connection;
@@ -129,5 +129,18 @@ fn play_each(
 /// Plays these sessions in a folder of this name, one after another.
 pub fn play(rt: &HostRuntime, name: &str, sessions: &[&'static str]) -> Result<(), &'static str> {
     let folder = session_folder(rt, name)?;
+    removed(rt, &folder, play_each(rt, &folder, sessions))
+}
+
+/// The same, with a file more in the folder, whose bytes a text stands for.
+pub fn play_with(
+    rt: &HostRuntime,
+    name: &str,
+    file: &str,
+    text: &str,
+    sessions: &[&'static str],
+) -> Result<(), &'static str> {
+    let folder = session_folder(rt, name)?;
+    write_packed(rt, &folder, file, text).ok_or(FAILED)?;
     removed(rt, &folder, play_each(rt, &folder, sessions))
 }

@@ -140,6 +140,27 @@ $ why --db @absent.db --op PAYROLL/2024-03-01T22:00/040 --at 22:00
 =2
 "#;
 
+/// Two tape drives for three operations.
+pub const TAPES: &str = r#"$ validate --plan @tapes.csv
+no faults
+$ load --db @tapes.db --plan @tapes.csv --at 2024-03-01T22:00
+accepted
+starts AAA/2024-03-01T22:00/010
+starts CCC/2024-03-01T22:00/010
+$ why --db @tapes.db --op BBB/2024-03-01T22:00/010
+BBB/2024-03-01T22:00/010 A 2024-03-01T22:00
+TAPE lacks: left 0, needed 2
+END 1
+$ do --db @tapes.db --request {"at":"2024-03-01T22:10","do":"ended","op":"AAA/2024-03-01T22:00/010"}
+accepted
+$ do --db @tapes.db --request {"at":"2024-03-01T22:11","do":"add","records":"O,DDD,2024-03-01T22:00,5,2024-03-02T05:00,,,,,\nP,DDD,2024-03-01T22:00,10,CPU1,30,0,0,,\nN,DDD,2024-03-01T22:00,10,TAPE,S,F,3,,"}
+refused 20 Limit
+=1
+$ do --db @tapes.db --request {"at":"2024-03-01T22:20","do":"ended","op":"CCC/2024-03-01T22:00/010"}
+accepted
+starts BBB/2024-03-01T22:00/010
+"#;
+
 /// Texts of plans that are judged.
 pub const JUDGED: &str = r#"$ validate --plan @night.csv
 no faults
@@ -171,7 +192,7 @@ $ play --plan @absent --at 22:00 --requests @absent
 
 /// The program's version, by either option.
 pub const VERSION: &str = r#"$ --version
-plandesk 0.14.0
+plandesk 0.15.0
 $ -V
-plandesk 0.14.0
+plandesk 0.15.0
 "#;

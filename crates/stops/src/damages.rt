@@ -16,9 +16,11 @@ UPDATE occurrence SET status = 'W'
 UPDATE operation SET held = 2 WHERE num = 5
 UPDATE need SET mode = 'Y'
 INSERT INTO dependency SELECT app, ia, 40, app, ia, 5 FROM occurrence
-INSERT INTO meta (id, version, loaded, clock) VALUES (2, 1, 1, 0)
+INSERT INTO meta (id, version, loaded, clock) VALUES (2, 2, 1, 0)
 INSERT INTO occurrence SELECT 'EMPTY', ia, priority, deadline, 'W' FROM occurrence
-UPDATE meta SET version = 2
+UPDATE meta SET version = 3
+INSERT INTO quantity VALUES ('CUSTFILE', 999999)
+INSERT INTO amount SELECT app, ia, num, resource, 1 FROM need
 DROP TABLE need
 UPDATE receipt SET number = 0";
 
@@ -79,7 +81,7 @@ fn each_damages(alloc: Global) -> Result<(), &'static str> {
     Ok(())
 }
 
-/// Fourteen damages; and the tables without one, and with the longest text of a receipt, are opened.
+/// Sixteen damages; and the tables without one, and with the longest text of a receipt, are opened.
 pub fn damaged_tables_are_not_opened(alloc: Global) -> Result<(), &'static str> {
     if !is_opened(alloc, whole(alloc)) || !is_opened(alloc, with_text(alloc, 65_536)) {
         return Err(FAILED);

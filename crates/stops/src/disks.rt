@@ -1,7 +1,7 @@
 // A database over two files in memory, one of which passes so many calls on, and fails each one after.
 use sqlite::{Connection, FileStore, Files, Options};
 use sqlite_disk::{Crash, Disk, Fuse, Memory};
-use std::alloc::Global;
+use std::alloc::{AllocError, Global};
 use std::io;
 
 /// The store over two such files.
@@ -18,6 +18,12 @@ pub struct Stop {
 }
 
 impl Stop {
+    /// None: both files pass all calls on.
+    pub const NEVER: Stop = Stop {
+        is_log: true,
+        calls: u64::MAX,
+    };
+
     // How many calls the log passes on.
     fn calls_of_log(self) -> u64 {
         if self.is_log { self.calls } else { u64::MAX }
@@ -55,8 +61,8 @@ fn copied(alloc: Global, files: &FusedFiles) -> io::Result<FusedFiles> {
     })
 }
 
-// The connection to these files; or the files, where it can't be had.
-fn connected(alloc: Global, files: FusedFiles) -> Result<Connection<FusedStore>, FusedFiles> {
+/// The connection to these files; or the files, where it can't be had.
+pub fn connected(alloc: Global, files: FusedFiles) -> Result<Connection<FusedStore>, FusedFiles> {
     if !files.log.may_be_used() || !files.db.may_be_used() {
         return Err(files);
     }
@@ -73,6 +79,41 @@ pub fn begun(alloc: Global, stop: Stop) -> Result<Connection<FusedStore>, FusedF
         db: Fuse::new(Memory::new(alloc), stop.calls_of_db()),
     };
     connected(alloc, files)
+}
+
+/// What stands in the two files.
+#[derive(Drop)]
+pub struct Bytes {
+    log: Vec<u8>,
+    db: Vec<u8>,
+}
+
+/// A copy of what stands in these files.
+pub fn bytes_of(alloc: Global, files: &FusedFiles) -> Result<Bytes, AllocError> {
+    Ok(Bytes {
+        log: files.log.inner().bytes().to_vec(alloc)?,
+        db: files.db.inner().bytes().to_vec(alloc)?,
+    })
+}
+
+// A file in which these bytes stand, synced.
+fn synced_file(alloc: Global, bytes: &[u8]) -> io::Result<Memory> {
+    let mut file = Memory::new(alloc);
+    if file.may_be_used() {
+        file.write_at(0, bytes)?;
+    }
+    if file.may_be_used() {
+        file.sync()?;
+    }
+    Ok(file)
+}
+
+/// Two files in which this stands, and which stop so.
+pub fn files_with(alloc: Global, bytes: &Bytes, stop: Stop) -> io::Result<FusedFiles> {
+    Ok(Files {
+        log: Fuse::new(synced_file(alloc, &bytes.log)?, stop.calls_of_log()),
+        db: Fuse::new(synced_file(alloc, &bytes.db)?, stop.calls_of_db()),
+    })
 }
 
 /// The files of a connection, without a further call of the disk.

@@ -54,6 +54,24 @@ pub const STEPS: [Step; 5] = [
     },
 ];
 
+/// The steps after those, when the bills have come in: the second run ends, and then the printing.
+pub const REST: [Step; 2] = [
+    Step {
+        number: 5,
+        at: "23:40",
+        verb: "ended",
+        op: "020",
+        told: "{\"named\":[\"BILLING/2024-03-01T22:00/010\"]}",
+    },
+    Step {
+        number: 6,
+        at: "23:50",
+        verb: "ended",
+        op: "040",
+        told: "{\"named\":[]}",
+    },
+];
+
 impl Step {
     /// The request that makes it.
     pub fn request(&self, alloc: Global) -> Option<String> {

@@ -146,3 +146,13 @@ fn a_writer_that_fails_at_each_write(rt: HostRuntime) -> Result<(), &'static str
 fn rows_that_are_written(rt: HostRuntime) -> Result<(), &'static str> {
     desks::rows_that_are_written(rt.alloc())
 }
+
+#[test]
+fn tables_of_the_first_version_are_opened(rt: HostRuntime) -> Result<(), &'static str> {
+    desks::tables_of_the_first_version_are_opened(rt.alloc())
+}
+
+#[test]
+fn changes_of_tables(rt: HostRuntime) -> Result<(), &'static str> {
+    desks::changes_of_tables(rt.alloc())
+}

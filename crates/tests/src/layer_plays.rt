@@ -204,8 +204,8 @@ fn is_taken_again_once_released(rt: HostRuntime) {
 }
 
 #[test]
-fn is_held_in_the_last_mode(rt: HostRuntime) {
-    assert!(rt; holdings::is_held_in_the_last_mode(rt.alloc()));
+fn is_held_as_it_was_last_taken(rt: HostRuntime) {
+    assert!(rt; holdings::is_held_as_it_was_last_taken(rt.alloc()));
 }
 
 #[test]
@@ -221,6 +221,16 @@ fn a_copy_holds_the_same(rt: HostRuntime) {
 #[test]
 fn makes_room(rt: HostRuntime) {
     assert!(rt; holdings::makes_room(rt.alloc()));
+}
+
+#[test]
+fn has_what_the_others_leave(rt: HostRuntime) {
+    assert!(rt; holdings::has_what_the_others_leave(rt.alloc()));
+}
+
+#[test]
+fn has_the_whole_beside_nobody(rt: HostRuntime) {
+    assert!(rt; holdings::has_the_whole_beside_nobody(rt.alloc()));
 }
 
 #[test]

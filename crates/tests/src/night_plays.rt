@@ -43,6 +43,11 @@ fn columns_that_follow_are_not_believed(rt: HostRuntime) -> Result<(), &'static 
 }
 
 #[test]
+fn quantities_and_amounts_among_rows(rt: HostRuntime) -> Result<(), &'static str> {
+    nights::quantities_and_amounts_among_rows(rt.alloc())
+}
+
+#[test]
 fn reasons_and_roots(rt: HostRuntime) -> Result<(), &'static str> {
     nights::reasons_and_roots(rt.alloc())
 }

@@ -31,6 +31,11 @@ fn loaded_desks_are_opened(rt: HostRuntime) -> Result<(), &'static str> {
 }
 
 #[test]
+fn desks_of_the_first_version_are_opened(rt: HostRuntime) -> Result<(), &'static str> {
+    sessions::desks_of_the_first_version_are_opened(&rt)
+}
+
+#[test]
 fn other_databases_are_told_apart(rt: HostRuntime) -> Result<(), &'static str> {
     sessions::other_databases_are_told_apart(&rt)
 }

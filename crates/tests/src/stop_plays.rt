@@ -14,3 +14,13 @@ fn a_process_killed_at_each_call(rt: HostRuntime) -> Result<(), &'static str> {
 fn the_power_cut_at_each_call(rt: HostRuntime) -> Result<(), &'static str> {
     stops::the_power_cut_at_each_call(rt.alloc())
 }
+
+#[test]
+fn an_opening_killed_at_each_call(rt: HostRuntime) -> Result<(), &'static str> {
+    stops::an_opening_killed_at_each_call(rt.alloc())
+}
+
+#[test]
+fn an_opening_cut_at_each_call(rt: HostRuntime) -> Result<(), &'static str> {
+    stops::an_opening_cut_at_each_call(rt.alloc())
+}

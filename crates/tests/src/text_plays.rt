@@ -203,3 +203,8 @@ fn tells_resources_and_needs_that_fit(rt: HostRuntime) -> Result<(), &'static st
 fn takes_as_many_resources_and_needs_as_it_may(rt: HostRuntime) -> Result<(), &'static str> {
     resources::takes_as_many_resources_and_needs_as_it_may(rt.alloc())
 }
+
+#[test]
+fn tells_amounts_within_their_quantity(rt: HostRuntime) -> Result<(), &'static str> {
+    resources::tells_amounts_within_their_quantity(rt.alloc())
+}

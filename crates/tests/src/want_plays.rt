@@ -56,6 +56,11 @@ fn reports_of_a_tracker(rt: HostRuntime) -> Result<(), &'static str> {
 }
 
 #[test]
+fn tables_of_the_first_version_are_opened(rt: HostRuntime) -> Result<(), &'static str> {
+    wants::tables_of_the_first_version_are_opened(rt.alloc())
+}
+
+#[test]
 fn reports_in_want_of_memory(rt: HostRuntime) -> Result<(), &'static str> {
     desks::reports_in_want_of_memory(rt.alloc())
 }

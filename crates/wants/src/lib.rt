@@ -13,4 +13,5 @@ mod walks;
 
 pub use plays::{
     a_failed_run_is_run_again, a_night_is_deleted, a_night_to_its_end, reports_of_a_tracker,
+    tables_of_the_first_version_are_opened,
 };

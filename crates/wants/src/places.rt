@@ -7,7 +7,7 @@ use sqlite::{Alter, Connection};
 use std::alloc::Global;
 use taken_memory::Outcome;
 use tracker_http::{Desk, Refusal};
-use wires::{lacks_all, tables_text};
+use wires::{lacks_all, makes_first_night, tables_text};
 
 /// The connection to a database where no desk is open over it, or else the desk.
 #[derive(Drop)]
@@ -20,6 +20,15 @@ pub struct Place<S: Alter + Drop> {
 fn asked<S: Alter + Drop>(desk: &mut Desk<S>, request: &Request, told: &str) -> Outcome {
     let reply = desk.call(request);
     outcome(&reply, told)
+}
+
+// Makes the tables of the first version, with a night.
+fn made_first<S: Alter>(conn: &mut Connection<S>) -> Outcome {
+    if makes_first_night(conn) {
+        Outcome::Done
+    } else {
+        Outcome::Otherwise
+    }
 }
 
 impl<S: Alter + Drop> Place<S> {
@@ -56,6 +65,14 @@ impl<S: Alter + Drop> Place<S> {
                 let created = Desk::create(alloc, conn);
                 self.keep(created)
             }
+            None => Outcome::Otherwise,
+        }
+    }
+
+    // Makes the tables of the first version over the connection.
+    fn make_first(&mut self) -> Outcome {
+        match &mut self.conn {
+            Some(conn) => made_first(conn),
             None => Outcome::Otherwise,
         }
     }
@@ -102,6 +119,7 @@ impl<S: Alter + Drop> Place<S> {
     pub fn make(&mut self, alloc: Global, turn: &Turn<'_>) -> Outcome {
         match turn {
             Turn::Create => self.create(alloc),
+            Turn::First => self.make_first(),
             Turn::Close => self.close(),
             Turn::Open => self.open(alloc),
             Turn::Asked(request, told) => self.ask(request, told),

@@ -1,6 +1,6 @@
 // The scripts at desks over stores in memory.
 use super::places::Place;
-use super::scripts::{DELETED_NIGHT, FAILED_RUN, REPORTS, WHOLE_NIGHT};
+use super::scripts::{DELETED_NIGHT, FAILED_RUN, FIRST_VERSION, REPORTS, WHOLE_NIGHT};
 use super::walks::walk;
 use sqlite::{Alter, Connection, MemStore};
 use std::alloc::Global;
@@ -60,4 +60,9 @@ pub fn a_night_is_deleted(alloc: Global) -> Result<(), &'static str> {
 /// A tracker's numbered reports over HTTP, and its receipts once the desk is opened again.
 pub fn reports_of_a_tracker(alloc: Global) -> Result<(), &'static str> {
     play(alloc, REPORTS)
+}
+
+/// Tables of the first version are opened, and the night goes on.
+pub fn tables_of_the_first_version_are_opened(alloc: Global) -> Result<(), &'static str> {
+    play(alloc, FIRST_VERSION)
 }

@@ -1,6 +1,7 @@
 // The scripts. Each turn is a line:
 //
 //     create                          a desk is made over a database without tables
+//     first                           the tables of the first version are made there, with a night in which bills have come in
 //     close                           the desk is closed
 //     open                            it is opened again
 //     BODY | names KEY ..             what an operator asks of the desk, and the operations that are named, or the refusal
@@ -61,3 +62,10 @@ pub const REPORTS: &str = r#"+ create
 close
 open
 /report {"tracker":"T1","number":4,"at":"2024-03-01T22:40","do":"ended","op":"PAYROLL/2024-03-01T22:00/010"} | 200 OK | {"named":["PAYROLL/2024-03-01T22:00/020"]}"#;
+
+/// Tables of the first version are opened, and the night goes on in those of the second.
+pub const FIRST_VERSION: &str = r#"+ first
+open
+{"at":"2024-03-01T23:40","do":"ended","op":"PAYROLL/2024-03-01T22:00/020"} | names BILLING/2024-03-01T22:00/010
+close
+open"#;

@@ -9,6 +9,8 @@ use wires::NIGHT;
 #[derive(Drop)]
 pub enum Turn<'a> {
     Create,
+    /// The tables of the first version are made, with a night.
+    First,
     Close,
     Open,
     /// What an operator asks of the desk, and what is told.
@@ -63,6 +65,7 @@ fn told<'a>(alloc: Global, line: &'a str) -> Option<Turn<'a>> {
 pub fn turn_of<'a>(alloc: Global, line: &'a str) -> Option<Turn<'a>> {
     match line {
         "create" => Some(Turn::Create),
+        "first" => Some(Turn::First),
         "close" => Some(Turn::Close),
         "open" => Some(Turn::Open),
         _ => told(alloc, line),

@@ -2,10 +2,12 @@
 //! a desk hold, as one text. For plays alone.
 #![tactic(auto)]
 
+mod first;
 mod streams;
 mod tables;
 mod texts;
 
+pub use first::{FIRST_EMPTY, FIRST_NIGHT, FIRST_TABLES, RECEIPT, makes_first_night};
 pub use streams::{After, Paper, Pieces, is_written};
 pub use tables::{lacks_all, tables_text};
 pub use texts::{NIGHT, Report, START, accepted, fault, get, post, reply};

@@ -1,10 +1,10 @@
-// What the nine tables hold, as one text.
+// What the eleven tables hold, as one text.
 use sqlite::types::ValueRef;
 use sqlite::{Alter, Connection, Row};
 use std::alloc::{AllocError, Global};
 
 // The rows of each table, in the order of its key.
-const QUERIES: [&str; 9] = [
+const QUERIES: [&str; 11] = [
     "SELECT * FROM meta ORDER BY id",
     "SELECT * FROM workstation ORDER BY name",
     "SELECT * FROM interval ORDER BY ws, start",
@@ -14,6 +14,8 @@ const QUERIES: [&str; 9] = [
     "SELECT * FROM dependency ORDER BY papp, pia, pnum, sapp, sia, snum",
     "SELECT * FROM need ORDER BY app, ia, num, resource",
     "SELECT * FROM receipt ORDER BY tracker",
+    "SELECT * FROM quantity ORDER BY resource",
+    "SELECT * FROM amount ORDER BY app, ia, num, resource",
 ];
 
 // Adds a number.
@@ -69,7 +71,7 @@ fn add_table<S: Alter>(
 // What stands for a table that can't be read.
 const LACKS: &[u8] = b"lacks\n";
 
-/// What the nine tables hold, each by the rows that a query shows.
+/// What the eleven tables hold, each by the rows that a query shows.
 pub fn tables_text<S: Alter>(
     alloc: Global,
     conn: &mut Connection<S>,
