@@ -21,7 +21,7 @@ from stored import FULL, TABLES
 
 CALLS = HERE.parent / "crates" / "bench_calls" / "out" / "bench_calls"
 KEYS = {"meta": 1, "workstation": 1, "interval": 2, "resource": 1, "occurrence": 2, "operation": 3, "dependency": 6,
-        "need": 4, "receipt": 1}
+        "need": 4, "receipt": 1, "quantity": 1, "amount": 4}
 MOST_TIMES_THE_LIBRARY = 2.0
 
 

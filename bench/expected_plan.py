@@ -7,16 +7,18 @@ from expected import is_moment
 
 NUMBER, MINUTE = "0|[1-9][0-9]*", "[0-9]{4}-[0-9]{2}-[0-9]{2}T[0-9]{2}:[0-9]{2}"
 APPLICATION, WORKSTATION, RESOURCE = "[A-Z0-9@#$]{1,16}", "[A-Z0-9@#$]{1,4}", "[A-Z0-9@#$.-]{1,44}"
-# Each field of a kind, from the second on: a form, and for a number its range.
+# Each field of a kind, from the second on: a form, and for a number its range. A third part says that it may be empty.
+MOST_QUANTITY = 999_999
+QUANTITY = (1, MOST_QUANTITY, "")
 OPERATION_KEY = (APPLICATION, MINUTE, (1, 255))
 FORMS = {
     "W": (WORKSTATION, "[ASCN]"),
     "I": (WORKSTATION, MINUTE, MINUTE, (0, 99), (0, 99), (0, 99)),
-    "X": (RESOURCE, "[YN]"),
+    "X": (RESOURCE, "[YN]", QUANTITY),
     "O": (APPLICATION, MINUTE, (1, 9), MINUTE),
     "P": (*OPERATION_KEY, WORKSTATION, (1, 5999), (0, 99), (0, 99), f"({MINUTE})?", f"({MINUTE})?"),
     "D": (*OPERATION_KEY, *OPERATION_KEY),
-    "N": (*OPERATION_KEY, RESOURCE, "[SX]", "[KF]"),
+    "N": (*OPERATION_KEY, RESOURCE, "[SX]", "[KF]", QUANTITY),
 }
 KEY_FIELDS = {"W": 1, "I": 2, "X": 1, "O": 2, "P": 3, "D": 6, "N": 4}
 MOST = {"W": 99, "X": 999, "O": 5000, "P": 20_000, "D": 100_000}
@@ -53,6 +55,8 @@ def records_of(text):
 
 def is_of_form(text, form):
     if isinstance(form, tuple):
+        if text in form[2:]:
+            return True
         return re.fullmatch(NUMBER, text) is not None and len(text) < 10 and form[0] <= int(text) <= form[1]
     return re.fullmatch(form, text) is not None and (MINUTE not in form or text == "" or is_moment(text))
 
@@ -65,7 +69,23 @@ def values_of(record):
     forms = FORMS.get(kind)
     if not forms or any(fields[len(forms):]) or not all(map(is_of_form, fields, forms)):
         return None
+    if kind == "N" and fields[4] == "X" and fields[6]:
+        return None
     return kind, fields[:len(forms)]
+
+
+def amount_of(need):
+    """How much a need takes of its resource beside others; an exclusive one none."""
+    return int(need[6] or 1) if need[4] == "S" else 0
+
+
+def quantities_of(resources):
+    return {name: int(quantity or MOST_QUANTITY) for name, _, quantity in resources}
+
+
+def are_within(needs, quantities):
+    """Whether no need takes more than there is of its resource; one that isn't there is told elsewhere."""
+    return all(amount_of(need) <= quantities.get(need[3], MOST_QUANTITY) for need in needs)
 
 
 def returns(pairs):
@@ -122,6 +142,11 @@ def denotes_addition(text):
             and max(Counter(key[:3] for key in keys["N"]).values(), default=0) <= MOST_NEEDS)
 
 
+def fits_quantities(addition, quantities):
+    """Whether no need of a text that denotes an addition takes more than there is in the plan."""
+    return are_within(kinds_of(addition)["N"], quantities)
+
+
 def denotes_plan(text):
     kinds = kinds_of(text)
     if not kinds:
@@ -137,4 +162,5 @@ def denotes_plan(text):
             and {key[:1] for key in keys["I"]} | {(fields[3],) for fields in kinds["P"]} <= defined["W"]
             and {(key[3],) for key in keys["N"]} <= defined["X"]
             and {key[:3] for key in keys["N"]} | {end for pair in pairs for end in pair} <= defined["P"]
+            and are_within(kinds["N"], quantities_of(kinds["X"]))
             and are_disjoint([fields[:3] for fields in kinds["I"]]) and not returns(pairs))

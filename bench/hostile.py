@@ -10,8 +10,8 @@ clients that go away at once. Over all rounds each request is cut at each length
 at the end of a round the tables, as the C library reads them, have to be those of the accepted requests alone, which
 are sent again as they are to a desk over a copy of the tables from before. A plan's text has to be accepted where
 `expected_plan.py` says that it denotes a plan, and else be refused 21; that of an addition has to be refused 21 just where
-it says that it denotes none; a request's text has to be a fault just where
-`expected.py` says that it is none, and to change the tables only where it is accepted.
+it says that it denotes none, and 20 or less where it needs more of a resource than there is; a request's text has to be a
+fault just where `expected.py` says that it is none, and to change the tables only where it is accepted.
 
 Exit status: 0 all is so, 1 it isn't, 2 nothing could be tried.
 """
@@ -28,10 +28,11 @@ import sys
 import tempfile
 import time
 from collections import Counter
+from contextlib import closing
 from pathlib import Path
 
 from expected import MOST_BODY_BYTES, MOST_HEAD_BYTES, REPORTS, is_operation, is_operators_request, status_of
-from expected_plan import denotes_addition, denotes_plan
+from expected_plan import denotes_addition, denotes_plan, fits_quantities
 from measure import HERE, PROGRAM, Unmeasured
 from served import Cut, Served, load, received, reply_of, request_bytes, rows
 
@@ -58,9 +59,25 @@ HEADS = [
 ADDITIONS = [
     b"O,EXTRA,2024-03-01T22:00,5,2024-03-02T05:00,,,,,\nP,EXTRA,2024-03-01T22:00,10,CPU1,30,0,0,,\n",
     b"O,MORE,2024-03-01T22:00,5,2024-03-02T05:00,,,,,\nP,MORE,2024-03-01T22:00,10,CPU1,30,1,0,2024-03-01T23:00,\n"
-    b"P,MORE,2024-03-01T22:00,20,CPU1,30,0,0,,2024-03-02T04:00\nN,MORE,2024-03-01T22:00,10,TAPE-1,S,F,,,\n"
+    b"P,MORE,2024-03-01T22:00,20,CPU1,30,0,0,,2024-03-02T04:00\nN,MORE,2024-03-01T22:00,10,TAPE-1,S,F,4,,\n"
     b"N,MORE,2024-03-01T22:00,20,TAPE-1,X,K,,,\nD,MORE,2024-03-01T22:00,10,MORE,2024-03-01T22:00,20,,,\n"
-    b"D,MORE,2024-03-01T22:00,20,REPORTS,2024-03-02T01:00,20,,,\n"]
+    b"D,MORE,2024-03-01T22:00,20,REPORTS,2024-03-02T01:00,20,,,\n",
+    b"O,TAPES,2024-03-01T22:00,5,2024-03-02T05:00,,,,,\nP,TAPES,2024-03-01T22:00,10,CPU1,30,0,0,,\n"
+    b"N,TAPES,2024-03-01T22:00,10,TAPE-1,S,F,4,,\nN,TAPES,2024-03-01T22:00,10,STOCK.FILE,S,F,5,,\n"]
+QUANTITIES = {"TAPE-1": 4, "STOCK.FILE": 5}
+ABOVE = ADDITIONS[2].replace(b",4,,", b",5,,")
+LIMIT = b'{"name":"Limit","refusal":20}'
+TAPES = b"""W,CPU1,A,,,,,,,
+I,CPU1,2024-03-01T19:30,2024-03-02T06:00,9,0,0,,,
+X,TAPE,Y,6,,,,,,
+O,DAILY,2024-03-01T22:00,5,2024-03-02T05:00,,,,,
+P,DAILY,2024-03-01T22:00,10,CPU1,30,0,0,,
+P,DAILY,2024-03-01T22:00,20,CPU1,30,0,0,,
+P,DAILY,2024-03-01T22:00,30,CPU1,30,0,0,,
+N,DAILY,2024-03-01T22:00,10,TAPE,S,F,,,
+N,DAILY,2024-03-01T22:00,20,TAPE,S,K,6,,
+N,DAILY,2024-03-01T22:00,30,TAPE,X,F,,,
+"""
 
 
 def bodies_of_a_night():
@@ -368,9 +385,9 @@ def rewritten(chance, text):
 
 def check_plans(given, folder, told):
     chance = random.Random(f"{given.seed}/plans")
-    plans = [(NIGHT / "night.csv").read_bytes(), (NIGHT.parent / "day.csv").read_bytes()]
+    plans = [(NIGHT / "night.csv").read_bytes(), (NIGHT.parent / "day.csv").read_bytes(), TAPES]
     for turn in range(given.texts):
-        plan = plans[turn // 2 % 2]
+        plan = plans[turn // 2 % len(plans)]
         text = rewritten(chance, plan) if turn % 2 else mutated(chance, plan, plans)
         (folder / "plan.csv").write_bytes(text)
         got = run([given.program, "check", "--plan", "plan.csv", "--at", EVENING], folder)
@@ -380,20 +397,33 @@ def check_plans(given, folder, told):
         told.ways["plans accepted" if got[0] == 0 else "plans refused"] += 1
 
 
+def set_quantities(folder):
+    """Writes into the tables how much there is of some resources, as no request can."""
+    with closing(sqlite3.connect(folder / "night.db")) as database:
+        database.executemany("INSERT INTO quantity VALUES (?, ?)", QUANTITIES.items())
+        database.commit()
+
+
 def add_texts(given, folder, told):
     """Texts of additions, mutated, at one desk, to which they are operators' requests."""
     chance = random.Random(f"{given.seed}/additions")
     shutil.copy(folder / "loaded.db", folder / "night.db")
     (folder / "night.db-wal").unlink(missing_ok=True)
+    set_quantities(folder)
     desk = Served(given.program, folder)
     try:
+        got = desk.ask("POST", "/operator", json.dumps({"at": EVENING, "do": "add", "records": ABOVE.decode()}))
+        told.judge(got == (409, LIMIT), "20 is due, and nothing else is wrong", ABOVE, got)
         for turn in range(given.texts):
-            one = ADDITIONS[turn // 2 % 2]
+            one = ADDITIONS[turn // 2 % len(ADDITIONS)]
             text = rewritten(chance, one) if turn % 2 else mutated(chance, one, ADDITIONS)
             text = text.decode(errors="replace")
             is_addition = denotes_addition(text.encode())
             got = desk.ask("POST", "/operator", json.dumps({"at": EVENING, "do": "add", "records": text}))
             is_bad = got == (409, b'{"name":"BadPlan","refusal":21}')
+            is_within = not is_addition or fits_quantities(text.encode(), QUANTITIES)
+            told.judge(got[0] == 409 if not is_within else got[1] != LIMIT, "20 where it needs more than there is", text, got)
+            told.ways["additions of more than there is"] += not is_within
             told.judge(is_bad != is_addition and is_answer(*got, "operator"),
                        "the text denotes an addition" if is_addition else "the text denotes no addition", text, got)
             told.ways[f"additions answered {got[0]}" if is_addition else "texts that are no additions"] += 1

@@ -21,7 +21,8 @@ MOST_SECONDS_TO_LOAD = 3.0
 MOST_MEGABYTES_TO_LOAD = 250
 MOST_TIMES_THE_LIBRARY = 6.0
 MOST_SECONDS_TO_OPEN = 1.2
-TABLES = ("meta", "workstation", "interval", "resource", "occurrence", "operation", "dependency", "need", "receipt")
+TABLES = ("meta", "workstation", "interval", "resource", "occurrence", "operation", "dependency", "need", "receipt",
+          "quantity", "amount")
 
 
 def run_desk(program, folder, plan, told, status):

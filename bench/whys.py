@@ -19,7 +19,7 @@ from contextlib import closing
 from datetime import datetime, timedelta
 from pathlib import Path
 
-from expected_plan import denotes_plan
+from expected_plan import MOST_QUANTITY, denotes_plan
 from hostile import rewritten
 from measure import HERE, PROGRAM, Unmeasured
 
@@ -27,6 +27,7 @@ EPOCH = datetime(1972, 1, 1)
 EVENING = "2024-03-01T21:00"
 STARTS_KNOWN, GOING = "AS", "WAR*"
 MARK_OF_NONE = "none"
+TOO_LITTLE = "{resource} lacks: left {left}, needed {needed}"
 MINUTES = (0, 1, 20, 61, 200, 480, 721)
 
 
@@ -50,10 +51,13 @@ class Tables:
         with closing(sqlite3.connect(path)) as database:
             database.row_factory = sqlite3.Row
             rows = {name: database.execute(f"SELECT * FROM {name}").fetchall() for name in (
-                "meta", "workstation", "interval", "resource", "operation", "dependency", "need")}
+                "meta", "workstation", "interval", "resource", "operation", "dependency", "need", "quantity", "amount")}
         self.clock = rows["meta"][0]["clock"]
         self.attribute = {row["name"]: row["attr"] for row in rows["workstation"]}
         self.available = {row["name"]: row["available"] for row in rows["resource"]}
+        self.quantity = {name: MOST_QUANTITY for name in self.available}
+        self.quantity |= {row["resource"]: row["quantity"] for row in rows["quantity"]}
+        amounts = {(row["app"], row["ia"], row["num"], row["resource"]): row["amount"] for row in rows["amount"]}
         self.operations = {(row["app"], row["ia"], row["num"]): row for row in rows["operation"]}
         self.intervals, self.before, self.needs = defaultdict(list), defaultdict(list), defaultdict(dict)
         for row in rows["interval"]:
@@ -61,7 +65,9 @@ class Tables:
         for row in rows["dependency"]:
             self.before[row["sapp"], row["sia"], row["snum"]].append((row["papp"], row["pia"], row["pnum"]))
         for row in rows["need"]:
-            self.needs[row["app"], row["ia"], row["num"]][row["resource"]] = (row["mode"], row["keep"])
+            operation, resource = (row["app"], row["ia"], row["num"]), row["resource"]
+            amount = amounts.get((*operation, resource), 1) if row["mode"] == "S" else 0
+            self.needs[operation][resource] = (row["mode"], amount, row["keep"])
 
     def waits_for(self, operation):
         """Its predecessors that are neither complete nor deleted."""
@@ -86,12 +92,12 @@ class Tables:
         return len(taken), sum(row["r1"] for row in taken), sum(row["r2"] for row in taken)
 
     def holders(self, resource):
-        """Who holds a special resource, each with its mode."""
+        """Who holds a special resource, each with its mode and its amount."""
         for operation, needs in sorted(self.needs.items()):
-            mode, keep = needs.get(resource, (None, None))
+            mode, amount, keep = needs.get(resource, (None, None, None))
             status = self.operations[operation]["status"]
             if mode and self.takes(operation) and (status in "SUI" or (status == "E" and keep == "K")):
-                yield operation, mode
+                yield operation, mode, amount
 
 
 def of_workstation(tables, row, minute):
@@ -115,10 +121,14 @@ def of_resources(tables, operation):
     for resource, _ in needs:
         if not tables.available[resource]:
             yield f"{resource} not available"
-    for resource, (mode, _) in needs:
-        for holder, held in tables.holders(resource):
+    for resource, (mode, _, _) in needs:
+        for holder, held, _ in tables.holders(resource):
             if holder != operation and not mode == held == "S":
                 yield f"{resource} held by {key_text(holder)} {'shared' if held == 'S' else 'exclusive'}"
+    for resource, (_, needed, _) in needs:
+        left = tables.quantity[resource] - sum(taken for holder, _, taken in tables.holders(resource) if holder != operation)
+        if left < needed:
+            yield TOO_LITTLE.format(resource=resource, left=left, needed=needed)
 
 
 def why(tables, operation, minute):
@@ -155,8 +165,8 @@ def plan_of(chance):
             end = start + chance.choice((120, 400, 600))
             lines.append(f"I,{name},{moment_text(start)},{moment_text(end)},{chance.choice((0, 1, 2, 2))},{chance.randint(1, 3)},1,,,")
             start = end + chance.choice((0, 0, 60))
-    resources = [f"FILE{number}" for number in range(3)]
-    lines += [f"X,{name},{chance.choice('YYYYYN')},,,,,,," for name in resources]
+    resources = {f"FILE{number}": chance.choice(("", "1", "2", "3", "5")) for number in range(3)}
+    lines += [f"X,{name},{chance.choice('YYYYYN')},{quantity},,,,,," for name, quantity in resources.items()]
     operations = []
     for name in applications:
         lines.append(f"O,{name},{EVENING},{chance.randint(1, 9)},2024-03-02T06:00,,,,,")
@@ -166,8 +176,10 @@ def plan_of(chance):
             lines.append(f"P,{name},{EVENING},{number},{station},{chance.randint(1, 90)},{chance.choice((0, 0, 0, 1, 2))},"
                          f"{chance.choice((0, 0, 0, 1))},{early},")
             operations.append((name, number))
-            for resource in chance.sample(resources, chance.choice((0, 0, 1, 2))):
-                lines.append(f"N,{name},{EVENING},{number},{resource},{chance.choice('SX')},{chance.choice('KF')},,,")
+            for resource in chance.sample(sorted(resources), chance.choice((0, 0, 1, 2))):
+                mode = chance.choice("SSX")
+                amount = chance.choice(("", chance.randint(1, int(resources[resource] or 9)))) if mode == "S" else ""
+                lines.append(f"N,{name},{EVENING},{number},{resource},{mode},{chance.choice('KF')},{amount},,")
     chance.shuffle(operations)
     pairs = {tuple(sorted(chance.sample(range(len(operations)), 2))) for _ in range(len(operations))} if operations[1:] else ()
     for one, other in sorted(pairs):
