@@ -1,9 +1,10 @@
--- Records without a fault denote an addition.
+-- The items of records without a fault come in together, of an addition one occurrence.
 use Rattle.std.proofs.Common.{◌≡◌, ◌≢◌, ◌⊎◌, inl, inr, refl, sym, ap, subst, ◌∙◌, true≢false, arith, ℕ, zero, suc, ◌+◌, ◌<◌, ◌≤◌, true, false, cond, List, [], ◌∷◌, length, map, get_or, slice_get, All, Contains, Option, Some, None}
 use Rattle.std.specs.List.{AllPairs}
 use Rattle.std.specs.Cmp.{IsTotalOrder}
 use Rattle.std.specs.FinMap.{IsAntisymmetric}
 use Rattle.std.specs.Ordering.{eq_by_cmp}
+use Rattle.std.specs.Map.{keys_of}
 use Rattle.std.specs.declared.cmp.Ordering.{Ordering}
 use Rattle.std.proofs.lemmas.Bool.{cases_lt}
 use Rattle.std.proofs.lemmas.Option.{none-some, same_Some, slice_get-get_or}
@@ -22,27 +23,28 @@ use Rattle.text_faults.specs.plan_model.specs.declared.Occurrence.{Occurrence}
 use Rattle.plan_drafts.specs.declared.RowKey.{RowKey}
 use Rattle.plan_drafts.specs.declared.RowKey.TheVariants as key
 use Rattle.plan_drafts.specs.Records.{key_of}
-use Rattle.plan_drafts.specs.PlanItems.{as_occurrence, keys_said, needs_of}
-use Rattle.plan_drafts.specs.AdditionItems.{MayComeIn, ComesWith, AreNewOperations, IsNeedOf, AreNewNeeds, IsEndAmong, IsNewPair, AreNewPairs, CanComeIn}
-use Rattle.plan_drafts.proofs.Lists.{Differ, differ_from_pairs, differ_filter, from_map, from_filter, sole_there, sole_member}
+use Rattle.plan_drafts.specs.PlanItems.{BelongsTo, as_occurrence, keys_said, needs_of, occurrence_of}
+use Rattle.plan_drafts.specs.ExtensionItems.{MayComeIn, AreTheirOperations, IsNeedOf, AreNewNeeds, IsEndAmong, IsPairAmong, ArePairsAmong, ComeInTogether}
+use Rattle.plan_drafts.proofs.Lists.{Differ, differ_from_pairs, differ_filter, in_map, from_filter}
 use Rattle.plan_drafts.proofs.Tables.{itself}
 use Rattle.plan_drafts.proofs.ItemKinds as kinds
-use Rattle.plan_drafts.proofs.ItemKinds.{occurrences_in, operations_in, needs_in, pairs_in, key_in, read_stands, read_distinct}
+use Rattle.plan_drafts.proofs.ItemKinds.{occurrences_in, operations_in, needs_in, pairs_in, key_in, key_out, read_stands, read_distinct}
 use Rattle.record_faults.specs.declared.faults.Fault.{Fault}
 use Rattle.record_faults.specs.declared.faults.Fault.TheVariants as fault
 use Rattle.record_faults.specs.declared.groups.Group.{Group}
 use Rattle.record_faults.specs.declared.groups.Group.TheVariants as group
 use Rattle.record_faults.specs.contracts.groups.GroupOrd.TheImpl.Laws as group_laws
-use Rattle.record_faults.specs.Sayings.{Sayings, SaysAt, owned, given, IsGiven, IsFirst, IsNowhere}
+use Rattle.record_faults.specs.Sayings.{Sayings, SaysAt, owner_of, owned, given, IsGiven, IsFirst, IsNowhere}
 use Rattle.record_faults.specs.Groups.{is_of, count_of}
 use Rattle.record_faults.specs.Faults.{IsFaultAt}
 use Rattle.record_faults.proofs.Denoted.{says_put, given_get, given_put}
 use Rattle.record_faults.proofs.GroupOrder.{exact}
 use Rattle.record_faults.proofs.Limits.{groups_in, count_occurrences, count_needs}
-use Rattle.addition_faults.specs.declared.faults.AdditionFault.{AdditionFault}
-use Rattle.addition_faults.specs.declared.faults.AdditionFault.TheVariants as of_addition
-use Rattle.addition_faults.specs.AdditionFaults.{occurrence_said, entered, IsEntering, IsOwn, IsJudged, IsFaultHere}
-use Rattle.addition_faults.proofs.ComingIn.{given_entered, own_of}
+use Rattle.addition_faults.specs.declared.faults.AddedText.{AddedText}
+use Rattle.addition_faults.specs.declared.faults.AddedText.TheVariants as text
+use Rattle.addition_faults.specs.declared.faults.AddedFault.{AddedFault}
+use Rattle.addition_faults.specs.declared.faults.AddedFault.TheVariants as of_added
+use Rattle.addition_faults.specs.AddedFaults.{SaysOccurrence, IsOwn, IsJudged, IsFaultHere}
 
 -- ---- what can be told apart
 module _ {K : Type 0} {R : K → K → Ordering} (total : IsTotalOrder R) (exactly : IsAntisymmetric R) where
@@ -81,24 +83,37 @@ first_of g (o ∷ groups) some = elim (is_of g o) as (λ b. is_of g o ≡ b → 
     before t p first zero lt e = let same : o ≡ Some g = same_Some o (Some g) e in true≢false (sym (itself group_laws.total-law exact g) ∙ ap (is_of g) (sym same) ∙ t)
     before t p first (suc i) lt e = first.none_before i (omega (arith, lt)) e
 
-module _ (records : List Fields) (items : List Item) (none : (place : ℕ) (k : AdditionFault) → ¬ IsFaultHere records (map Some items) place k) where
+-- the operation whose occurrence is given at a place
+of_owner : (x : Item) (k : RowKey) → owner_of x ≡ Some k → (o : OperationItem) × (x ≡ item.Operation o) × (key.Occurrence o.key.occurrence ≡ k)
+of_owner (item.Operation o) k e = (o, refl, same_Some (key.Occurrence o.key.occurrence) k e)
+of_owner x k e = absurd (none-some k e)
+
+owned_get : (items : List Item) (place : ℕ) (k : RowKey) → IsGiven (owned (map Some items)) k place → (o : OperationItem) × (slice_get items place ≡ Some (item.Operation o)) × (key.Occurrence o.key.occurrence ≡ k)
+owned_get [] place k e = absurd (none-some (Some k) e)
+owned_get (x ∷ xs) zero k e = let o = of_owner x k (same_Some (owner_of x) (Some k) e) in (o.0, ap Some o.1, o.2)
+owned_get (x ∷ xs) (suc place) k e = owned_get xs place k e
+
+module _ (added : AddedText) (records : List Fields) (items : List Item) (none : (place : ℕ) (k : AddedFault) → ¬ IsFaultHere added records (map Some items) place k) where
   abbrev Said : Sayings
   Said = map Some items
 
   abbrev Given : List (Option RowKey)
   Given = given Said
 
+  abbrev Occurrences : List OccKey
+  Occurrences = keys_of (occurrences_in items)
+
   abbrev Keys : List OpKey
   Keys = keys_said (operations_in items)
 
-  of_record : (place : ℕ) (f : Fault) → IsJudged Said place f → ¬ IsFaultAt records Said place f
-  of_record place f j h = none place (of_addition.OfRecord f) (h, j)
+  of_record : (place : ℕ) (f : Fault) → IsJudged added Said place f → ¬ IsFaultAt records Said place f
+  of_record place f j h = none place (of_added.OfRecord f) (h, j)
 
   -- ---- all may come in
   may_come : (x : Item) (place : ℕ) → slice_get items place ≡ Some x → MayComeIn x
-  may_come (item.Workstation w a) place at = absurd (none place of_addition.NotAdded (item.Workstation w a, says_put items place (item.Workstation w a) at, λ h. h))
-  may_come (item.Interval w i) place at = absurd (none place of_addition.NotAdded (item.Interval w i, says_put items place (item.Interval w i) at, λ h. h))
-  may_come (item.Resource r a q) place at = absurd (none place of_addition.NotAdded (item.Resource r a q, says_put items place (item.Resource r a q) at, λ h. h))
+  may_come (item.Workstation w a) place at = absurd (none place of_added.NotAdded (item.Workstation w a, says_put items place (item.Workstation w a) at, λ h. h))
+  may_come (item.Interval w i) place at = absurd (none place of_added.NotAdded (item.Interval w i, says_put items place (item.Interval w i) at, λ h. h))
+  may_come (item.Resource r a q) place at = absurd (none place of_added.NotAdded (item.Resource r a q, says_put items place (item.Resource r a q) at, λ h. h))
   may_come _ place at = tt
 
   may : All MayComeIn items
@@ -117,181 +132,158 @@ module _ (records : List Fields) (items : List Item) (none : (place : ℕ) (k : 
       let at_j = given_put items j (get_or items j d) (slice_get-get_or items j d within) in
       never_before (suc i) (key_of (get_or items j d)) j at_j i (omega arith) lt (subst (λ k. IsGiven Given k i) same at_i)
 
-  -- ---- one occurrence
-  never_two : (n : ℕ) (j : ℕ) (d : OccKey) → IsGiven (entered Said) d j → (i : ℕ) (c : OccKey) → i < n → i < j → ¬ IsGiven (entered Said) c i
-  never_two zero j d at_j i c lt before at = omega (arith, lt)
-  never_two (suc n) j d at_j i c lt before at =
-      none j (of_addition.AnotherOccurrence i) (c, d, (at, λ m e less. never_two n j d at_j m e (omega (arith, lt, less)) (omega (arith, before, less))), before, at_j)
+  -- ---- of an addition one occurrence
+  module _ (is : added ≡ text.Addition) where
+    never_two : (n j : ℕ) → SaysOccurrence Said j → (i : ℕ) → i < n → i < j → ¬ SaysOccurrence Said i
+    never_two zero j at_j i lt before at = omega (arith, lt)
+    never_two (suc n) j at_j i lt before at =
+        none j (of_added.AnotherOccurrence i) (is, at_j, (at, λ m less. never_two n j at_j m (omega (arith, lt, less)) (omega (arith, before, less))), before)
 
-  entered_put : (place : ℕ) (x : Item) (y : OccKey × Occurrence) → slice_get items place ≡ Some x → as_occurrence x ≡ Some y → IsGiven (entered Said) y.0 place
-  entered_put place x y at e = given_entered Said place (Some x) y.0 (says_put items place x at) (of x y e)
-    where
-      of : (z : Item) (q : OccKey × Occurrence) → as_occurrence z ≡ Some q → occurrence_said (Some z) ≡ Some q.0
-      of (item.Occurrence c p t) q f = ap (λ (v : OccKey × Occurrence). Some v.0) (same_Some (c, record { priority = p; deadline = t }) q f)
-      of z q f = absurd (none-some q f)
+    says_occurrence : (place : ℕ) (x : Item) (y : OccKey × Occurrence) → slice_get items place ≡ Some x → as_occurrence x ≡ Some y → SaysOccurrence Said place
+    says_occurrence place (item.Occurrence c p t) y at e = (c, p, t, says_put items place (item.Occurrence c p t) at)
+    says_occurrence place x y at e = absurd (none-some y e)
 
-  abbrev NoTwo : Item → Item → Type 0
-  NoTwo a b = (y z : OccKey × Occurrence) → as_occurrence a ≡ Some y → as_occurrence b ≡ Some z → ⊥
+    abbrev NoTwo : Item → Item → Type 0
+    NoTwo a b = (y z : OccKey × Occurrence) → as_occurrence a ≡ Some y → as_occurrence b ≡ Some z → ⊥
 
-  no_two : AllPairs NoTwo items
-  no_two i j d lt within y z e f =
-      let at_i = entered_put i (get_or items i d) y (slice_get-get_or items i d (omega (arith, lt, within))) e in
-      let at_j = entered_put j (get_or items j d) z (slice_get-get_or items j d within) f in
-      never_two (suc i) j z.0 at_j i y.0 (omega arith) lt at_i
+    no_two : AllPairs NoTwo items
+    no_two i j d lt within y z e f =
+        let at_i = says_occurrence i (get_or items i d) y (slice_get-get_or items i d (omega (arith, lt, within))) e in
+        let at_j = says_occurrence j (get_or items j d) z (slice_get-get_or items j d within) f in
+        never_two (suc i) j at_j i (omega arith) lt at_i
 
-  some_occurrence : 0 < length (occurrences_in items)
-  some_occurrence = elim (cases_lt 0 (length (occurrences_in items))) [
-    | inl some ↦ some
-    | inr le ↦ absurd (of_record (length Said) (fault.Missing group.Occurrences) tt (inr (inr (refl, refl, omega (arith, count_occurrences items, le)))))
-  ]
+    some_occurrence : 0 < length (occurrences_in items)
+    some_occurrence = elim (cases_lt 0 (length (occurrences_in items))) [
+      | inl some ↦ some
+      | inr le ↦ absurd (of_record (length Said) (fault.Missing group.Occurrences) is (inr (inr (refl, refl, omega (arith, count_occurrences items, le)))))
+    ]
 
-  sole : (y : OccKey × Occurrence) × (occurrences_in items ≡ y ∷ [])
-  sole = of (occurrences_in items) (differ_filter as_occurrence NoTwo (λ y z. ⊥) (λ a b y z e f no. no y z e f) items (differ_from_pairs NoTwo items no_two)) some_occurrence
-    where
-      of : (xs : List (OccKey × Occurrence)) → Differ (λ y z. ⊥) xs → 0 < length xs → (y : OccKey × Occurrence) × (xs ≡ y ∷ [])
-      of [] apart some = absurd (omega (arith, some))
-      of (y ∷ []) apart some = (y, refl)
-      of (y ∷ z ∷ ys) apart some = absurd (apart.0 0 z (omega arith))
+    pub one_occurrence : length (occurrences_in items) ≡ 1
+    one_occurrence = of (occurrences_in items) (differ_filter as_occurrence NoTwo (λ y z. ⊥) (λ a b y z e f no. no y z e f) items (differ_from_pairs NoTwo items no_two)) some_occurrence
+      where
+        of : (xs : List (OccKey × Occurrence)) → Differ (λ y z. ⊥) xs → 0 < length xs → length xs ≡ 1
+        of [] apart some = absurd (omega (arith, some))
+        of (y ∷ []) apart some = refl
+        of (y ∷ z ∷ ys) apart some = absurd (apart.0 0 z (omega arith))
 
   -- ---- all of it
-  module _ (c : OccKey) (terms : Occurrence) (one : occurrences_in items ≡ (c, terms) ∷ []) where
-    the_row : Contains (occurrences_in items) (c, terms)
-    the_row = sole_there (occurrences_in items) (c, terms) one
+  by_own : (o : OpKey) → IsOwn Said o → Contains Occurrences o.occurrence
+  by_own o own = let x = given_get items own.0 (key.Occurrence o.occurrence) own.1 in key_in kinds.occurrences items o.occurrence (x.0, at_place items own.0 x.0 x.1, x.2)
 
-    entering : (place : ℕ) × IsEntering Said place c
-    entering =
-        let x = from_filter as_occurrence items (c, terms) the_row in
+  own_by : (o : OpKey) → Contains Occurrences o.occurrence → IsOwn Said o
+  own_by o has =
+      let x = key_out kinds.occurrences items o.occurrence has in
+      let at = place_of items x.0 x.1 in
+      (at.0, subst (λ k. IsGiven Given k at.0) x.2 (given_put items at.0 x.0 at.1))
+
+  -- what no item says is nowhere
+  no_operation : (o : OpKey) → ¬ Contains Keys o → IsNowhere Given (key.Operation o)
+  no_operation o never i e = let x = given_get items i (key.Operation o) e in never (key_in kinds.operations items o (x.0, at_place items i x.0 x.1, x.2))
+
+  no_occurrence : (d : OccKey) → ¬ Contains Occurrences d → IsNowhere Given (key.Occurrence d)
+  no_occurrence d never i e = let x = given_get items i (key.Occurrence d) e in never (key_in kinds.occurrences items d (x.0, at_place items i x.0 x.1, x.2))
+
+  -- ---- operations
+  operation_item : (o : OperationItem) → Contains (operations_in items) o → Contains items (item.Operation o)
+  operation_item o has = read_stands kinds.operations (Contains items) items (All-contains_itself items) o has
+
+  own_occurrence : (o : OperationItem) → Contains (operations_in items) o → Contains Occurrences o.key.occurrence
+  own_occurrence o has = elim (in_or occurrence_cmp_total occurrence_cmp-IsAntisymmetric Occurrences o.key.occurrence) [
+    | inl there ↦ there
+    | inr other ↦
+        let at = place_of items (item.Operation o) (operation_item o has) in
+        absurd (of_record at.0 (fault.Undefined (key.Occurrence o.key.occurrence)) tt (inl (inr (inr (inr (inr (inl (item.Operation o, says_put items at.0 (item.Operation o) at.1, refl, no_occurrence o.key.occurrence other))))))))
+  ]
+
+  few_needs : (o : OpKey) → length (needs_of o (needs_in items)) ≤ MOST_NEEDS
+  few_needs o = elim (cases_lt MOST_NEEDS (count_of (group.NeedsOf o) (groups_in items))) [
+    | inr le ↦ omega (arith, count_needs o items, le)
+    | inl more ↦
+        let first = first_of (group.NeedsOf o) (groups_in items) (omega (arith, more)) in
+        absurd (of_record first.0 (fault.TooMany (group.NeedsOf o) (count_of (group.NeedsOf o) (groups_in items))) tt (inl (inr (inr (inr (inr (inr (inr (inl (first.1, refl, more))))))))))
+  ]
+
+  -- where no operation is of an occurrence, no record says one of it
+  unowned : (c : OccKey) → ¬ Contains (map occurrence_of Keys) c → IsNowhere (owned Said) (key.Occurrence c)
+  unowned c never i e =
+      let o = owned_get items i (key.Occurrence c) e in
+      let same : o.0.key.occurrence ≡ c = cc o.2 in
+      let there = key_in kinds.operations items o.0.key (item.Operation o.0, at_place items i (item.Operation o.0) o.1, refl) in
+      never (subst (Contains (map occurrence_of Keys)) same (in_map occurrence_of Keys o.0.key there))
+
+  has_operation : (y : OccKey × Occurrence) → Contains (occurrences_in items) y → Contains (map occurrence_of Keys) y.0
+  has_operation y has = elim (in_or occurrence_cmp_total occurrence_cmp-IsAntisymmetric (map occurrence_of Keys) y.0) [
+    | inl there ↦ there
+    | inr never ↦
+        let x = from_filter as_occurrence items y has in
         let at = place_of items x.0 x.1 in
-        let here = entered_put at.0 x.0 (c, terms) at.1 x.2 in
-        (at.0, (here, λ i d lt e. never_two (suc i) at.0 c here i d (omega arith) lt e))
+        absurd (of_record at.0 fault.NoOperation tt (inl (inr (inr (inr (inr (inr (inl (y.0, subst (λ k. IsGiven Given k at.0) (of_row x.0 x.2) (given_put items at.0 x.0 at.1), unowned y.0 never)))))))))
+  ]
+    where
+      of_row : (z : Item) → as_occurrence z ≡ Some y → key_of z ≡ key.Occurrence y.0
+      of_row (item.Occurrence d p t) f = ap (λ (v : OccKey × Occurrence). key.Occurrence v.0) (same_Some (d, record { priority = p; deadline = t }) y f)
+      of_row z f = absurd (none-some y f)
 
-    own_by : (o : OpKey) → o.occurrence ≡ c → IsOwn Said o
-    own_by o same = (own_of Said entering.0 c o entering.1).1 same
+  operations : AreTheirOperations (occurrences_in items) (needs_in items) (operations_in items)
+  operations = record {
+    belong = all_by_members (BelongsTo (occurrences_in items) (needs_in items)) (operations_in items) (λ o has. record { occurrence = own_occurrence o has; few_needs = few_needs o.key });
+    distinct = read_distinct kinds.operations items distinct;
+    not_empty = all_by_members (λ (y : OccKey × Occurrence). Contains (map occurrence_of Keys) y.0) (occurrences_in items) has_operation;
+  }
 
-    by_own : (o : OpKey) → IsOwn Said o → o.occurrence ≡ c
-    by_own o own = (own_of Said entering.0 c o entering.1).0 own
+  -- ---- needs
+  need_item : (y : OpKey × Need) → Contains (needs_in items) y → Contains items (item.Need y.0 y.1)
+  need_item y has = read_stands kinds.needs (Contains items) items (All-contains_itself items) y has
 
-    -- what no item says is nowhere
-    no_operation : (o : OpKey) → ¬ Contains Keys o → IsNowhere Given (key.Operation o)
-    no_operation o never i e = let x = given_get items i (key.Operation o) e in never (key_in kinds.operations items o (x.0, at_place items i x.0 x.1, x.2))
+  need_within : (y : OpKey × Need) → Contains (needs_in items) y → Contains Keys y.0
+  need_within y has = elim (in_or operation_cmp_total operation_cmp-IsAntisymmetric Keys y.0) [
+    | inl there ↦ there
+    | inr never ↦
+        let at = place_of items (item.Need y.0 y.1) (need_item y has) in
+        let says = says_put items at.0 (item.Need y.0 y.1) at.1 in
+        absurd (of_record at.0 (fault.Undefined (key.Operation y.0)) (inl (y.1, says)) (inl (inr (inr (inr (inl (item.Need y.0 y.1, says, refl, no_operation y.0 never)))))))
+  ]
 
-    no_occurrence : (d : OccKey) → ¬ (d ≡ c) → IsNowhere Given (key.Occurrence d)
-    no_occurrence d other i e =
-        let x = given_get items i (key.Occurrence d) e in
-        let m = from_map (λ (y : OccKey × Occurrence). y.0) (occurrences_in items) d (key_in kinds.occurrences items d (x.0, at_place items i x.0 x.1, x.2)) in
-        other (sym (ap (λ (y : OccKey × Occurrence). y.0) (sole_member (occurrences_in items) (c, terms) m.0 one m.1) ∙ m.2))
+  needs : AreNewNeeds Keys (needs_in items)
+  needs = record { within = all_by_members (IsNeedOf Keys) (needs_in items) need_within; distinct = read_distinct kinds.needs items distinct }
 
-    -- ---- operations
-    operation_item : (o : OperationItem) → Contains (operations_in items) o → Contains items (item.Operation o)
-    operation_item o has = read_stands kinds.operations (Contains items) items (All-contains_itself items) o has
+  -- ---- pairs
+  pair_item : (y : OpKey × OpKey) → Contains (pairs_in items) y → Contains items (item.Dependency y.0 y.1)
+  pair_item y has = read_stands kinds.pairs (Contains items) items (All-contains_itself items) y has
 
-    own_occurrence : (o : OperationItem) → Contains (operations_in items) o → o.key.occurrence ≡ c
-    own_occurrence o has = elim (same_or occurrence_cmp_total occurrence_cmp-IsAntisymmetric o.key.occurrence c) [
-      | inl same ↦ same
-      | inr other ↦
-          let at = place_of items (item.Operation o) (operation_item o has) in
-          absurd (of_record at.0 (fault.Undefined (key.Occurrence o.key.occurrence)) tt (inl (inr (inr (inr (inr (inl (item.Operation o, says_put items at.0 (item.Operation o) at.1, refl, no_occurrence o.key.occurrence other))))))))
-    ]
+  module _ (y : OpKey × OpKey) (has : Contains (pairs_in items) y) where
+    at : (i : ℕ) × (slice_get items i ≡ Some (item.Dependency y.0 y.1))
+    at = place_of items (item.Dependency y.0 y.1) (pair_item y has)
 
-    few_needs : (o : OpKey) → length (needs_of o (needs_in items)) ≤ MOST_NEEDS
-    few_needs o = elim (cases_lt MOST_NEEDS (count_of (group.NeedsOf o) (groups_in items))) [
-      | inr le ↦ omega (arith, count_needs o items, le)
-      | inl more ↦
-          let first = first_of (group.NeedsOf o) (groups_in items) (omega (arith, more)) in
-          absurd (of_record first.0 (fault.TooMany (group.NeedsOf o) (count_of (group.NeedsOf o) (groups_in items))) tt (inl (inr (inr (inr (inr (inr (inr (inl (first.1, refl, more))))))))))
-    ]
+    says : SaysAt Said at.0 (item.Dependency y.0 y.1)
+    says = says_put items at.0 (item.Dependency y.0 y.1) at.1
 
-    some_operation : 0 < length (operations_in items)
-    some_operation = elim (cases_lt 0 (length (operations_in items))) [
-      | inl some ↦ some
-      | inr le ↦
-          let x = from_filter as_occurrence items (c, terms) the_row in
-          let at = place_of items x.0 x.1 in
-          absurd (of_record at.0 fault.NoOperation tt (inl (inr (inr (inr (inr (inr (inl (c, subst (λ k. IsGiven Given k at.0) (of_row x.0 x.2) (given_put items at.0 x.0 at.1), unowned items (omega (arith, le)))))))))))
-    ]
-      where
-        of_row : (z : Item) → as_occurrence z ≡ Some (c, terms) → key_of z ≡ key.Occurrence c
-        of_row (item.Occurrence d p t) f = ap (λ (v : OccKey × Occurrence). key.Occurrence v.0) (same_Some (d, record { priority = p; deadline = t }) (c, terms) f)
-        of_row z f = absurd (none-some (c, terms) f)
-
-        unowned : (xs : List Item) → length (operations_in xs) ≡ 0 → IsNowhere (owned (map Some xs)) (key.Occurrence c)
-        unowned [] size i e = none-some (Some (key.Occurrence c)) e
-        unowned (item.Operation o ∷ xs) size i e = omega (arith, size)
-        unowned (item.Workstation w a ∷ xs) size zero e = none-some (key.Occurrence c) (same_Some None (Some (key.Occurrence c)) e)
-        unowned (item.Interval w j ∷ xs) size zero e = none-some (key.Occurrence c) (same_Some None (Some (key.Occurrence c)) e)
-        unowned (item.Resource r a q ∷ xs) size zero e = none-some (key.Occurrence c) (same_Some None (Some (key.Occurrence c)) e)
-        unowned (item.Occurrence d p t ∷ xs) size zero e = none-some (key.Occurrence c) (same_Some None (Some (key.Occurrence c)) e)
-        unowned (item.Dependency p s ∷ xs) size zero e = none-some (key.Occurrence c) (same_Some None (Some (key.Occurrence c)) e)
-        unowned (item.Need o n ∷ xs) size zero e = none-some (key.Occurrence c) (same_Some None (Some (key.Occurrence c)) e)
-        unowned (item.Workstation w a ∷ xs) size (suc i) e = unowned xs size i e
-        unowned (item.Interval w j ∷ xs) size (suc i) e = unowned xs size i e
-        unowned (item.Resource r a q ∷ xs) size (suc i) e = unowned xs size i e
-        unowned (item.Occurrence d p t ∷ xs) size (suc i) e = unowned xs size i e
-        unowned (item.Dependency p s ∷ xs) size (suc i) e = unowned xs size i e
-        unowned (item.Need o n ∷ xs) size (suc i) e = unowned xs size i e
-
-    operations : AreNewOperations c (needs_in items) (operations_in items)
-    operations = record {
-      some = some_operation;
-      come = all_by_members (ComesWith c (needs_in items)) (operations_in items) (λ o has. record { occurrence = own_occurrence o has; few_needs = few_needs o.key });
-      distinct = read_distinct kinds.operations items distinct;
-    }
-
-    -- ---- needs
-    need_item : (y : OpKey × Need) → Contains (needs_in items) y → Contains items (item.Need y.0 y.1)
-    need_item y has = read_stands kinds.needs (Contains items) items (All-contains_itself items) y has
-
-    need_within : (y : OpKey × Need) → Contains (needs_in items) y → Contains Keys y.0
-    need_within y has = elim (in_or operation_cmp_total operation_cmp-IsAntisymmetric Keys y.0) [
-      | inl there ↦ there
-      | inr never ↦
-          let at = place_of items (item.Need y.0 y.1) (need_item y has) in
-          let says = says_put items at.0 (item.Need y.0 y.1) at.1 in
-          absurd (of_record at.0 (fault.Undefined (key.Operation y.0)) (inl (y.1, says)) (inl (inr (inr (inr (inl (item.Need y.0 y.1, says, refl, no_operation y.0 never)))))))
-    ]
-
-    needs : AreNewNeeds Keys (needs_in items)
-    needs = record { within = all_by_members (IsNeedOf Keys) (needs_in items) need_within; distinct = read_distinct kinds.needs items distinct }
-
-    -- ---- pairs
-    pair_item : (y : OpKey × OpKey) → Contains (pairs_in items) y → Contains items (item.Dependency y.0 y.1)
-    pair_item y has = read_stands kinds.pairs (Contains items) items (All-contains_itself items) y has
-
-    module _ (y : OpKey × OpKey) (has : Contains (pairs_in items) y) where
-      at : (i : ℕ) × (slice_get items i ≡ Some (item.Dependency y.0 y.1))
-      at = place_of items (item.Dependency y.0 y.1) (pair_item y has)
-
-      says : SaysAt Said at.0 (item.Dependency y.0 y.1)
-      says = says_put items at.0 (item.Dependency y.0 y.1) at.1
-
-      own : (y.0.occurrence ≡ c) ⊎ (y.1.occurrence ≡ c)
-      own = elim (same_or occurrence_cmp_total occurrence_cmp-IsAntisymmetric y.0.occurrence c) [
-        | inl first ↦ inl first
-        | inr other ↦ elim (same_or occurrence_cmp_total occurrence_cmp-IsAntisymmetric y.1.occurrence c) [
-          | inl second ↦ inr second
-          | inr another ↦ absurd (none at.0 of_addition.Elsewhere (y.0, y.1, says, (λ h. other (by_own y.0 h)), (λ h. another (by_own y.1 h))))
-        ]
+    own : Contains Occurrences y.0.occurrence ⊎ Contains Occurrences y.1.occurrence
+    own = elim (in_or occurrence_cmp_total occurrence_cmp-IsAntisymmetric Occurrences y.0.occurrence) [
+      | inl first ↦ inl first
+      | inr other ↦ elim (in_or occurrence_cmp_total occurrence_cmp-IsAntisymmetric Occurrences y.1.occurrence) [
+        | inl second ↦ inr second
+        | inr another ↦ absurd (none at.0 of_added.Elsewhere (y.0, y.1, says, (λ h. other (by_own y.0 h)), (λ h. another (by_own y.1 h))))
       ]
+    ]
 
-      first : IsEndAmong c Keys y.0
-      first same = elim (in_or operation_cmp_total operation_cmp-IsAntisymmetric Keys y.0) [
-        | inl there ↦ there
-        | inr never ↦ absurd (of_record at.0 (fault.Undefined (key.Operation y.0)) (inr (own_by y.0 same)) (inl (inr (inr (inr (inl (item.Dependency y.0 y.1, says, refl, no_operation y.0 never)))))))
-      ]
+    first : IsEndAmong Occurrences Keys y.0
+    first there = elim (in_or operation_cmp_total operation_cmp-IsAntisymmetric Keys y.0) [
+      | inl has_key ↦ has_key
+      | inr never ↦ absurd (of_record at.0 (fault.Undefined (key.Operation y.0)) (inr (own_by y.0 there)) (inl (inr (inr (inr (inl (item.Dependency y.0 y.1, says, refl, no_operation y.0 never)))))))
+    ]
 
-      second : IsEndAmong c Keys y.1
-      second same = elim (in_or operation_cmp_total operation_cmp-IsAntisymmetric Keys y.1) [
-        | inl there ↦ there
-        | inr never ↦ absurd (of_record at.0 (fault.Undefined (key.Operation y.1)) (inr (own_by y.1 same)) (inl (inr (inr (inr (inr (inl (item.Dependency y.0 y.1, says, refl, no_operation y.1 never))))))))
-      ]
+    second : IsEndAmong Occurrences Keys y.1
+    second there = elim (in_or operation_cmp_total operation_cmp-IsAntisymmetric Keys y.1) [
+      | inl has_key ↦ has_key
+      | inr never ↦ absurd (of_record at.0 (fault.Undefined (key.Operation y.1)) (inr (own_by y.1 there)) (inl (inr (inr (inr (inr (inl (item.Dependency y.0 y.1, says, refl, no_operation y.1 never))))))))
+    ]
 
-      new_pair : IsNewPair c Keys y
-      new_pair = record { own = own; first = first; second = second }
+    among : IsPairAmong Occurrences Keys y
+    among = record { own = own; first = first; second = second }
 
-    pairs : AreNewPairs c Keys (pairs_in items)
-    pairs = record { new = all_by_members (IsNewPair c Keys) (pairs_in items) new_pair; distinct = read_distinct kinds.pairs items distinct }
+  pairs : ArePairsAmong Occurrences Keys (pairs_in items)
+  pairs = record { among = all_by_members (IsPairAmong Occurrences Keys) (pairs_in items) among; distinct = read_distinct kinds.pairs items distinct }
 
-  pub come : CanComeIn items
-  come =
-      let row = sole in
-      (row.0.0, row.0.1, record { may = may; one = row.1; operations = operations row.0.0 row.0.1 row.1; needs = needs row.0.0 row.0.1 row.1; pairs = pairs row.0.0 row.0.1 row.1 })
+  pub come : ComeInTogether items
+  come = record { may = may; occurrences = read_distinct kinds.occurrences items distinct; operations = operations; needs = needs; pairs = pairs }

@@ -6,3 +6,4 @@ pub mod Here
 pub mod Faultless
 pub mod Coming
 pub mod Whole
+pub mod DenotedAs

@@ -1,4 +1,4 @@
--- Faults of an addition that are told once.
+-- Faults of what is added that are told once.
 use Rattle.std.proofs.Common.{◌≡◌, ◌≢◌, inl, inr, refl, sym, ap, subst, ◌∙◌, arith, ℕ, ◌<◌, List, [], ◌∷◌, ◌++◌, length, get_or, slice_get, swap, IsPermutation, AllPairs, Contains, Some}
 use Rattle.std.proofs.lemmas.Bool.{cases_eq, cases_lt}
 use Rattle.std.proofs.lemmas.Option.{same_Some, slice_get-get_or, slice_get_within}
@@ -10,10 +10,11 @@ use Rattle.plan_drafts.proofs.Lists.{Differ, differ_from_pairs, pairs_from_diffe
 use Rattle.record_faults.specs.declared.faults.Fault.{Fault}
 use Rattle.record_faults.specs.declared.faults.RecordFault.{RecordFault}
 use Rattle.record_faults.specs.Sayings.{Sayings}
-use Rattle.addition_faults.specs.declared.faults.AdditionFault.{AdditionFault}
-use Rattle.addition_faults.specs.declared.faults.AdditionFault.TheVariants as of_addition
+use Rattle.addition_faults.specs.declared.faults.AddedText.{AddedText}
+use Rattle.addition_faults.specs.declared.faults.AddedFault.{AddedFault}
+use Rattle.addition_faults.specs.declared.faults.AddedFault.TheVariants as of_added
 use Rattle.addition_faults.specs.declared.faults.PlacedFault.{PlacedFault}
-use Rattle.addition_faults.specs.AdditionFaults.{IsBeside, AreToldBelow, IsToldOf, IsToldAt, IsBesideAt}
+use Rattle.addition_faults.specs.AddedFaults.{IsBeside, AreToldBelow, IsToldOf, IsToldAt, IsBesideAt}
 
 -- ---- two lists that have none in common
 module _ {X : Type 0} where
@@ -63,13 +64,13 @@ module _ {X : Type 0} where
   permuted_once xs ys same once = IsPermutation-keeps xs (AllPairs (λ x y. x ≢ y)) once (λ l i j p q h. swap_once l i j p q h) ys same
 
 -- ---- what is told of each
-abbrev kind_in : Fault → AdditionFault → Fault
-kind_in other (of_addition.OfRecord f) = f
+abbrev kind_in : Fault → AddedFault → Fault
+kind_in other (of_added.OfRecord f) = f
 kind_in other _ = other
 
 -- what is told of two faults of a plan is two
-module _ (said : Sayings) (found : List RecordFault) (once : AllPairs (λ (a : RecordFault) (b : RecordFault). a ≢ b) found) where
-  pub not_told_before : (n : ℕ) (g : RecordFault) → slice_get found n ≡ Some g → (faults : List PlacedFault) → AreToldBelow (IsToldAt said found) n faults → (f : PlacedFault) → IsToldOf said g f → ¬ Contains faults f
+module _ (added : AddedText) (said : Sayings) (found : List RecordFault) (once : AllPairs (λ (a : RecordFault) (b : RecordFault). a ≢ b) found) where
+  pub not_told_before : (n : ℕ) (g : RecordFault) → slice_get found n ≡ Some g → (faults : List PlacedFault) → AreToldBelow (IsToldAt added said found) n faults → (f : PlacedFault) → IsToldOf added said g f → ¬ Contains faults f
   not_told_before n g at faults are f told has =
       let before = (are f).0 has in
       let other = before.2 in
@@ -83,8 +84,8 @@ module _ (said : Sayings) (found : List RecordFault) (once : AllPairs (λ (a : R
       once before.0 n g lt within (first ∙ same ∙ sym second)
 
 -- what is beside of two records is two
-pub not_beside_before : (said : Sayings) (n : ℕ) (faults : List PlacedFault) → AreToldBelow (IsBesideAt said) n faults → (f : PlacedFault) → IsBesideAt said n f → ¬ Contains faults f
-not_beside_before said n faults are f here has =
+pub not_beside_before : (added : AddedText) (said : Sayings) (n : ℕ) (faults : List PlacedFault) → AreToldBelow (IsBesideAt added said) n faults → (f : PlacedFault) → IsBesideAt added said n f → ¬ Contains faults f
+not_beside_before added said n faults are f here has =
     let before = (are f).0 has in
     let lt = before.1 in
     let at = before.2.0 in
@@ -92,8 +93,8 @@ not_beside_before said n faults are f here has =
     omega (arith, lt, at, now)
 
 -- and none of it is a plan's
-pub none_in_both : (said : Sayings) (found : List RecordFault) (n m : ℕ) (judged beside : List PlacedFault) → AreToldBelow (IsToldAt said found) n judged → AreToldBelow (IsBesideAt said) m beside → (f : PlacedFault) → Contains judged f → ¬ Contains beside f
-none_in_both said found n m judged beside told others f has too =
+pub none_in_both : (added : AddedText) (said : Sayings) (found : List RecordFault) (n m : ℕ) (judged beside : List PlacedFault) → AreToldBelow (IsToldAt added said found) n judged → AreToldBelow (IsBesideAt added said) m beside → (f : PlacedFault) → Contains judged f → ¬ Contains beside f
+none_in_both added said found n m judged beside told others f has too =
     let first = ((told f).0 has).2 in
     let second = (others f).0 too in
-    subst (IsBeside said second.0) first.2.1 second.2.1
+    subst (IsBeside added said second.0) first.2.1 second.2.1

@@ -1,10 +1,10 @@
--- Faults of an addition that are told one after another.
+-- Faults of what is added that are told one after another.
 use Rattle.std.proofs.Common.{◌≡◌, ◌↔◌, ◌⊎◌, inl, inr, sym, subst, arith, ℕ, ◌+◌, List, [], ◌∷◌, ◌++◌, Contains}
 use Rattle.std.proofs.lemmas.Bool.{cases_lt}
 use Rattle.std.proofs.lemmas.List.Elements.{Contains-append_left, Contains-append_right, Contains-append_cases}
 use Rattle.plan_basics.proofs.Members.{contains_head, contains_cases, contains_none}
 use Rattle.addition_faults.specs.declared.faults.PlacedFault.{PlacedFault}
-use Rattle.addition_faults.specs.AdditionFaults.{AreToldBelow}
+use Rattle.addition_faults.specs.AddedFaults.{AreToldBelow}
 
 -- one more at the end: what is told is what has the property
 pub one_more : (P : PlacedFault → Type 0) (faults : List PlacedFault) (r : PlacedFault) → P r → ((f : PlacedFault) → P f → f ≡ r) → (f : PlacedFault) → Contains (faults ++ r ∷ []) f ↔ (Contains faults f ⊎ P f)

@@ -1,2 +1,3 @@
-pub mod AdditionFaults
-pub mod AdditionTexts
+pub use Rattle.text_faults
+pub mod AddedFaults
+pub mod AddedTexts

@@ -1,17 +1,24 @@
-// A fault of an addition's record, and its place.
+// What a text is to add, and a fault of its record with its place.
 
 use record_faults::Fault;
 
-/// What is wrong with a record of an addition.
+/// What a text is to be: an addition is of one occurrence, an extension of any number.
 #[derive(Clone, Copy, Debug, PartialEq, Eq)]
-pub enum AdditionFault {
+pub enum AddedText {
+    Addition,
+    Extension,
+}
+
+/// What is wrong with a record of what is added.
+#[derive(Clone, Copy, Debug, PartialEq, Eq)]
+pub enum AddedFault {
     /// What may be wrong with a plan's record too.
     OfRecord(Fault),
-    /// It says a workstation, an open interval or a special resource: an addition brings none.
+    /// It says a workstation, an open interval or a special resource: none comes in.
     NotAdded,
     /// It says an occurrence, and the record at this place says one before it: an addition is of one.
     AnotherOccurrence(usize),
-    /// It says a dependency of which neither end is in the occurrence that comes in.
+    /// It says a dependency of which neither end is in an occurrence that is added.
     Elsewhere,
 }
 
@@ -19,5 +26,5 @@ pub enum AdditionFault {
 #[derive(Clone, Copy, Debug, PartialEq, Eq)]
 pub struct PlacedFault {
     pub place: usize,
-    pub fault: AdditionFault,
+    pub fault: AddedFault,
 }

@@ -1,20 +1,32 @@
-// What of a record's faults is one of an addition's, and what an addition's record may have beside them.
-ghost use Rattle.std.specs.Prelude.{◌≡◌, ◌↔◌, ◌<◌, ℕ, Some, IsTrue, length};
+// What of a record's faults is one of what is added, and what such a record may have beside them.
+ghost use Rattle.std.specs.Prelude.{◌≡◌, ◌↔◌, ◌<◌, ◌≤◌, ℕ, Some, IfNone, IfSome, IsTrue, length};
 ghost use Rattle.record_faults.specs.special_resources.specs.declared.Need.{Need};
 ghost use Rattle.plan_items.specs.declared.Item.TheVariants as item;
-ghost use Rattle.plan_drafts.specs.AdditionItems.{MayComeIn};
-ghost use Rattle.record_faults.specs.Sayings.{Sayings, SaysAt};
+ghost use Rattle.plan_drafts.specs.ExtensionItems.{MayComeIn};
+ghost use Rattle.record_faults.specs.Sayings.{Sayings, SaysAt, given, IsIndex};
 ghost use Rattle.record_faults.specs.declared.faults.Fault.TheVariants as fault;
-ghost use Rattle.addition_faults.specs.AdditionFaults.{IsEnteringIfAny, IsJudged, IsBeside, SaysNeedOf};
-ghost use Rattle.addition_faults.specs.declared.faults.AdditionFault.{AdditionFault};
-ghost use Rattle.addition_faults.specs.declared.faults.AdditionFault.TheVariants as of_addition;
+ghost use Rattle.addition_faults.specs.AddedFaults.{IsFirstIfAny, IsJudged, IsBeside, IsElsewhere, SaysNeedOf};
+ghost use Rattle.addition_faults.specs.declared.faults.AddedText.{AddedText};
+ghost use Rattle.addition_faults.specs.declared.faults.AddedText.TheVariants as text;
+ghost use Rattle.addition_faults.specs.declared.faults.AddedFault.{AddedFault};
+ghost use Rattle.addition_faults.specs.declared.faults.AddedFault.TheVariants as of_added;
 
-use super::entering::{Entering, is_own};
-use super::faults::AdditionFault;
+use super::faults::{AddedFault, AddedText};
+use super::occurrences::{is_occurrence, is_own};
 use plan_basics::OpKey;
 use plan_drafts::RowKey;
 use plan_items::Item;
-use record_faults::{Fault, Group};
+use record_faults::{Fault, Group, Index};
+
+// Whether there is to be one occurrence.
+fn is_of_one(added: AddedText) -> bool
+    ensures { IsTrue result ↔ (added ≡ text.Addition) }
+{
+    match added {
+        AddedText::Addition => true,
+        AddedText::Extension => false,
+    }
+}
 
 // Whether a need of the operation is said.
 fn is_need_of(said: &Option<Item>, operation: &OpKey) -> bool
@@ -37,29 +49,35 @@ fn says_need_of(said: &[Option<Item>], place: usize, operation: &OpKey) -> bool
 }
 
 // Whether a name that no record defines can be judged without the plan.
-fn is_name_judged(said: &[Option<Item>], entering: &Entering, place: usize, name: &RowKey) -> bool
-    requires { IsEnteringIfAny said.now entering.now }
-    ensures { IsTrue result ↔ IsJudged said.now place (fault.Undefined name.now) }
+fn is_name_judged(said: &[Option<Item>], index: &Index, place: usize, name: &RowKey) -> bool
+    requires { IsIndex (given said.now) index.now }
+    ensures { (added : AddedText) → IsTrue result ↔ IsJudged added said.now place (fault.Undefined name.now) }
 {
     match *name {
         RowKey::Occurrence(_) => true,
         RowKey::Operation(operation) => {
-            says_need_of(said, place, &operation) || is_own(entering, &operation)
+            says_need_of(said, place, &operation) || is_own(index, &operation)
         }
         _ => false,
     }
 }
 
-// Whether a fault of a plan's record is one of an addition's.
-pub fn is_judged(said: &[Option<Item>], entering: &Entering, place: usize, fault: &Fault) -> bool
-    requires { IsEnteringIfAny said.now entering.now }
-    ensures { IsTrue result ↔ IsJudged said.now place fault.now }
+// Whether a fault of a plan's record is one of what is added.
+pub fn is_judged(
+    added: AddedText,
+    said: &[Option<Item>],
+    index: &Index,
+    place: usize,
+    fault: &Fault,
+) -> bool
+    requires { IsIndex (given said.now) index.now }
+    ensures { IsTrue result ↔ IsJudged added said.now place fault.now }
 {
     match *fault {
         Fault::Shape(_) | Fault::Repeated(_, _) | Fault::NoOperation => true,
         Fault::TooMany(Group::NeedsOf(_), _) => true,
-        Fault::Missing(Group::Occurrences) => true,
-        Fault::Undefined(name) => is_name_judged(said, entering, place, &name),
+        Fault::Missing(Group::Occurrences) => is_of_one(added),
+        Fault::Undefined(name) => is_name_judged(said, index, place, &name),
         _ => false,
     }
 }
@@ -76,47 +94,72 @@ fn may_not_come_in(item: &Item) -> bool
     }
 }
 
-// Where the occurrence is said that comes in, if the record says another.
-fn earlier(entering: &Entering, place: usize, item: &Item) -> Option<usize>
-    ensures { (said : Sayings) → IsEnteringIfAny said entering.now → SaysAt said place item.now → (first : ℕ) → (result ≡ Some first) ↔ IsBeside said place (of_addition.AnotherOccurrence first) }
+// The place of the first occurrence, if it is before another place.
+fn where_before(first: Option<usize>, place: usize) -> Option<usize>
+    ensures some { IfSome result (λ n. (first ≡ Some n) × (n < place)) }
+    ensures none { IfNone result ((n : ℕ) → first ≡ Some n → place ≤ n) }
 {
-    let Item::Occurrence { .. } = *item else {
-        return None;
-    };
-    match *entering {
-        Some((first, _)) if first < place => Some(first),
+    match first {
+        Some(first) if first < place => Some(first),
         _ => None,
     }
 }
 
-// Whether it is a dependency of which no end is in the occurrence that comes in.
-fn is_elsewhere(entering: &Entering, item: &Item) -> bool
-    ensures { (said : Sayings) (place : ℕ) → IsEnteringIfAny said entering.now → SaysAt said place item.now → IsTrue result ↔ IsBeside said place of_addition.Elsewhere }
+// Where the first occurrence is said, if the record at the place says another and there is to be one.
+fn earlier(
+    added: AddedText,
+    said: &[Option<Item>],
+    first: Option<usize>,
+    place: usize,
+) -> Option<usize>
+    requires first { IsFirstIfAny said.now first }
+    requires place { place < length said.now }
+    ensures { (n : ℕ) → (result ≡ Some n) ↔ IsBeside added said.now place (of_added.AnotherOccurrence n) }
+{
+    if !is_of_one(added) {
+        return None;
+    }
+    if !is_occurrence(&said[place]) {
+        return None;
+    }
+    where_before(first, place)
+}
+
+// Whether it is a dependency of which no end is in an occurrence that is added.
+fn is_elsewhere(index: &Index, item: &Item) -> bool
+    ensures { (said : Sayings) (place : ℕ) → IsIndex (given said) index.now → SaysAt said place item.now → IsTrue result ↔ IsElsewhere said place }
 {
     match *item {
         Item::Dependency {
             predecessor,
             successor,
-        } => !is_own(entering, &predecessor) && !is_own(entering, &successor),
+        } => !is_own(index, &predecessor) && !is_own(index, &successor),
         _ => false,
     }
 }
 
-// What is wrong with an addition's record beside what may be with a plan's.
-pub fn beside(said: &[Option<Item>], entering: &Entering, place: usize) -> Option<AdditionFault>
-    requires entering { IsEnteringIfAny said.now entering.now }
+// What is wrong with a record of what is added beside what may be with a plan's.
+pub fn beside(
+    added: AddedText,
+    said: &[Option<Item>],
+    index: &Index,
+    first: Option<usize>,
+    place: usize,
+) -> Option<AddedFault>
+    requires index { IsIndex (given said.now) index.now }
+    requires first { IsFirstIfAny said.now first }
     requires place { place < length said.now }
-    ensures { (f : AdditionFault) → (result ≡ Some f) ↔ IsBeside said.now place f }
+    ensures { (f : AddedFault) → (result ≡ Some f) ↔ IsBeside added said.now place f }
 {
     let item = said[place]?;
     if may_not_come_in(&item) {
-        return Some(AdditionFault::NotAdded);
+        return Some(AddedFault::NotAdded);
     }
-    if let Some(first) = earlier(entering, place, &item) {
-        return Some(AdditionFault::AnotherOccurrence(first));
+    if let Some(first) = earlier(added, said, first, place) {
+        return Some(AddedFault::AnotherOccurrence(first));
     }
-    if is_elsewhere(entering, &item) {
-        return Some(AdditionFault::Elsewhere);
+    if is_elsewhere(index, &item) {
+        return Some(AddedFault::Elsewhere);
     }
     None
 }

@@ -1,14 +1,14 @@
-//! What is wrong with the records of an addition's text, and where, as far as that can be judged without the plan that it
-//! comes into.
+//! What is wrong with the records of a text that adds to a plan, of an addition's or an extension's, and where, as far as
+//! that can be judged without the plan.
 #![tactic(auto)]
 
-mod entering;
 mod faults;
 mod finding;
 mod judging;
-mod said;
+mod occurrences;
 mod texts;
 
-pub use faults::{AdditionFault, PlacedFault};
-pub use finding::faults_of_addition;
-pub use texts::{AdditionTextFaults, addition_fault_text, faults_of_addition_text};
+pub use faults::{AddedFault, AddedText, PlacedFault};
+pub use finding::faults_of_added;
+pub use text_faults::{TextFaults, fault_text, faults_of_text};
+pub use texts::{AddedTextFaults, added_fault_text, faults_of_added_text};

@@ -3,7 +3,6 @@ use Rattle.std.proofs.Common.{◌≡◌, ◌↔◌, refl, ℕ, List, [], ◌∷�
 use Rattle.std.specs.Io.KnownBytes.{Appends}
 use Rattle.std.proofs.KnownBytes.{Appends-trans}
 use Rattle.std.proofs.lemmas.Result.{IfOk-weaker}
-use Rattle.text_faults.specs.TextFaults.{TextDenotesSome}
 use Rattle.command_answers.specs.Judged.{AreFaultsShown, IsJudged, count_line, ending_of_count}
 use Rattle.command_answers.specs.declared.endings.Ending.{Ending}
 use Rattle.command_answers.specs.declared.endings.Fault.{Fault}
@@ -22,8 +21,15 @@ faults_shown told count old between new r lines shown =
     (told, Appends-trans old between new told (count_line count) lines was.0, was.1)) shown
 
 -- they are those of a text
-pub judged : (text : List ℕ) (count : ℕ) (old new : Option (List ℕ)) (r : Result Ending Fault)
-    → ((count ≡ 0) ↔ TextDenotesSome text) → IfOk r (AreFaultsShown count old new) → IfOk r (IsJudged text old new)
-judged text count old new r none shown =
-    IfOk-weaker r (AreFaultsShown count old new) (IsJudged text old new)
+pub judged : (Denotes : Type 0) (count : ℕ) (old new : Option (List ℕ)) (r : Result Ending Fault)
+    → ((count ≡ 0) ↔ Denotes) → IfOk r (AreFaultsShown count old new) → IfOk r (IsJudged Denotes old new)
+judged Denotes count old new r none shown =
+    IfOk-weaker r (AreFaultsShown count old new) (IsJudged Denotes old new)
     (λ (e : Ending) (was : AreFaultsShown count old new e). (count, was.0, was.1, was.2, none)) shown
+
+-- of the text that was read
+pub read_judged : (Denotes : List ℕ → Type 0) (text : List ℕ) (old new : Option (List ℕ)) (r : Result Ending Fault)
+    → IfOk r (IsJudged (Denotes text) old new) → IfOk r (λ e. (bytes : List ℕ) × IsJudged (Denotes bytes) old new e)
+read_judged Denotes text old new r shown =
+    IfOk-weaker r (IsJudged (Denotes text) old new) (λ e. (bytes : List ℕ) × IsJudged (Denotes bytes) old new e)
+    (λ (e : Ending) (was : IsJudged (Denotes text) old new e). (text, was)) shown

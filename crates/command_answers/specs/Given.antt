@@ -5,8 +5,8 @@ use Rattle.plan_basics.specs.Keys.{IsOperationKey}
 use Rattle.plan_basics.specs.Minutes.{IsMinuteText}
 use Rattle.plan_basics.specs.Names.{IsName}
 use Rattle.plan_basics.specs.declared.keys.OpKey.{OpKey}
-use Rattle.plan_import.specs.Texts.{TextDenotes}
-use Rattle.plan_records.specs.plan_model.specs.Contents.{Contents}
+use Rattle.plan_import.specs.Texts.{TextDenotes, TextDenotesExtension}
+use Rattle.plan_records.specs.plan_model.specs.Contents.{AddedParts, Contents}
 use Rattle.plan_records.specs.declared.Request.{Request}
 use Rattle.request_texts.specs.Requests.{ReadsAsRequest}
 use Rattle.command_answers.specs.declared.given.Kind.{Kind}
@@ -48,3 +48,7 @@ AsksNoReport word ws = (k : Kind) → ¬ AsksReport word ws k
 -- the plan that a text denotes; or none, where it denotes none
 abbrev pub IsPlanOf : List ℕ → Option Contents → Type 0
 IsPlanOf text found = MatchOption found ((P : Contents) → ¬ TextDenotes text P) (λ draft. TextDenotes text draft)
+
+-- the extension that a text denotes; or none, where it denotes none
+abbrev pub IsExtensionOf : List ℕ → Option AddedParts → Type 0
+IsExtensionOf text found = MatchOption found ((s : AddedParts) → ¬ TextDenotesExtension text s) (λ extension. TextDenotesExtension text extension)

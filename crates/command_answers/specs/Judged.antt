@@ -1,7 +1,9 @@
--- What the program shows of the faults of a plan's text.
-use Rattle.std.specs.Prelude.{◌≡◌, ◌↔◌, ◌==◌, if◌then◌else◌, ℕ, List, ◌++◌, Option, codes, decimal}
+-- What the program shows of the faults of a text: of a plan's, or of an extension's.
+use Rattle.std.specs.Prelude.{◌≡◌, ◌↔◌, ◌==◌, if◌then◌else◌, ℕ, List, ◌++◌, Option, Some, None, codes, decimal}
 use Rattle.std.specs.Io.KnownBytes.{Appends}
-use Rattle.text_faults.specs.TextFaults.{TextDenotesSome}
+use Rattle.addition_faults.specs.text_faults.specs.TextFaults.{TextDenotesSome}
+use Rattle.addition_faults.specs.AddedTexts.{TextDenotesSomeAdded}
+use Rattle.addition_faults.specs.declared.faults.AddedText.TheVariants as text
 use Rattle.command_answers.specs.Answers.{line}
 use Rattle.command_answers.specs.declared.endings.Ending.{Ending}
 use Rattle.command_answers.specs.declared.endings.Ending.TheVariants as ending
@@ -18,7 +20,12 @@ ending_of_count count = if count == 0 then ending.Done else ending.Refused
 abbrev pub AreFaultsShown : ℕ → Option (List ℕ) → Option (List ℕ) → Ending → Type 0
 AreFaultsShown count old new e = (told : List ℕ) × Appends old new (told ++ count_line count) × (e ≡ ending_of_count count)
 
--- a text was judged: something was shown of its faults, and then how many there are; none exactly where it denotes a plan
-abbrev pub IsJudged : List ℕ → Option (List ℕ) → Option (List ℕ) → Ending → Type 0
-IsJudged text old new e =
-    (count : ℕ) × (told : List ℕ) × Appends old new (told ++ count_line count) × (e ≡ ending_of_count count) × ((count ≡ 0) ↔ TextDenotesSome text)
+-- a text was judged: something was shown of its faults, and then how many there are; none exactly where it denotes something
+abbrev pub IsJudged : Type 0 → Option (List ℕ) → Option (List ℕ) → Ending → Type 0
+IsJudged Denotes old new e =
+    (count : ℕ) × (told : List ℕ) × Appends old new (told ++ count_line count) × (e ≡ ending_of_count count) × ((count ≡ 0) ↔ Denotes)
+
+-- some text was judged: as an extension's where the words give a file of one, else as a plan's
+abbrev pub IsValidated : Option (List ℕ) → Option (List ℕ) → Option (List ℕ) → Ending → Type 0
+IsValidated (Some extension) old new e = (bytes : List ℕ) × IsJudged (TextDenotesSomeAdded text.Extension bytes) old new e
+IsValidated None old new e = (bytes : List ℕ) × IsJudged (TextDenotesSome bytes) old new e

@@ -1,19 +1,26 @@
-// `validate`: what is wrong with a plan's text, record by record.
-ghost use Rattle.std.specs.Prelude.{◌≡◌, IfOk, IfErr, OnOk, List, ℕ, length};
+// `validate`: what is wrong with the text of a plan or of an extension, record by record.
+ghost use Rattle.std.specs.Prelude.{◌≡◌, IfOk, IfErr, OnOk, List, ℕ, codes};
+ghost use Rattle.clap.specs.Matches.{first_value, found_of};
+ghost use Rattle.addition_faults.specs.text_faults.specs.TextFaults.{TextDenotesSome};
+ghost use Rattle.addition_faults.specs.AddedTexts.{TextDenotesSomeAdded};
+ghost use Rattle.addition_faults.specs.declared.faults.AddedText.TheVariants as added;
 ghost use Rattle.std.specs.Io.KnownBytes.{Appends};
 ghost use Rattle.plan_basics.specs.Watched.{inner_of};
-ghost use Rattle.command_answers.specs.Judged.{AreFaultsShown, IsJudged, count_line, ending_of_count};
+ghost use Rattle.command_answers.specs.Judged.{AreFaultsShown, IsJudged, IsValidated, count_line, ending_of_count};
 ghost use Rattle.command_answers.specs.Statuses.{IsOfSurroundings};
 
 use crate::endings::{Ending, Fault};
 use crate::files::text_of_file;
+use addition_faults::{
+    AddedText, AddedTextFaults, TextFaults, added_fault_text, fault_text, faults_of_added_text,
+    faults_of_text,
+};
 use clap::ArgMatches;
 use command_words::value_of;
 use plan_basics::Watched;
 use std::alloc::{AllocError, Global};
 use std::io::Write;
 use std::rt::HostRuntime;
-use text_faults::{TextFaults, fault_text, faults_of_text};
 
 /// How many faults are told one by one.
 const MOST_TOLD: usize = 100;
@@ -24,25 +31,32 @@ fn push_line(lines: &mut String, line: &str) -> Result<(), AllocError> {
     lines.push_str("\n")
 }
 
-// Adds how many more faults there are, if there are.
-fn push_more(alloc: Global, lines: &mut String, more: usize) -> Result<(), AllocError> {
+// Adds how many more faults there are than are told, if there are.
+fn push_more(alloc: Global, lines: &mut String, count: usize) -> Result<(), AllocError> {
+    let more = count.saturating_sub(MOST_TOLD);
     if more == 0 {
         return Ok(());
     }
     push_line(lines, &format!(in alloc; "{more} more")?)
 }
 
-// A line for each of the first faults, and how many more there are, if there are.
-fn lines_of(alloc: Global, found: &TextFaults) -> Result<String, AllocError> {
+// A line for each of the first faults of a plan's text, and how many more there are, if there are.
+fn lines_of_plan(alloc: Global, found: &TextFaults) -> Result<String, AllocError> {
     let mut lines = String::new(alloc);
     for fault in found.faults.iter().take(MOST_TOLD) {
         push_line(&mut lines, &fault_text(alloc, fault, found)?)?;
     }
-    push_more(
-        alloc,
-        &mut lines,
-        found.faults.len().saturating_sub(MOST_TOLD),
-    )?;
+    push_more(alloc, &mut lines, found.faults.len())?;
+    Ok(lines)
+}
+
+// The same of an extension's text.
+fn lines_of_extension(alloc: Global, found: &AddedTextFaults) -> Result<String, AllocError> {
+    let mut lines = String::new(alloc);
+    for fault in found.faults.iter().take(MOST_TOLD) {
+        push_line(&mut lines, &added_fault_text(alloc, fault, found)?)?;
+    }
+    push_more(alloc, &mut lines, found.faults.len())?;
     Ok(lines)
 }
 
@@ -61,54 +75,64 @@ fn tell_count<W: Write>(out: &mut Watched<W>, count: usize) -> Result<Ending, Fa
 }
 
 // Shows the lines of faults.
-fn tell_lines<W: Write>(
-    alloc: Global,
-    found: &TextFaults,
-    out: &mut Watched<W>,
-) -> Result<(), Fault>
+fn tell_lines<W: Write>(lines: &str, out: &mut Watched<W>) -> Result<(), Fault>
     ensures shown { OnOk result ((told : List ℕ) × Appends (W.contents (inner_of out.old)) (W.contents (inner_of out.new)) told) }
     ensures fault { IfErr result IsOfSurroundings }
 {
-    let lines = lines_of(alloc, found)?;
     Ok(out.write_all(lines.as_bytes())?)
 }
 
 // Shows the lines of faults, and how many there are.
-fn tell_found<W: Write>(
-    alloc: Global,
-    found: &TextFaults,
+fn tell_found<W: Write>(lines: &str, count: usize, out: &mut Watched<W>) -> Result<Ending, Fault>
+    ensures shown { IfOk result (AreFaultsShown count (W.contents (inner_of out.old)) (W.contents (inner_of out.new))) }
+    ensures fault { IfErr result IsOfSurroundings }
+{
+    tell_lines(lines, out)?;
+    tell_count(out, count)
+}
+
+// Shows what is wrong with the text of a plan's file.
+fn validate_plan<W: Write>(
+    rt: &HostRuntime,
+    path: &str,
     out: &mut Watched<W>,
 ) -> Result<Ending, Fault>
-    ensures shown { IfOk result (AreFaultsShown (length found.now.faults.items) (W.contents (inner_of out.old)) (W.contents (inner_of out.new))) }
+    ensures shown { IfOk result (λ ending. (text : List ℕ) × IsJudged (TextDenotesSome text) (W.contents (inner_of out.old)) (W.contents (inner_of out.new)) ending) }
     ensures fault { IfErr result IsOfSurroundings }
 {
-    tell_lines(alloc, found, out)?;
-    tell_count(out, found.faults.len())
+    let text = text_of_file(rt, path)?;
+    let found = faults_of_text(rt.alloc(), &text)?;
+    let lines = lines_of_plan(rt.alloc(), &found)?;
+    tell_found(&lines, found.faults.len(), out)
 }
 
-// Shows what is wrong with a text.
-fn tell_faults<W: Write>(alloc: Global, text: &[u8], out: &mut Watched<W>) -> Result<Ending, Fault>
-    ensures shown { IfOk result (IsJudged text.now (W.contents (inner_of out.old)) (W.contents (inner_of out.new))) }
+// Shows what is wrong with the text of an extension's file.
+fn validate_extension<W: Write>(
+    rt: &HostRuntime,
+    path: &str,
+    out: &mut Watched<W>,
+) -> Result<Ending, Fault>
+    ensures shown { IfOk result (λ ending. (text : List ℕ) × IsJudged (TextDenotesSomeAdded added.Extension text) (W.contents (inner_of out.old)) (W.contents (inner_of out.new)) ending) }
     ensures fault { IfErr result IsOfSurroundings }
 {
-    match faults_of_text(alloc, text) {
-        Ok(found) => tell_found(alloc, &found, out),
-        Err(_) => Err(Fault::Memory),
-    }
+    let text = text_of_file(rt, path)?;
+    let found = faults_of_added_text(rt.alloc(), AddedText::Extension, &text)?;
+    let lines = lines_of_extension(rt.alloc(), &found)?;
+    tell_found(&lines, found.faults.len(), out)
 }
 
-/// `validate`: the text of a plan is judged, record by record: a line for each of the first hundred faults, how many more
-/// there are, and the number of all.
+/// `validate`: the text of a plan, or of an extension where the words name a file of one, is judged record by record: a line
+/// for each of the first hundred faults, how many more there are, and the number of all.
 pub fn validate<W: Write>(
     rt: &HostRuntime,
     given: &ArgMatches,
     out: &mut Watched<W>,
 ) -> Result<Ending, Fault>
-    ensures shown { IfOk result (λ ending. (text : List ℕ) × IsJudged text (W.contents (inner_of out.old)) (W.contents (inner_of out.new)) ending) }
+    ensures shown { IfOk result (IsValidated (first_value (found_of given.now) (codes "extension")) (W.contents (inner_of out.old)) (W.contents (inner_of out.new))) }
     ensures fault { IfErr result IsOfSurroundings }
 {
-    match text_of_file(rt, value_of(given, "plan")) {
-        Ok(text) => tell_faults(rt.alloc(), &text, out),
-        Err(fault) => Err(fault),
+    match given.get_str("extension") {
+        Some(path) => validate_extension(rt, path, out),
+        None => validate_plan(rt, value_of(given, "plan"), out),
     }
 }

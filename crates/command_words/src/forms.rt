@@ -65,12 +65,27 @@ const MOMENT: OptionForm = OptionForm {
 };
 
 /// All commands.
-pub const COMMANDS: [CommandForm; 8] = [
+pub const COMMANDS: [CommandForm; 9] = [
     CommandForm {
         name: "validate",
-        about: "Tells what is wrong with a plan, record by record; nothing is stored",
+        about: "Tells what is wrong with a plan or an extension, record by record; nothing is stored",
         example: "Example: plandesk validate --plan day.csv",
-        options: &[PLAN],
+        options: &[
+            OptionForm {
+                name: "plan",
+                value_name: "FILE",
+                help: "The plan, as records of ten fields",
+                value: ValueForm::Text,
+                need: Need::InPlaceOf("extension"),
+            },
+            OptionForm {
+                name: "extension",
+                value_name: "FILE",
+                help: "In place of --plan: an extension, judged as far as it can be without the plan",
+                value: ValueForm::Text,
+                need: Need::Never,
+            },
+        ],
     },
     CommandForm {
         name: "check",
@@ -83,6 +98,22 @@ pub const COMMANDS: [CommandForm; 8] = [
         about: "Loads a plan into a database, which is made where there is none",
         example: "Example: plandesk load --db night.db --plan day.csv --at 2024-03-01T22:00",
         options: &[DATABASE, PLAN, MOMENT],
+    },
+    CommandForm {
+        name: "extend",
+        about: "Takes what is complete or deleted out of the desk of a database, and an extension in",
+        example: "Example: plandesk extend --db night.db --plan tomorrow.csv --at 2024-03-02T12:00",
+        options: &[
+            DATABASE,
+            OptionForm {
+                name: "plan",
+                value_name: "FILE",
+                help: "The extension, as records of ten fields: any number of occurrences, none too",
+                value: ValueForm::Text,
+                need: Need::Always,
+            },
+            MOMENT,
+        ],
     },
     CommandForm {
         name: "do",

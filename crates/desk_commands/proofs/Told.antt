@@ -1,7 +1,9 @@
 -- What is shown of a request and of a report that were asked for.
-use Rattle.std.proofs.Common.{◌≡◌, ◌⊎◌, refl, inl, inr, ℕ, Bool, List, Option, Result, Err, IfOk, IfErr}
+use Rattle.std.proofs.Common.{◌≡◌, ◌⊎◌, refl, inl, inr, ℕ, ℤ, Bool, List, Option, Result, Err, IfOk, IfErr}
 use Rattle.std.proofs.lemmas.Result.{IfErr-weaker, IfOk-weaker}
+use Rattle.plan_basics.specs.Minutes.{IsMinuteText}
 use Rattle.plan_basics.specs.declared.Refusal.{Refusal}
+use Rattle.plan_loads.specs.plan_model.specs.Contents.{AddedParts}
 use Rattle.plan_loads.specs.plan_model.specs.Plan.{Plan}
 use Rattle.plan_records.specs.Answer.{Answer, refused}
 use Rattle.plan_records.specs.Run.{Answers, State, Usable, plain}
@@ -9,7 +11,7 @@ use Rattle.plan_records.specs.declared.Request.{Request}
 use Rattle.plan_loads.specs.plan_tables.specs.Faults.{IsOpeningRefusal}
 use Rattle.command_answers.specs.request_texts.specs.Requests.{ReadsAsRequest}
 use Rattle.command_answers.specs.Answers.{IsShown}
-use Rattle.desk_commands.specs.Asked.{IsRequestAnswered, IsRequestShown}
+use Rattle.desk_commands.specs.Asked.{IsExtendShown, IsRequestAnswered, IsRequestShown, extend_request}
 use Rattle.command_answers.specs.Given.{AsksReport}
 use Rattle.desk_commands.specs.Shown.{IsReportAsked, IsReportShown}
 use Rattle.command_answers.specs.Opened.{IsWhyNoDesk, IsNoneShown}
@@ -60,6 +62,12 @@ module _ (r : Result Ending Fault) (old new : Option (List ℕ)) where
   request_shown text q says shown =
       IfOk-weaker r (IsRequestAnswered q old new) (IsRequestShown text old new)
       (λ (e : Ending) (was : IsRequestAnswered q old new e). (q, says, was.0, was.1, was.2)) shown
+
+  -- of an extension at the moment that the words give
+  pub extend_shown : (moment : List ℕ) (at : ℤ) (found : Option AddedParts) → IsMinuteText moment at → IfOk r (IsRequestAnswered (extend_request at found) old new) → IfOk r (IsExtendShown moment old new)
+  extend_shown moment at found says shown =
+      IfOk-weaker r (IsRequestAnswered (extend_request at found) old new) (IsExtendShown moment old new)
+      (λ (e : Ending) (was : IsRequestAnswered (extend_request at found) old new e). (at, says, found, was.0, was.1, was.2)) shown
 
   -- the report that words ask for, of a desk
   pub report_shown : (word : List ℕ) (ws : Option (List ℕ)) (k : Kind) (usable : Bool) (P : Plan)

@@ -15,4 +15,4 @@ pub use plan_loads::Desk;
 pub use playing::play;
 pub use reasons::why;
 pub use reports::report;
-pub use requests::make;
+pub use requests::{extend, make};

@@ -1,20 +1,22 @@
-// `do`: one request of an operator at the desk of a database's file.
+// `do` and `extend`: one request of an operator at the desk of a database's file.
 ghost use Rattle.std.specs.Prelude.{◌≡◌, ◌⊎◌, IfOk, IfErr, codes};
 ghost use Rattle.clap.specs.Matches.{found_of};
 ghost use Rattle.plan_basics.specs.Watched.{inner_of};
-ghost use Rattle.desk_commands.specs.Asked.{IsRequestAnswered, IsRequestShown};
-ghost use Rattle.command_answers.specs.Given.{IsNoRequest};
+ghost use Rattle.desk_commands.specs.Asked.{IsExtendShown, IsRequestAnswered, IsRequestShown};
+ghost use Rattle.command_answers.specs.Given.{IsNoMinute, IsNoRequest};
 ghost use Rattle.command_answers.specs.Statuses.{IsOfSurroundings};
 ghost use Rattle.command_words.specs.Words.{text_given};
 ghost use Rattle.command_answers.specs.declared.endings.Fault.{Fault};
 
 use crate::databases::{Database, close_desk, stored_desk};
 use clap::ArgMatches;
-use command_answers::{Ending, Fault, request_of, tell, tell_no_desk};
+use command_answers::{
+    Ending, Fault, extension_of_file, moment_of, request_of, tell, tell_no_desk,
+};
 use command_words::value_of;
 use plan_basics::Watched;
 use plan_loads::Desk;
-use plan_records::Request;
+use plan_records::{Request, What};
 use sqlite::{Alter, Connection};
 use std::io::Write;
 use std::rt::HostRuntime;
@@ -71,4 +73,22 @@ where
         Ok(request) => make_stored::<S, W>(rt, value_of(given, "db"), &request, out),
         Err(fault) => Err(fault),
     }
+}
+
+/// `extend`: the plan at the desk of a database's file is extended by the extension of a file. The moment is judged before
+/// the files, and the extension is read before the database is touched, which has to be there.
+pub fn extend<S: Alter + Drop, W: Write>(
+    rt: &HostRuntime,
+    given: &ArgMatches,
+    out: &mut Watched<W>,
+) -> Result<Ending, Fault>
+where
+    Connection<S>: Database<S>,
+    ensures shown { IfOk result (IsExtendShown (text_given (found_of given.now) (codes "at")) (W.contents (inner_of out.old)) (W.contents (inner_of out.new))) }
+    ensures fault { IfErr result (λ fault. ((fault ≡ Fault.Moment) × IsNoMinute (text_given (found_of given.now) (codes "at"))) ⊎ IsOfSurroundings fault) }
+{
+    let at = moment_of(given)?;
+    let extension = extension_of_file(rt, value_of(given, "plan"))?;
+    let what = What::Extend(extension);
+    make_stored::<S, W>(rt, value_of(given, "db"), &Request { at, what }, out)
 }

@@ -8,7 +8,7 @@ use clap::ArgMatches;
 use clap::error::{Error, ErrorKind};
 use command_words::desk_command;
 use desk_commands::{
-    Database, DatabaseFile, Ending, Fault, check, load, make, play, report, validate, why,
+    Database, DatabaseFile, Ending, Fault, check, extend, load, make, play, report, validate, why,
 };
 use plan_basics::Watched;
 use sqlite::{Alter, Connection};
@@ -52,6 +52,7 @@ where
         "validate" => validate(rt, given, out),
         "check" => check(rt, given, out),
         "load" => load::<S, W>(rt, given, out),
+        "extend" => extend::<S, W>(rt, given, out),
         "do" => make::<S, W>(rt, given, out),
         "report" => report::<S, W>(rt, given, out),
         "why" => why::<S, W>(rt, given, out),

@@ -8,9 +8,9 @@ pub struct Case {
     /// How many trackers' receipts are put into the tables, and how else these are changed.
     pub receipts: u32,
     pub sql: &'static str,
-    /// The turns, one a line: a tracker and its number, the turn of a night that it asks for, whose words are its text,
-    /// and the answer: the numbers of the night's operations that are named, or the refusal. No line where the desk
-    /// can't be opened, since its tables are damaged.
+    /// The turns, one a line: a tracker and its number, or `-` where an operator asks; the turn of a night that is asked for,
+    /// whose words are a tracker's text; and the answer: the numbers of the night's operations that are named, or the
+    /// refusal. No line where the desk can't be opened, since its tables are damaged.
     pub turns: &'static str,
 }
 
@@ -19,7 +19,7 @@ const KEPT: &str =
     "INSERT INTO receipt VALUES ('T1', 7, x'32303a3030207469636b207c202d', 'PAYROLL/2024-03-01T22:00/040')";
 
 /// The cases.
-pub const CASES: [Case; 16] = [
+pub const CASES: [Case; 17] = [
     Case {
         what: "a tracker reports the night",
         night: "LOADED",
@@ -127,6 +127,23 @@ T1 2: 22:00 tick | - => refused Gap",
         turns: "T1 7: 20:00 tick | - => names 40
 T1 7: 22:00 tick | - => refused Reused
 T1 8: 22:00 tick | - => names",
+    },
+    Case {
+        what: "a receipt stays though its keys are gone",
+        night: "LOADED",
+        receipts: 0,
+        sql: "",
+        turns: "T1 1: 22:00 started 5 | - => names
+T1 2: 22:10 ended 5 | - => names 10
+-: 22:40 ended 10 | - => names 20
+-: 23:40 ended 20 | - => names
+-: 23:50 ended 40 | - => names
+-: 23:55 extend - | - => names
+T1 2: 22:10 ended 5 | - => names 10
+T1 2: 22:10 ended 10 | - => refused Reused
+T1 3: 23:55 ended 20 | - => refused UnknownOperation
+T1 3: 23:55 tick | - => names
+T1 3: 23:55 tick | - => names",
     },
     Case {
         what: "a tracker's last number",

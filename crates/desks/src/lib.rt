@@ -29,7 +29,9 @@ pub use hostile::{
     a_moment_before_all_plans_and_a_name_in_small_letters, bodies_that_are_no_reports,
     heads_that_are_rejected, nothing_and_too_much,
 };
-pub use lists::{lists_of_a_loaded_plan, no_list_before_a_plan_is_loaded};
+pub use lists::{
+    lists_of_a_loaded_plan, lists_of_an_emptied_plan, no_list_before_a_plan_is_loaded,
+};
 pub use numbered::{a_texts_length, numbered_requests};
 pub use numbers::{no_room_for_one_more_tracker, reports_are_numbered_and_repeated};
 pub use plays::{nights_at_once, nights_opened_again_after_each_turn, two_chains_at_a_desk};

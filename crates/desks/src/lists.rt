@@ -2,6 +2,8 @@
 use super::FAILED;
 use super::benches::Bench;
 use super::exchanges::{and_five, loaded, send};
+use super::reported::bench_after;
+use super::samples::EMPTIED;
 use sqlite::Alter;
 use status_rules::{Mark, Status};
 use std::alloc::Global;
@@ -30,6 +32,12 @@ const LISTS: [Row; 8] = [
     ("/ready/%", "409 Conflict", 41, UNKNOWN),
     ("/occurrences", "200 OK", 92, OCCURRENCES),
     ("/occurrences?all=1", "200 OK", 92, OCCURRENCES),
+];
+
+const EMPTIED_LISTS: [Row; 3] = [
+    ("/ready/SETP", "200 OK", 2, "[]"),
+    ("/ready/XXXX", "409 Conflict", 41, UNKNOWN),
+    ("/occurrences", "200 OK", 2, "[]"),
 ];
 
 const BEFORE_A_LOAD: [Row; 3] = [
@@ -70,4 +78,12 @@ pub fn no_list_before_a_plan_is_loaded(alloc: Global) -> Result<(), &'static str
     let mut bench = Bench::empty(alloc).ok().ok_or(FAILED)?;
     let came = each_list(alloc, &mut bench, &BEFORE_A_LOAD);
     and_five(&bench, came, None)
+}
+
+/// The lists of a plan that all occurrences have left.
+pub fn lists_of_an_emptied_plan(alloc: Global) -> Result<(), &'static str> {
+    match bench_after(alloc, EMPTIED) {
+        Some(mut bench) => each_list(alloc, &mut bench, &EMPTIED_LISTS),
+        None => Err(EMPTIED),
+    }
 }

@@ -29,7 +29,7 @@ fn is_told(reply: &Reply, told: &str) -> bool {
 }
 
 // What is replied to a tracker that asks this by a number.
-fn reply<S: Alter + Drop>(
+fn reply_to_tracker<S: Alter + Drop>(
     alloc: Global,
     bench: &mut Bench<S>,
     numbered: &str,
@@ -42,11 +42,34 @@ fn reply<S: Alter + Drop>(
     Some(bench.call_numbered(&tracker, number, asked.as_bytes(), &request))
 }
 
+// What is replied to an operator who asks this.
+fn reply_to_operator<S: Alter + Drop>(
+    alloc: Global,
+    bench: &mut Bench<S>,
+    asked: &str,
+) -> Option<Reply> {
+    let request = request(alloc, asked)?;
+    Some(bench.call(&request))
+}
+
+// What is replied to who asks this: a tracker by a number, or an operator.
+fn reply<S: Alter + Drop>(
+    alloc: Global,
+    bench: &mut Bench<S>,
+    who: &str,
+    asked: &str,
+) -> Option<Reply> {
+    match who {
+        "-" => reply_to_operator(alloc, bench, asked),
+        _ => reply_to_tracker(alloc, bench, who, asked),
+    }
+}
+
 // Whether a turn is answered as it says.
 fn is_answered<S: Alter + Drop>(alloc: Global, bench: &mut Bench<S>, turn: &str) -> Option<bool> {
-    let (numbered, turn) = turn.split_once(": ")?;
+    let (who, turn) = turn.split_once(": ")?;
     let (asked, told) = turn.split_once(" => ")?;
-    let reply = reply(alloc, bench, numbered, asked)?;
+    let reply = reply(alloc, bench, who, asked)?;
     Some(is_told(&reply, told))
 }
 

@@ -19,8 +19,13 @@ pub const FAILED_RUN: &str = "21:00 load STATIONS RUNS PRINTING CHAIN LAST FILE 
 22:45 add BILLS | names -
 23:00 error 20 S0C7 | names -";
 
+/// The night is deleted, and leaves.
+pub const EMPTIED: &str = "21:00 load STATIONS RUNS PRINTING CHAIN LAST FILE KEEPS | names -
+21:10 delete PAYROLL | names -
+21:20 extend - | names -";
+
 /// The samples.
-pub const SAMPLES: [Sample; 11] = [
+pub const SAMPLES: [Sample; 15] = [
     Sample {
         what: "ready when loaded",
         turns: LOADED,
@@ -126,6 +131,38 @@ END 0
         text: "LATE AT 2024-03-02T03:30
 PAYROLL          2024-03-01T22:00  10 CPU1 W 2024-03-02T03:09
 END 1
+",
+    },
+    Sample {
+        what: "nothing ready where there is no occurrence",
+        turns: EMPTIED,
+        report: "SETP",
+        text: "READY SETP AT 2024-03-01T21:20
+END 0
+",
+    },
+    Sample {
+        what: "no occurrence",
+        turns: EMPTIED,
+        report: "occurrences",
+        text: "OCCURRENCES AT 2024-03-01T21:20
+END 0
+",
+    },
+    Sample {
+        what: "no errors where there is no occurrence",
+        turns: EMPTIED,
+        report: "errors",
+        text: "ERRORS AT 2024-03-01T21:20
+END 0
+",
+    },
+    Sample {
+        what: "nothing late where there is no occurrence",
+        turns: EMPTIED,
+        report: "late",
+        text: "LATE AT 2024-03-01T21:20
+END 0
 ",
     },
 ];

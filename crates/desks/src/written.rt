@@ -8,8 +8,9 @@ use plan_records::{Reply, Request};
 use sqlite::{Connection, MemStore};
 use std::alloc::Global;
 
-/// A request, and how many rows the tables get by it. Each is put into its table, in place of the one that has its key or
-/// as a new one; a new one also gets an entry in the index of the table's keys, and one in place of another none.
+/// A request, and how many rows the tables get by it, and how many they lose. Each is put into its table, in place of the one
+/// that has its key or as a new one; a new one also gets an entry in the index of the table's keys, and one in place of another
+/// none. One that is gone is taken out of its table, and its entry out of that index.
 #[derive(Clone, Copy)]
 struct Step {
     /// The tracker's number of it; or it isn't numbered.
@@ -17,15 +18,17 @@ struct Step {
     turn: &'static str,
     rows: u32,
     new: u32,
+    gone: u32,
 }
 
-const STEPS: [Step; 10] = [
+const STEPS: [Step; 12] = [
     // The row of the plan itself is there before; all others are new.
     Step {
         number: None,
         turn: "21:00 load STATIONS RUNS PRINTING CHAIN LAST FILE KEEPS | -",
         rows: 19,
         new: 18,
+        gone: 0,
     },
     // The plan's row, the occurrence and its first operation.
     Step {
@@ -33,6 +36,7 @@ const STEPS: [Step; 10] = [
         turn: "22:00 started 5 | -",
         rows: 3,
         new: 0,
+        gone: 0,
     },
     // The plan's row and two operations.
     Step {
@@ -40,6 +44,7 @@ const STEPS: [Step; 10] = [
         turn: "22:10 ended 5 | -",
         rows: 3,
         new: 0,
+        gone: 0,
     },
     // Nothing changes at the clock's own moment.
     Step {
@@ -47,6 +52,7 @@ const STEPS: [Step; 10] = [
         turn: "22:10 tick | -",
         rows: 0,
         new: 0,
+        gone: 0,
     },
     // The plan's row and two operations.
     Step {
@@ -54,6 +60,7 @@ const STEPS: [Step; 10] = [
         turn: "22:40 ended 10 | -",
         rows: 3,
         new: 0,
+        gone: 0,
     },
     // The plan's row, and what is new: the occurrence, its operation and its need.
     Step {
@@ -61,6 +68,7 @@ const STEPS: [Step; 10] = [
         turn: "22:45 add BILLS | -",
         rows: 4,
         new: 3,
+        gone: 0,
     },
     // The plan's row, the bills' occurrence and operation, the operation that ended and the two after it.
     Step {
@@ -68,6 +76,7 @@ const STEPS: [Step; 10] = [
         turn: "23:40 ended 20 | -",
         rows: 6,
         new: 0,
+        gone: 0,
     },
     // The plan's row, the occurrence and its last operation; and the tracker's first receipt.
     Step {
@@ -75,6 +84,7 @@ const STEPS: [Step; 10] = [
         turn: "23:50 ended 40 | -",
         rows: 4,
         new: 1,
+        gone: 0,
     },
     // The plan's row, the bills' occurrence and operation; and the receipt in place of the first.
     Step {
@@ -82,6 +92,7 @@ const STEPS: [Step; 10] = [
         turn: "23:55 ended BILLING.10 | -",
         rows: 4,
         new: 0,
+        gone: 0,
     },
     // What is answered already is answered again, and nothing is written.
     Step {
@@ -89,11 +100,29 @@ const STEPS: [Step; 10] = [
         turn: "23:55 ended BILLING.10 | -",
         rows: 0,
         new: 0,
+        gone: 0,
+    },
+    // The plan's row, and what is new: the occurrence and its operation. Both occurrences leave, with six operations, four
+    // dependencies and two needs.
+    Step {
+        number: None,
+        turn: "23:56 extend NEXT_NIGHT | -",
+        rows: 3,
+        new: 2,
+        gone: 14,
+    },
+    // Nothing is over, and the moment is the clock's own.
+    Step {
+        number: None,
+        turn: "23:56 extend - | -",
+        rows: 0,
+        new: 0,
+        gone: 0,
     },
 ];
 
 // The quantity is written by the load alone.
-const TAPES: [Step; 4] = [
+const TAPES: [Step; 6] = [
     // The workstation, its interval, the tape drives and their quantity, and of each of the three the occurrence, the operation
     // and the need; an amount of one of them; and the row of the plan itself.
     Step {
@@ -101,6 +130,7 @@ const TAPES: [Step; 4] = [
         turn: "22:00 load DRIVES IN_TURN HALF_HOURS ONE_TWO_ONE | -",
         rows: 15,
         new: 14,
+        gone: 0,
     },
     // The plan's row and the tape drives.
     Step {
@@ -108,6 +138,7 @@ const TAPES: [Step; 4] = [
         turn: "22:05 away TAPE | -",
         rows: 2,
         new: 0,
+        gone: 0,
     },
     // The plan's row, and what is new: the occurrence, its operation, its need and the amount.
     Step {
@@ -115,6 +146,7 @@ const TAPES: [Step; 4] = [
         turn: "22:06 add URGENT TWO_DRIVES | -",
         rows: 5,
         new: 4,
+        gone: 0,
     },
     // The plan's row, the occurrence and its operation.
     Step {
@@ -122,6 +154,23 @@ const TAPES: [Step; 4] = [
         turn: "22:10 ended AAA.10 | -",
         rows: 3,
         new: 0,
+        gone: 0,
+    },
+    // The same.
+    Step {
+        number: None,
+        turn: "22:15 delete DDD | -",
+        rows: 3,
+        new: 0,
+        gone: 0,
+    },
+    // The plan's row. Both occurrences leave, each with its operation and its need, and the amount of one of them.
+    Step {
+        number: None,
+        turn: "22:20 extend - | -",
+        rows: 1,
+        new: 0,
+        gone: 7,
     },
 ];
 
@@ -171,23 +220,28 @@ fn written(alloc: Global, steps: &[Step]) -> Option<Written> {
     }
 }
 
-// What is written by the last of these steps alone: how many rows, and how many of them are new. Nothing where anything is
-// taken out of a table or an index.
-fn by_last(alloc: Global, steps: &[Step]) -> Option<(u32, u32)> {
-    let (_, before) = steps.split_last()?;
-    let before = written(alloc, before)?;
-    let after = written(alloc, steps)?;
-    if after.deleted != before.deleted || after.removed != before.removed {
-        return None;
-    }
+// Whether the last of these steps puts, adds and takes out as many rows as it says, where so much was written before it and so
+// much in all.
+fn is_step(step: &Step, before: Written, after: Written) -> Option<bool> {
     let rows = after.put.checked_sub(before.put)?;
-    Some((rows, after.inserted.checked_sub(before.inserted)?))
+    let new = after.inserted.checked_sub(before.inserted)?;
+    let gone = after.deleted.checked_sub(before.deleted)?;
+    let removed = after.removed.checked_sub(before.removed)?;
+    Some(rows == step.rows && new == step.new && gone == step.gone && removed == step.gone)
+}
+
+// The same of the desk at which they are taken.
+fn is_last(alloc: Global, steps: &[Step]) -> Option<bool> {
+    let (last, earlier) = steps.split_last()?;
+    let before = written(alloc, earlier)?;
+    let after = written(alloc, steps)?;
+    is_step(last, before, after)
 }
 
 // Whether the last of these steps writes as many rows as it says.
 fn is_last_written(alloc: Global, steps: &[Step]) -> Result<(), &'static str> {
     match steps.last() {
-        Some(step) if by_last(alloc, steps) == Some((step.rows, step.new)) => Ok(()),
+        Some(_) if is_last(alloc, steps) == Some(true) => Ok(()),
         Some(step) => Err(step.turn),
         None => Err(FAILED),
     }

@@ -35,4 +35,38 @@ TAPES_IN: three occurrences are loaded, of which the first and the last take bot
 keys AAA.10 BBB.10 CCC.10 / AAA BBB CCC
 22:00 load DRIVES IN_TURN HALF_HOURS ONE_TWO_ONE | names AAA.10 CCC.10
 
+PAYROLL_OVER: the night is over, and the bills run
+keys BILLING.10 5 10 20 30 40 / BILLING PAYROLL
+21:00 load STATIONS RUNS PRINTING CHAIN LAST FILE KEEPS | names -
+22:00 started 5 | names -
+22:10 ended 5 | names 10
+22:40 ended 10 | names 20
+22:45 add BILLS | names -
+23:40 ended 20 | names BILLING.10
+23:50 ended 40 | names -
+
+HELD_BACK: the night is over, and the bills, which came after its printing, are held
+keys BILLING.10 5 10 20 30 40 / BILLING PAYROLL
+21:00 load STATIONS RUNS PRINTING CHAIN LAST FILE KEEPS | names -
+21:00 add BILLS BILLS_LAST | names -
+21:00 hold BILLING.10 | names -
+22:00 started 5 | names -
+22:10 ended 5 | names 10
+22:40 ended 10 | names 20
+23:40 ended 20 | names -
+23:50 ended 40 | names -
+
+EMPTIED: the night is deleted, and leaves
+keys - / -
+21:00 load STATIONS RUNS PRINTING CHAIN LAST FILE KEEPS | names -
+21:00 delete PAYROLL | names -
+21:00 extend - | names -
+
+TAPES_OVER: the three with the tape drives are over
+keys AAA.10 BBB.10 CCC.10 / AAA BBB CCC
+22:00 load DRIVES IN_TURN HALF_HOURS ONE_TWO_ONE | names AAA.10 CCC.10
+22:10 ended AAA.10 | names -
+22:20 ended CCC.10 | names BBB.10
+22:50 ended BBB.10 | names -
+
 ";

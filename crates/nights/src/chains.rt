@@ -7,7 +7,8 @@ use std::alloc::Global;
 
 /// Each line is a request, made after those above it, and how many records it may look at: four, and four for each entry of
 /// the ready lists before and after and for each operation whose row changes and each pair that it is in; a load, a dependency
-/// and a deletion, four for each operation and each pair of the plan that they leave, and four.
+/// and a deletion, four for each operation and each pair of the plan that they leave, and four; an extension, four for each
+/// of the plan before and of the one after, and four.
 const LOOKS: &str = "22:00 load-chains 20 | 40724
 22:00 tick | 164
 22:00 started J01.1 | 168
@@ -16,7 +17,8 @@ const LOOKS: &str = "22:00 load-chains 20 | 40724
 22:00 hold J20.255 | 164
 22:00 depend J02.4 on J01.3 | 40728
 22:00 depend J02.3 on J01.3 | 40732
-22:00 delete J20 | 40732";
+22:00 delete J20 | 40732
+22:00 extend - | 79424";
 
 // How many operations of the plan have another row once the request is made.
 fn changed(plan: &Plan, prepared: &Prepared) -> u64 {
@@ -63,7 +65,7 @@ fn look_by_line(alloc: Global, plan: &mut Plan) -> Result<(), &'static str> {
     Ok(())
 }
 
-/// Nine requests, each of which looks at no more records than it may; or the line of one of which that isn't so.
+/// Ten requests, each of which looks at no more records than it may; or the line of one of which that isn't so.
 pub fn looks_at_a_plan_of_chains(alloc: Global) -> Result<(), &'static str> {
     look_by_line(alloc, &mut Plan::empty(alloc))
 }

@@ -1,7 +1,8 @@
-// The rows of the tables that a request changes, each as a line: its table and its columns, with bars between.
+// The rows of the tables that a request changes, each as a line: its table and its columns, with bars between. And the keys of
+// those that are gone.
 use super::words::listed;
 use plan_basics::{Interval, OpKey, ResName, WsName, minute_text};
-use plan_records::{Changes, OperationRow, PlanRow};
+use plan_records::{Changes, OperationRow, PlanRow, RowKey};
 use special_resources::Mode;
 use std::alloc::Global;
 
@@ -120,21 +121,56 @@ fn line_of(alloc: Global, row: &PlanRow) -> Option<String> {
     }
 }
 
-// Whether this is the line of a row.
-fn is_line(alloc: Global, row: &PlanRow, told: &str) -> bool {
-    match line_of(alloc, row) {
+// The line of a key whose row is gone; none for what no request takes away.
+fn gone_line(alloc: Global, key: &RowKey) -> Option<String> {
+    match key {
+        RowKey::Interval(ws, from) => format!(in alloc; "gone interval|{ws}|{from}").ok(),
+        RowKey::Occurrence(occurrence) => format!(in alloc; "gone occurrence|{occurrence}").ok(),
+        RowKey::Operation(op) => format!(in alloc; "gone operation|{op}").ok(),
+        RowKey::Dependency(predecessor, successor) => {
+            format!(in alloc; "gone dependency|{predecessor}|{successor}").ok()
+        }
+        RowKey::Need(op, resource) => format!(in alloc; "gone need|{op}|{resource}").ok(),
+        RowKey::Amount(op, resource) => format!(in alloc; "gone amount|{op}|{resource}").ok(),
+        _ => None,
+    }
+}
+
+// Whether a line is this one.
+fn is_line(line: &Option<String>, told: &str) -> bool {
+    match line {
         Some(line) => line.as_str() == told,
         None => false,
     }
 }
 
-/// Whether the rows of these lines are new or differ, in this order, and none is gone.
-pub fn are_changes(alloc: Global, changes: &Changes, told: &str) -> Option<bool> {
-    let lines = listed(told)?;
-    for (row, line) in changes.rows.iter().zip(lines.lines()) {
-        if !is_line(alloc, row, line) {
-            return None;
+// Whether these begin with the lines of rows, in this order.
+fn are_rows(alloc: Global, rows: &[PlanRow], lines: &str) -> bool {
+    for (row, line) in rows.iter().zip(lines.lines()) {
+        if !is_line(&line_of(alloc, row), line) {
+            return false;
         }
     }
-    Some(lines.lines().count() == changes.rows.len() && changes.gone.is_empty())
+    true
+}
+
+// Whether behind so many lines come those of the keys whose rows are gone, in this order.
+fn are_gone(alloc: Global, gone: &[RowKey], lines: &str, rows: usize) -> bool {
+    for (key, line) in gone.iter().zip(lines.lines().skip(rows)) {
+        if !is_line(&gone_line(alloc, key), line) {
+            return false;
+        }
+    }
+    true
+}
+
+/// Whether the rows of these lines are new or differ, in this order, and those of the lines behind them are gone, and no others.
+pub fn are_changes(alloc: Global, changes: &Changes, told: &str) -> Option<bool> {
+    let lines = listed(told)?;
+    let count = changes.rows.len().saturating_add(changes.gone.len());
+    Some(
+        lines.lines().count() == count
+            && are_rows(alloc, &changes.rows, lines)
+            && are_gone(alloc, &changes.gone, lines, changes.rows.len()),
+    )
 }

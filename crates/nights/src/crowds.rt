@@ -1,14 +1,48 @@
 // Texts of plans that hold as much as a plan may.
 use std::alloc::{AllocError, Global};
 
-/// A plan of so many occurrences, each of one operation.
-pub fn crowd(alloc: Global, count: u16) -> Result<String, AllocError> {
-    let mut text = String::from_str(alloc, "W,PRT1,C,,,,,,,\n")?;
-    for number in 0..count {
-        writeln!(text, "O,A{number},2024-03-01T22:00,5,2024-03-02T05:00,,,,,")?;
-        writeln!(text, "P,A{number},2024-03-01T22:00,10,PRT1,30,0,0,,")?;
+// Puts behind a text an occurrence of so many operations, none of which waits.
+fn push_occurrence(
+    text: &mut String,
+    letter: &str,
+    number: u16,
+    operations: u16,
+) -> Result<(), AllocError> {
+    writeln!(
+        text,
+        "O,{letter}{number},2024-03-01T22:00,5,2024-03-02T05:00,,,,,"
+    )?;
+    for operation in 1..=operations {
+        writeln!(
+            text,
+            "P,{letter}{number},2024-03-01T22:00,{operation},PRT1,30,0,0,,"
+        )?;
+    }
+    Ok(())
+}
+
+// So many occurrences behind the text of their head, each of so many operations.
+fn crowded(
+    mut text: String,
+    letter: &str,
+    occurrences: u16,
+    operations: u16,
+) -> Result<String, AllocError> {
+    for number in 0..occurrences {
+        push_occurrence(&mut text, letter, number, operations)?;
     }
     Ok(text)
+}
+
+/// A plan of so many occurrences, A0, A1 and so on, each of so many operations.
+pub fn crowd(alloc: Global, occurrences: u16, operations: u16) -> Result<String, AllocError> {
+    let head = String::from_str(alloc, "W,PRT1,C,,,,,,,\n")?;
+    crowded(head, "A", occurrences, operations)
+}
+
+/// As many occurrences that come in: B0, B1 and so on.
+pub fn crowd_more(alloc: Global, occurrences: u16, operations: u16) -> Result<String, AllocError> {
+    crowded(String::new(alloc), "B", occurrences, operations)
 }
 
 // Puts behind a text the operation of this number, and its pairs with all before it.

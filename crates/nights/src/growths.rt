@@ -35,6 +35,8 @@ LOADED
 BILLS_IN
 23:40 ended 20 | names BILLING.10
 23:50 ended 40 | names -
+23:55 extend NEXT_NIGHT AFTER_THE_OLD | refused 5
+23:55 extend NEXT_NIGHT | names PAYROLL/2024-03-02T22:00/010
 
 LOADED
 21:00 add BILLS BILLS_LAST | names -

@@ -1,7 +1,7 @@
-// Imports of texts: a plan, and an occurrence that is added to one.
+// Imports of texts: a plan, an occurrence that is added to one, and what a plan is extended by.
 use super::sections::joined;
 use plan_basics::Watched;
-use plan_import::{ImportFault, read_occurrence, read_plan};
+use plan_import::{ImportFault, read_extension, read_occurrence, read_plan};
 use std::alloc::Global;
 use taken_memory::{Outcome, SPARES, swept};
 
@@ -24,6 +24,11 @@ fn reading_occurrence(alloc: Global, text: &[u8]) -> Outcome {
     outcome(read_occurrence(alloc, &mut Watched::new(text)))
 }
 
+// What comes of reading the text by which a plan is extended.
+fn reading_extension(alloc: Global, text: &[u8]) -> Outcome {
+    outcome(read_extension(alloc, &mut Watched::new(text)))
+}
+
 // Whether the text of a plan isn't read for want of memory, growth by growth, and is in the end.
 fn is_plan_read_at_last(alloc: Global, text: &[u8]) -> bool {
     swept(alloc, SPARES, || reading_plan(alloc, text)).is_done_after(5)
@@ -34,7 +39,13 @@ fn is_occurrence_read_at_last(alloc: Global, text: &[u8]) -> bool {
     swept(alloc, SPARES, || reading_occurrence(alloc, text)).is_done_after(5)
 }
 
-/// Imports answer that memory lacks as long as there is too little, and then they are done: of a plan, and of an occurrence.
+// The same of the text by which a plan is extended.
+fn is_extension_read_at_last(alloc: Global, text: &[u8]) -> bool {
+    swept(alloc, SPARES, || reading_extension(alloc, text)).is_done_after(5)
+}
+
+/// Imports answer that memory lacks as long as there is too little, and then they are done: of a plan, of an occurrence, and of
+/// what a plan is extended by.
 pub fn imports_are_refused_growth_by_growth(alloc: Global) -> Result<(), &'static str> {
     let plan = "STATIONS RUNS PRINTING CHAIN LAST FILE KEEPS";
     let night = joined(alloc, plan).ok_or(plan)?;
@@ -45,6 +56,9 @@ pub fn imports_are_refused_growth_by_growth(alloc: Global) -> Result<(), &'stati
     }
     if !is_occurrence_read_at_last(alloc, bills.as_bytes()) {
         return Err(occurrence);
+    }
+    if !is_extension_read_at_last(alloc, bills.as_bytes()) {
+        return Err("the same as an extension");
     }
     Ok(())
 }

@@ -13,6 +13,7 @@ mod changes;
 mod commands;
 mod crowds;
 mod days;
+mod extensions;
 mod growths;
 mod imports;
 mod kept_rows;
@@ -45,7 +46,7 @@ pub use looks::is_told;
 pub use memory::{
     a_draft_without_memory_is_refused, a_load_without_memory_changes_nothing,
     a_run_without_memory_changes_nothing, an_addition_without_memory_is_refused,
-    an_import_without_memory_answers_so,
+    an_extension_without_memory_is_refused, an_import_without_memory_answers_so,
 };
 pub use playing::{Deviation, Player, after};
 pub use plays::{

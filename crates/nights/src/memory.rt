@@ -1,6 +1,6 @@
 // Want of memory, met on purpose: each call that can want memory, without any. What comes after all memory is taken is
 // refused, and what the calls leave is looked at.
-use super::small_day::{adding, drafting, first, is_day, is_untouched, load, reading, records};
+use super::small_day::{Built, building, first, is_day, is_untouched, load, reading, records};
 use plan_basics::{OpKey, Refusal};
 use plan_core::Plan;
 use plan_records::{Reply, Request};
@@ -14,20 +14,20 @@ pub fn an_import_without_memory_answers_so(alloc: Global) -> bool {
     held.give_back() && without == Outcome::WithoutMemory && reading(alloc) == Outcome::Done
 }
 
-// What comes of building a draft of the day's records.
-fn drafted(alloc: Global) -> Option<Outcome> {
-    match records(alloc, 0) {
-        Ok(records) => Some(drafting(records)),
+// What comes of building something of the day's records.
+fn built(alloc: Global, what: Built) -> Option<Outcome> {
+    match records(alloc, what) {
+        Ok(records) => Some(building(what, records)),
         Err(_) => None,
     }
 }
 
 // The same while all memory is taken.
-fn drafted_without(alloc: Global) -> Option<Outcome> {
-    match records(alloc, 0) {
+fn built_without(alloc: Global, what: Built) -> Option<Outcome> {
+    match records(alloc, what) {
         Ok(records) => {
             let held = Held::all(alloc);
-            let outcome = drafting(records);
+            let outcome = building(what, records);
             if held.give_back() {
                 Some(outcome)
             } else {
@@ -36,40 +36,27 @@ fn drafted_without(alloc: Global) -> Option<Outcome> {
         }
         Err(_) => None,
     }
+}
+
+// Whether it is refused without memory, and built with it.
+fn is_refused_then_built(alloc: Global, what: Built) -> bool {
+    built_without(alloc, what) == Some(Outcome::WithoutMemory)
+        && built(alloc, what) == Some(Outcome::Done)
 }
 
 /// A draft is refused without memory, and built with it.
 pub fn a_draft_without_memory_is_refused(alloc: Global) -> bool {
-    drafted_without(alloc) == Some(Outcome::WithoutMemory) && drafted(alloc) == Some(Outcome::Done)
-}
-
-// What comes of building an addition of the day's records, without those of its workstation and interval.
-fn added(alloc: Global) -> Option<Outcome> {
-    match records(alloc, 2) {
-        Ok(records) => Some(adding(records)),
-        Err(_) => None,
-    }
-}
-
-// The same while all memory is taken.
-fn added_without(alloc: Global) -> Option<Outcome> {
-    match records(alloc, 2) {
-        Ok(records) => {
-            let held = Held::all(alloc);
-            let outcome = adding(records);
-            if held.give_back() {
-                Some(outcome)
-            } else {
-                None
-            }
-        }
-        Err(_) => None,
-    }
+    is_refused_then_built(alloc, Built::Draft)
 }
 
 /// An addition is refused without memory, and built with it.
 pub fn an_addition_without_memory_is_refused(alloc: Global) -> bool {
-    added_without(alloc) == Some(Outcome::WithoutMemory) && added(alloc) == Some(Outcome::Done)
+    is_refused_then_built(alloc, Built::Addition)
+}
+
+/// An extension is refused without memory, and built with it.
+pub fn an_extension_without_memory_is_refused(alloc: Global) -> bool {
+    is_refused_then_built(alloc, Built::Extension)
 }
 
 // Whether these name the day's first operation alone.

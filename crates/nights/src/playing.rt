@@ -2,7 +2,7 @@
 // is one of these:
 //
 //     21:00 load STATIONS RUNS | names -      what is asked at a minute, and its answer after the bar
-//     keys 5 10 / PAYROLL                     all operations and all occurrences of the plan, in order
+//     keys 5 10 / PAYROLL                     all operations and all occurrences of the plan, in order, from there on
 //     shows SW S                              the letters of their statuses, and other looks at the plan
 //     like LOADED                             the plan shows the same as after that beginning
 //
@@ -190,15 +190,17 @@ fn after_look<'a, P: Player>(
 fn after_looks<'a, P: Player>(
     alloc: Global,
     mut player: P,
-    keys: &str,
+    mut keys: Option<&'a str>,
     night: &'a str,
 ) -> Result<(), &'a str> {
     let mut kept = Vec::new(alloc);
     for line in night.lines() {
         if line.contains('|') {
             kept.push(line).ok().ok_or(line)?;
-        } else if !line.starts_with("keys ") {
-            player = after_look(alloc, player, &kept, keys, line)?;
+        } else if line.starts_with("keys ") {
+            keys = line.strip_prefix("keys ");
+        } else {
+            player = after_look(alloc, player, &kept, keys.unwrap_or(""), line)?;
             kept.clear();
         }
     }
@@ -211,7 +213,7 @@ fn after_looks<'a, P: Player>(
 
 // Plays a night after a beginning, with a look at its end; or else the line at which it goes otherwise.
 fn play<'a, P: Player>(alloc: Global, before: &'a str, night: &'a str) -> Result<(), &'a str> {
-    let keys = keys_of(night).or(keys_of(beginning(before)?)).unwrap_or("");
+    let keys = keys_of(beginning(before)?);
     match after::<P>(alloc, before, &[]) {
         Ok(player) => after_looks(alloc, player, keys, night),
         Err(line) => Err(line),

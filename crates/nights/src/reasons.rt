@@ -236,4 +236,10 @@ END 0
 22:05 interrupted 5 | names -
 why PAYROLL/2024-03-01T22:00/006 A 2024-03-01T22:06
 TAPE lacks: left 0, needed 1
+END 1
+
+HELD_BACK: what came after what left waits for nothing
+23:55 extend - | names -
+why BILLING/2024-03-01T22:00/010 A 2024-03-01T23:55
+held
 END 1";

@@ -20,6 +20,7 @@ keys - / -
 21:00 load - | refused 21
 21:00 tick | refused 3
 21:00 add - | refused 3
+21:00 extend - | refused 3
 21:00 depend 5 on 5 | refused 3
 shows - -
 

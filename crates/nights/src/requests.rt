@@ -1,11 +1,11 @@
 // What the words of a turn ask.
-use super::crowds::{chains, crowd, filled};
+use super::crowds::{chains, crowd, crowd_more, filled};
 use super::names::{minute, moment, occurrence, operation, resource, workstation};
 use super::sections::joined;
 use super::words::cut;
-use addition_faults::faults_of_addition_text;
+use addition_faults::{AddedText, faults_of_added_text};
 use plan_basics::{ErrCode, Interval, OpKey, Watched};
-use plan_import::{read_occurrence, read_plan};
+use plan_import::{read_extension, read_occurrence, read_plan};
 use plan_records::{Request, What};
 use std::alloc::Global;
 use text_faults::faults_of_text;
@@ -28,6 +28,7 @@ fn what(alloc: Global, word: &str, rest: &str) -> Option<What> {
             load(alloc, word, rest)
         }
         "add" => add(alloc, rest),
+        "extend" | "extend-crowd" => extend(alloc, word, rest),
         "open" => open(alloc, rest),
         "open-times" => open_times(alloc, rest),
         "away" => Some(What::SetAvailable(resource(rest)?, false)),
@@ -47,12 +48,30 @@ fn tick(rest: &str) -> Option<What> {
     }
 }
 
+// How many occurrences there are, and how many operations of each.
+fn counts(rest: &str) -> Option<(u16, u16)> {
+    let (occurrences, operations) = cut(rest, " ")?;
+    Some((occurrences.parse().ok()?, operations.parse().ok()?))
+}
+
+// The plan of so many.
+fn crowd_of(alloc: Global, rest: &str) -> Option<String> {
+    let (occurrences, operations) = counts(rest)?;
+    crowd(alloc, occurrences, operations).ok()
+}
+
+// So many that come in.
+fn crowd_more_of(alloc: Global, rest: &str) -> Option<String> {
+    let (occurrences, operations) = counts(rest)?;
+    crowd_more(alloc, occurrences, operations).ok()
+}
+
 // The text that is loaded.
 fn text_of(alloc: Global, word: &str, rest: &str) -> Option<String> {
     match word {
         "load" => joined(alloc, rest),
         "load-cr-lf" => joined(alloc, rest)?.replace(alloc, "\n", "\r\n").ok(),
-        "load-crowd" => crowd(alloc, rest.parse().ok()?).ok(),
+        "load-crowd" => crowd_of(alloc, rest),
         "load-chains" => chains(alloc, rest.parse().ok()?).ok(),
         _ => filled(joined(alloc, rest)?).ok(),
     }
@@ -89,9 +108,9 @@ fn add(alloc: Global, rest: &str) -> Option<What> {
     }
 }
 
-// Whether nothing is wrong with the text of an addition.
-fn is_faultless_addition(alloc: Global, text: &[u8]) -> Option<bool> {
-    match faults_of_addition_text(alloc, text) {
+// Whether nothing is wrong with the text of an addition, or of an extension.
+fn is_faultless_added(alloc: Global, added: AddedText, text: &[u8]) -> Option<bool> {
+    match faults_of_added_text(alloc, added, text) {
         Ok(told) => Some(told.faults.is_empty()),
         Err(_) => None,
     }
@@ -99,9 +118,33 @@ fn is_faultless_addition(alloc: Global, text: &[u8]) -> Option<bool> {
 
 // The occurrence of a text is added. Something is wrong with the text exactly where it denotes none.
 fn add_text(alloc: Global, text: &[u8]) -> Option<What> {
-    let is_faultless = is_faultless_addition(alloc, text)?;
+    let is_faultless = is_faultless_added(alloc, AddedText::Addition, text)?;
     match read_occurrence(alloc, &mut Watched::new(text)) {
         Ok(addition) if addition.is_some() == is_faultless => Some(What::AddOccurrence(addition)),
+        _ => None,
+    }
+}
+
+// The text by which the plan is extended.
+fn text_of_extension(alloc: Global, word: &str, rest: &str) -> Option<String> {
+    match word {
+        "extend" => joined(alloc, rest),
+        _ => crowd_more_of(alloc, rest),
+    }
+}
+
+fn extend(alloc: Global, word: &str, rest: &str) -> Option<What> {
+    match text_of_extension(alloc, word, rest) {
+        Some(text) => extend_text(alloc, text.as_bytes()),
+        None => None,
+    }
+}
+
+// The plan is extended by the occurrences of a text. Something is wrong with the text exactly where it denotes none.
+fn extend_text(alloc: Global, text: &[u8]) -> Option<What> {
+    let is_faultless = is_faultless_added(alloc, AddedText::Extension, text)?;
+    match read_extension(alloc, &mut Watched::new(text)) {
+        Ok(extension) if extension.is_some() == is_faultless => Some(What::Extend(extension)),
         _ => None,
     }
 }

@@ -3,7 +3,7 @@ use super::imports::reading_plan;
 use plan_basics::{OpKey, Refusal, Watched};
 use plan_core::Plan;
 use plan_import::read_plan;
-use plan_records::{Addition, PlanDraft, Record, Request, What};
+use plan_records::{Addition, Extension, PlanDraft, Record, Request, What};
 use std::alloc::{AllocError, Global};
 use std::array;
 use taken_memory::Outcome;
@@ -34,10 +34,28 @@ fn record(alloc: Global, line: &str) -> Result<Record, AllocError> {
         .to_vec(alloc))
 }
 
-/// The records of the day's text, without so many of its first lines.
-pub fn records(alloc: Global, without: usize) -> Result<Vec<Record>, AllocError> {
+/// What is built of records.
+#[derive(Clone, Copy)]
+pub enum Built {
+    Draft,
+    Addition,
+    Extension,
+}
+
+impl Built {
+    // How many of the day's first lines aren't for it: those of its workstation and interval come with a draft alone.
+    fn without(self) -> usize {
+        match self {
+            Built::Draft => 0,
+            Built::Addition | Built::Extension => 2,
+        }
+    }
+}
+
+/// The records of the day's text of which it is built.
+pub fn records(alloc: Global, what: Built) -> Result<Vec<Record>, AllocError> {
     let mut all = Vec::new(alloc);
-    for line in DAY.lines().skip(without) {
+    for line in DAY.lines().skip(what.without()) {
         all.push(record(alloc, line)?)?;
     }
     Ok(all)
@@ -52,14 +70,13 @@ fn outcome<T: Drop>(built: Result<Option<T>, Refusal>) -> Outcome {
     }
 }
 
-/// What comes of building a plan's draft of records.
-pub fn drafting(records: Vec<Record>) -> Outcome {
-    outcome(PlanDraft::build(records))
-}
-
-/// What comes of building an addition of records.
-pub fn adding(records: Vec<Record>) -> Outcome {
-    outcome(Addition::build(records))
+/// What comes of building it of records.
+pub fn building(what: Built, records: Vec<Record>) -> Outcome {
+    match what {
+        Built::Draft => outcome(PlanDraft::build(records)),
+        Built::Addition => outcome(Addition::build(records)),
+        Built::Extension => outcome(Extension::build(records)),
+    }
 }
 
 /// The load of the day in the evening.

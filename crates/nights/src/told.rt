@@ -64,7 +64,7 @@ fn is_so(alloc: Global, row: &str) -> Option<bool> {
     is_told(alloc, name, turns, told)
 }
 
-/// What is told of 34 operations, with every reason and what holds up the chain; or the row that is told otherwise.
+/// What is told of 35 operations, with every reason and what holds up the chain; or the row that is told otherwise.
 pub fn reasons_and_roots(alloc: Global) -> Result<(), &'static str> {
     for row in REASONS.split("\n\n") {
         if is_so(alloc, row) != Some(true) {

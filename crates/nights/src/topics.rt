@@ -2,6 +2,7 @@
 use super::additions::ADDITIONS;
 use super::commands::COMMANDS;
 use super::days::DAYS;
+use super::extensions::EXTENSIONS;
 use super::latest::LATEST_STARTS;
 use super::pairs::PAIRS;
 use super::playing::{Deviation, Player, pass};
@@ -20,9 +21,10 @@ pub fn play_all<P: Player>(alloc: Global) -> Result<u32, Deviation<'static>> {
     let tapes = pass::<P>(alloc, TAPES)?;
     let pairs = pass::<P>(alloc, PAIRS)?;
     let additions = pass::<P>(alloc, ADDITIONS)?;
+    let extensions = pass::<P>(alloc, EXTENSIONS)?;
     let by_time = reports.saturating_add(days).saturating_add(latest);
     let by_others = commands.saturating_add(resources).saturating_add(tapes);
-    let by_what_comes_in = pairs.saturating_add(additions);
+    let by_what_comes_in = pairs.saturating_add(additions).saturating_add(extensions);
     Ok(
         by_time
             .saturating_add(by_others)

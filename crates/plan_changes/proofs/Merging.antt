@@ -18,13 +18,8 @@ use Rattle.plan_records.specs.plan_drafts.proofs.Tables.{from_set, get_row, in_s
 use Rattle.plan_changes.specs.Additions.{ShareNoKey, ShareNoMember}
 use Rattle.std.proofs.lemmas.Option.{none-some}
 
--- one key is in order
-pub single_up : {K : Type 0} (R : K → K → Ordering) (k : K) → IsStrictlySortedBy R (k ∷ [])
-unfolding IsStrictlySortedBy
-single_up R k = (tt, tt)
-
 -- members of two lists differ where those of each do, and those of one from those of the other
-differ_both : {X : Type 0} (S : X → X → Type 0) (xs ys : List X) → Differ S xs → Differ S ys → ((x y : X) → Contains xs x → Contains ys y → S x y) → Differ S (xs ++ ys)
+pub differ_both : {X : Type 0} (S : X → X → Type 0) (xs ys : List X) → Differ S xs → Differ S ys → ((x y : X) → Contains xs x → Contains ys y → S x y) → Differ S (xs ++ ys)
 differ_both S [] ys one two across = two
 differ_both S (x ∷ xs) ys one two across = (
   all_by_members (S x) (xs ++ ys) (λ z has. elim (Contains-append_cases xs ys z has) [

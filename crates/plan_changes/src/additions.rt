@@ -1,4 +1,4 @@
-// What is added: an occurrence with its operations and pairs, or a pair alone.
+// What is added: occurrences with their operations and pairs, or a pair alone.
 ghost use Rattle.std.specs.Prelude.{◌≡◌, IfOk, OnOk};
 ghost use Rattle.std.specs.FinMap.{IsAntisymmetric, from_entries};
 ghost use Rattle.std.specs.FinSet as set;
@@ -8,10 +8,11 @@ ghost use Rattle.plan_basics.specs.Keys.{occurrence_cmp, operation_cmp};
 ghost use Rattle.plan_records.specs.plan_model.specs.Contents.{pair_cmp};
 ghost use Rattle.plan_records.specs.plan_model.specs.Revise.{joined};
 ghost use Rattle.plan_records.specs.Changes.{with_pair as with_pair_of, with_added};
+ghost use Rattle.plan_records.specs.plan_drafts.specs.Contents.{added_of, AreExtensionParts};
 ghost use Rattle.plan_changes.specs.Additions.{HasNothingOf, ShareNoKey, ShareNoMember};
 
 use plan_basics::{OccKey, OpKey};
-use plan_records::{Addition, Occurrence, OperationRecord, PlanContents, copies_of};
+use plan_records::{ExtensionParts, Occurrence, OperationRecord, PlanContents, copies_of};
 use std::alloc::{AllocError, Global};
 
 // Puts in rows of other keys, by key, where keys that compare equal are the same.
@@ -44,19 +45,18 @@ fn add_pairs(pairs: &mut Vec<(OpKey, OpKey)>, new: &[(OpKey, OpKey)]) -> Result<
     Ok(())
 }
 
-/// The contents with an occurrence that is added, of which they hold nothing yet.
+/// The contents with occurrences that are added, of which they hold nothing yet.
 pub fn with_addition(
     alloc: Global,
     contents: &PlanContents,
-    addition: &Addition,
+    parts: &ExtensionParts,
 ) -> Result<PlanContents, AllocError>
-    requires { HasNothingOf contents.now addition.now }
-    ensures { IfOk result (λ new. new ≡ with_added contents.now addition.now) }
+    requires in_order { AreExtensionParts parts.now }
+    requires apart { HasNothingOf contents.now (added_of parts.now) }
+    ensures { IfOk result (λ new. new ≡ with_added contents.now (added_of parts.now)) }
 {
-    let parts = addition.parts();
-    let occurrence = [(parts.key, parts.terms)];
     let mut occurrences = Vec::from_slice(alloc, contents.occurrences())?;
-    add_rows(&mut occurrences, &occurrence)?;
+    add_rows(&mut occurrences, &parts.occurrences)?;
     let mut operations = Vec::from_slice(alloc, contents.operations())?;
     add_rows(&mut operations, &parts.operations)?;
     let mut pairs = Vec::from_slice(alloc, contents.pairs())?;

@@ -1,5 +1,5 @@
 -- The lines of an addition, one after another.
-use Rattle.std.proofs.Common.{◌≡◌, ◌⊎◌, inl, inr, refl, sym, arith, ℕ, ◌<◌, ◌≤◌, true, false, true≢false, Decides, Result, IfErr, OnOk}
+use Rattle.std.proofs.Common.{◌≡◌, ◌⊎◌, inl, inr, refl, sym, arith, ℕ, ◌<◌, ◌≤◌, Bool, true, false, not, true≢false, Decides, Result, IfErr, OnOk}
 use Rattle.std.proofs.Math.Dec.{ltb}
 use Rattle.std.proofs.lemmas.Bool.{ltb-false}
 use Rattle.plan_basics.proofs.LeastRefusals.{least_of_all, none_of_all}
@@ -17,6 +17,15 @@ IsBarredAddition c s r = (r ≡ refusal.Memory) ⊎ (IsLeastRefusal (MayBeAdded 
 -- what is decided not to be so isn't
 refuted : {A : Type 0} → Decides false A → ¬ A
 refuted told a = true≢false (sym (told.1 a))
+
+-- what a test showed is told by it
+pub told_on : {A : Type 0} (b : Bool) → not b ≡ false → Decides b A → Decides true A
+told_on true e told = told
+told_on false e told = absurd (true≢false e)
+
+pub told_off : {A : Type 0} (b : Bool) → not b ≡ true → Decides b A → Decides false A
+told_off true e told = absurd (true≢false (sym e))
+told_off false e told = told
 
 -- the refusals of lower numbers
 abbrev pub Below : Refusal → Refusal → Type 0

@@ -1,24 +1,21 @@
 -- What is added, by the rows and pairs in which it is kept.
-use Rattle.std.proofs.Common.{◌≡◌, ◌≢◌, inl, inr, refl, sym, subst, ap, ◌∙◌, ℕ, ◌<◌, Bool, true, false, not, true≢false}
-use Rattle.std.proofs.Common.{List, length, get_or, slice_get, All, Contains, Option, Some, None, is_some, IfSome, IsNone, Decides}
-use Rattle.std.specs.Cmp.{IsTotalOrder}
-use Rattle.std.specs.declared.cmp.Ordering.{Ordering}
-use Rattle.std.specs.FinMap.{IsAntisymmetric, contains_key, empty, from_entries, get, insert}
+use Rattle.std.proofs.Common.{◌≡◌, ◌⊎◌, inl, inr, refl, sym, subst, ap, ◌∙◌, arith, ℕ, ◌+◌, ◌<◌, ◌≤◌, Bool, true, false, not, true≢false}
+use Rattle.std.proofs.Common.{List, length, get_or, All, Contains, Option, Some, None, is_some, IfSome, IsNone, Decides}
+use Rattle.std.specs.FinMap.{contains_key, get}
 use Rattle.std.specs.FinSet.{from_list}
 use Rattle.std.specs.Bool.{MatchBool}
 use Rattle.std.specs.List.{AllWithin, HoldsAt}
-use Rattle.std.specs.List.Sorted.{IsStrictlySortedBy}
-use Rattle.std.specs.Map.{keys_of}
-use Rattle.std.proofs.lemmas.List.Elements.{All-contains}
-use Rattle.plan_basics.specs.Keys.{Name, occurrence_cmp, operation_cmp_total, operation_cmp-IsAntisymmetric}
+use Rattle.std.proofs.lemmas.List.Elements.{All-contains, AllWithin-more, at_read}
+use Rattle.plan_basics.specs.Keys.{Name, occurrence_cmp_total, occurrence_cmp-IsAntisymmetric, operation_cmp_total, operation_cmp-IsAntisymmetric}
+use Rattle.plan_basics.specs.declared.Refusal.TheVariants as refusal
 use Rattle.plan_basics.specs.declared.keys.OccKey.{OccKey}
 use Rattle.plan_basics.specs.declared.keys.OpKey.{OpKey}
-use Rattle.plan_model.specs.Contents.{Contents, IsPairOf, Occurrences, Operation}
+use Rattle.plan_model.specs.Contents.{Contents, IsPairOf, Operation}
 use Rattle.plan_model.specs.declared.Occurrence.{Occurrence}
-use Rattle.plan_records.specs.Acceptance.{IsNew}
-use Rattle.plan_records.specs.plan_drafts.specs.Contents.{AreAdditionParts, added_of}
-use Rattle.plan_records.specs.plan_drafts.specs.Drafts.{IsOwn}
-use Rattle.plan_records.specs.plan_drafts.specs.declared.contents.AdditionParts.{AdditionParts}
+use Rattle.plan_records.specs.Acceptance.{IsNew, IsOld, MayBeAdded}
+use Rattle.plan_records.specs.plan_drafts.specs.Contents.{AreExtensionParts, added_of}
+use Rattle.plan_records.specs.plan_drafts.specs.Drafts.{IsEnd, IsOwn}
+use Rattle.plan_records.specs.plan_drafts.specs.declared.contents.ExtensionParts.{ExtensionParts}
 use Rattle.plan_model.specs.special_resources.specs.Holders.{Usage}
 use Rattle.plan_model.specs.special_resources.specs.Holdings.{usage_of}
 use Rattle.plan_model.specs.special_resources.specs.Needs.{AreInNameOrder, usages_of}
@@ -26,28 +23,10 @@ use Rattle.plan_model.specs.special_resources.specs.declared.Need.{Need}
 use Rattle.plan_model.specs.special_resources.proofs.MoreNeeds.{need_by_usage, usage_by_need}
 use Rattle.plan_figures.specs.plan_laws.proofs.Pairs.{pair_cmp_total, pair_cmp-IsAntisymmetric}
 use Rattle.plan_records.specs.plan_drafts.proofs.Lists.{all_by_members, all_told}
-use Rattle.plan_records.specs.plan_drafts.proofs.MadeAdditions.{sole_got, sole_key}
 use Rattle.plan_records.specs.plan_drafts.proofs.Tables.{from_set, get_row, in_set, is_found, row_found, rows_apart, some_is}
-use Rattle.plan_checks.proofs.Searching.{row_known}
-use Rattle.plan_checks.specs.Additions.{IsKnown}
+use Rattle.plan_checks.specs.Additions.{IsFound, IsFoundPair}
 
--- ---- an index that is looked up
-
-module _ {K X : Type 0} {R : K → K → Ordering} (total : IsTotalOrder R) (exact : IsAntisymmetric R) where
-  module _ (seen rows : List (K × X)) (same : seen ≡ rows) (up : IsStrictlySortedBy R (keys_of rows)) (k : K) where
-    place_in_rows : (place : Option ℕ) → IfSome place (λ i. (x : X) × (slice_get rows i ≡ Some (k, x))) → (IsNone place → get {R = R} (from_entries rows) k ≡ None)
-        → Decides (is_some place) (contains_key (from_entries {R = R} rows) k ≡ true)
-    place_in_rows (Some i) (x, at) absent = (λ _. row_known total exact rows up i k x at, λ _. refl)
-    place_in_rows None found absent = (λ e. absurd (true≢false (sym e)), λ h. absurd (true≢false (sym h ∙ ap is_some (absent refl))))
-
-    -- whether there is one shows whether the key is there
-    pub place_told : (place : Option ℕ) → IfSome place (λ i. (x : X) × (slice_get seen i ≡ Some (k, x))) → (IsNone place → get {R = R} (from_entries seen) k ≡ None)
-        → (b : Bool) → b ≡ is_some place → Decides b (contains_key (from_entries {R = R} rows) k ≡ true)
-    place_told place found absent b is =
-        subst (λ t. Decides t (contains_key (from_entries {R = R} rows) k ≡ true)) (sym is)
-        (place_in_rows place
-        (subst (λ (xs : List (K × X)). IfSome place (λ i. (x : X) × (slice_get xs i ≡ Some (k, x)))) same found)
-        (subst (λ (xs : List (K × X)). IsNone place → get {R = R} (from_entries xs) k ≡ None) same absent))
+-- ---- what is looked up
 
 -- what is found of a key shows whether it is there
 pub found_told : {A X : Type 0} (there : Option X) (found : Option A) (F : A → Type 0) → IfSome found F → (IsNone found → there ≡ None) → ((a : A) → F a → is_some there ≡ true) → (b : Bool) → b ≡ is_some found → Decides b (is_some there ≡ true)
@@ -61,52 +40,31 @@ missing_told true false told = (λ _. refl, λ _. refl)
 missing_told false true told = (λ e. absurd (true≢false (sym e)), λ e. absurd (true≢false e))
 missing_told false false told = absurd (true≢false (sym (told.0 refl)))
 
--- ---- the occurrence
-
--- a map of one entry has its key, and no other
-pub only_key : (k q : OccKey) (x : Occurrence) → contains_key (insert {R = occurrence_cmp} empty k x) q ≡ true → q ≡ k
-only_key k q x known = let found = is_found (get {R = occurrence_cmp} (insert empty k x) q) known in (sole_key k x q found.0 found.1).0
-
-pub own_key : (k q : OccKey) (x : Occurrence) → q ≡ k → contains_key (insert {R = occurrence_cmp} empty k x) q ≡ true
-own_key k q x same = some_is (get {R = occurrence_cmp} (insert empty k x) q) x (subst (λ z. get {R = occurrence_cmp} (insert empty k x) z ≡ Some x) (sym same) (sole_got k x))
-
--- what is added is new where its key is
-pub new_told : (key : OccKey) (terms : Occurrence) (there : Occurrences) (b : Bool) → Decides b (contains_key there key ≡ false)
-    → Decides b ((c : OccKey) → contains_key (insert {R = occurrence_cmp} empty key terms) c ≡ true → contains_key there c ≡ false)
-new_told key terms there b told = (
-  λ yes c known. subst (λ z. contains_key there z ≡ false) (sym (only_key key c terms known)) (told.0 yes),
-  λ all. told.1 (all key (own_key key key terms refl)),
-)
-
 -- ---- an end of a pair
 
-module _ (parts : AdditionParts) (are : AreAdditionParts parts) (P : Contents) (o : OpKey) where
-  own : o.occurrence ≡ parts.key → IsOwn (added_of parts) o
-  own same = own_key parts.key o.occurrence parts.terms same
-
-  own_told : IsOwn (added_of parts) o → o.occurrence ≡ parts.key
-  own_told is = only_key parts.key o.occurrence parts.terms is
-
+module _ (parts : ExtensionParts) (are : AreExtensionParts parts) (P : Contents) (o : OpKey) where
   new_is_own : IsNew (added_of parts) o → IsOwn (added_of parts) o
-  new_is_own new = let found = is_found (get (added_of parts).operations o) new in (are.addition.occurrences.each_operation o found.0 found.1).1
+  new_is_own new = let found = is_found (get (added_of parts).operations o) new in (are.extension.occurrences.each_operation o found.0 found.1).1
 
-  pub known_own : o.occurrence ≡ parts.key → (b : Bool) → Decides b (IsNew (added_of parts) o) → Decides b (IsKnown P (added_of parts) o)
-  known_own same b told = (
-    λ yes. inl (told.0 yes),
-    λ known. elim known [
-      | inl new ↦ told.1 new
-      | inr old ↦ absurd (old.1 (own same))
-    ],
-  )
+  -- of an occurrence that is added it is an operation that is added
+  found_is_known : IsEnd (added_of parts) o → IsFound P (added_of parts) o → IsNew (added_of parts) o ⊎ IsOld P (added_of parts) o
+  found_is_known end (inl own) = inl (end.1 own)
+  found_is_known end (inr old) = inr old
 
-  pub known_other : o.occurrence ≢ parts.key → (b : Bool) → Decides b (contains_key P.operations o ≡ true) → Decides b (IsKnown P (added_of parts) o)
-  known_other other b told = (
-    λ yes. let found = is_found (get P.operations o) (told.0 yes) in inr ((found.0, found.1, tt), λ is. other (own_told is)),
-    λ known. elim known [
-      | inl new ↦ absurd (other (own_told (new_is_own new)))
-      | inr old ↦ told.1 (some_is (get P.operations o) old.0.0 old.0.1)
-    ],
-  )
+  known_is_found : IsNew (added_of parts) o ⊎ IsOld P (added_of parts) o → IsFound P (added_of parts) o
+  known_is_found (inl new) = inl (new_is_own new)
+  known_is_found (inr old) = inr old
+
+-- all ends are known where each is found
+pub ends_told : (parts : ExtensionParts) → AreExtensionParts parts → (P : Contents) (b : Bool) → Decides b ((p o : OpKey) → IsPairOf (added_of parts).pairs p o → IsFoundPair P (added_of parts) (p, o))
+    → Decides b (MayBeAdded P (added_of parts) refusal.UnknownOperation)
+ends_told parts are P b told = (
+  λ yes p o comes.
+      let ends = are.extension.pairs p o comes in
+      let found = told.0 yes p o comes in
+      (found_is_known parts are P p ends.0 found.0, found_is_known parts are P o ends.1 found.1),
+  λ may. told.1 (λ p o comes. let known = may p o comes in (known_is_found parts are P p known.0, known_is_found parts are P o known.1)),
+)
 
 -- ---- all pairs, rows and needs
 
@@ -130,15 +88,38 @@ pairs_told {items} {pairs} same Q b test =
       λ may. told.1 (λ pair has. may pair.0 pair.1 (in_set pair_cmp_total pair_cmp-IsAntisymmetric pairs pair has)),
     )
 
-module _ (items pairs : List (OpKey × OpKey)) (same : items ≡ pairs) where
-  pub each_pair : (Q : OpKey × OpKey → Type 0) → All Q items → (p o : OpKey) → IsPairOf (from_list pairs) p o → Q (p, o)
-  each_pair Q all p o is = All-contains Q pairs (p, o) (subst (All Q) same all) (from_set pair_cmp_total pair_cmp-IsAntisymmetric pairs (p, o) is)
+-- one more pair is told
+module _ {X : Type 0} (Q : X → Type 0) (items : List X) (i : ℕ) (x : X) (lt : i < length items) (is : x ≡ get_or items i x) where
+  pub more_told : (all one : Bool) → Decides all (AllWithin Q items 0 i) → Decides one (Q x) → all ≡ true → Decides one (AllWithin Q items 0 (i + 1))
+  more_told all one before now on = (
+    λ so. AllWithin-more Q items 0 i (before.0 on) (at_read items Q i x lt is (now.0 so)),
+    λ each. now.1 (subst Q (sym is) (each i x (omega arith) (omega arith))),
+  )
 
-  pub pair_read : (i : ℕ) (pair : OpKey × OpKey) → i < length items → pair ≡ get_or items i pair → IsPairOf (from_list pairs) pair.0 pair.1
-  pair_read i pair lt is = in_set pair_cmp_total pair_cmp-IsAntisymmetric pairs pair (subst (λ (xs : List (OpKey × OpKey)). Contains xs pair) same (i, lt, sym is))
+  pub none_more : (all : Bool) → Decides all (AllWithin Q items 0 i) → all ≡ false → Decides all (AllWithin Q items 0 (i + 1))
+  none_more all before off = (λ e. absurd (true≢false (sym e ∙ off)), λ each. before.1 (λ k d from to. each k d from (omega (arith, to))))
+
+-- what is told of each pair in the list is told of each in the set, which has them all
+pub each_pair_told : {items pairs : List (OpKey × OpKey)} → items ≡ pairs → (Q : OpKey × OpKey → Type 0) (i : ℕ) → i ≤ length items → length items ≤ i → (b : Bool) → Decides b (AllWithin Q items 0 i)
+    → Decides b ((p o : OpKey) → IsPairOf (from_list pairs) p o → Q (p, o))
+each_pair_told {items} {pairs} same Q i within past b told = (
+  λ yes p o is. All-contains Q pairs (p, o) (subst (All Q) same (λ k d lt. told.0 yes k d (omega arith) (omega (arith, lt, past)))) (from_set pair_cmp_total pair_cmp-IsAntisymmetric pairs (p, o) is),
+  λ may. told.1 (λ k d from to.
+      subst (All Q) (sym same) (all_by_members Q pairs (λ pair has. may pair.0 pair.1 (in_set pair_cmp_total pair_cmp-IsAntisymmetric pairs pair has))) k d (omega (arith, to, within))),
+)
+
+-- what is so of each row's key is so of the key of each occurrence that is added
+pub occurrences_told : (parts : ExtensionParts) → AreExtensionParts parts → {items : List (OccKey × Occurrence)} → items ≡ parts.occurrences.items → (Q : OccKey → Type 0) (b : Bool)
+    → IsTestOfEach (λ row. Q row.0) items b → Decides b ((c : OccKey) → contains_key (added_of parts).occurrences c ≡ true → Q c)
+occurrences_told parts are same Q b test =
+    let rows = parts.occurrences.items in
+    let told = each_told same (λ (row : OccKey × Occurrence). Q row.0) b test in (
+      λ yes c known. let found = is_found (get (added_of parts).occurrences c) known in told.0 yes (c, found.0) (row_found occurrence_cmp_total occurrence_cmp-IsAntisymmetric rows c found.0 found.1),
+      λ each. told.1 (λ row has. each row.0 (some_is (get (added_of parts).occurrences row.0) row.1 (get_row occurrence_cmp_total occurrence_cmp-IsAntisymmetric rows row.0 row.1 (rows_apart occurrence_cmp_total occurrence_cmp-IsAntisymmetric rows are.occurrences) has))),
+    )
 
 -- what is so of each row's operation is so of each operation that is added
-pub operations_told : (parts : AdditionParts) → AreAdditionParts parts → {items : List (OpKey × Operation)} → items ≡ parts.operations.items → (Q : Operation → Type 0) (b : Bool)
+pub operations_told : (parts : ExtensionParts) → AreExtensionParts parts → {items : List (OpKey × Operation)} → items ≡ parts.operations.items → (Q : Operation → Type 0) (b : Bool)
     → IsTestOfEach (λ row. Q row.1) items b → Decides b ((o : OpKey) (op : Operation) → get (added_of parts).operations o ≡ Some op → Q op)
 operations_told parts are same Q b test =
     let rows = parts.operations.items in

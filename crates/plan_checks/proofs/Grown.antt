@@ -1,32 +1,35 @@
--- A plan with an occurrence that is added: the keys of its operations, their pairs, and whether it holds no more than it may.
-use Rattle.std.proofs.Common.{◌≡◌, ◌⊎◌, inl, inr, refl, sym, ap, subst, ◌∙◌, arith, ℕ, ◌+◌, true, false, true≢false, Bool, cond, ◌||◌, List, [], ◌∷◌, ◌++◌, Contains, drop, length, slice_get, Option, Some, None, is_some}
+-- A plan with occurrences that are added: the keys of its operations, their pairs, and whether it holds no more than it may.
+use Rattle.std.proofs.Common.{◌≡◌, ◌≢◌, ◌⊎◌, inl, inr, refl, sym, ap, subst, ◌∙◌, arith, ℕ, ◌+◌, true, true≢false, ◌||◌, List, [], ◌∷◌, ◌++◌, Contains, drop, length, slice_get, Option, Some, None, is_some}
 use Rattle.std.proofs.lemmas.Bool.{false_from_ne_true, or_cases, or_left, or_right}
-use Rattle.std.proofs.lemmas.List.{append_assoc, drop_more, length-map}
+use Rattle.std.proofs.lemmas.List.{append_assoc, drop_more, length-append, length-map}
+use Rattle.std.proofs.lemmas.List.Elements.{Contains-append_cases, Contains-append_left, Contains-append_right}
 use Rattle.std.proofs.lemmas.Option.{get_or_from_slice_get, slice_get-get_or, slice_get_within}
-use Rattle.std.specs.Ordering.{eq_by_cmp}
-use Rattle.std.specs.FinMap.{contains_key, empty, entries, get, get-empty, get-insert, insert, keys, len, len-entries, len-insert}
+use Rattle.std.specs.Cmp.{IsTotalOrder}
+use Rattle.std.specs.FinMap.{FinMap, IsAntisymmetric, contains_key, contains_key-keys, entries, get, keys, len, len-entries}
 use Rattle.std.specs.FinSet as set
 use Rattle.std.specs.List.Sorted.{IsStrictlySortedBy}
 use Rattle.std.specs.Map.{keys_of}
+use Rattle.std.specs.declared.cmp.Ordering.{Ordering}
 use Rattle.plan_basics.proofs.Members.{contains_mapped, mapped_contains}
-use Rattle.plan_basics.specs.Keys.{occurrence_cmp, occurrence_cmp_total, occurrence_cmp-IsAntisymmetric, operation_cmp, operation_cmp_total, operation_cmp-IsAntisymmetric}
+use Rattle.plan_basics.specs.Keys.{occurrence_cmp_total, occurrence_cmp-IsAntisymmetric, operation_cmp, operation_cmp_total, operation_cmp-IsAntisymmetric}
 use Rattle.plan_basics.specs.declared.Refusal.TheVariants as refusal
-use Rattle.plan_basics.specs.declared.keys.OccKey.{OccKey}
 use Rattle.plan_basics.specs.declared.keys.OpKey.{OpKey}
-use Rattle.plan_figures.specs.plan_changes.specs.Additions.{HasNothingOf, ShareNoMember}
+use Rattle.plan_figures.specs.plan_changes.proofs.Merging.{differ_both}
+use Rattle.plan_figures.specs.plan_changes.specs.Additions.{HasNothingOf, ShareNoKey, ShareNoMember}
 use Rattle.plan_checks.proofs.Limits.{pairs_counted}
 use Rattle.plan_checks.specs.Additions.{HasRoomFor}
-use Rattle.plan_model.proofs.Entries.{entries_in_order}
-use Rattle.plan_model.specs.Contents.{AddedParts, Contents, Occurrences, Operation, pair_cmp}
+use Rattle.plan_model.proofs.Entries.{entries_in_order, keys_of-entries}
+use Rattle.plan_model.proofs.Members.{if_member, member_if}
+use Rattle.plan_model.specs.Contents.{AddedParts, Contents, Operation, pair_cmp}
 use Rattle.plan_model.specs.Revise.{get-joined, joined, or_else}
 use Rattle.plan_model.specs.Valid.{IsValid, IsWithinLimits}
-use Rattle.plan_model.specs.declared.Occurrence.{Occurrence}
 use Rattle.plan_records.specs.Acceptance.{MayBeAdded}
 use Rattle.plan_records.specs.Changes.{with_added}
-use Rattle.plan_records.specs.plan_drafts.proofs.Tables.{from_set, get_row, in_set, is_found, row_found as row_in, rows_apart, same_entries, some_is}
-use Rattle.plan_records.specs.plan_drafts.specs.Contents.{AreAdditionParts, added_of}
+use Rattle.plan_records.specs.plan_drafts.proofs.Lists.{Differ, length_map}
+use Rattle.plan_records.specs.plan_drafts.proofs.Tables.{from_set, get_row, in_set, is_found, len_rows, map_count, row_found as row_in, rows_apart, some_is, sorted_apart}
+use Rattle.plan_records.specs.plan_drafts.specs.Contents.{AreExtensionParts, added_of}
 use Rattle.plan_records.specs.plan_drafts.specs.PlanGraphs.{JoinOperations}
-use Rattle.plan_records.specs.plan_drafts.specs.declared.contents.AdditionParts.{AdditionParts}
+use Rattle.plan_records.specs.plan_drafts.specs.declared.contents.ExtensionParts.{ExtensionParts}
 use Rattle.plan_figures.specs.plan_laws.proofs.ComingIn.{an_end, from_first, pair_cases}
 use Rattle.plan_figures.specs.plan_laws.proofs.Sorted.{sorted_unique}
 use Rattle.plan_figures.specs.plan_status.proofs.LoadedRows.{known_among, row_found}
@@ -60,7 +63,7 @@ either_there : {X : Type 0} (a b : Option X) → is_some (or_else a b) ≡ true 
 either_there (Some x) b e = inl refl
 either_there None b e = inr e
 
-module _ (P : Contents) (parts : AdditionParts) (are : AreAdditionParts parts) where
+module _ (P : Contents) (parts : ExtensionParts) (are : AreExtensionParts parts) where
   abbrev s : AddedParts
   s = added_of parts
 
@@ -117,49 +120,74 @@ module _ (P : Contents) (parts : AdditionParts) (are : AreAdditionParts parts) w
 
 -- ---- room
 
-module _ (m : Occurrences) (c : OccKey) (terms : Occurrence) where
-  abbrev single : Occurrences
-  single = insert empty c terms
+-- two maps without a common key have together as many entries as both
+module _ {K X : Type 0} {R : K → K → Ordering} (total : IsTotalOrder R) (exact : IsAntisymmetric R) where
+  as_many : (m : FinMap R X) → length (keys m) ≡ len m
+  as_many m = ap length (keys_of-entries R m) ∙ length_map (λ e. e.0) (entries m) ∙ sym (len-entries m)
 
-  got : (b : Bool) (q : OccKey) → or_else (cond b (Some terms) (get {R = occurrence_cmp} empty q)) (get m q) ≡ cond b (Some terms) (get m q)
-  got true q = refl
-  got false q = ap (λ a. or_else a (get m q)) (get-empty occurrence_cmp q)
+  had : (m : FinMap R X) (k : K) → Contains (keys m) k → contains_key m k ≡ true
+  had m k has = contains_key-keys m k ∙ if_member total (keys m) k has
 
-  got_same : (q : OccKey) → get (joined m single) q ≡ get (insert m c terms) q
-  got_same q =
-      get-joined occurrence_cmp_total m single q
-      ∙ ap (λ a. or_else a (get m q)) (get-insert occurrence_cmp_total empty c terms q)
-      ∙ got (eq_by_cmp occurrence_cmp q c) q
-      ∙ sym (get-insert occurrence_cmp_total m c terms q)
+  in_keys : (m : FinMap R X) (k : K) → contains_key m k ≡ true → Contains (keys m) k
+  in_keys m k known = member_if exact (keys m) k (sym (contains_key-keys m k) ∙ known)
 
-  one_more : contains_key m c ≡ false → len (joined m single) ≡ len m + 1
-  one_more new =
-      ap len (same_entries occurrence_cmp_total occurrence_cmp-IsAntisymmetric (joined m single) (insert m c terms) (λ q x e. sym (got_same q) ∙ e) (λ q x e. got_same q ∙ e))
-      ∙ len-insert occurrence_cmp_total m c terms
-      ∙ ap (λ b. cond b (len m) (len m + 1)) new
+  keys_apart_in : (m n : FinMap R X) → ShareNoKey m n → Differ (λ a b. a ≢ b) (keys m ++ keys n)
+  keys_apart_in m n apart =
+      differ_both (λ a b. a ≢ b) (keys m) (keys n) (sorted_apart total exact (keys m) (entries_in_order R m)) (sorted_apart total exact (keys n) (entries_in_order R n))
+      (λ a b in_a in_b same. true≢false (sym (had n b in_b) ∙ ap (contains_key n) (sym same) ∙ apart a (had m a in_a)))
 
-module _ (P : Contents) (valid : IsValid P) (parts : AdditionParts) (new : contains_key P.occurrences parts.key ≡ false) (ks : List OpKey) (pairs : List (OpKey × OpKey))
+  pub len_joined : (m n : FinMap R X) → ShareNoKey m n → len (joined m n) ≡ len m + len n
+  len_joined m n apart =
+      let together : length (keys m ++ keys n) ≡ len (joined m n) = map_count total exact (keys m ++ keys n) (joined m n) (keys_apart_in m n apart)
+      (λ k has. ap is_some (get-joined total m n k) ∙ elim (Contains-append_cases (keys m) (keys n) k has) [
+        | inl first ↦ second_there (get n k) (get m k) (had m k first)
+        | inr second ↦ first_there (get n k) (get m k) (had n k second)
+      ])
+      (λ k known. elim (either_there (get n k) (get m k) (sym (ap is_some (get-joined total m n k)) ∙ known)) [
+        | inl second ↦ Contains-append_right (keys m) (keys n) k (in_keys n k second)
+        | inr first ↦ Contains-append_left (keys m) (keys n) k (in_keys m k first)
+      ]) in
+      sym together ∙ length-append (keys m) (keys n) ∙ (λ i. as_many m i + as_many n i)
+    where
+      first_there : (a b : Option X) → is_some a ≡ true → is_some (or_else a b) ≡ true
+      first_there (Some x) b e = refl
+      first_there None b e = absurd (true≢false (sym e))
+
+      second_there : (a b : Option X) → is_some b ≡ true → is_some (or_else a b) ≡ true
+      second_there (Some x) b e = refl
+      second_there None b e = e
+
+module _ (P : Contents) (valid : IsValid P) (parts : ExtensionParts) (are : AreExtensionParts parts) (new : MayBeAdded P (added_of parts) refusal.Duplicate) (ks : List OpKey) (pairs : List (OpKey × OpKey))
     (keyed : ks ≡ keys (with_added P (added_of parts)).operations) (paired : set.from_list pairs ≡ (with_added P (added_of parts)).pairs) (up : IsStrictlySortedBy pair_cmp pairs) where
   abbrev Q : Contents
   Q = with_added P (added_of parts)
 
+  -- none of the occurrences that are added is there
+  apart : ShareNoKey P.occurrences (added_of parts).occurrences
+  apart c there = false_from_ne_true (contains_key (added_of parts).occurrences c) (λ comes. true≢false (sym there ∙ new c comes))
+
+  occurrences_counted : len Q.occurrences ≡ len P.occurrences + length parts.occurrences.items
+  occurrences_counted =
+      len_joined occurrence_cmp_total occurrence_cmp-IsAntisymmetric P.occurrences (added_of parts).occurrences apart
+      ∙ ap (λ n. len P.occurrences + n) (len_rows occurrence_cmp_total occurrence_cmp-IsAntisymmetric parts.occurrences.items (rows_apart occurrence_cmp_total occurrence_cmp-IsAntisymmetric parts.occurrences.items are.occurrences))
+
   operations_counted : len Q.operations ≡ length ks
   operations_counted = len-entries Q.operations ∙ sym (length-map (entries Q.operations) (λ (row : OpKey × Operation). row.0)) ∙ ap length (sym keyed)
 
-  pub within_limits : HasRoomFor P (length ks) (length pairs) → IsWithinLimits Q
+  pub within_limits : HasRoomFor P (length parts.occurrences.items) (length ks) (length pairs) → IsWithinLimits Q
   within_limits room =
       let limits = valid.limits in
       record {
         workstations = limits.workstations;
         resources = limits.resources;
-        occurrences = let few = room.occurrences in omega (arith, few, one_more P.occurrences parts.key parts.terms new);
+        occurrences = let few = room.occurrences in omega (arith, few, occurrences_counted);
         operations = let few = room.operations in omega (arith, few, operations_counted);
         pairs = let few = room.pairs in omega (arith, few, pairs_counted Q.pairs pairs paired up);
       }
 
-  pub has_room : IsWithinLimits Q → HasRoomFor P (length ks) (length pairs)
+  pub has_room : IsWithinLimits Q → HasRoomFor P (length parts.occurrences.items) (length ks) (length pairs)
   has_room limits = record {
-    occurrences = let few = limits.occurrences in omega (arith, few, one_more P.occurrences parts.key parts.terms new);
+    occurrences = let few = limits.occurrences in omega (arith, few, occurrences_counted);
     operations = let few = limits.operations in omega (arith, few, operations_counted);
     pairs = let few = limits.pairs in omega (arith, few, pairs_counted Q.pairs pairs paired up);
   }

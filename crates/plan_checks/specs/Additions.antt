@@ -1,5 +1,5 @@
--- What an occurrence that is to be added asks of the plan, pair by pair and operation by operation.
-use Rattle.std.specs.Prelude.{◌≡◌, ◌⊎◌, ℕ, ◌<◌, ◌≤◌, true, Some}
+-- What occurrences that are to be added ask of the plan, pair by pair and operation by operation.
+use Rattle.std.specs.Prelude.{◌≡◌, ◌⊎◌, ℕ, ◌+◌, ◌≤◌, true, Some}
 use Rattle.std.specs.FinMap.{contains_key, get, len}
 use Rattle.plan_basics.specs.declared.limits.TheConstants.{MOST_OCCURRENCES, MOST_OPERATIONS, MOST_PAIRS}
 use Rattle.plan_basics.specs.Keys.{Name}
@@ -7,19 +7,20 @@ use Rattle.plan_basics.specs.declared.keys.OpKey.{OpKey}
 use Rattle.plan_model.specs.Contents.{Contents, Operation, AddedParts}
 use Rattle.plan_model.specs.declared.Stock.{Stock}
 use Rattle.plan_model.specs.Status.{HasStatus, IsWaitingOrReady}
-use Rattle.plan_records.specs.Acceptance.{IsNew, IsOld}
+use Rattle.plan_records.specs.Acceptance.{IsOld}
+use Rattle.plan_records.specs.plan_drafts.specs.Drafts.{IsOwn}
 use Rattle.plan_figures.specs.Reports.{IsOfStatus}
 use Rattle.plan_model.specs.special_resources.specs.Holders.{Usage}
 use Rattle.status_rules.specs.declared.Status.{Status}
 use Rattle.status_rules.specs.declared.Status.TheVariants as status
 
--- o is added, or is an operation of another occurrence of the plan
-abbrev pub IsKnown : Contents → AddedParts → OpKey → Type 0
-IsKnown P s o = IsNew s o ⊎ IsOld P s o
+-- o is of an occurrence that is added, or is an operation of another occurrence of the plan
+abbrev pub IsFound : Contents → AddedParts → OpKey → Type 0
+IsFound P s o = IsOwn s o ⊎ IsOld P s o
 
--- both ends of the pair are added, or are operations of other occurrences of the plan
-abbrev pub IsKnownPair : Contents → AddedParts → OpKey × OpKey → Type 0
-IsKnownPair P s pair = IsKnown P s pair.0 × IsKnown P s pair.1
+-- both ends of the pair are of occurrences that are added, or are operations of other occurrences of the plan
+abbrev pub IsFoundPair : Contents → AddedParts → OpKey × OpKey → Type 0
+IsFoundPair P s pair = IsFound P s pair.0 × IsFound P s pair.1
 
 -- o is an operation of another occurrence of the plan, and has this status alone
 abbrev pub IsOldWith : Contents → AddedParts → OpKey → Status → Type 0
@@ -53,8 +54,8 @@ pub record HasSoMuch (P : Contents) (r : Name) (amount : ℕ) : Type 0 where
 pub record NeedsFit (P : Contents) (op : Operation) : Type 0 where
   pub fit : (r : Name) (usage : Usage) → get op.needs r ≡ Some usage → HasSoMuch P r usage.claim.amount
 
--- with an occurrence more, and with n operations and e pairs in all, the plan holds no more than it may
-pub record HasRoomFor (P : Contents) (n e : ℕ) : Type 0 where
-  pub occurrences : len P.occurrences < MOST_OCCURRENCES
+-- with so many occurrences more, and with n operations and e pairs in all, the plan holds no more than it may
+pub record HasRoomFor (P : Contents) (more n e : ℕ) : Type 0 where
+  pub occurrences : len P.occurrences + more ≤ MOST_OCCURRENCES
   pub operations : n ≤ MOST_OPERATIONS
   pub pairs : e ≤ MOST_PAIRS

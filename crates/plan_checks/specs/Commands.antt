@@ -29,3 +29,8 @@ operation_of (what.Unnop o) = Some o
 operation_of (what.Rerun o) = Some o
 operation_of (what.Complete o) = Some o
 operation_of _ = None
+
+-- the request extends the plan: what it asks is asked of what is left of it
+abbrev pub Extends : What → Type 0
+Extends (what.Extend a) = Unit {0}
+Extends _ = ⊥

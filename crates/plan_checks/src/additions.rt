@@ -1,124 +1,101 @@
-// What stands in the way of an occurrence that is to be added.
-ghost use Rattle.std.specs.Prelude.{◌≡◌, ◌⊎◌, Decides, IfErr, MatchOption, OnOk, length};
+// What stands in the way of occurrences that are to be added.
+ghost use Rattle.std.specs.Prelude.{◌≡◌, ◌⊎◌, ◌+◌, ◌≤◌, Decides, IfErr, OnOk, length};
+ghost use Rattle.std.specs.FinMap.{len};
 ghost use Rattle.plan_basics.specs.Refusals.{from_on, IsLeastRefusal, NoneRefuses};
 ghost use Rattle.plan_basics.specs.declared.Refusal.{Refusal};
 ghost use Rattle.plan_model.specs.Valid.{AmountsFit};
-ghost use Rattle.plan_records.specs.Acceptance.{IsOld, MayBeAdded};
-ghost use Rattle.plan_records.specs.plan_drafts.specs.Contents.{added_of, AreAdditionParts};
-ghost use Rattle.plan_checks.specs.Additions.{HasRoomFor, IsOldWith, IsOpenPair, MayPrecede, MaySucceed};
+ghost use Rattle.plan_records.specs.Acceptance.{MayBeAdded};
+ghost use Rattle.plan_records.specs.plan_drafts.specs.Contents.{added_of, AreExtensionParts};
+ghost use Rattle.plan_records.specs.plan_drafts.specs.PlanGraphs.{IsGraphFor};
+ghost use Rattle.plan_checks.specs.Additions.{HasRoomFor};
 
+use super::ends::ends_of_pairs;
 use super::growth::{grown_keys, grown_pairs, has_room};
-use super::known::{
-    amounts_fit, are_ends_known, are_resources_known, are_workstations_known, is_new_occurrence,
-};
+use super::known::{amounts_fit, are_new_occurrences, are_resources_known, are_workstations_known};
+use operation_graph::Graph;
 use plan_basics::{OpKey, Refusal};
-use plan_figures::Outline;
-use plan_records::{Addition, AdditionParts, graph_of};
-use status_rules::Status;
+use plan_figures::{Shown, Statuses, statuses_shown};
+use plan_records::{ExtensionParts, graph_of};
 use std::alloc::Global;
 
-// The status of an operation of the plan's other occurrences.
-fn old_status(outline: &Outline<'_>, parts: &AdditionParts, key: &OpKey) -> Option<Status>
-    ensures { MatchOption result (¬ IsOld outline.now (added_of parts.now) key.now) (IsOldWith outline.now (added_of parts.now) key.now) }
-{
-    if key.occurrence == parts.key {
-        return None;
-    }
-    outline.status_of(key)
-}
-
-// Whether a pair that is added may lead to this operation: where it is there, it waits or is ready.
-fn may_succeed(outline: &Outline<'_>, parts: &AdditionParts, key: &OpKey) -> bool
-    ensures { Decides result (MaySucceed outline.now (added_of parts.now) key.now) }
-{
-    match old_status(outline, parts, key) {
-        Some(status) => status.is_waiting_or_ready(),
-        None => true,
-    }
-}
-
-// Whether a pair that is added may lead from this operation: where it is there, it isn't deleted.
-fn may_precede(outline: &Outline<'_>, parts: &AdditionParts, key: &OpKey) -> bool
-    ensures { Decides result (MayPrecede outline.now (added_of parts.now) key.now) }
-{
-    match old_status(outline, parts, key) {
-        Some(status) => status != Status::Deleted,
-        None => true,
-    }
-}
-
-// Whether a pair's ends are open to it.
-fn is_open_pair(outline: &Outline<'_>, parts: &AdditionParts, pair: &(OpKey, OpKey)) -> bool
-    ensures { Decides result (IsOpenPair outline.now (added_of parts.now) pair.now) }
-{
-    may_succeed(outline, parts, &pair.1) && may_precede(outline, parts, &pair.0)
-}
-
-// Whether the ends of all pairs that are added are open to them.
-fn are_pairs_open(outline: &Outline<'_>, parts: &AdditionParts) -> bool
-    ensures { Decides result (MayBeAdded outline.now (added_of parts.now) Refusal.WrongStatus) }
-{
-    for pair in &parts.pairs {
-        if !is_open_pair(outline, parts, pair) {
-            return false;
-        }
-    }
-    true
-}
-
-// Whether the plan has room for an occurrence more, with operations of these keys and these pairs in all, and as much of each
+// Whether the plan has room for so many occurrences more, with operations of these keys and these pairs in all, and as much of each
 // special resource as is needed.
 fn is_within_limits(
-    outline: &Outline<'_>,
-    parts: &AdditionParts,
+    plan: &Statuses<'_>,
+    parts: &ExtensionParts,
     keys: &[OpKey],
     pairs: &[(OpKey, OpKey)],
 ) -> bool
-    requires { AreAdditionParts parts.now }
-    ensures { Decides result (HasRoomFor outline.now (length keys.now) (length pairs.now) × AmountsFit outline.now.resources (added_of parts.now).operations) }
+    requires { AreExtensionParts parts.now }
+    ensures { Decides result (HasRoomFor plan.now (length parts.now.occurrences.items) (length keys.now) (length pairs.now) × AmountsFit plan.now.resources (added_of parts.now).operations) }
 {
-    has_room(&outline.beside(), keys, pairs) && amounts_fit(outline, parts)
+    has_room(&plan.beside(), parts.occurrences.len(), keys, pairs) && amounts_fit(plan, parts)
 }
 
 // With what is added, no path of pairs returns to its start, the plan holds no more than it may, and no need is of more than
 // there is.
-fn check_grown(alloc: Global, outline: &Outline<'_>, parts: &AdditionParts) -> Result<(), Refusal>
-    requires addition { AreAdditionParts parts.now }
-    requires known { MayBeAdded outline.now (added_of parts.now) Refusal.UnknownOperation }
-    requires new { MayBeAdded outline.now (added_of parts.now) Refusal.Duplicate }
-    ensures ok { OnOk result (NoneRefuses (from_on Refusal.Cycle (MayBeAdded outline.now (added_of parts.now)))) }
-    ensures refused { IfErr result (λ r. (r ≡ Refusal.Memory) ⊎ IsLeastRefusal (from_on Refusal.Cycle (MayBeAdded outline.now (added_of parts.now))) r) }
+fn check_grown(alloc: Global, plan: &Statuses<'_>, parts: &ExtensionParts) -> Result<(), Refusal>
+    requires parts { AreExtensionParts parts.now }
+    requires known { MayBeAdded plan.now (added_of parts.now) Refusal.UnknownOperation }
+    requires new { MayBeAdded plan.now (added_of parts.now) Refusal.Duplicate }
+    ensures ok { OnOk result (NoneRefuses (from_on Refusal.Cycle (MayBeAdded plan.now (added_of parts.now)))) }
+    ensures refused { IfErr result (λ r. (r ≡ Refusal.Memory) ⊎ IsLeastRefusal (from_on Refusal.Cycle (MayBeAdded plan.now (added_of parts.now))) r) }
 {
-    let beside = outline.beside();
+    let beside = plan.beside();
     let keys = grown_keys(alloc, &beside, parts)?;
     let pairs = grown_pairs(alloc, &beside, parts)?;
     if graph_of(alloc, &keys, &pairs)?.is_none() {
         Err(Refusal::Cycle)
-    } else if !is_within_limits(outline, parts, &keys, &pairs) {
+    } else if !is_within_limits(plan, parts, &keys, &pairs) {
         Err(Refusal::Limit)
     } else {
         Ok(())
     }
 }
 
-/// An occurrence may be added that isn't in the plan, whose operations find all that they name, precede only what waits or is
-/// ready, and close no path, where there is room and as much of each special resource as they need. The error is the first that applies, by number, or `Memory`.
-pub fn check_added(alloc: Global, outline: &Outline<'_>, addition: &Addition) -> Result<(), Refusal>
-    ensures ok { OnOk result (NoneRefuses (MayBeAdded outline.now addition.now)) }
-    ensures refused { IfErr result (λ r. (r ≡ Refusal.Memory) ⊎ IsLeastRefusal (MayBeAdded outline.now addition.now) r) }
+/// Occurrences may be added that aren't in the plan, whose operations find all that they name, precede only what waits
+/// or is ready, and close no path, where there is room and as much of each special resource as they need. The error is
+/// the first that applies, by number, or `Memory`.
+pub fn check_added(
+    alloc: Global,
+    plan: &Statuses<'_>,
+    parts: &ExtensionParts,
+) -> Result<(), Refusal>
+    requires { AreExtensionParts parts.now }
+    ensures ok { OnOk result (NoneRefuses (MayBeAdded plan.now (added_of parts.now))) }
+    ensures refused { IfErr result (λ r. (r ≡ Refusal.Memory) ⊎ IsLeastRefusal (MayBeAdded plan.now (added_of parts.now)) r) }
 {
-    let parts = addition.parts();
-    if !are_ends_known(outline, parts) {
+    let ends = ends_of_pairs(plan, parts);
+    if !ends.are_known {
         Err(Refusal::UnknownOperation)
-    } else if !are_workstations_known(outline, parts) {
+    } else if !are_workstations_known(plan, parts) {
         Err(Refusal::UnknownWorkstation)
-    } else if !are_resources_known(outline, parts) {
+    } else if !are_resources_known(plan, parts) {
         Err(Refusal::UnknownResource)
-    } else if !are_pairs_open(outline, parts) {
+    } else if !ends.are_open {
         Err(Refusal::WrongStatus)
-    } else if !is_new_occurrence(outline, parts) {
+    } else if !are_new_occurrences(plan, parts) {
         Err(Refusal::Duplicate)
     } else {
-        check_grown(alloc, outline, parts)
+        check_grown(alloc, plan, parts)
     }
+}
+
+/// The same in what is shown of a plan, which has this graph, where only the statuses of its operations are worked out: by a look at
+/// each.
+pub fn check_shown(
+    alloc: Global,
+    shown: &mut Shown,
+    graph: &Graph,
+    parts: &ExtensionParts,
+) -> Result<(), Refusal>
+    requires graph { IsGraphFor shown.old.contents graph.now }
+    requires parts { AreExtensionParts parts.now }
+    ensures ok { OnOk result (NoneRefuses (MayBeAdded shown.old.contents (added_of parts.now))) }
+    ensures refused { IfErr result (λ r. (r ≡ Refusal.Memory) ⊎ IsLeastRefusal (MayBeAdded shown.old.contents (added_of parts.now)) r) }
+    ensures contents { shown.new.contents ≡ shown.old.contents }
+    ensures most { shown.new.looks ≤ shown.old.looks + len shown.old.contents.operations }
+{
+    let statuses = statuses_shown(alloc, shown, graph)?;
+    check_added(alloc, &Statuses::of(shown.beside(), &statuses), parts)
 }

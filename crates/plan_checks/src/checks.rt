@@ -2,7 +2,7 @@
 ghost use Rattle.std.specs.Prelude.{◌≡◌, ◌⊎◌, ℕ, ◌+◌, ◌≤◌, true, Some, None, IsSome, IfErr, OnOk};
 ghost use Rattle.plan_basics.specs.Refusals.{IsLeastRefusal, NoneRefuses};
 ghost use Rattle.plan_basics.specs.declared.keys.OpKey.{OpKey as OpKeyValue};
-ghost use Rattle.plan_checks.specs.Commands.{operation_of};
+ghost use Rattle.plan_checks.specs.Commands.{Extends, operation_of};
 ghost use Rattle.plan_records.specs.Acceptance.{MayBeDone, MayBeEnded, MayBeInterrupted, MayBeUndecided, NeedsPlan};
 ghost use Rattle.plan_checks.specs.Bars.{FailsAt, MayBeStartedAt, MeetsAll};
 ghost use Rattle.plan_figures.specs.Frames.{IsFrameOf};
@@ -178,6 +178,7 @@ fn check_reported(
         | What::Tick
         | What::DeleteOccurrence(_)
         | What::AddOccurrence(_)
+        | What::Extend(_)
         | What::AddDependency(_, _)
         | What::SetAvailable(_, _)
         | What::ReplaceIntervals(_, _) => unreachable!(),
@@ -215,6 +216,7 @@ fn check_operation(
 // What stands in the way of a request that is about no one operation, which takes no look.
 fn check_unseen(alloc: Global, outline: &Outline<'_>, what: &What) -> Result<(), Refusal>
     requires needs { NeedsPlan what.now }
+    requires stays { ¬ Extends what.now }
     requires none { operation_of what.now ≡ None }
     ensures ok { (at : ℕ) → OnOk result (NoneRefuses (MayBeDone outline.now at what.now)) }
     ensures refused { (at : ℕ) → IfErr result (λ r. (r ≡ Refusal.Memory) ⊎ IsLeastRefusal (MayBeDone outline.now at what.now) r) }
@@ -223,7 +225,8 @@ fn check_unseen(alloc: Global, outline: &Outline<'_>, what: &What) -> Result<(),
         What::Tick => Ok(()),
         What::DeleteOccurrence(key) => check_deleted(outline, key),
         What::AddOccurrence(addition) => {
-            check_added(alloc, outline, addition.as_ref().ok_or(Refusal::BadPlan)?)
+            let addition = addition.as_ref().ok_or(Refusal::BadPlan)?;
+            check_added(alloc, &outline.known(), addition.parts())
         }
         What::AddDependency(predecessor, successor) => {
             check_paired(alloc, outline, predecessor, successor)
@@ -234,8 +237,8 @@ fn check_unseen(alloc: Global, outline: &Outline<'_>, what: &What) -> Result<(),
     }
 }
 
-/// What stands in the way of a request other than a load that is made at a moment, but for that moment; or no memory is
-/// found to decide it. It takes a look at the operation of which it reports, or that it commands, and at no other.
+/// What stands in the way of a request other than a load or an extension that is made at a moment, but for that moment; or no memory
+/// is found to decide it. It takes a look at the operation of which it reports, or that it commands, and at no other.
 pub fn check_request(
     alloc: Global,
     shown: &mut Shown,
@@ -245,6 +248,7 @@ pub fn check_request(
 ) -> Result<(), Refusal>
     requires frame { IsFrameOf shown.old.contents frame }
     requires needs { NeedsPlan what.now }
+    requires stays { ¬ Extends what.now }
     ensures ok { OnOk result (NoneRefuses (MayBeDone shown.old.contents at what.now)) }
     ensures refused { IfErr result (λ r. (r ≡ Refusal.Memory) ⊎ IsLeastRefusal (MayBeDone shown.old.contents at what.now) r) }
     ensures contents { shown.new.contents ≡ shown.old.contents }

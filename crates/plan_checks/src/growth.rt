@@ -1,4 +1,4 @@
-// The keys and pairs of a plan with an occurrence that is added, and whether there is room for them.
+// The keys and pairs of a plan with occurrences that are added, and whether there is room for them.
 ghost use Rattle.std.specs.Prelude.{◌≡◌, ◌<◌, Decides, IfOk, OnOk, length};
 ghost use Rattle.std.specs.FinMap.{IsAntisymmetric, keys as keys_in};
 ghost use Rattle.std.specs.FinSet as set;
@@ -6,14 +6,14 @@ ghost use Rattle.std.specs.List.Sorted.{IsStrictlySortedBy};
 ghost use Rattle.plan_model.specs.Contents.{pair_cmp};
 ghost use Rattle.plan_records.specs.Changes.{with_added};
 ghost use Rattle.plan_figures.specs.plan_changes.specs.Additions.{HasNothingOf, ShareNoMember};
-ghost use Rattle.plan_records.specs.plan_drafts.specs.Contents.{added_of, AreAdditionParts};
+ghost use Rattle.plan_records.specs.plan_drafts.specs.Contents.{added_of, AreExtensionParts};
 ghost use Rattle.plan_checks.specs.Additions.{HasRoomFor};
 
 use super::reach::key_at;
 use plan_basics::OpKey;
 use plan_basics::limits::{MOST_OCCURRENCES, MOST_OPERATIONS, MOST_PAIRS};
 use plan_figures::Beside;
-use plan_records::{AdditionParts, keys};
+use plan_records::{ExtensionParts, keys};
 use std::alloc::{AllocError, Global};
 
 // The keys of the plan's operations, in order.
@@ -46,9 +46,9 @@ fn merge<K: Ord + Copy>(items: &mut Vec<K>, new: &[K]) -> Result<(), AllocError>
 pub fn grown_keys(
     alloc: Global,
     beside: &Beside<'_>,
-    parts: &AdditionParts,
+    parts: &ExtensionParts,
 ) -> Result<Vec<OpKey>, AllocError>
-    requires parts { AreAdditionParts parts.now }
+    requires parts { AreExtensionParts parts.now }
     requires apart { HasNothingOf beside.now.contents.now (added_of parts.now) }
     ensures { IfOk result (λ keys. keys.items ≡ keys_in (with_added beside.now.contents.now (added_of parts.now)).operations) }
 {
@@ -62,9 +62,9 @@ pub fn grown_keys(
 pub fn grown_pairs(
     alloc: Global,
     beside: &Beside<'_>,
-    parts: &AdditionParts,
+    parts: &ExtensionParts,
 ) -> Result<Vec<(OpKey, OpKey)>, AllocError>
-    requires parts { AreAdditionParts parts.now }
+    requires parts { AreExtensionParts parts.now }
     requires apart { HasNothingOf beside.now.contents.now (added_of parts.now) }
     ensures pairs { IfOk result (λ pairs. set.from_list pairs.items ≡ (with_added beside.now.contents.now (added_of parts.now)).pairs) }
     ensures in_order { IfOk result (λ pairs. IsStrictlySortedBy pair_cmp pairs.items) }
@@ -74,10 +74,11 @@ pub fn grown_pairs(
     Ok(all)
 }
 
-/// Whether the plan has room for an occurrence more, with operations of these keys and these pairs in all.
-pub fn has_room(beside: &Beside<'_>, keys: &[OpKey], pairs: &[(OpKey, OpKey)]) -> bool
-    ensures { Decides result (HasRoomFor beside.now.contents.now (length keys.now) (length pairs.now)) }
+/// Whether the plan has room for so many occurrences more, with operations of these keys and these pairs in all.
+pub fn has_room(beside: &Beside<'_>, more: usize, keys: &[OpKey], pairs: &[(OpKey, OpKey)]) -> bool
+    ensures { Decides result (HasRoomFor beside.now.contents.now more (length keys.now) (length pairs.now)) }
 {
     let occurrences = beside.occurrences().len();
-    occurrences < MOST_OCCURRENCES && keys.len() <= MOST_OPERATIONS && pairs.len() <= MOST_PAIRS
+    let room = MOST_OCCURRENCES - occurrences;
+    more <= room && keys.len() <= MOST_OPERATIONS && pairs.len() <= MOST_PAIRS
 }

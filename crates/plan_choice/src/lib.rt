@@ -16,8 +16,8 @@ pub use latest::latest_of;
 pub use ready::{entry_at, entry_with, ready_of};
 pub use shown_records::{
     Beside, Brief, Kept, Marking, OperationRecord, RecordCopy, Seen, Shown, SoundContents,
-    Standing, ValidContents, attribute_of, briefs_of, count_one, graph_for, occurrence_status_with,
-    standings_of, status_with, statuses_of,
+    Standing, ValidContents, attribute_of, briefs_of, count_one, graph_for, is_one_of,
+    occurrence_status_with, standings_of, status_with, statuses_of,
 };
 pub use taken::{check_start, given_out_of, starts_are_known, with_operation};
 pub use tallies::tallies_of;

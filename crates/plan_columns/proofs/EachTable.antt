@@ -84,19 +84,19 @@ interval_keys v w m n = (
 resource_keys : (v w : Name) → (key.Resource v ≡ key.Resource w) ↔ (Text v ∷ [] ≡ Text w ∷ [])
 resource_keys v w = (λ e. let same : v ≡ w = cc in ap (λ z. Text z ∷ []) same, λ e. let same : v ≡ w = cc in ap key.Resource same)
 
-occurrence_keys : (c d : OccKey) → (key.Occurrence c ≡ key.Occurrence d) ↔ (Text c.app ∷ Int (pos c.arrival) ∷ [] ≡ Text d.app ∷ Int (pos d.arrival) ∷ [])
+pub occurrence_keys : (c d : OccKey) → (key.Occurrence c ≡ key.Occurrence d) ↔ (Text c.app ∷ Int (pos c.arrival) ∷ [] ≡ Text d.app ∷ Int (pos d.arrival) ∷ [])
 occurrence_keys c d = (
   λ e. let same : c ≡ d = cc in ap (λ z. Text z.app ∷ Int (pos z.arrival) ∷ []) same,
   λ e. let app : c.app ≡ d.app = cc in let arrival : c.arrival ≡ d.arrival = cc in ap key.Occurrence (same_occurrence c d app arrival),
 )
 
-operation_keys : (o p : OpKey) → (key.Operation o ≡ key.Operation p) ↔ (Text o.occurrence.app ∷ Int (pos o.occurrence.arrival) ∷ Int (pos o.number) ∷ [] ≡ Text p.occurrence.app ∷ Int (pos p.occurrence.arrival) ∷ Int (pos p.number) ∷ [])
+pub operation_keys : (o p : OpKey) → (key.Operation o ≡ key.Operation p) ↔ (Text o.occurrence.app ∷ Int (pos o.occurrence.arrival) ∷ Int (pos o.number) ∷ [] ≡ Text p.occurrence.app ∷ Int (pos p.occurrence.arrival) ∷ Int (pos p.number) ∷ [])
 operation_keys o p = (
   λ e. let same : o ≡ p = cc in ap (λ z. Text z.occurrence.app ∷ Int (pos z.occurrence.arrival) ∷ Int (pos z.number) ∷ []) same,
   λ e. let app : o.occurrence.app ≡ p.occurrence.app = cc in let arrival : o.occurrence.arrival ≡ p.occurrence.arrival = cc in let number : o.number ≡ p.number = cc in ap key.Operation (same_operation o p app arrival number),
 )
 
-dependency_keys : (p s q t : OpKey) → (key.Dependency p s ≡ key.Dependency q t)
+pub dependency_keys : (p s q t : OpKey) → (key.Dependency p s ≡ key.Dependency q t)
     ↔ (Text p.occurrence.app ∷ Int (pos p.occurrence.arrival) ∷ Int (pos p.number) ∷ Text s.occurrence.app ∷ Int (pos s.occurrence.arrival) ∷ Int (pos s.number) ∷ []
     ≡ Text q.occurrence.app ∷ Int (pos q.occurrence.arrival) ∷ Int (pos q.number) ∷ Text t.occurrence.app ∷ Int (pos t.occurrence.arrival) ∷ Int (pos t.number) ∷ [])
 dependency_keys p s q t = (
@@ -107,7 +107,7 @@ dependency_keys p s q t = (
   λ e. ap₂ key.Dependency (same_operation p q (cc) (cc) (cc)) (same_operation s t (cc) (cc) (cc)),
 )
 
-need_keys : (o p : OpKey) (v w : Name) → (key.Need o v ≡ key.Need p w)
+pub need_keys : (o p : OpKey) (v w : Name) → (key.Need o v ≡ key.Need p w)
     ↔ (Text o.occurrence.app ∷ Int (pos o.occurrence.arrival) ∷ Int (pos o.number) ∷ Text v ∷ [] ≡ Text p.occurrence.app ∷ Int (pos p.occurrence.arrival) ∷ Int (pos p.number) ∷ Text w ∷ [])
 need_keys o p v w = (
   λ e. let op : o ≡ p = cc in let name : v ≡ w = cc in ap₂ (λ y z. Text y.occurrence.app ∷ Int (pos y.occurrence.arrival) ∷ Int (pos y.number) ∷ Text z ∷ []) op name,
@@ -117,7 +117,7 @@ need_keys o p v w = (
 quantity_keys : (v w : Name) → (key.Quantity v ≡ key.Quantity w) ↔ (Text v ∷ [] ≡ Text w ∷ [])
 quantity_keys v w = (λ e. let same : v ≡ w = cc in ap (λ z. Text z ∷ []) same, λ e. let same : v ≡ w = cc in ap key.Quantity same)
 
-amount_keys : (o p : OpKey) (v w : Name) → (key.Amount o v ≡ key.Amount p w)
+pub amount_keys : (o p : OpKey) (v w : Name) → (key.Amount o v ≡ key.Amount p w)
     ↔ (Text o.occurrence.app ∷ Int (pos o.occurrence.arrival) ∷ Int (pos o.number) ∷ Text v ∷ [] ≡ Text p.occurrence.app ∷ Int (pos p.occurrence.arrival) ∷ Int (pos p.number) ∷ Text w ∷ [])
 amount_keys o p v w = (
   λ e. let op : o ≡ p = cc in let name : v ≡ w = cc in ap₂ (λ y z. Text y.occurrence.app ∷ Int (pos y.occurrence.arrival) ∷ Int (pos y.number) ∷ Text z ∷ []) op name,

@@ -1,6 +1,7 @@
 pub mod OneTable
 pub mod EachTable
 pub mod RowPut
+pub mod KeyTaken
 pub mod RowsWritten
 pub mod SameColumns
 pub mod Start

@@ -1,7 +1,10 @@
--- One table that holds the columns of some of a plan's rows: what putting in a row makes of it.
-use Rattle.std.proofs.Common.{◌≡◌, ◌≢◌, ◌⊎◌, ◌↔◌, inl, inr, refl, sym, ◌∙◌, ap, subst₂, ℕ, true, false, true≢false, List, Option, Some, None, ◌==◌}
+-- One table that holds the columns of some of a plan's rows: what putting in a row makes of it, and what taking one out.
+use Rattle.std.proofs.Common.{◌≡◌, ◌≢◌, ◌⊎◌, ◌↔◌, inl, inr, refl, sym, ◌∙◌, ap, subst, subst₂, ℕ, true, false, true≢false, List, take, Option, Some, None, ◌==◌}
 use Rattle.std.proofs.lemmas.Option.{none-some, same_Some}
+use Rattle.sqlite.specs.Order.{Row}
 use Rattle.sqlite_rules.specs.Lists.{Has}
+use Rattle.plan_schema.specs.table_rows.specs.Stored.{BeginsExactly, without_key}
+use Rattle.plan_schema.specs.table_rows.proofs.Stored.{without_key_has}
 use Rattle.tracker_receipts.specs.plan_drafts.specs.declared.RowKey.{RowKey}
 use Rattle.tracker_receipts.specs.plan_records.specs.Rows.{key_of, table_of}
 use Rattle.tracker_receipts.specs.plan_records.specs.declared.PlanRow.{PlanRow}
@@ -87,6 +90,39 @@ module _ {A X : Type 0} {table : ℕ} {of : PlanRow → Option X} {made : A → 
     -- it holds the row, if it is of this table, and those that were there of other keys
     pub holds_put_of : (IsIn : PlanRow → Type 0) (r : PlanRow) (xs : List X) → HoldsOf of IsIn xs → HoldsOf of (λ s. (s ≡ r) ⊎ (IsIn s × (key_of s ≢ key_of r))) (put_of put (of r) xs)
     holds_put_of IsIn r xs h = by_columns IsIn r xs (of r) refl h
+
+  -- ---- a row is taken out
+
+  -- what is left of the table without a key: of this table the values that don't begin with its columns, of another all
+  abbrev pub IsLeft : ℕ → (X → Row) → RowKey → List X → List X → Type 0
+  IsLeft key row k xs left =
+      ((v : Row) × (left ≡ without_key key row v xs) × BeginsExactly key v × ((a : A) → (key_of (made a) ≡ k) ↔ (take key (row (columns a)) ≡ take key v)))
+      ⊎ ((left ≡ xs) × ((table_of k == table) ≡ false))
+
+  module _ (key : ℕ) (row : X → Row) (exact : (x : X) → BeginsExactly key (row x)) (IsIn : PlanRow → Type 0) (k : RowKey) (xs : List X) where
+    -- a row of this table has the key exactly where its columns begin with these
+    begins_so : (v : Row) → ((a : A) → (key_of (made a) ≡ k) ↔ (take key (row (columns a)) ≡ take key v)) → (r : PlanRow) (x : X) → of r ≡ Some x → (key_of r ≡ k) ↔ (take key (row x) ≡ take key v)
+    begins_so v keyed r x has =
+        let a = row_with r x has in
+        let same = ap (λ y. take key (row y)) a.2 in
+        let both = keyed a.0 in (
+          λ own. same ∙ both.0 (sym (ap key_of a.1) ∙ own),
+          λ begins. ap key_of a.1 ∙ both.1 (sym same ∙ begins),
+        )
+
+    taken_here : (v : Row) → BeginsExactly key v → ((a : A) → (key_of (made a) ≡ k) ↔ (take key (row (columns a)) ≡ take key v)) → HoldsOf of IsIn xs → HoldsOf of (λ s. IsIn s × (key_of s ≢ k)) (without_key key row v xs)
+    taken_here v begins keyed h x =
+        let left = without_key_has key row v xs x begins (exact x) in (
+          λ there. let kept = left.0 there in let it = (h x).0 kept.0 in (it.0, (it.1, λ own. kept.1 ((begins_so v keyed it.0 x it.2).0 own)), it.2),
+          λ it. left.1 ((h x).1 (it.0, it.1.0, it.2), λ alike. it.1.1 ((begins_so v keyed it.0 x it.2).1 alike)),
+        )
+
+    -- it holds those that were there of other keys
+    pub holds_left : (left : List X) → IsLeft key row k xs left → HoldsOf of IsIn xs → HoldsOf of (λ s. IsIn s × (key_of s ≢ k)) left
+    holds_left left is h = elim is [
+      | inl (v, taken, begins, keyed) ↦ subst (HoldsOf of (λ s. IsIn s × (key_of s ≢ k))) (sym taken) (taken_here v begins keyed h)
+      | inr (same, other) ↦ subst (HoldsOf of (λ s. IsIn s × (key_of s ≢ k))) (sym same) (holds_besides IsIn k xs other h)
+    ]
 
 -- it speaks of a set of rows
 pub holds_alike : {X : Type 0} {of : PlanRow → Option X} {A B : PlanRow → Type 0} (xs : List X) → ((r : PlanRow) → A r ↔ B r) → HoldsOf of A xs → HoldsOf of B xs

@@ -1,11 +1,11 @@
 -- What the changes from one plan to the next, written into the tables, make of them: they hold the rows of the next.
 use Rattle.std.proofs.Common.{◌≡◌, ◌↔◌, inl, inr, refl, sym, subst, List, Contains}
 use Rattle.tracker_receipts.specs.plan_drafts.specs.declared.RowKey.{RowKey}
-use Rattle.tracker_receipts.specs.plan_laws.proofs.Carrying.{only_intervals_go}
+use Rattle.tracker_receipts.specs.plan_laws.proofs.Carrying.{only_these_go}
 use Rattle.tracker_receipts.specs.plan_laws.proofs.Every.{every_step_keeps_sound}
 use Rattle.tracker_receipts.specs.plan_laws.proofs.RowsListed.{one_of_key}
 use Rattle.tracker_receipts.specs.plan_laws.proofs.RowsTold.{row_told}
-use Rattle.tracker_receipts.specs.plan_laws.specs.Tables.{IsIntervalKey}
+use Rattle.tracker_receipts.specs.plan_laws.specs.Tables.{MayGo}
 use Rattle.tracker_receipts.specs.plan_model.specs.Plan.{Plan, IsSoundPlan}
 use Rattle.tracker_receipts.specs.plan_model.specs.Valid.{IsValid}
 use Rattle.tracker_receipts.specs.plan_records.specs.Answer.{Answer}
@@ -47,11 +47,11 @@ module _ (P Q : Plan) (old_valid : IsValid P.contents) (new_valid : IsValid Q.co
   )
 
   -- tables with the rows of P then hold those of Q
-  pub changes_written : ((k : RowKey) → Contains gone k → IsIntervalKey k) → (held : Held) → HoldRows (IsRow P) held → HoldRows (IsRow Q) (written rows gone held)
-  changes_written intervals held h = rows_alike all_rows (rows_written (IsRow P) rows gone held are.rows_ascend intervals h)
+  pub changes_written : ((k : RowKey) → Contains gone k → MayGo k) → (held : Held) → HoldRows (IsRow P) held → HoldRows (IsRow Q) (written rows gone held)
+  changes_written may_go held h = rows_alike all_rows (rows_written (IsRow P) rows gone held are.rows_ascend may_go h)
 
 -- so it is after each step of a sound plan
 pub step_written : (P Q : Plan) (q : Request) (reply : Answer) (rows : List PlanRow) (gone : List RowKey) → IsSoundPlan P → Step P q reply Q → AreChanges P Q rows gone
     → (held : Held) → HoldRows (IsRow P) held → HoldRows (IsRow Q) (written rows gone held)
 step_written P Q q reply rows gone sound step are =
-    changes_written P Q sound.contents.valid (every_step_keeps_sound P Q q reply sound step).contents.valid rows gone are (only_intervals_go P Q q reply rows gone sound step are)
+    changes_written P Q sound.contents.valid (every_step_keeps_sound P Q q reply sound step).contents.valid rows gone are (only_these_go P Q q reply rows gone sound step are)

@@ -1,27 +1,24 @@
--- What putting in a row makes of all tables, and what taking an interval out.
-use Rattle.std.proofs.Common.{◌≡◌, ◌≢◌, ◌⊎◌, ◌↔◌, inl, inr, refl, sym, ◌∙◌, ap, subst, ℕ, is_eq, true, not, pos, List, [], ◌∷◌, take, Some}
+-- What putting in a row makes of all tables.
+use Rattle.std.proofs.Common.{◌≡◌, ◌≢◌, ◌⊎◌, ◌↔◌, inl, inr, refl, sym, ◌∙◌, ap, subst, ℕ, is_eq, true, not}
 use Rattle.std.proofs.lemmas.Bool.{cases_Bool, true≢false}
 use Rattle.std.proofs.lemmas.Cmp.{tied_itself}
 use Rattle.std.proofs.lemmas.Map.Lookups.{exact_signed}
 use Rattle.sqlite.specs.Order.{Row, value_cmp}
 use Rattle.sqlite.specs.Tree.{has_rowid}
-use Rattle.sqlite.specs.declared.types.Value.TheVariants.{Int, Text}
+use Rattle.sqlite.specs.declared.types.Value.TheVariants.{Int}
 use Rattle.sqlite_rules.proofs.ListLemmas.{has_filtered, has_kept}
 use Rattle.sqlite_value.proofs.OrderLemmas.{value_cmp_total, value_cmp-Int}
-use Rattle.plan_schema.specs.table_rows.specs.Stored.{BeginsExactly, with_value, with_value_at, without_key}
+use Rattle.plan_schema.specs.table_rows.specs.Stored.{BeginsExactly, with_value, with_value_at}
 use Rattle.plan_schema.specs.table_rows.proofs.Rowids.{eq_of}
 use Rattle.plan_schema.specs.table_rows.proofs.Stored.{without_key_has}
 use Rattle.plan_schema.specs.table_rows.proofs.Writes.{not_is}
-use Rattle.plan_basics.specs.Keys.{Name}
-use Rattle.tracker_receipts.specs.plan_drafts.specs.declared.RowKey.{RowKey}
-use Rattle.tracker_receipts.specs.plan_drafts.specs.declared.RowKey.TheVariants as key
 use Rattle.tracker_receipts.specs.plan_records.specs.Rows.{key_of}
 use Rattle.tracker_receipts.specs.plan_records.specs.declared.PlanRow.{PlanRow}
 use Rattle.tracker_receipts.specs.plan_records.specs.declared.PlanRow.TheVariants as row
-use Rattle.plan_schema.specs.Stored.{Held, StoredMeta, StoredInterval, meta_row, workstation_row, interval_row, resource_row, occurrence_row, operation_row, dependency_row, need_row, quantity_row, amount_row}
-use Rattle.plan_columns.specs.Tables.{HoldRows, with_row, without_row}
-use Rattle.plan_columns.proofs.EachTable.{BeginAlike, HaveOneId, amount_of, amount_rows, amount_table, dependency_of, dependency_rows, dependency_table, interval_keys, interval_of, interval_rows, interval_table, meta_of, meta_rows, meta_table, need_of, need_rows, need_table, occurrence_of, occurrence_rows, occurrence_table, operation_of, operation_rows, operation_table, quantity_of, quantity_rows, quantity_table, resource_of, resource_rows, resource_table, workstation_of, workstation_rows, workstation_table}
-use Rattle.plan_columns.proofs.OneTable.{HoldsOf, PutsByKey, holds_alike, holds_besides, holds_put_of, put_of, row_with}
+use Rattle.plan_schema.specs.Stored.{Held, StoredMeta, meta_row, workstation_row, interval_row, resource_row, occurrence_row, operation_row, dependency_row, need_row, quantity_row, amount_row}
+use Rattle.plan_columns.specs.Tables.{HoldRows, with_row}
+use Rattle.plan_columns.proofs.EachTable.{BeginAlike, HaveOneId, amount_of, amount_rows, amount_table, dependency_of, dependency_rows, dependency_table, interval_of, interval_rows, interval_table, meta_of, meta_rows, meta_table, need_of, need_rows, need_table, occurrence_of, occurrence_rows, occurrence_table, operation_of, operation_rows, operation_table, quantity_of, quantity_rows, quantity_table, resource_of, resource_rows, resource_table, workstation_of, workstation_rows, workstation_table}
+use Rattle.plan_columns.proofs.OneTable.{HoldsOf, PutsByKey, holds_alike, holds_put_of, put_of}
 
 -- ---- all tables as one table each
 
@@ -166,46 +163,3 @@ row_put IsIn r held h =
 -- the receipts stay
 pub receipts_beside_row : (r : PlanRow) (held : Held) → (with_row r held).receipts ≡ held.receipts
 receipts_beside_row r held = ap (λ h. h.receipts) (with_row_is r held)
-
--- ---- an interval is taken out
-
--- those that were there of other keys
-abbrev pub WithoutKey : RowKey → (PlanRow → Type 0) → PlanRow → Type 0
-WithoutKey k IsIn s = IsIn s × (key_of s ≢ k)
-
-interval_gone : (IsIn : PlanRow → Type 0) (w : Name) (m : ℕ) (xs : List StoredInterval) → HoldsOf interval_of IsIn xs → HoldsOf interval_of (WithoutKey (key.Interval w m) IsIn) (without_key 2 interval_row (Text w ∷ Int (pos m) ∷ []) xs)
-interval_gone IsIn w m xs h x =
-    let left = without_key_has 2 interval_row (Text w ∷ Int (pos m) ∷ []) xs x (tt, (tt, tt)) (tt, (tt, tt)) in
-    let keys = λ (r : PlanRow) (has : interval_of r ≡ Some x).
-    let is = row_with interval_table r x has in
-    let both = interval_keys is.0.0 w is.0.1.from m in
-    let pair : (key_of r ≡ key.Interval w m) ↔ (take 2 (interval_row x) ≡ Text w ∷ Int (pos m) ∷ []) = (
-      λ same. ap (λ y. take 2 (interval_row y)) is.2 ∙ both.0 (sym (ap key_of is.1) ∙ same),
-      λ same. ap key_of is.1 ∙ both.1 (sym (ap (λ y. take 2 (interval_row y)) is.2) ∙ same),
-    ) in
-    pair in (
-      λ there. let kept = left.0 there in let it = (h x).0 kept.0 in (it.0, (it.1, λ same. kept.1 ((keys it.0 it.2).0 same)), it.2),
-      λ it. left.1 ((h x).1 (it.0, it.1.0, it.2), λ same. it.1.1 ((keys it.0 it.2).1 same)),
-    )
-
-pub interval_taken : (IsIn : PlanRow → Type 0) (w : Name) (m : ℕ) (held : Held) → HoldRows IsIn held → HoldRows (WithoutKey (key.Interval w m) IsIn) (without_row (key.Interval w m) held)
-interval_taken IsIn w m held h =
-    let each = each_of h in
-    let k = key.Interval w m in
-    of_each (record {
-      metas = holds_besides meta_table IsIn k held.metas refl each.metas;
-      workstations = holds_besides workstation_table IsIn k held.workstations refl each.workstations;
-      intervals = interval_gone IsIn w m held.intervals each.intervals;
-      resources = holds_besides resource_table IsIn k held.resources refl each.resources;
-      occurrences = holds_besides occurrence_table IsIn k held.occurrences refl each.occurrences;
-      operations = holds_besides operation_table IsIn k held.operations refl each.operations;
-      dependencies = holds_besides dependency_table IsIn k held.dependencies refl each.dependencies;
-      needs = holds_besides need_table IsIn k held.needs refl each.needs;
-      quantities = holds_besides quantity_table IsIn k held.quantities refl each.quantities;
-      amounts = holds_besides amount_table IsIn k held.amounts refl each.amounts;
-    })
-
--- the receipts stay
-pub receipts_beside_key : (k : RowKey) (held : Held) → (without_row k held).receipts ≡ held.receipts
-receipts_beside_key (key.Interval w m) held = refl
-receipts_beside_key _ held = refl

@@ -6,12 +6,13 @@ use Rattle.tracker_receipts.specs.plan_drafts.specs.declared.RowKey.{RowKey}
 use Rattle.tracker_receipts.specs.plan_drafts.specs.RowKeys.{row_cmp_total}
 use Rattle.tracker_receipts.specs.plan_laws.proofs.RowOrder.{keys_above}
 use Rattle.tracker_receipts.specs.plan_laws.proofs.Sorted.{not_itself}
-use Rattle.tracker_receipts.specs.plan_laws.specs.Tables.{IsIntervalKey}
+use Rattle.tracker_receipts.specs.plan_laws.specs.Tables.{MayGo}
 use Rattle.tracker_receipts.specs.plan_records.specs.Rows.{key_of, row_cmp}
 use Rattle.tracker_receipts.specs.plan_records.specs.declared.PlanRow.{PlanRow}
 use Rattle.plan_schema.specs.Stored.{Held}
 use Rattle.plan_columns.specs.Tables.{HoldRows, with_row, with_rows, without_row, without_rows, written}
-use Rattle.plan_columns.proofs.RowPut.{WithRow, WithoutKey, interval_taken, receipts_beside_key, receipts_beside_row, row_put, rows_alike}
+use Rattle.plan_columns.proofs.KeyTaken.{WithoutKey, key_taken, receipts_beside_key}
+use Rattle.plan_columns.proofs.RowPut.{WithRow, receipts_beside_row, row_put, rows_alike}
 
 -- ---- rows are put in
 
@@ -64,14 +65,11 @@ receipts_beside_rows : (rows : List PlanRow) (held : Held) → (with_rows rows h
 receipts_beside_rows [] held = refl
 receipts_beside_rows (r ∷ rows) held = receipts_beside_rows rows (with_row r held) ∙ receipts_beside_row r held
 
--- ---- intervals are taken out
+-- ---- rows are taken out
 
 -- those that were there of other keys
 abbrev pub WithoutKeys : List RowKey → (PlanRow → Type 0) → PlanRow → Type 0
 WithoutKeys keys IsIn s = IsIn s × (Contains keys (key_of s) → ⊥)
-
-pub key_taken : (IsIn : PlanRow → Type 0) (k : RowKey) (held : Held) → IsIntervalKey k → HoldRows IsIn held → HoldRows (WithoutKey k IsIn) (without_row k held)
-key_taken IsIn k held is h = subst (λ l. HoldRows (WithoutKey l IsIn) (without_row l held)) (sym is.2) (interval_taken IsIn is.0 is.1 held h)
 
 one_key_less : (IsIn : PlanRow → Type 0) (k : RowKey) (keys : List RowKey) (s : PlanRow) → WithoutKeys keys (WithoutKey k IsIn) s ↔ WithoutKeys (k ∷ keys) IsIn s
 one_key_less IsIn k keys s = (
@@ -79,10 +77,10 @@ one_key_less IsIn k keys s = (
   λ is. ((is.0, λ same. is.1 (subst (Contains (k ∷ keys)) (sym same) (contains_head k keys))), λ later. is.1 (contains_later k keys (key_of s) later)),
 )
 
-pub keys_taken : (IsIn : PlanRow → Type 0) (keys : List RowKey) (held : Held) → ((k : RowKey) → Contains keys k → IsIntervalKey k) → HoldRows IsIn held → HoldRows (WithoutKeys keys IsIn) (without_rows keys held)
-keys_taken IsIn [] held intervals h = rows_alike (λ s. (λ is. (is, λ there. contains_none (key_of s) there), λ is. is.0)) h
-keys_taken IsIn (k ∷ keys) held intervals h =
-    rows_alike (one_key_less IsIn k keys) (keys_taken (WithoutKey k IsIn) keys (without_row k held) (λ l there. intervals l (contains_later k keys l there)) (key_taken IsIn k held (intervals k (contains_head k keys)) h))
+pub keys_taken : (IsIn : PlanRow → Type 0) (keys : List RowKey) (held : Held) → ((k : RowKey) → Contains keys k → MayGo k) → HoldRows IsIn held → HoldRows (WithoutKeys keys IsIn) (without_rows keys held)
+keys_taken IsIn [] held may_go h = rows_alike (λ s. (λ is. (is, λ there. contains_none (key_of s) there), λ is. is.0)) h
+keys_taken IsIn (k ∷ keys) held may_go h =
+    rows_alike (one_key_less IsIn k keys) (keys_taken (WithoutKey k IsIn) keys (without_row k held) (λ l there. may_go l (contains_later k keys l there)) (key_taken IsIn k held (may_go k (contains_head k keys)) h))
 
 receipts_beside_keys : (keys : List RowKey) (held : Held) → (without_rows keys held).receipts ≡ held.receipts
 receipts_beside_keys [] held = refl
@@ -91,9 +89,9 @@ receipts_beside_keys (k ∷ keys) held = receipts_beside_keys keys (without_row 
 -- ---- both
 
 -- the rows are in, and those that were there of other keys than theirs and those that are gone
-pub rows_written : (IsIn : PlanRow → Type 0) (rows : List PlanRow) (gone : List RowKey) (held : Held) → IsStrictlySortedBy row_cmp (map key_of rows) → ((k : RowKey) → Contains gone k → IsIntervalKey k) → HoldRows IsIn held
+pub rows_written : (IsIn : PlanRow → Type 0) (rows : List PlanRow) (gone : List RowKey) (held : Held) → IsStrictlySortedBy row_cmp (map key_of rows) → ((k : RowKey) → Contains gone k → MayGo k) → HoldRows IsIn held
     → HoldRows (WithoutKeys gone (WithRows rows IsIn)) (written rows gone held)
-rows_written IsIn rows gone held up intervals h = keys_taken (WithRows rows IsIn) gone (with_rows rows held) intervals (rows_put IsIn rows held up h)
+rows_written IsIn rows gone held up may_go h = keys_taken (WithRows rows IsIn) gone (with_rows rows held) may_go (rows_put IsIn rows held up h)
 
 -- the receipts stay
 pub receipts_beside : (rows : List PlanRow) (gone : List RowKey) (held : Held) → (written rows gone held).receipts ≡ held.receipts

@@ -1,7 +1,7 @@
 -- What the tables of the first version hold, and what they hold with the row that names the second.
-use Rattle.std.proofs.Common.{◌≡◌, ◌≢◌, ◌↔◌, inl, inr, refl, sym, subst, ℕ, Bool}
+use Rattle.std.proofs.Common.{inl, inr, refl, sym, subst}
 use Rattle.tracker_receipts.specs.plan_model.specs.Plan.{Plan}
-use Rattle.tracker_receipts.specs.plan_records.specs.Rows.{IsFirstRow, IsRow, key_of}
+use Rattle.tracker_receipts.specs.plan_records.specs.Rows.{IsFirstRow, IsRow}
 use Rattle.tracker_receipts.specs.plan_records.specs.declared.PlanRow.{PlanRow}
 use Rattle.tracker_receipts.specs.plan_records.specs.declared.PlanRow.TheVariants as row
 use Rattle.plan_schema.specs.Stored.{Held}

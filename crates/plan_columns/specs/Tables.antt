@@ -13,7 +13,7 @@ use Rattle.tracker_receipts.specs.plan_drafts.specs.declared.RowKey.TheVariants 
 use Rattle.tracker_receipts.specs.plan_records.specs.declared.OperationRow.{OperationRow}
 use Rattle.tracker_receipts.specs.plan_records.specs.declared.PlanRow.{PlanRow}
 use Rattle.tracker_receipts.specs.plan_records.specs.declared.PlanRow.TheVariants as row
-use Rattle.plan_schema.specs.Stored.{Held, StoredMeta, StoredWorkstation, StoredInterval, StoredResource, StoredOccurrence, StoredOperation, StoredDependency, StoredNeed, StoredQuantity, StoredAmount, with_meta, with_workstation, with_interval, with_resource, with_occurrence, with_operation, with_dependency, with_need, with_quantity, with_amount, without_interval}
+use Rattle.plan_schema.specs.Stored.{Held, StoredMeta, StoredWorkstation, StoredInterval, StoredResource, StoredOccurrence, StoredOperation, StoredDependency, StoredNeed, StoredQuantity, StoredAmount, with_meta, with_workstation, with_interval, with_resource, with_occurrence, with_operation, with_dependency, with_need, with_quantity, with_amount, without_interval, without_occurrence, without_operation, without_dependency, without_need, without_amount}
 use Rattle.plan_columns.specs.Columns.{meta_columns, workstation_columns, interval_columns, resource_columns, occurrence_columns, operation_columns, dependency_columns, need_columns, quantity_columns, amount_columns}
 
 -- the tables of a plan hold these rows and no others; the receipts are a table of their own
@@ -42,10 +42,15 @@ with_row (row.Need o r mode keep) = with_need (need_columns o r mode keep)
 with_row (row.Quantity r quantity) = with_quantity (quantity_columns r quantity)
 with_row (row.Amount o r amount) = with_amount (amount_columns o r amount)
 
--- the tables without the row of this key: an interval goes; from the other tables nothing is taken
+-- the tables without the row of this key; a row that never goes stays
 abbrev pub without_row : RowKey → Held → Held
-without_row (key.Interval w from) held = without_interval w (pos from) held
-without_row _ held = held
+without_row (key.Interval w from) = without_interval w (pos from)
+without_row (key.Occurrence c) = without_occurrence c.app (pos c.arrival)
+without_row (key.Operation o) = without_operation o.occurrence.app (pos o.occurrence.arrival) (pos o.number)
+without_row (key.Dependency p s) = without_dependency p.occurrence.app (pos p.occurrence.arrival) (pos p.number) s.occurrence.app (pos s.occurrence.arrival) (pos s.number)
+without_row (key.Need o r) = without_need o.occurrence.app (pos o.occurrence.arrival) (pos o.number) r
+without_row (key.Amount o r) = without_amount o.occurrence.app (pos o.occurrence.arrival) (pos o.number) r
+without_row _ = λ held. held
 
 -- with all of these rows, the first first
 abbrev pub with_rows : List PlanRow → Held → Held

@@ -19,11 +19,12 @@ use plan_status::SoundContents;
 use record_permits::{Permit, granted};
 use std::alloc::Global;
 
-// What was prepared with a plan that was made anew, which is put together: its looks count beside those at the plan before.
+// What was prepared with a plan that was made anew, which is put together: its looks count beside those at the plan before. Or what the
+// request that led there is refused for.
 fn prepared_anew(at: Moment, anew: Anew, looks: u64, permit: &Permit) -> Result<Prepared, Refusal>
     requires { (P : Plan) × (request : Request) × IsAnewOf P request at anew }
     ensures prepared { (P : Plan) (request : Request) → IsAnewOf P request at anew → AreLooksAnew P.contents request.what anew looks → IfOk result (IsPreparedIn P request) }
-    ensures refused { IfErr result (λ r. r ≡ Refusal.Memory) }
+    ensures refused { IfErr result (λ r. (P : Plan) (request : Request) → IsAnewOf P request at anew → (r ≡ Refusal.Memory) ⊎ Step P request (refused r) P) }
 {
     let Anew { shown, remade } = anew;
     let (contents, more) = shown.into_contents(permit);
@@ -43,11 +44,11 @@ fn prepared_anew(at: Moment, anew: Anew, looks: u64, permit: &Permit) -> Result<
     Ok(Prepared::of(at, outcome, looks.saturating_add(more)))
 }
 
-// What was prepared by what a request leads to in a plan at which so many looks were taken.
+// What was prepared by what a request leads to in a plan at which so many looks were taken, or what it is refused for.
 fn prepared_by(at: Moment, led: Led, looks: u64, permit: &Permit) -> Result<Prepared, Refusal>
     requires { (P : Plan) × (request : Request) × IsLedOf P request at led }
     ensures prepared { (P : Plan) (request : Request) → IsLedOf P request at led → AreLooksLed P.contents request.what led looks → IfOk result (IsPreparedIn P request) }
-    ensures refused { IfErr result (λ r. r ≡ Refusal.Memory) }
+    ensures refused { IfErr result (λ r. (P : Plan) (request : Request) → IsLedOf P request at led → (r ≡ Refusal.Memory) ⊎ Step P request (refused r) P) }
 {
     match led {
         Led::Small(outcome) => Ok(Prepared::of(at, outcome, looks)),

@@ -1,5 +1,5 @@
 -- Occurrences, operations and pairs of a plan, as they are said and in key order.
-use Rattle.std.proofs.Common.{arith, ◌≡◌, ◌↔◌, refl, true≢false, IsTrue, Option, is_some, sym, subst, ap, ap₂, ◌∙◌, ℕ, ◌<◌, ◌≤◌, true, false, List, [], ◌∷◌, map, length, inl, inr, All, Contains, Some, None, unwrap_or}
+use Rattle.std.proofs.Common.{◌≡◌, ◌↔◌, refl, true≢false, IsTrue, Option, is_some, sym, subst, ap, ap₂, ◌∙◌, ℕ, ◌≤◌, true, false, List, [], ◌∷◌, map, length, All, Contains, Some, None, unwrap_or}
 use Rattle.std.specs.Prelude.{◌≢◌, MatchOption}
 use Rattle.std.specs.List.{AllPairs}
 use Rattle.std.specs.List.Sorted.{IsPermutation, IsStrictlySortedBy}
@@ -7,12 +7,12 @@ use Rattle.std.specs.Map.{keys_of}
 use Rattle.std.specs.FinMap.{get, contains_key, entries, from_entries, keys}
 use Rattle.std.specs.FinSet as set
 use Rattle.std.specs.Ordering.{eq_by_cmp}
-use Rattle.std.proofs.lemmas.List.Elements.{All-contains, All-head, All-tail, All-weaker}
+use Rattle.std.proofs.lemmas.List.Elements.{All-contains, All-weaker}
 use Rattle.std.proofs.lemmas.List.Sorted.{IsPermutation-map, IsPermutation-sym, Contains-permutation, list_any-IsPermutation}
-use Rattle.plan_basics.specs.declared.limits.TheConstants.{MOST_NEEDS, MOST_OPERATIONS, MOST_PAIRS}
+use Rattle.plan_basics.specs.declared.limits.TheConstants.{MOST_OPERATIONS, MOST_PAIRS}
 use Rattle.plan_basics.specs.declared.keys.OccKey.{OccKey}
 use Rattle.plan_basics.specs.declared.keys.OpKey.{OpKey}
-use Rattle.plan_basics.specs.Keys.{Name, occurrence_cmp, occurrence_cmp_total, occurrence_cmp-IsAntisymmetric, operation_cmp, operation_cmp_total, operation_cmp-IsAntisymmetric}
+use Rattle.plan_basics.specs.Keys.{Name, occurrence_cmp, operation_cmp, operation_cmp_total, operation_cmp-IsAntisymmetric}
 use Rattle.plan_model.specs.special_resources.specs.declared.Need.{Need}
 use Rattle.plan_model.specs.special_resources.specs.Needs.{Usages, usages_of}
 use Rattle.plan_model.specs.status_rules.specs.declared.Mark.TheVariants.{Unmarked}
@@ -22,14 +22,13 @@ use Rattle.plan_model.specs.Valid.{IsAcyclic}
 use Rattle.plan_model.specs.declared.Occurrence.{Occurrence}
 use Rattle.plan_drafts.specs.PlanGraphs.{AreAmong, JoinOperations}
 use Rattle.plan_items.specs.declared.OperationItem.{OperationItem}
-use Rattle.plan_drafts.specs.PlanItems.{Fits, IsOneOf, BelongsTo, AreOperations, EachHasOperation, AreRowsOf, IsPairIn, ArePairs, ArePairsInOrder, keys_said, needs_of, occurrence_of, operation_of, row_of, terms_of}
-use Rattle.plan_drafts.proofs.Keyed.{key_to_row, made_apart, row_to_key, said_apart}
-use Rattle.plan_drafts.proofs.Lists.{all_by_members, contains_cases, contains_head, contains_none, in_map, from_map}
+use Rattle.plan_drafts.specs.ExtensionItems.{AreTheirOperations, AreTheirRows}
+use Rattle.plan_drafts.specs.PlanItems.{Fits, IsOneOf, BelongsTo, AreOperations, EachHasOperation, AreRowsOf, IsPairIn, ArePairs, ArePairsInOrder, needs_of, occurrence_of, operation_of, row_of, terms_of}
+use Rattle.plan_drafts.proofs.Keyed.{made_apart}
+use Rattle.plan_drafts.proofs.Lists.{all_by_members, in_map, from_map}
 use Rattle.plan_drafts.proofs.Pairs.{pair_cmp_total, pair_cmp-IsAntisymmetric}
-use Rattle.plan_drafts.proofs.RowPlaces.{get_at}
 use Rattle.plan_drafts.proofs.Tables.{in_set, key_found}
-use Rattle.plan_drafts.proofs.Terms.{found_key, terms_there}
-use Rattle.plan_drafts.specs.AdditionItems.{ComesWith, new_row}
+use Rattle.plan_drafts.proofs.Terms.{terms_there}
 use Rattle.plan_drafts.specs.KeyOrder.{AreInKeyOrder}
 use Rattle.std.proofs.lemmas.Option.{none-some}
 
@@ -57,18 +56,6 @@ row_made occurrences needs said terms due own e is own_is =
     let found = ap (λ o. unwrap_or said.deadline (due_of (unwrap_or o (record { priority = 0; deadline = 0 })))) e in
     ap₂ (λ d u. (said.key, operation_with said d u)) (is ∙ sym found) own_is
 
--- what its row shows of an operation whose occurrence is there
-pub row_told :
-    (occurrences : Terms) (needs : Wants) (said : OperationItem) (terms : Occurrence) (found : Option (OpKey × Operation)) →
-    get {R = occurrence_cmp} (from_entries occurrences) said.key.occurrence ≡ Some terms →
-    MatchOption found (MOST_NEEDS < length (needs_of said.key needs)) (λ row. (length (needs_of said.key needs) ≤ MOST_NEEDS) × (row ≡ new_row terms needs said)) →
-    MatchOption found (¬ BelongsTo occurrences needs said) (λ row. BelongsTo occurrences needs said × (row ≡ row_of occurrences needs said))
-row_told occurrences needs said terms None e many = λ belongs. let few = belongs.few_needs in absurd (omega (arith, many, few))
-row_told occurrences needs said terms (Some row) e own = (
-  record { occurrence = found_key occurrences said.key.occurrence terms e; few_needs = own.0 },
-  own.1 ∙ row_made occurrences needs said terms (unwrap_or said.deadline terms.deadline) (usages_of (needs_of said.key needs)) e refl refl,
-)
-
 -- an operation of no occurrence belongs to none
 pub unknown :
     (occurrences : Terms) (needs : Wants) (said : OperationItem) → IsStrictlySortedBy occurrence_cmp (keys_of occurrences) →
@@ -87,36 +74,13 @@ named names occurrences needs said fit = λ k d lt. (fit k d lt).workstation
 pub belonging : (names : List Name) (occurrences : Terms) (needs : Wants) (said : List OperationItem) → All (Fits names occurrences needs) said → All (BelongsTo occurrences needs) said
 belonging names occurrences needs said fit = λ k d lt. let is = fit k d lt in record { occurrence = is.occurrence; few_needs = is.few_needs }
 
--- ---- the rows of a sole occurrence
-module _ (c : OccKey) (terms : Occurrence) (needs : Wants) where
-  abbrev Sole : Terms
-  Sole = (c, terms) ∷ []
-
-  pub sole_in_order : IsStrictlySortedBy occurrence_cmp (keys_of Sole)
-  unfolding IsStrictlySortedBy
-  sole_in_order = (tt, tt)
-
-  pub comes : (said : OperationItem) → BelongsTo Sole needs said → ComesWith c needs said
-  comes said is = record { occurrence = elim (contains_cases c [] said.key.occurrence is.occurrence) [ inl e ↦ sym e | inr none ↦ absurd (contains_none _ none) ]; few_needs = is.few_needs }
-
-  pub belongs : (said : OperationItem) → ComesWith c needs said → BelongsTo Sole needs said
-  belongs said is = record { occurrence = subst (Contains (c ∷ [])) (sym is.occurrence) (contains_head c []); few_needs = is.few_needs }
-
-  -- they are as of an occurrence that is added
-  pub sole_rows : (said : List OperationItem) → All (BelongsTo Sole needs) said → map (row_of Sole needs) said ≡ map (new_row terms needs) said
-  sole_rows [] come = refl
-  sole_rows (s ∷ said) come =
-      let is = (comes s (All-head (BelongsTo Sole needs) s said come)).occurrence in
-      let own : terms_of Sole s.key.occurrence ≡ terms = ap (terms_of Sole) is ∙ ap (λ o. unwrap_or o (record { priority = 0; deadline = 0 })) (get_at occurrence_cmp occurrence_cmp_total occurrence_cmp-IsAntisymmetric Sole sole_in_order 0 c terms refl) in
-      ap₂ (λ t rows. new_row t needs s ∷ rows) own (sole_rows said (All-tail (BelongsTo Sole needs) s said come))
-
 -- ---- rows of operations
 -- an operation as its record says, with the terms of that one of these occurrences that it belongs to
 abbrev pub operation_in : Terms → Wants → OperationItem → Operation
 operation_in occurrences needs said = operation_of (terms_of occurrences said.key.occurrence) needs said
 
 -- each occurrence has one of more operations
-has_over :
+pub has_over :
     (ks ls : List OpKey) (occurrences : Terms) → ((o : OpKey) → Contains ks o → Contains ls o) → EachHasOperation ks occurrences →
     EachHasOperation ls occurrences
 has_over ks ls occurrences all has = All-weaker (λ row. Contains (map occurrence_of ks) row.0) (λ row. Contains (map occurrence_of ls) row.0)
@@ -140,32 +104,21 @@ rows_ordered occurrences needs said sorted rows ordered made = record {
   in_order = subst (IsStrictlySortedBy operation_cmp) (sym (ap keys_of made ∙ rows_keys occurrences needs sorted)) ordered.in_order;
 }
 
-pub rows_are :
-    (names : List Name) (occurrences : Terms) (needs : Wants) (said : List OperationItem) (rows : List (OpKey × Operation)) → length said ≤ MOST_OPERATIONS →
-    All (Fits names occurrences needs) said → AreInKeyOrder operation_cmp (λ row. row.0) (map (row_of occurrences needs) said) rows →
-    EachHasOperation (keys_of rows) occurrences → AreRowsOf names occurrences needs said rows
-rows_are names occurrences needs said rows few fit ordered has =
-    let make = operation_in occurrences needs in
-    record {
-      operations = record {
-        few = few;
-        fit = fit;
-        distinct = said_apart (λ (s : OperationItem). s.key) make said ordered.distinct;
-        not_empty = has_over (keys_of rows) (keys_said said) occurrences (row_to_key (λ (s : OperationItem). s.key) make said rows ordered.same) has;
-      };
-      same = ordered.same;
-      in_order = ordered.in_order;
-    }
+-- so are those of a plan, where these are few enough and of its workstations
+pub rows_told :
+    {V : Type 0} (items : V → List (OpKey × Operation)) (names : List Name) (occurrences : Terms) (needs : Wants) (said : List OperationItem) → length said ≤ MOST_OPERATIONS → All (IsOneOf names) said →
+    (found : Option V) → MatchOption found (¬ AreTheirOperations occurrences needs said) (λ v. AreTheirRows occurrences needs said (items v)) →
+    MatchOption found (¬ AreOperations names occurrences needs said) (λ v. AreRowsOf names occurrences needs said (items v))
+rows_told items names occurrences needs said few named None none = λ are. none (record { belong = belonging names occurrences needs said are.fit; distinct = are.distinct; not_empty = are.not_empty })
+rows_told items names occurrences needs said few named (Some v) rows = record {
+  operations = record { few = few; fit = fitting names occurrences needs said named rows.operations.belong; distinct = rows.operations.distinct; not_empty = rows.operations.not_empty };
+  same = rows.same;
+  in_order = rows.in_order;
+}
 
 -- the keys of a plan with these rows are theirs
 pub row_keys : (rows : List (OpKey × Operation)) → IsStrictlySortedBy operation_cmp (keys_of rows) → keys (from_entries {R = operation_cmp} rows) ≡ keys_of rows
 row_keys rows up = keys_of-entries operation_cmp (from_entries {R = operation_cmp} rows) ∙ ap keys_of (rows_in_order operation_cmp_total rows up)
-
--- where the rows' keys leave out an occurrence, so do those that are said
-pub none_has :
-    (names : List Name) (occurrences : Terms) (needs : Wants) (said : List OperationItem) (rows : List (OpKey × Operation)) →
-    IsPermutation (map (row_of occurrences needs) said) rows → ¬ EachHasOperation (keys_of rows) occurrences → ¬ AreOperations names occurrences needs said
-none_has names occurrences needs said rows same none are = none (has_over (keys_said said) (keys_of rows) occurrences (key_to_row (λ (s : OperationItem). s.key) (operation_in occurrences needs) said rows same) are.not_empty)
 
 -- ---- pairs
 

@@ -1,4 +1,4 @@
--- What items say of occurrences, operations, pairs and needs, where they are those of a plan or of an addition.
+-- What items say of occurrences, operations, pairs and needs, where they are those of a plan or of an extension.
 use Rattle.std.proofs.Common.{◌≡◌, ◌≢◌, arith, ◌<◌, ◌≤◌, true, List, [], ◌∷◌, length, All, Contains, Some}
 use Rattle.std.specs.List.{AllPairs}
 use Rattle.std.specs.FinMap.{get, contains_key, len}
@@ -18,10 +18,10 @@ use Rattle.plan_items.specs.declared.Item.TheVariants as item
 use Rattle.plan_items.specs.declared.OperationItem.{OperationItem}
 use Rattle.plan_drafts.specs.declared.RowKey.{RowKey}
 use Rattle.plan_drafts.specs.declared.RowKey.TheVariants as key
-use Rattle.plan_drafts.specs.Drafts.{IsDraft, IsAddition}
+use Rattle.plan_drafts.specs.Drafts.{IsDraft, IsExtension}
 use Rattle.plan_drafts.specs.Records.{key_of, entered, StandsInAdded, StandsIn, IsItemOf, IsItemOfPlan, AreItems, IsAsSaid}
 use Rattle.plan_drafts.specs.PlanItems.{keys_said, needs_of}
-use Rattle.plan_drafts.specs.AdditionItems.{MayComeIn}
+use Rattle.plan_drafts.specs.ExtensionItems.{MayComeIn}
 use Rattle.plan_drafts.proofs.Lists.{contains_head}
 use Rattle.plan_drafts.proofs.Tables.{some_is}
 use Rattle.plan_drafts.proofs.NeedsSaid.{NeedsDiffer, as_many_said}
@@ -40,14 +40,14 @@ pub record Holds (items : List Item) (s : AddedParts) : Type 0 where
   pub occurrences : AreOccurrences s.occurrences s.operations
   pub untouched : AreUntouched s.operations
 
--- those of an addition
-pub held_by_addition : (s : AddedParts) → IsAddition s → (items : List Item) → AreItems (StandsInAdded s) (IsItemOf s) items → Holds items s
-held_by_addition s addition items are = record {
+-- those of an extension
+pub held_by_extension : (s : AddedParts) → IsExtension s → (items : List Item) → AreItems (StandsInAdded s) (IsItemOf s) items → Holds items s
+held_by_extension s extension items are = record {
   distinct = are.distinct;
   stand = All-weaker (StandsInAdded s) (Stands s) (λ i h may. h) items are.stand;
   all = are.all;
-  occurrences = addition.occurrences;
-  untouched = addition.untouched;
+  occurrences = extension.occurrences;
+  untouched = extension.untouched;
 }
 
 -- those of a plan

@@ -1,6 +1,6 @@
 pub mod Assembling
 pub mod Denoting
-pub mod DenotingAdditions
+pub mod DenotingExtensions
 pub mod EntryRows
 pub mod Held
 pub mod InOrder
@@ -10,13 +10,13 @@ pub mod KeyPlaces
 pub mod Keyed
 pub mod Lists
 pub mod Made
-pub mod MadeAdditions
+pub mod JoinedParts
+pub mod MadeExtensions
 pub mod MadeEntries
 pub mod MadeParts
 pub mod Needed
-pub mod NeededAdditions
+pub mod NeededExtensions
 pub mod NeedsSaid
-pub mod NewParts
 pub mod OnePair
 pub mod OneRow
 pub mod Openings

@@ -30,7 +30,7 @@ use Rattle.plan_drafts.specs.Contents.{Rows, held_by}
 use Rattle.plan_drafts.specs.Drafts.{IsDraft}
 use Rattle.plan_drafts.specs.Records.{key_of, StandsIn, IsItemOfPlan, AreItems}
 use Rattle.plan_drafts.specs.PlanItems.{Fits, IsNeedIn, IsWithinStock, IsPairIn, IsOpening, CanOpen, intervals_of, opened_in, AreRowsOfItems, as_workstation, as_interval, as_resource, keys_said, needs_of, row_of, terms_of}
-use Rattle.plan_drafts.specs.AdditionItems.{IsNeedOf}
+use Rattle.plan_drafts.specs.ExtensionItems.{IsNeedOf}
 use Rattle.plan_drafts.proofs.Lists.{pairs_from_differ, in_map, from_map, in_filter, all_by_members, keys_permuted}
 use Rattle.plan_drafts.proofs.Tables.{some_is, is_found, sorted_apart, len_set}
 use Rattle.plan_drafts.proofs.Pairs.{pair_cmp_total, pair_cmp-IsAntisymmetric}

@@ -28,7 +28,7 @@ use Rattle.plan_drafts.specs.declared.RowKey.{RowKey}
 use Rattle.plan_drafts.specs.declared.RowKey.TheVariants as key
 use Rattle.plan_drafts.specs.Records.{key_of, StandsInAdded, IsItemOf}
 use Rattle.plan_drafts.specs.PlanItems.{EachHasOperation, as_occurrence, as_operation, as_pair, as_need, keys_said, need_key, needs_of, occurrence_of}
-use Rattle.plan_drafts.specs.AdditionItems.{MayComeIn, AreNewNeeds, IsNeedOf}
+use Rattle.plan_drafts.specs.ExtensionItems.{MayComeIn, AreNewNeeds, IsNeedOf}
 use Rattle.plan_drafts.proofs.Lists.{differ_from_pairs, in_map, from_map, in_filter, length_map}
 use Rattle.plan_drafts.proofs.Tables.{some_is, is_found, rows_apart, get_row, row_found, len_rows, in_set, from_set}
 use Rattle.plan_drafts.proofs.Pairs.{pair_cmp_total, pair_cmp-IsAntisymmetric}

@@ -1,4 +1,4 @@
--- Records denote one plan at most, and one addition at most.
+-- Records denote one plan at most, one extension and one addition.
 use Rattle.std.proofs.Common.{◌≡◌, sym, subst, ap, ◌∙◌, ℕ, true, List, Some, unwrap_or}
 use Rattle.std.specs.declared.cmp.Ordering.{Ordering}
 use Rattle.std.specs.Cmp.{nat_cmp_total, both_ways}
@@ -14,15 +14,16 @@ use Rattle.plan_model.specs.Contents.{Contents, Operation, AddedParts}
 use Rattle.plan_model.specs.declared.Occurrence.{Occurrence}
 use Rattle.plan_model.specs.declared.Stock.{Stock}
 use Rattle.plan_items.specs.declared.Item.{Item}
+use Rattle.plan_items.specs.Items.{Fields}
 use Rattle.plan_drafts.specs.declared.RowKey.TheVariants as key
-use Rattle.plan_drafts.specs.Records.{entered, StandsInAdded, StandsIn, IsItemOf, IsItemOfPlan, AreItems, OnePlan, OnePlanOfItems, OneAddition}
+use Rattle.plan_drafts.specs.Records.{entered, StandsInAdded, StandsIn, IsItemOf, IsItemOfPlan, AreItems, OnePlan, OnePlanOfItems, DenotesAddition, DenotesExtension, OneExtension, OneAddition}
 use Rattle.plan_drafts.proofs.Tables.{some_is, same_entries}
 use Rattle.plan_drafts.proofs.Needed.{mapped}
 use Rattle.plan_drafts.proofs.Pairs.{pair_cmp_total, pair_cmp-IsAntisymmetric}
 use Rattle.plan_drafts.proofs.Denoting.{same_items, denoted_items}
 use Rattle.plan_drafts.proofs.ItemKinds as kinds
 use Rattle.plan_drafts.proofs.ItemKinds.{read_in, read_stands}
-use Rattle.plan_drafts.proofs.ItemsHeld.{Holds, held_by_addition, held_by_plan, need_is, occurrence_is, operation_is, pair_is}
+use Rattle.plan_drafts.proofs.ItemsHeld.{Holds, held_by_extension, held_by_plan, need_is, occurrence_is, operation_is, pair_is}
 use Rattle.std.proofs.lemmas.Option.{same_Some}
 
 -- ---- maps that have what an item says
@@ -134,8 +135,14 @@ one_plan records P Q d e =
     let items = d.described.items in
     one_plan_of_items items P Q (denoted_items records items d.described.said P d) (denoted_items records items d.described.said Q e)
 
-pub one_addition : OneAddition
-one_addition records s t d e =
+pub one_extension : OneExtension
+one_extension records s t d e =
     let items = d.described.items in
     let b : AreItems (StandsInAdded t) (IsItemOf t) items = subst (AreItems (StandsInAdded t) (IsItemOf t)) (same_items records e.described.items items e.described.said d.described.said) e.described.are in
-    same_added (held_by_addition s d.addition items d.described.are) (held_by_addition t e.addition items b)
+    same_added (held_by_extension s d.extension items d.described.are) (held_by_extension t e.extension items b)
+
+pub as_extension : (records : List Fields) (s : AddedParts) → DenotesAddition records s → DenotesExtension records s
+as_extension records s d = record { extension = d.addition.extension; described = d.described }
+
+pub one_addition : OneAddition
+one_addition records s t d e = one_extension records s t (as_extension records s d) (as_extension records t e)

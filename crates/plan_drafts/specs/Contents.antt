@@ -12,8 +12,8 @@ use Rattle.plan_model.specs.declared.Occurrence.{Occurrence}
 use Rattle.plan_model.specs.declared.Stock.{Stock}
 use Rattle.plan_model.specs.Contents.{Contents, Operation, AddedParts, pair_cmp}
 use Rattle.plan_drafts.specs.declared.contents.PlanContents.TheInside.{Inside}
-use Rattle.plan_drafts.specs.declared.contents.AdditionParts.{AdditionParts}
-use Rattle.plan_drafts.specs.Drafts.{IsAddition}
+use Rattle.plan_drafts.specs.declared.contents.ExtensionParts.{ExtensionParts}
+use Rattle.plan_drafts.specs.Drafts.{IsExtension}
 
 -- rows of each kind
 pub record Rows : Type 0 where
@@ -59,16 +59,13 @@ held_in c = held_by (rows_in c)
 abbrev pub AreInOrder : Inside → Type 0
 AreInOrder c = AreRowsInOrder (rows_in c)
 
--- an occurrence with its operations and pairs
-abbrev pub added_parts : OccKey → Occurrence → List (OpKey × Operation) → List (OpKey × OpKey) → AddedParts
-added_parts occurrence terms operations pairs = record { occurrences = map.insert map.empty occurrence terms; operations = map.from_entries operations; pairs = set.from_list pairs }
+-- what is added by these parts
+abbrev pub added_of : ExtensionParts → AddedParts
+added_of n = record { occurrences = map.from_entries n.occurrences.items; operations = map.from_entries n.operations.items; pairs = set.from_list n.pairs.items }
 
--- the addition of these parts
-abbrev pub added_of : AdditionParts → AddedParts
-added_of n = added_parts n.key n.terms n.operations.items n.pairs.items
-
--- operations by key, pairs by predecessor and then successor, each of them once, and they are an addition
-pub record AreAdditionParts (n : AdditionParts) : Type 0 where
+-- occurrences and operations by key, pairs by predecessor and then successor, each of them once, and they are an extension
+pub record AreExtensionParts (n : ExtensionParts) : Type 0 where
+  pub occurrences : IsStrictlySortedBy occurrence_cmp (keys_of n.occurrences.items)
   pub operations : IsStrictlySortedBy operation_cmp (keys_of n.operations.items)
   pub pairs : IsStrictlySortedBy pair_cmp n.pairs.items
-  pub addition : IsAddition (added_of n)
+  pub extension : IsExtension (added_of n)

@@ -14,4 +14,4 @@ pub mod Records
 pub mod KeyOrder
 pub mod RowKeys
 pub mod PlanItems
-pub mod AdditionItems
+pub mod ExtensionItems

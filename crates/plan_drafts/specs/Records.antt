@@ -1,4 +1,4 @@
--- What a list of records denotes, a plan or an addition: each record says an item, no two say one of the same key, and these are what the plan or the addition holds.
+-- What a list of records denotes, a plan, an addition or an extension: each record says an item, no two say one of the same key, and these are what that holds.
 use Rattle.std.specs.Prelude.{◌≡◌, ◌≢◌, ℕ, ◌<◌, true, List, map, All, Contains, Some, unwrap_or, Vec}
 use Rattle.std.specs.List.{AllPairs, AllZip}
 use Rattle.std.specs.FinMap.{get, len, contains_key}
@@ -13,7 +13,7 @@ use Rattle.plan_items.specs.declared.OperationItem.{OperationItem}
 use Rattle.plan_items.specs.Items.{Fields, fields_of, Says}
 use Rattle.plan_drafts.specs.declared.RowKey.{RowKey}
 use Rattle.plan_drafts.specs.declared.RowKey.TheVariants as key
-use Rattle.plan_drafts.specs.Drafts.{IsDraft, IsAddition}
+use Rattle.plan_drafts.specs.Drafts.{IsDraft, IsAddition, IsExtension}
 
 -- the texts of records, without where they lie in memory
 abbrev pub records_of : List (List (Vec ℕ Global)) → List Fields
@@ -100,6 +100,11 @@ pub record DenotesAddition (records : List Fields) (s : AddedParts) : Type 0 whe
   pub addition : IsAddition s
   pub described : AreDescriptions (StandsInAdded s) (IsItemOf s) records
 
+-- the records denote the extension
+pub record DenotesExtension (records : List Fields) (s : AddedParts) : Type 0 where
+  pub extension : IsExtension s
+  pub described : AreDescriptions (StandsInAdded s) (IsItemOf s) records
+
 -- items are those of one plan at most
 abbrev pub OnePlanOfItems : Type 0
 OnePlanOfItems = (items : List Item) (P Q : Contents) → AreItemsOf items P → AreItemsOf items Q → P ≡ Q
@@ -107,6 +112,10 @@ OnePlanOfItems = (items : List Item) (P Q : Contents) → AreItemsOf items P →
 -- records denote one plan at most
 abbrev pub OnePlan : Type 0
 OnePlan = (records : List Fields) (P Q : Contents) → Denotes records P → Denotes records Q → P ≡ Q
+
+-- and one extension at most
+abbrev pub OneExtension : Type 0
+OneExtension = (records : List Fields) (s t : AddedParts) → DenotesExtension records s → DenotesExtension records t → s ≡ t
 
 -- and one addition at most
 abbrev pub OneAddition : Type 0

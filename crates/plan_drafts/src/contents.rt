@@ -399,12 +399,11 @@ impl PlanContents {
     }
 }
 
-/// An occurrence that is added: its key, priority and deadline; its operations in key order; and the pairs added with
-/// it, by predecessor and then successor.
+/// Occurrences that are added, in key order, with their operations in key order, and the pairs added with them, by
+/// predecessor and then successor.
 #[derive(Debug, Drop)]
-pub struct AdditionParts {
-    pub key: OccKey,
-    pub terms: Occurrence,
+pub struct ExtensionParts {
+    pub occurrences: Vec<(OccKey, Occurrence)>,
     pub operations: Vec<(OpKey, OperationRecord)>,
     pub pairs: Vec<(OpKey, OpKey)>,
 }

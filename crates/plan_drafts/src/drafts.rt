@@ -1,16 +1,17 @@
-// What texts denote: a plan to be loaded, or an addition to one.
+// What texts denote: a plan to be loaded, or an addition to one or an extension of it.
 ghost use Rattle.std.specs.Prelude.{◌≡◌, List, All, IfOk, IfErr, MatchOption};
 ghost use Rattle.std.specs.List.{AllZip};
+ghost use Rattle.std.specs.FinMap.{len};
 ghost use Rattle.plan_drafts.specs.Drafts.{IsDraft};
-ghost use Rattle.plan_drafts.specs.Contents.{added_parts, AreAdditionParts};
+ghost use Rattle.plan_drafts.specs.Contents.{added_of, AreExtensionParts};
 ghost use Rattle.plan_items.specs.Items.{Fields, IsItem, Says};
 ghost use Rattle.plan_drafts.specs.PlanGraphs.{IsGraphFor};
-ghost use Rattle.plan_drafts.specs.Records.{records_of, AreItemsOf, Denotes, DenotesAddition};
+ghost use Rattle.plan_drafts.specs.Records.{records_of, AreItemsOf, Denotes, DenotesAddition, DenotesExtension};
 ghost use Rattle.plan_model.specs.Contents.{Contents, AddedParts};
 
-use super::additions::parts_of;
 use super::builder::{DraftParts, Record, parts_of_plan, read_items};
-use super::contents::{AdditionParts, PlanContents};
+use super::contents::{ExtensionParts, PlanContents};
+use super::extensions::extension_of;
 use plan_basics::Refusal;
 use plan_items::Item;
 use plan_model::Graph;
@@ -70,9 +71,9 @@ impl PlanDraft {
     /// The draft that the records of a text denote; `None` where they denote none. There is at least one workstation, of
     /// any attribute, each with intervals or without; intervals of one workstation may touch, but not overlap. There may be
     /// special resources. There is at least one occurrence, each with its operations, and an operation may need R1, R2 and
-    /// special resources, of each no more than there is; pairs may lead from one occurrence to another, but no path of pairs returns to its start. How
-    /// many there may be of each is in `plan_basics::limits`. The records may come in any order. The error is always
-    /// `Memory`.
+    /// special resources, of each no more than there is; pairs may lead from one occurrence to another, but no path of
+    /// pairs returns to its start. How many there may be of each is in `plan_basics::limits`. The records may come in any
+    /// order. The error is always `Memory`.
     pub fn build(records: Vec<Record>) -> Result<Option<PlanDraft>, Refusal>
         ensures denoted { IfOk result (λ found. MatchOption found ((P : Contents) → ¬ Denotes (records_of records.items) P) (λ draft. Denotes (records_of records.items) draft)) }
         ensures memory { IfErr result (λ r. r ≡ Refusal.Memory) }
@@ -129,13 +130,15 @@ impl PlanDraft {
 /// The occurrence that a text denotes, with its operations and pairs. Contracts see it as what is added.
 #[derive(Debug, Drop)]
 pub struct Addition {
-    parts: AdditionParts,
+    parts: ExtensionParts,
 }
 
 impl Model for Addition {
+    ghost use Rattle.std.specs.Prelude.{◌≡◌};
+    ghost use Rattle.std.specs.FinMap.{len};
     ghost use Rattle.plan_model.specs.Contents.{AddedParts};
     ghost use Rattle.plan_model.specs.Code.{added_code};
-    ghost use Rattle.plan_drafts.specs.Contents.{added_of, AreAdditionParts};
+    ghost use Rattle.plan_drafts.specs.Contents.{added_of, AreExtensionParts};
 
     ghost Value = { AddedParts };
 
@@ -143,7 +146,7 @@ impl Model for Addition {
 
     ghost view = { λ a. added_of a.parts };
 
-    ghost invariant = { λ a. AreAdditionParts a.parts };
+    ghost invariant = { λ a. (len (added_of a.parts).occurrences ≡ 1) × AreExtensionParts a.parts };
 }
 
 impl Addition {
@@ -169,16 +172,78 @@ impl Addition {
         ensures denoted { IfOk result (λ found. (records : List Fields) → AllZip Says records items.now → MatchOption found ((s : AddedParts) → ¬ DenotesAddition records s) (λ a. DenotesAddition records a)) }
         ensures memory { IfErr result (λ r. r ≡ Refusal.Memory) }
     {
-        let Some(parts) = parts_of(alloc, items)? else {
+        let Some(parts) = extension_of(alloc, items)? else {
             return Ok(None);
         };
+        if parts.occurrences.len() != 1 {
+            return Ok(None);
+        }
         Ok(Some(Addition { parts }))
     }
 
     /// What is added.
-    pub fn parts(&self) -> &AdditionParts
-        ensures view { self.now ≡ added_parts result.now.key result.now.terms result.now.operations.items result.now.pairs.items }
-        ensures in_order { AreAdditionParts result.now }
+    pub fn parts(&self) -> &ExtensionParts
+        ensures view { self.now ≡ added_of result.now }
+        ensures one { len self.now.occurrences ≡ 1 }
+        ensures in_order { AreExtensionParts result.now }
+    {
+        &self.parts
+    }
+}
+
+/// The occurrences that a text denotes by which a plan is extended, with their operations and pairs. Contracts see it as what
+/// is added.
+#[derive(Debug, Drop)]
+pub struct Extension {
+    parts: ExtensionParts,
+}
+
+impl Model for Extension {
+    ghost use Rattle.plan_model.specs.Contents.{AddedParts};
+    ghost use Rattle.plan_model.specs.Code.{added_code};
+    ghost use Rattle.plan_drafts.specs.Contents.{added_of, AreExtensionParts};
+
+    ghost Value = { AddedParts };
+
+    ghost coded = { added_code };
+
+    ghost view = { λ a. added_of a.parts };
+
+    ghost invariant = { λ a. AreExtensionParts a.parts };
+}
+
+impl Extension {
+    /// The extension that the records of a text denote; `None` where they denote none. There may be any number of occurrences,
+    /// each with at least one operation; each pair has an end in one of them, and its ends there are operations of the text. The
+    /// records may come in any order. The error is always `Memory`.
+    pub fn build(records: Vec<Record>) -> Result<Option<Extension>, Refusal>
+        ensures denoted { IfOk result (λ found. MatchOption found ((s : AddedParts) → ¬ DenotesExtension (records_of records.items) s) (λ a. DenotesExtension (records_of records.items) a)) }
+        ensures memory { IfErr result (λ r. r ≡ Refusal.Memory) }
+    {
+        let alloc = *records.allocator();
+        let Some(items) = read_items(alloc, &records)? else {
+            return Ok(None);
+        };
+        Extension::of_items(alloc, &items)
+    }
+
+    /// The extension that records denote which say these items, one item each, as `build` makes it of the records; `None` where
+    /// they denote none. The error is always `Memory`.
+    pub fn of_items(alloc: Global, items: &[Item]) -> Result<Option<Extension>, Refusal>
+        requires { All IsItem items.now }
+        ensures denoted { IfOk result (λ found. (records : List Fields) → AllZip Says records items.now → MatchOption found ((s : AddedParts) → ¬ DenotesExtension records s) (λ a. DenotesExtension records a)) }
+        ensures memory { IfErr result (λ r. r ≡ Refusal.Memory) }
+    {
+        let Some(parts) = extension_of(alloc, items)? else {
+            return Ok(None);
+        };
+        Ok(Some(Extension { parts }))
+    }
+
+    /// What is added.
+    pub fn parts(&self) -> &ExtensionParts
+        ensures view { self.now ≡ added_of result.now }
+        ensures in_order { AreExtensionParts result.now }
     {
         &self.parts
     }

@@ -1,16 +1,15 @@
 // Occurrences, operations and pairs of a plan, put in key order.
-ghost use Rattle.std.specs.Prelude.{◌≡◌, ◌↔◌, ◌<◌, ◌≤◌, map, length, All, Contains, IsTrue, IfOk, MatchOption};
+ghost use Rattle.std.specs.Prelude.{◌≡◌, ◌↔◌, map, All, Contains, IsTrue, IfOk, MatchOption};
 ghost use Rattle.std.specs.FinMap.{get, from_entries};
 ghost use Rattle.std.specs.FinSet.{from_list};
 ghost use Rattle.std.specs.List.Sorted.{IsStrictlySortedBy};
 ghost use Rattle.std.specs.Map.{keys_of};
-ghost use Rattle.plan_basics.specs.declared.limits.TheConstants.{MOST_NEEDS};
 ghost use Rattle.plan_basics.specs.Keys.{name_cmp, occurrence_cmp, operation_cmp};
 ghost use Rattle.plan_model.specs.Contents.{pair_cmp};
 ghost use Rattle.plan_model.specs.Valid.{IsAcyclic};
 ghost use Rattle.plan_drafts.specs.PlanGraphs.{AreAmong, IsGraphOf};
-ghost use Rattle.plan_drafts.specs.AdditionItems.{new_row};
-ghost use Rattle.plan_drafts.specs.PlanItems.{row_of, occurrence_of, need_cmp, need_key, needs_of, IsOneOf, BelongsTo, AreOccurrenceRows, AreOccurrencesInOrder, AreOperations, EachHasOperation, AreRowsOf, ArePairs, ArePairsInOrder};
+ghost use Rattle.plan_drafts.specs.ExtensionItems.{AreTheirOperations, AreTheirRows};
+ghost use Rattle.plan_drafts.specs.PlanItems.{row_of, occurrence_of, need_cmp, need_key, IsOneOf, BelongsTo, AreOccurrenceRows, AreOccurrencesInOrder, AreOperations, EachHasOperation, AreRowsOf, ArePairs, ArePairsInOrder};
 
 use super::graphs::{graph_among, graph_of};
 use super::intervals::is_named;
@@ -44,16 +43,18 @@ fn terms_of(occurrences: &[(OccKey, Occurrence)], key: &OccKey) -> Option<Occurr
     Some(occurrences[place].1)
 }
 
-// The row of an operation whose occurrence has these terms, with its own needs, which are no more than it may have:
-// nothing is reported of it, and its flags are clear.
-fn planned(
-    terms: &Occurrence,
+// The row of an operation of one of these occurrences, with its own needs, which are no more than it may have: nothing is
+// reported of it, and its flags are clear.
+fn row(
+    occurrences: &[(OccKey, Occurrence)],
     needs: &[(OpKey, Need)],
     said: &OperationItem,
 ) -> Option<(OpKey, OperationRecord)>
-    requires { IsStrictlySortedBy need_cmp (map need_key needs.now) }
-    ensures { MatchOption result (MOST_NEEDS < length (needs_of said.now.key needs.now)) (λ row. (length (needs_of said.now.key needs.now) ≤ MOST_NEEDS) × (row ≡ new_row terms.now needs.now said.now)) }
+    requires in_order { IsStrictlySortedBy occurrence_cmp (keys_of occurrences.now) }
+    requires needs { IsStrictlySortedBy need_cmp (map need_key needs.now) }
+    ensures { MatchOption result (¬ BelongsTo occurrences.now needs.now said.now) (λ row. BelongsTo occurrences.now needs.now said.now × (row ≡ row_of occurrences.now needs.now said.now)) }
 {
+    let terms = terms_of(occurrences, &said.key.occurrence)?;
     let needs = own_needs(needs, &said.key)?;
     let operation = OperationRecord {
         workstation: said.workstation,
@@ -70,22 +71,8 @@ fn planned(
     Some((said.key, operation))
 }
 
-// The row of an operation of one of these occurrences, with its own needs.
-fn row(
-    occurrences: &[(OccKey, Occurrence)],
-    needs: &[(OpKey, Need)],
-    said: &OperationItem,
-) -> Option<(OpKey, OperationRecord)>
-    requires in_order { IsStrictlySortedBy occurrence_cmp (keys_of occurrences.now) }
-    requires needs { IsStrictlySortedBy need_cmp (map need_key needs.now) }
-    ensures { MatchOption result (¬ BelongsTo occurrences.now needs.now said.now) (λ row. BelongsTo occurrences.now needs.now said.now × (row ≡ row_of occurrences.now needs.now said.now)) }
-{
-    let terms = terms_of(occurrences, &said.key.occurrence)?;
-    planned(&terms, needs, said)
-}
-
 // The operations' rows, where each is of one of these occurrences and has no more needs than it may have.
-pub fn rows(
+fn rows(
     alloc: Global,
     occurrences: &[(OccKey, Occurrence)],
     needs: &[(OpKey, Need)],
@@ -131,8 +118,32 @@ fn each_has_operation(keys: &[OpKey], occurrences: &[(OccKey, Occurrence)]) -> b
     occurrences.iter().all(|row| has_operation(keys, &row.0))
 }
 
-// The operations' rows in key order, where they are few enough, each fits, none is repeated, each occurrence has one. What is said is
-// put in order, since a row is some ten times as long.
+// The operations' rows in key order, where each is of one of these occurrences, none is repeated and each occurrence has one. What is
+// said is put in order, since a row is some ten times as long.
+pub fn their_rows(
+    alloc: Global,
+    occurrences: &[(OccKey, Occurrence)],
+    needs: &[(OpKey, Need)],
+    said: Vec<OperationItem>,
+) -> Result<Option<Vec<(OpKey, OperationRecord)>>, AllocError>
+    requires in_order { IsStrictlySortedBy occurrence_cmp (keys_of occurrences.now) }
+    requires needs { IsStrictlySortedBy need_cmp (map need_key needs.now) }
+    ensures { IfOk result (λ found. MatchOption found (¬ AreTheirOperations occurrences.now needs.now said.items) (λ v. AreTheirRows occurrences.now needs.now said.items v.items)) }
+{
+    let Some(said) = in_key_order(said, |said| said.key)? else {
+        return Ok(None);
+    };
+    let Some(rows) = rows(alloc, occurrences, needs, &said)? else {
+        return Ok(None);
+    };
+    let keys = keys(alloc, &rows)?;
+    if !each_has_operation(&keys, occurrences) {
+        return Ok(None);
+    }
+    Ok(Some(rows))
+}
+
+// The same, where they are few enough and each is of one of these workstations too.
 pub fn operations_in_order(
     alloc: Global,
     workstations: &[Workstation],
@@ -151,17 +162,7 @@ pub fn operations_in_order(
     if !are_named(workstations, &said) {
         return Ok(None);
     }
-    let Some(said) = in_key_order(said, |said| said.key)? else {
-        return Ok(None);
-    };
-    let Some(rows) = rows(alloc, occurrences, needs, &said)? else {
-        return Ok(None);
-    };
-    let keys = keys(alloc, &rows)?;
-    if !each_has_operation(&keys, occurrences) {
-        return Ok(None);
-    }
-    Ok(Some(rows))
+    their_rows(alloc, occurrences, needs, said)
 }
 
 // Whether a key is among keys in order.

@@ -1,15 +1,15 @@
-//! What a plan holds, in key order, and what texts denote: a plan to be loaded, or an addition to one. The graph of
-//! operations by their pairs.
+//! What a plan holds, in key order, and what texts denote: a plan to be loaded, or an addition to one or an extension of
+//! it. The graph of operations by their pairs.
 #![tactic(auto)]
 
 ghost use Rattle.std.specs.Prelude.{◌≡◌};
-ghost use Rattle.plan_drafts.specs.Records.{OnePlan, OnePlanOfItems, OneAddition};
+ghost use Rattle.plan_drafts.specs.Records.{OnePlan, OnePlanOfItems, OneExtension, OneAddition};
 ghost use Rattle.plan_drafts.specs.RowKeys.{row_cmp};
 
-mod additions;
 mod builder;
 mod contents;
 mod drafts;
+mod extensions;
 mod found;
 mod graphs;
 mod hints;
@@ -20,8 +20,8 @@ mod needs;
 mod places;
 
 pub use builder::{DraftParts, Record};
-pub use contents::{AdditionParts, PlanContents, copies_of};
-pub use drafts::{Addition, PlanDraft, contents_of_items};
+pub use contents::{ExtensionParts, PlanContents, copies_of};
+pub use drafts::{Addition, Extension, PlanDraft, contents_of_items};
 pub use graphs::{graph_among, graph_of, is_acyclic};
 pub use key_order::{ExactKey, in_key_order, keys};
 pub use places::row_place;
@@ -53,9 +53,10 @@ impl RowKey {
     }
 }
 
-/// The law that records denote one plan at most, and so do items; and one addition at most. It does nothing.
+/// The law that records denote one plan at most, and so do items; and one extension and one addition at most. It does nothing.
 pub fn one_denotation()
     ensures plan { OnePlan }
     ensures items { OnePlanOfItems }
+    ensures extension { OneExtension }
     ensures addition { OneAddition }
 {}

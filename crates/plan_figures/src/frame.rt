@@ -13,6 +13,7 @@ ghost use Rattle.plan_figures.specs.Frames.{IsFrameOf};
 ghost use Rattle.plan_figures.specs.Reports.{IsOfStatus, IsReported};
 
 use super::figures::Figures;
+use super::statuses::Statuses;
 use latest_start::Latest;
 use operation_graph::Graph;
 use plan_basics::{Attr, OccKey, OpKey};
@@ -96,6 +97,13 @@ impl<'a> Outline<'a> {
         &self.frame.figures.statuses
     }
 
+    /// The statuses of its operations, to be found by their keys.
+    pub fn known(&self) -> Statuses<'a>
+        ensures { result ≡ self.now }
+    {
+        Statuses::of(self.beside, self.statuses())
+    }
+
     /// Who holds what of special resources.
     pub fn holdings(&self) -> &'a Holdings
         ensures { AreHeldIn self.now result.now.held }
@@ -108,7 +116,7 @@ impl<'a> Outline<'a> {
         ensures found { IfSome result (λ i. (op : Operation) × (slice_get (entries self.now.operations) i ≡ Some (key.now, op))) }
         ensures absent { IsNone result → get self.now.operations key.now ≡ None }
     {
-        self.beside.operation_place(key)
+        self.known().place_of(key)
     }
 
     /// The status of the operation at an index.
@@ -116,8 +124,7 @@ impl<'a> Outline<'a> {
         requires { place < length (entries self.now.operations) }
         ensures { (o : OpKeyValue) → (op : Operation) → slice_get (entries self.now.operations) place ≡ Some (o, op) → IsOfStatus self.now o result }
     {
-        self.beside.are_sound();
-        self.frame.figures.statuses[place]
+        self.known().status_at(place)
     }
 
     /// The status of the operation of a key, if there is one.
@@ -125,10 +132,7 @@ impl<'a> Outline<'a> {
         ensures found { IfSome result (IsOfStatus self.now key.now) }
         ensures absent { IsNone result → get self.now.operations key.now ≡ None }
     {
-        match self.place_of(key) {
-            Some(place) => Some(self.status_at(place)),
-            None => None,
-        }
+        self.known().status_of(key)
     }
 
     /// The status of the occurrence of a key, if there is one.

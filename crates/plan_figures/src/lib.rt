@@ -16,6 +16,7 @@ mod relisting;
 mod restanding;
 mod restating;
 mod retallying;
+mod statuses;
 mod takings;
 mod waiting;
 
@@ -28,12 +29,13 @@ pub use loaded::{LoadedPlan, Parts};
 pub use noting::{entries_at, entries_briefed};
 pub use plan_choice::{
     Beside, Brief, Choice, OperationRecord, RecordCopy, Seen, Shown, SoundContents, Standing,
-    ValidContents, check_start, chosen_with, given_out_of, graph_for, holdings_of, latest_of,
-    occurrence_status_with, ready_of, standings_of, statuses_of, tallies_of,
+    ValidContents, check_start, chosen_with, given_out_of, graph_for, holdings_of, is_one_of,
+    latest_of, occurrence_status_with, ready_of, standings_of, statuses_of, tallies_of,
 };
 pub use relisting::relist_all;
 pub use restanding::restand;
 pub use restating::{Restating, restate, restate_all};
 pub use shown_records::{Changes, OperationRow, PlanContents, PlanRow, RowKey, row_place};
+pub use statuses::{Statuses, statuses_shown};
 pub use takings::retake;
 pub use waiting::{satisfy, unsatisfy};

@@ -7,13 +7,13 @@ use Rattle.csv.specs.Reading.{Reached, default_config, strip_bom}
 use Rattle.csv.specs.declared.parser.State.{State}
 use Rattle.csv.specs.declared.parser.State.TheVariants as st
 use Rattle.csv.proofs.ReadFacts.{reached-more}
-use Rattle.plan_records.specs.plan_drafts.specs.Records.{Denotes, DenotesAddition}
+use Rattle.plan_records.specs.plan_drafts.specs.Records.{Denotes, DenotesAddition, DenotesExtension}
 use Rattle.plan_records.specs.plan_items.specs.Items.{Fields, IsItem, Says}
 use Rattle.plan_records.specs.plan_items.specs.declared.Item.{Item}
 use Rattle.plan_records.specs.plan_model.specs.Contents.{AddedParts, Contents}
 use Rattle.plan_import.proofs.Rows.{all-more, one_reading, other-none}
 use Rattle.plan_import.specs.Records.{IsSaidIn, IsTen, SaysSome}
-use Rattle.plan_import.specs.Texts.{ReadsAs, TextDenotes, TextDenotesAddition}
+use Rattle.plan_import.specs.Texts.{ReadsAs, TextDenotes, TextDenotesAddition, TextDenotesExtension}
 
 -- the records so far say these items, and the bytes go on with y
 abbrev pub SaidSoFar : Option (List ℕ) → Option (List ℕ) → State → List Item → Type 0
@@ -89,6 +89,9 @@ no_plan_said o none = none_by Denotes (λ records P denotes. (denotes.described.
 pub no_addition_said : (o : Option (List ℕ)) → IfSome o (λ text. IsSaidIn (strip_bom text) None) → IfSome o (λ text. (s : AddedParts) → ¬ TextDenotesAddition text s)
 no_addition_said o none = none_by DenotesAddition (λ records s denotes. (denotes.described.items, denotes.described.said)) o none
 
+pub no_extension_said : (o : Option (List ℕ)) → IfSome o (λ text. IsSaidIn (strip_bom text) None) → IfSome o (λ text. (s : AddedParts) → ¬ TextDenotesExtension text s)
+no_extension_said o none = none_by DenotesExtension (λ records s denotes. (denotes.described.items, denotes.described.said)) o none
+
 pub plan_by_items : (o : Option (List ℕ)) (items : List Item) (found : Option Contents) → IfSome o (λ text. IsSaidIn (strip_bom text) (Some items))
     → ((records : List Fields) → AllZip Says records items → MatchOption found ((P : Contents) → ¬ Denotes records P) (λ draft. Denotes records draft))
     → IfSome o (λ text. MatchOption found ((P : Contents) → ¬ TextDenotes text P) (λ draft. TextDenotes text draft))
@@ -98,3 +101,8 @@ pub addition_by_items : (o : Option (List ℕ)) (items : List Item) (found : Opt
     → ((records : List Fields) → AllZip Says records items → MatchOption found ((s : AddedParts) → ¬ DenotesAddition records s) (λ a. DenotesAddition records a))
     → IfSome o (λ text. MatchOption found ((s : AddedParts) → ¬ TextDenotesAddition text s) (λ a. TextDenotesAddition text a))
 addition_by_items o items found said denoted = denoted_by DenotesAddition o items found said denoted
+
+pub extension_by_items : (o : Option (List ℕ)) (items : List Item) (found : Option AddedParts) → IfSome o (λ text. IsSaidIn (strip_bom text) (Some items))
+    → ((records : List Fields) → AllZip Says records items → MatchOption found ((s : AddedParts) → ¬ DenotesExtension records s) (λ a. DenotesExtension records a))
+    → IfSome o (λ text. MatchOption found ((s : AddedParts) → ¬ TextDenotesExtension text s) (λ a. TextDenotesExtension text a))
+extension_by_items o items found said denoted = denoted_by DenotesExtension o items found said denoted

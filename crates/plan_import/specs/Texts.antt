@@ -1,9 +1,9 @@
--- Which plan a text denotes, and which addition: that of its records.
+-- Which plan a text denotes, which addition and which extension: that of its records.
 use Rattle.std.specs.Prelude.{ℕ, List}
 use Rattle.csv.specs.Reading.{strip_bom}
 use Rattle.plan_records.specs.plan_model.specs.Contents.{Contents, AddedParts}
 use Rattle.plan_records.specs.plan_items.specs.Items.{Fields}
-use Rattle.plan_records.specs.plan_drafts.specs.Records.{Denotes, DenotesAddition}
+use Rattle.plan_records.specs.plan_drafts.specs.Records.{Denotes, DenotesAddition, DenotesExtension}
 use Rattle.plan_import.specs.Records.{AreOfTen}
 
 -- the text reads as these records, each of ten fields; a byte order mark at its front is no part of the first
@@ -17,3 +17,7 @@ TextDenotes text P = (records : List Fields) × ReadsAs text records × Denotes 
 -- the text denotes the addition: its records do
 abbrev pub TextDenotesAddition : List ℕ → AddedParts → Type 0
 TextDenotesAddition text s = (records : List Fields) × ReadsAs text records × DenotesAddition records s
+
+-- the text denotes the extension: its records do
+abbrev pub TextDenotesExtension : List ℕ → AddedParts → Type 0
+TextDenotesExtension text s = (records : List Fields) × ReadsAs text records × DenotesExtension records s

@@ -1,4 +1,4 @@
-//! Plans, and occurrences to be added, from texts of comma-separated fields, over any reader of bytes.
+//! Plans, occurrences to be added and extensions, from texts of comma-separated fields, over any reader of bytes.
 #![tactic(auto)]
 
 ghost use Rattle.std.specs.Prelude.{◌≡◌, ◌↔◌, All, IfOk, IfSome, OnOk, length, MatchOption, Err, true, false, option_map};
@@ -8,13 +8,13 @@ ghost use Rattle.csv.specs.declared.parser.State.TheVariants as st;
 ghost use Rattle.plan_records.specs.plan_model.specs.Contents.{Contents, AddedParts};
 ghost use Rattle.plan_records.specs.plan_items.specs.Items.{IsItem, Says, fields_of};
 ghost use Rattle.plan_import.specs.Records.{IsPlain, IsSaidIn, IsTen, SaysNext, SaysSome};
-ghost use Rattle.plan_import.specs.Texts.{TextDenotes, TextDenotesAddition};
+ghost use Rattle.plan_import.specs.Texts.{TextDenotes, TextDenotesAddition, TextDenotesExtension};
 ghost use Rattle.plan_basics.specs.Watched.{inner_of, failed_of};
 
 use csv::{ByteRecord, ErrorKind, Reader, ReaderBuilder};
 use plan_basics::Watched;
 use plan_items::{Item, read_item};
-use plan_records::{Addition, PlanDraft};
+use plan_records::{Addition, Extension, PlanDraft};
 use std::alloc::{AllocError, AllocFailed, Global};
 use std::io::Read;
 
@@ -250,6 +250,26 @@ pub fn read_occurrence<R: Read>(
     };
     match Addition::of_items(alloc, &items) {
         Ok(addition) => Ok(addition),
+        Err(_) => Err(ImportFault::Memory),
+    }
+}
+
+/// The extension that a text denotes, if it denotes one: any number of occurrences with their operations and pairs, none
+/// where the text is empty. The text is read as that of a plan, and its faults are the same. (The records and what they
+/// denote: this project's own.)
+pub fn read_extension<R: Read>(
+    alloc: Global,
+    reader: &mut Watched<R>,
+) -> Result<Option<Extension>, ImportFault>
+    ensures extension { IfOk result (λ found. IfSome (R.remaining (inner_of reader.old)) (λ text.
+        MatchOption found ((s : AddedParts) → ¬ TextDenotesExtension text s) (λ a. TextDenotesExtension text a))) }
+    ensures reader_fault { (result ≡ Err ImportFault.Reader) ↔ (failed_of reader.new ≡ true) }
+{
+    let Some(items) = read_items(alloc, reader)? else {
+        return Ok(None);
+    };
+    match Extension::of_items(alloc, &items) {
+        Ok(extension) => Ok(extension),
         Err(_) => Err(ImportFault::Memory),
     }
 }

@@ -1,8 +1,7 @@
 -- A load, a change of availability and new intervals keep a plan sound.
-use Rattle.std.proofs.Common.{◌≡◌, ◌⊎◌, inl, inr, refl, sym, ◌∙◌, ap, subst, true≢false, ◌+◌, ◌≤◌, Bool, true, false, cond, List, Option, Some, None, option_map, is_some}
+use Rattle.std.proofs.Common.{◌≡◌, inl, inr, refl, sym, ◌∙◌, ap, subst, true≢false, ◌≤◌, Bool, true, false, cond, List, Option, Some, None, option_map, is_some}
 use Rattle.std.specs.Ordering.{eq_by_cmp}
-use Rattle.std.specs.Cmp.{Equal-is}
-use Rattle.std.specs.FinMap.{get, insert, get-insert, len, len-insert, contains_key}
+use Rattle.std.specs.FinMap.{get, contains_key}
 use Rattle.std.proofs.lemmas.Bool.{cond_both}
 use Rattle.plan_basics.specs.declared.limits.TheConstants.{MOST_QUANTITY, MOST_RESOURCES, MOST_WORKSTATIONS}
 use Rattle.plan_basics.specs.declared.Refusal.TheVariants as refusal
@@ -11,7 +10,7 @@ use Rattle.plan_records.specs.declared.What.TheVariants as what
 use Rattle.plan_basics.specs.declared.moments.Interval.{Interval}
 use Rattle.std.proofs.Common.{Vec, Global}
 use Rattle.plan_basics.specs.Intervals.{OpenInterval}
-use Rattle.plan_basics.specs.Keys.{Name, name_cmp, name_cmp-IsAntisymmetric, name_cmp_total}
+use Rattle.plan_basics.specs.Keys.{Name, name_cmp, name_cmp-IsAntisymmetric}
 use Rattle.plan_basics.specs.Names.{IsName, IsResourceName}
 use Rattle.plan_laws.proofs.Entries.{same_operation}
 use Rattle.plan_records.specs.special_resources.proofs.Amounts.{no_more, none_held}

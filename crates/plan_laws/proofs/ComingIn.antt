@@ -13,6 +13,7 @@ use Rattle.plan_basics.specs.Keys.{Name, occurrence_cmp_total, operation_cmp_tot
 use Rattle.plan_basics.specs.declared.Refusal.{Refusal}
 use Rattle.plan_basics.specs.declared.keys.OpKey.{OpKey}
 use Rattle.plan_laws.proofs.Entries.{same_operation}
+use Rattle.plan_laws.proofs.Leaving.{left_is_sound}
 use Rattle.plan_laws.proofs.Pairs.{pair_cmp_total, pair_same}
 use Rattle.plan_laws.proofs.Flags.{waiting_not_satisfied, waiting_unmarked}
 use Rattle.plan_records.specs.plan_drafts.proofs.Tables.{is_found}
@@ -24,7 +25,7 @@ use Rattle.plan_records.specs.plan_model.specs.Status.{AllPredecessorsSatisfied,
 use Rattle.plan_records.specs.plan_model.specs.Valid.{AreOccurrences, IsSound, IsUntouched, IsValid, MayBear}
 use Rattle.plan_records.specs.Acceptance.{IsNew, IsOld, MayBeAdded}
 use Rattle.plan_records.specs.Changes.{with_added}
-use Rattle.plan_records.specs.plan_drafts.specs.Drafts.{IsAddition, IsOwn}
+use Rattle.plan_records.specs.plan_drafts.specs.Drafts.{IsExtension, IsOwn}
 use Rattle.plan_records.specs.Laws.{ChangeKeepsSound}
 use Rattle.plan_records.specs.special_resources.proofs.Amounts.{no_more}
 use Rattle.plan_records.specs.special_resources.specs.Holders.{Usage}
@@ -181,7 +182,7 @@ not_own P s valid new o h own =
     let known = is_found (get P.operations o) h in
     true≢false (sym (valid.occurrences.each_operation o known.0 known.1).1 ∙ new o.occurrence own)
 
-module _ (P : Contents) (sound : IsSound P) (s : AddedParts) (addition : IsAddition s) (may : (r : Refusal) → MayBeAdded P s r) where
+module _ (P : Contents) (sound : IsSound P) (s : AddedParts) (addition : IsExtension s) (may : (r : Refusal) → MayBeAdded P s r) where
   own : (o : OpKey) (x : Operation) → get s.operations o ≡ Some x → IsOwn s o
   own o x e = (addition.occurrences.each_operation o x e).1
 
@@ -234,7 +235,7 @@ module _ (P : Contents) (sound : IsSound P) (s : AddedParts) (addition : IsAddit
 pub addition_keeps_sound : (s : AddedParts) → ChangeKeepsSound (what.AddOccurrence (Some s))
 addition_keeps_sound s P Q at sound may request c =
     let same : s ≡ c.0 = same_Some s c.0 c.1 in
-    subst IsSound (ap (with_added P.contents) same ∙ sym c.2) (addition_is_sound P.contents sound.contents s request lines)
+    subst IsSound (ap (with_added P.contents) same ∙ sym c.2) (addition_is_sound P.contents sound.contents s request.extension lines)
   where
     lines : (r : Refusal) → MayBeAdded P.contents s r
     lines refusal.UnknownOperation = may refusal.UnknownOperation
@@ -244,4 +245,21 @@ addition_keeps_sound s P Q at sound may request c =
     lines refusal.Duplicate = may refusal.Duplicate
     lines refusal.Cycle = may refusal.Cycle
     lines refusal.Limit = may refusal.Limit
+    lines r = tt
+
+-- occurrences leave, and others come in
+pub extension_keeps_sound : (s : AddedParts) → ChangeKeepsSound (what.Extend (Some s))
+extension_keeps_sound s P Q at sound may request c =
+    let same : s ≡ c.0 = same_Some s c.0 c.2 in
+    let sound_left : IsSound c.1 = subst IsSound (sym c.3.2) (left_is_sound P.contents c.3.0 sound.contents) in
+    subst IsSound (ap (with_added c.1) same ∙ sym c.4) (addition_is_sound c.1 sound_left s request lines)
+  where
+    lines : (r : Refusal) → MayBeAdded c.1 s r
+    lines refusal.UnknownOperation = may refusal.UnknownOperation c.1 c.3
+    lines refusal.UnknownWorkstation = may refusal.UnknownWorkstation c.1 c.3
+    lines refusal.UnknownResource = may refusal.UnknownResource c.1 c.3
+    lines refusal.WrongStatus = may refusal.WrongStatus c.1 c.3
+    lines refusal.Duplicate = may refusal.Duplicate c.1 c.3
+    lines refusal.Cycle = may refusal.Cycle c.1 c.3
+    lines refusal.Limit = may refusal.Limit c.1 c.3
     lines r = tt

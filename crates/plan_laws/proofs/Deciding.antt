@@ -20,10 +20,12 @@ use Rattle.plan_records.specs.status_rules.specs.declared.Status.TheVariants as 
 use Rattle.plan_laws.proofs.Allowing.{may_start_told, told_le}
 use Rattle.plan_laws.proofs.Elements.{told_pairs_of}
 use Rattle.plan_laws.proofs.Entries.{told_each_at, told_entries}
+use Rattle.plan_laws.proofs.Leaving.{left_acyclic, one_left}
 use Rattle.plan_laws.proofs.Ordered.{told_acyclic_pairs}
 use Rattle.plan_laws.proofs.Reaching.{each_operation_told, in_plan_told, limits_told, none_reached_told, none_under_way_told, told_keys, told_pairs, under_way_told, waiting_or_ready_told}
 use Rattle.plan_laws.proofs.Readying.{ready_told}
 use Rattle.plan_laws.proofs.Standing.{status_told}
+use Rattle.plan_laws.proofs.Waiting.{some_left}
 use Rattle.plan_laws.proofs.Decide.{told_attribute}
 use Rattle.plan_records.specs.operation_graph.proofs.Telling.{Told, told_alike, told_and, told_if_then, told_none, told_or, told_true}
 use Rattle.plan_records.specs.plan_model.specs.Plan.{Plan}
@@ -32,7 +34,7 @@ use Rattle.plan_records.specs.plan_model.specs.Valid.{AmountsFit, HaveResources,
 use Rattle.plan_records.specs.plan_model.specs.declared.Stock.{Stock}
 use Rattle.plan_records.specs.special_resources.specs.Holders.{Usage}
 use Rattle.plan_records.specs.Acceptance.{IsBadText, IsLoad, IsNew, IsOld, MayBeAccepted, MayBeAdded, MayBeCompleted, MayBeDeleted, MayBeDone, MayBeEnded, MayBeFlagged, MayBeInterrupted, MayBeLoaded, MayBeOpenBy, MayBePaired, MayBeRerun, MayBeSetAvailable, MayBeStarted, MayBeUndecided, NeedsPlan, OfOperation, minute_of}
-use Rattle.plan_records.specs.Changes.{with_pair, with_added}
+use Rattle.plan_records.specs.Changes.{LeavesOver, with_pair, with_added}
 use Rattle.plan_records.specs.declared.Request.{Request}
 use Rattle.plan_records.specs.declared.What.{What}
 use Rattle.plan_records.specs.declared.What.TheVariants as what
@@ -128,6 +130,17 @@ module _ (P : Contents) (acyclic : IsAcyclic P.pairs) where
     added_told refusal.Limit = told_and (limits_told (with_added P s)) (λ _. amounts_told)
     added_told r = inl tt
 
+module _ (P : Contents) (acyclic : IsAcyclic P.pairs) where
+  -- judged on what is left
+  extended_told : (s : AddedParts) (r : Refusal) → Told ((left : Contents) → LeavesOver P left → MayBeAdded left s r)
+  extended_told s r =
+      let one = some_left P acyclic in
+      let acyclic_left : IsAcyclic one.0.pairs = subst (λ X. IsAcyclic X.pairs) (sym one.1.2) (left_acyclic P one.1.0 acyclic) in
+      told_alike
+      (λ h left leaves. subst (λ X. MayBeAdded X s r) (one_left P one.0 left one.1 leaves) h)
+      (λ f. f one.0 one.1)
+      (added_told one.0 acyclic_left s r)
+
   paired_told : (p s : OpKey) (r : Refusal) → Told (MayBePaired P p s r)
   paired_told p s refusal.UnknownOperation = told_and (in_plan_told P acyclic p) (λ _. in_plan_told P acyclic s)
   paired_told p s refusal.WrongStatus = told_and (told_none (status_told P acyclic p status.Deleted)) (λ _. waiting_or_ready_told P acyclic s)
@@ -163,20 +176,22 @@ module _ (P : Contents) (acyclic : IsAcyclic P.pairs) where
   pub done_told : (m : ℕ) (w : What) (r : Refusal) → Told (MayBeDone P m w r)
   done_told m (what.Load draft) r = loaded_told (is_some draft) r
   done_told m what.Tick r = inl tt
-  done_told m (what.Started o) r = of_operation_told o _ (λ op. started_told m o op (attribute_at P op.workstation)) r
-  done_told m (what.Ended o) r = of_operation_told o _ (λ op. ended_told o op (attribute_at P op.workstation)) r
-  done_told m (what.Error o code) r = of_operation_told o _ (λ op. ended_told o op (attribute_at P op.workstation)) r
-  done_told m (what.Interrupted o) r = of_operation_told o _ (interrupted_told o) r
-  done_told m (what.Unknown o) r = of_operation_told o _ (λ op. undecided_told o) r
-  done_told m (what.Hold o) r = of_operation_told o _ (λ op. flagged_told o) r
-  done_told m (what.Release o) r = of_operation_told o _ (λ op. flagged_told o) r
-  done_told m (what.Nop o) r = of_operation_told o _ (λ op. flagged_told o) r
-  done_told m (what.Unnop o) r = of_operation_told o _ (λ op. flagged_told o) r
-  done_told m (what.Rerun o) r = of_operation_told o _ (λ op. rerun_told o) r
-  done_told m (what.Complete o) r = of_operation_told o _ (completed_told o) r
-  done_told m (what.DeleteOccurrence c) r = deleted_told c r
+  done_told m (what.Started o) r = of_operation_told o _ (λ op. started_told P acyclic m o op (attribute_at P op.workstation)) r
+  done_told m (what.Ended o) r = of_operation_told o _ (λ op. ended_told P acyclic o op (attribute_at P op.workstation)) r
+  done_told m (what.Error o code) r = of_operation_told o _ (λ op. ended_told P acyclic o op (attribute_at P op.workstation)) r
+  done_told m (what.Interrupted o) r = of_operation_told o _ (interrupted_told P acyclic o) r
+  done_told m (what.Unknown o) r = of_operation_told o _ (λ op. undecided_told P acyclic o) r
+  done_told m (what.Hold o) r = of_operation_told o _ (λ op. flagged_told P acyclic o) r
+  done_told m (what.Release o) r = of_operation_told o _ (λ op. flagged_told P acyclic o) r
+  done_told m (what.Nop o) r = of_operation_told o _ (λ op. flagged_told P acyclic o) r
+  done_told m (what.Unnop o) r = of_operation_told o _ (λ op. flagged_told P acyclic o) r
+  done_told m (what.Rerun o) r = of_operation_told o _ (λ op. rerun_told P acyclic o) r
+  done_told m (what.Complete o) r = of_operation_told o _ (completed_told P acyclic o) r
+  done_told m (what.DeleteOccurrence c) r = deleted_told P acyclic c r
   done_told m (what.AddOccurrence None) r = bad_text_told r
-  done_told m (what.AddOccurrence (Some s)) r = added_told s r
+  done_told m (what.AddOccurrence (Some s)) r = added_told P acyclic s r
+  done_told m (what.Extend None) r = bad_text_told r
+  done_told m (what.Extend (Some s)) r = extended_told s r
   done_told m (what.AddDependency p s) r = paired_told p s r
   done_told m (what.SetAvailable n available) r = set_available_told n r
   done_told m (what.ReplaceIntervals w items) r = open_by_told w items.items r

@@ -10,7 +10,7 @@ use Rattle.plan_basics.specs.Keys.{name_cmp, occurrence_cmp, operation_cmp}
 use Rattle.plan_basics.specs.declared.keys.OpKey.{OpKey}
 use Rattle.plan_laws.proofs.Changing.{availability_keeps_sound, intervals_keep_sound, load_keeps_sound}
 use Rattle.plan_laws.proofs.KeptByStep.{step_keeps_sound, tick_keeps_sound}
-use Rattle.plan_laws.proofs.ComingIn.{addition_keeps_sound, pair_keeps_sound}
+use Rattle.plan_laws.proofs.ComingIn.{addition_keeps_sound, extension_keeps_sound, pair_keeps_sound}
 use Rattle.plan_laws.proofs.Deleting.{delete_keeps_sound}
 use Rattle.plan_laws.proofs.Flags.{hold_keeps_sound, nop_keeps_sound, release_keeps_sound, unnop_keeps_sound}
 use Rattle.std.proofs.lemmas.Option.{none-some}
@@ -49,6 +49,8 @@ every_change_keeps_sound (what.Complete o) = complete_keeps_sound o
 every_change_keeps_sound (what.DeleteOccurrence c) = delete_keeps_sound c
 every_change_keeps_sound (what.AddOccurrence None) = λ P Q at sound may request c. absurd (none-some c.0 c.1)
 every_change_keeps_sound (what.AddOccurrence (Some s)) = addition_keeps_sound s
+every_change_keeps_sound (what.Extend None) = λ P Q at sound may request c. absurd (none-some c.0 c.2)
+every_change_keeps_sound (what.Extend (Some s)) = extension_keeps_sound s
 every_change_keeps_sound (what.AddDependency p s) = pair_keeps_sound p s
 every_change_keeps_sound (what.SetAvailable r available) = availability_keeps_sound r available
 every_change_keeps_sound (what.ReplaceIntervals w items) = intervals_keep_sound w items

@@ -16,6 +16,8 @@ pub mod Flags
 pub mod Kept
 pub mod KeptByStep
 pub mod Latest
+pub mod Leaving
+pub mod LeftGraph
 pub mod Listed
 pub mod Marking
 pub mod Numbers

@@ -8,10 +8,10 @@ use Rattle.plan_records.specs.plan_model.specs.Contents.{Contents, AddedParts}
 use Rattle.plan_records.specs.plan_items.specs.declared.Item.{Item}
 use Rattle.plan_records.specs.plan_items.specs.Items.{Fields, Says}
 use Rattle.plan_records.specs.plan_drafts.specs.declared.RowKey.{RowKey}
-use Rattle.plan_records.specs.plan_drafts.specs.Records.{AreDescriptions, AreItems, Denotes, DenotesAddition, key_of}
+use Rattle.plan_records.specs.plan_drafts.specs.Records.{AreDescriptions, AreItems, Denotes, DenotesAddition, DenotesExtension, key_of}
 use Rattle.plan_records.specs.plan_drafts.proofs.Lists.{differ_from_pairs, pairs_from_differ}
 use Rattle.plan_records.specs.plan_drafts.proofs.Orders.{differ_permuted}
-use Rattle.plan_laws.specs.Denoting.{OrderDoesNotMatter, OrderDoesNotMatterToAdditions}
+use Rattle.plan_laws.specs.Denoting.{OrderDoesNotMatter, OrderDoesNotMatterToAdditions, OrderDoesNotMatterToExtensions}
 use Rattle.plan_records.specs.plan_drafts.specs.RowKeys.{row_cmp_total, row_cmp-IsAntisymmetric}
 
 -- ---- two lists, index by index
@@ -76,3 +76,9 @@ addition_moved records others s moved d = record { addition = d.addition; descri
 
 pub order_does_not_matter_to_additions : OrderDoesNotMatterToAdditions
 order_does_not_matter_to_additions records others s moved = (addition_moved records others s moved, addition_moved others records s (IsPermutation-sym records others moved))
+
+extension_moved : (records others : List Fields) (s : AddedParts) → IsPermutation records others → DenotesExtension records s → DenotesExtension others s
+extension_moved records others s moved d = record { extension = d.extension; described = described_moved _ _ records others moved d.described }
+
+pub order_does_not_matter_to_extensions : OrderDoesNotMatterToExtensions
+order_does_not_matter_to_extensions records others s moved = (extension_moved records others s moved, extension_moved others records s (IsPermutation-sym records others moved))

@@ -11,7 +11,8 @@ use Rattle.plan_records.specs.plan_model.specs.Status.{HasOccurrenceStatus, HasS
 use Rattle.plan_records.specs.plan_model.specs.Ready.{IsReadyList, IsChosen}
 use Rattle.plan_records.specs.ready_list.specs.declared.ReadyKey.{ReadyKey}
 use Rattle.plan_records.specs.plan_model.specs.Starts.{IsLatestStart}
-use Rattle.plan_records.specs.plan_model.specs.Valid.{IsValid}
+use Rattle.plan_records.specs.plan_model.specs.Valid.{IsSound, IsValid}
+use Rattle.plan_records.specs.Changes.{LeavesOver}
 
 -- an operation of a valid plan is satisfied or it isn't
 abbrev pub SatisfiedIsTold : Type 0
@@ -55,3 +56,7 @@ SomeChoice = (P : Contents) (m : ℕ) → IsValid P → (chosen : List OpKey) ×
 -- each occurrence of a valid plan has a status, and no other
 abbrev pub EachHasOneOccurrenceStatus : Type 0
 EachHasOneOccurrenceStatus = (P : Contents) → IsValid P → (c : OccKey) → (s : OccStatus) × HasOccurrenceStatus P c s × ((t : OccStatus) → HasOccurrenceStatus P c t → t ≡ s)
+
+-- of each sound plan a sound one is left once what is over has left, and no other
+abbrev pub EachLeavesOneSoundPlan : Type 0
+EachLeavesOneSoundPlan = (P : Contents) → IsSound P → (left : Contents) × LeavesOver P left × IsSound left × ((other : Contents) → LeavesOver P other → other ≡ left)

@@ -1,5 +1,5 @@
 -- The rows of a valid plan, and those that change: they are there, and they determine the plan.
-use Rattle.std.specs.Prelude.{◌≡◌, ◌↔◌, ℕ, List, Contains}
+use Rattle.std.specs.Prelude.{◌≡◌, ◌↔◌, List, Contains}
 use Rattle.plan_basics.specs.declared.keys.OpKey.{OpKey}
 use Rattle.plan_records.specs.plan_model.specs.Plan.{Plan, IsSoundPlan}
 use Rattle.plan_records.specs.plan_model.specs.Contents.{Contents, IsInPlan}
@@ -39,10 +39,14 @@ OneListOfChanges = (P Q : Plan) (rows others : List PlanRow) (gone more : List R
 abbrev pub RowsTellReceipts : Type 0
 RowsTellReceipts = (T U : Receipts) → ((tracker : Name) (receipt : Receipt) → IsReceiptRow T tracker receipt ↔ IsReceiptRow U tracker receipt) → T ≡ U
 
--- the key of an interval of a workstation
-abbrev pub IsIntervalKey : RowKey → Type 0
-IsIntervalKey k = (w : Name) × (from : ℕ) × (k ≡ key.Interval w from)
+-- a row of this key may go: an interval, or what goes with an occurrence
+abbrev pub MayGo : RowKey → Type 0
+MayGo key.Meta = ⊥
+MayGo (key.Workstation w) = ⊥
+MayGo (key.Resource r) = ⊥
+MayGo (key.Quantity r) = ⊥
+MayGo _ = Unit {0}
 
--- no request takes out of the tables of a sound plan anything but intervals
-abbrev pub OnlyIntervalsGo : Type 0
-OnlyIntervalsGo = (P Q : Plan) (q : Request) (reply : Answer) (rows : List PlanRow) (gone : List RowKey) → IsSoundPlan P → Step P q reply Q → AreChanges P Q rows gone → (k : RowKey) → Contains gone k → IsIntervalKey k
+-- no request takes out of the tables of a sound plan anything but these
+abbrev pub OnlyTheseGo : Type 0
+OnlyTheseGo = (P Q : Plan) (q : Request) (reply : Answer) (rows : List PlanRow) (gone : List RowKey) → IsSoundPlan P → Step P q reply Q → AreChanges P Q rows gone → (k : RowKey) → Contains gone k → MayGo k

@@ -21,9 +21,9 @@ ghost use Rattle.plan_records.specs.Rows.{IsWaitingFor};
 ghost use Rattle.std.specs.FinMap.{get};
 ghost use Rattle.plan_records.specs.plan_model.specs.Status.{IsSatisfied, HasStatus, AllPredecessorsSatisfied, ArePreds, IsInEachClosedSet};
 ghost use Rattle.plan_laws.specs.Steps.{OneStep, OneNumberedStep, OneRun, SomeStep, SomeNumberedStep, SomeRun, PlanAnswers};
-ghost use Rattle.plan_laws.specs.Derived.{SatisfiedIsTold, SatisfiedByStatus, ClassesOfStatus, EachHasOneStatus, EachHasOneLatestStart, SomeReadyList, OneReadyList, SomeChoice, EachHasOneOccurrenceStatus};
-ghost use Rattle.plan_laws.specs.Denoting.{OrderDoesNotMatter, OrderDoesNotMatterToAdditions};
-ghost use Rattle.plan_laws.specs.Tables.{EachHasOneRow, OneListOfChanges, OnlyIntervalsGo, RowsTellPlan, RowsTellReceipts, SomeChanges, SomeRows};
+ghost use Rattle.plan_laws.specs.Derived.{SatisfiedIsTold, SatisfiedByStatus, ClassesOfStatus, EachHasOneStatus, EachHasOneLatestStart, SomeReadyList, OneReadyList, SomeChoice, EachHasOneOccurrenceStatus, EachLeavesOneSoundPlan};
+ghost use Rattle.plan_laws.specs.Denoting.{OrderDoesNotMatter, OrderDoesNotMatterToAdditions, OrderDoesNotMatterToExtensions};
+ghost use Rattle.plan_laws.specs.Tables.{EachHasOneRow, OneListOfChanges, OnlyTheseGo, RowsTellPlan, RowsTellReceipts, SomeChanges, SomeRows};
 ghost use Rattle.plan_laws.specs.Work.{OneAllowance, SomeAllowance};
 ghost use Rattle.plan_laws.specs.Ranks.{ValidHasRank, PathsAreTold, CyclesAreTold};
 ghost use Rattle.std.specs.Prelude.{◌≡◌, ◌≢◌, ◌⊎◌, ◌↔◌, ℕ};
@@ -150,6 +150,11 @@ pub fn each_has_one_occurrence_status()
     ensures { EachHasOneOccurrenceStatus }
 {}
 
+/// Of each sound plan exactly one is left once the occurrences that are complete or deleted have left it, all together, and it is sound.
+pub fn each_leaves_one_sound_plan()
+    ensures { EachLeavesOneSoundPlan }
+{}
+
 /// Each operation of a valid plan has exactly one row in the tables.
 pub fn each_has_one_row()
     ensures { EachHasOneRow }
@@ -176,9 +181,10 @@ pub fn one_list_of_changes()
     ensures one { OneListOfChanges }
 {}
 
-/// No request takes out of the tables of a sound plan anything but intervals: what else a plan has stays under its key.
-pub fn only_intervals_go()
-    ensures { OnlyIntervalsGo }
+/// No request takes out of the tables of a sound plan anything but intervals, and what goes with an occurrence that leaves:
+/// workstations and special resources stay.
+pub fn only_these_go()
+    ensures { OnlyTheseGo }
 {}
 
 /// A valid plan has a ready list.
@@ -215,8 +221,9 @@ pub fn one_allowance()
     ensures one { OneAllowance }
 {}
 
-/// The order of records doesn't matter to the plan that they denote, nor to the addition.
+/// The order of records doesn't matter to the plan that they denote, nor to the addition or the extension.
 pub fn order_of_records_does_not_matter()
     ensures plan { OrderDoesNotMatter }
     ensures addition { OrderDoesNotMatterToAdditions }
+    ensures extension { OrderDoesNotMatterToExtensions }
 {}

@@ -73,7 +73,7 @@ pub record IsWithinLimits (P : Contents) : Type 0 where
   pub operations : len P.operations ≤ MOST_OPERATIONS
   pub pairs : set.len P.pairs ≤ MOST_PAIRS
 
--- all that a plan names is there and in range, no path of pairs returns, and the limits hold
+-- all that a plan names is there and in range, no need is of more than there is, no path of pairs returns, and the limits hold
 pub record IsValid (P : Contents) : Type 0 where
   pub workstations : (w : Name) (ws : Workstation) → get P.workstations w ≡ Some ws → IsName 4 w × IsWorkstation ws
   pub resources : (r : Name) (stock : Stock) → get P.resources r ≡ Some stock → IsResourceName r × (1 ≤ stock.quantity) × (stock.quantity ≤ MOST_QUANTITY)

@@ -1,4 +1,4 @@
--- A request that isn't small keeps the operations that there were, and so does what is named then.
+-- A request that isn't small and extends nothing keeps the operations that there were, and so does what is named then.
 use Rattle.std.proofs.Common.{◌≡◌, ◌⊎◌, inl, inr, refl, sym, ap, subst, ◌∙◌, ℕ, Bool, true, false, cond, List, Option, Some, None, is_some, option_map}
 use Rattle.std.proofs.lemmas.Bool.{true≢false}
 use Rattle.std.specs.FinMap.{contains_key, get}
@@ -12,7 +12,7 @@ use Rattle.plan_records.specs.Acceptance.{MayBeAdded, MayBeDone, NeedsPlan}
 use Rattle.plan_records.specs.Changes.{Changes, IsRequest}
 use Rattle.plan_records.specs.declared.What.{What}
 use Rattle.plan_records.specs.declared.What.TheVariants as what
-use Rattle.plan_records.specs.plan_drafts.specs.Drafts.{IsAddition}
+use Rattle.plan_records.specs.plan_drafts.specs.Drafts.{IsExtension}
 use Rattle.plan_records.specs.plan_model.specs.Contents.{AddedParts, Contents, Operation}
 use Rattle.plan_records.specs.plan_model.specs.Ready.{IsChosen, named, with_mark}
 use Rattle.plan_records.specs.plan_model.specs.Revise.{get-joined, or_else}
@@ -23,6 +23,7 @@ use Rattle.plan_steps.proofs.ChosenEntries.{chosen_are_ready}
 use Rattle.plan_steps.specs.KeptEdits.{IsSmall}
 use Rattle.plan_steps.specs.plan_changes.specs.Additions.{HasNothingOf}
 use Rattle.plan_steps.specs.plan_checks.proofs.ComingApart.{comes_apart}
+use Rattle.plan_steps.specs.plan_checks.specs.Commands.{Extends}
 use Rattle.plan_steps.specs.plan_rows.specs.Kept.{IsKeptIn, KeepsRecords, MarkGoesOn}
 use Rattle.ready_list.specs.Choice.{is_among}
 use Rattle.status_rules.specs.declared.Mark.{Mark}
@@ -48,7 +49,7 @@ still_there s o op None y is none = is
 still_there s o op (Some z) y is none = absurd (true≢false none)
 
 module _ (P Q : Contents) (m : ℕ) (sound : IsSound P) where
-  added_leaves : (s : AddedParts) → IsAddition s → MayBeAdded P s refusal.Duplicate → Changes P (what.AddOccurrence (Some s)) Q → LeavesRecords P Q
+  added_leaves : (s : AddedParts) → IsExtension s → MayBeAdded P s refusal.Duplicate → Changes P (what.AddOccurrence (Some s)) Q → LeavesRecords P Q
   added_leaves s legal new changes o op is =
       let apart : HasNothingOf P s = comes_apart P sound.valid s legal new in
       let same : changes.0 ≡ s = same_parts changes.0 (changes.1) in (
@@ -61,16 +62,17 @@ module _ (P Q : Contents) (m : ℕ) (sound : IsSound P) where
       same_parts : (t : AddedParts) → Some s ≡ Some t → t ≡ s
       same_parts t e = cc
 
-  pub leaves : (w : What) → NeedsPlan w → ¬ IsSmall w → NoneRefuses (MayBeDone P m w) → IsRequest w → Changes P w Q → LeavesRecords P Q
-  leaves (what.Load draft) needs whole clear legal changes = absurd needs
-  leaves (what.DeleteOccurrence c) needs whole clear legal changes = λ o op is.
+  pub leaves : (w : What) → NeedsPlan w → ¬ IsSmall w → ¬ Extends w → NoneRefuses (MayBeDone P m w) → IsRequest w → Changes P w Q → LeavesRecords P Q
+  leaves (what.Load draft) needs whole stays clear legal changes = absurd needs
+  leaves (what.DeleteOccurrence c) needs whole stays clear legal changes = λ o op is.
       deleted_or_not Q o op (eq_by_cmp occurrence_cmp o.occurrence c)
       (ap (λ (R : Contents). get R.operations o) changes ∙ get-revised (λ q. eq_by_cmp occurrence_cmp q.occurrence c) (with_mark mark.Deleted) P o
       ∙ ap (option_map (λ (x : Operation). cond (eq_by_cmp occurrence_cmp o.occurrence c) (with_mark mark.Deleted x) x)) is)
-  leaves (what.AddOccurrence None) needs whole clear legal changes = absurd (clear refusal.BadPlan)
-  leaves (what.AddOccurrence (Some s)) needs whole clear legal changes = added_leaves s legal (clear refusal.Duplicate) changes
-  leaves (what.AddDependency p s) needs whole clear legal changes = λ o op is. (op.mark, ap (λ (R : Contents). get R.operations o) changes ∙ is, inl refl)
-  leaves _ needs whole clear legal changes = absurd (whole tt)
+  leaves (what.AddOccurrence None) needs whole stays clear legal changes = absurd (clear refusal.BadPlan)
+  leaves (what.AddOccurrence (Some s)) needs whole stays clear legal changes = added_leaves s legal.extension (clear refusal.Duplicate) changes
+  leaves (what.AddDependency p s) needs whole stays clear legal changes = λ o op is. (op.mark, ap (λ (R : Contents). get R.operations o) changes ∙ is, inl refl)
+  leaves (what.Extend a) needs whole stays clear legal changes = absurd (stays tt)
+  leaves _ needs whole stays clear legal changes = absurd (whole tt)
 
 -- ---- and once what is chosen is named
 
@@ -91,6 +93,6 @@ module _ (Q : Contents) (m : ℕ) (os : List OpKey) (chosen : IsChosen Q m os) w
       once_named o op left (is_among os o) refl
       (get-revised (is_among os) (with_mark mark.Named) Q o ∙ ap (option_map (λ (x : Operation). cond (is_among os o) (with_mark mark.Named x) x)) left.1)
 
--- so what a request that isn't small makes of a plan keeps its operations, whatever is named
-pub request_keeps : (P Q : Contents) (w : What) (at m : ℕ) → IsSound P → NeedsPlan w → ¬ IsSmall w → NoneRefuses (MayBeDone P at w) → AreMadeBy P w Q → (os : List OpKey) → IsChosen Q m os → KeepsRecords P (named os Q)
-request_keeps P Q w at m sound needs whole clear made os chosen = named_keeps Q m os chosen P (leaves P Q at sound w needs whole clear made.is_request made.changes)
+-- so what such a request makes of a plan keeps its operations, whatever is named
+pub request_keeps : (P Q : Contents) (w : What) (at m : ℕ) → IsSound P → NeedsPlan w → ¬ IsSmall w → ¬ Extends w → NoneRefuses (MayBeDone P at w) → AreMadeBy P w Q → (os : List OpKey) → IsChosen Q m os → KeepsRecords P (named os Q)
+request_keeps P Q w at m sound needs whole stays clear made os chosen = named_keeps Q m os chosen P (leaves P Q at sound w needs whole stays clear made.is_request made.changes)

@@ -1,5 +1,5 @@
 -- What requests lead to, as it is told of them.
-use Rattle.std.proofs.Common.{◌≡◌, ◌⊎◌, ◌∙◌, ap, pos, IfErr, subst, ℕ, arith, refl, sym, ◌+◌, ◌*◌, ◌≤◌, true, false, true≢false, length, Some, None, Result, Ok, Err, IfOk}
+use Rattle.std.proofs.Common.{◌≡◌, ◌⊎◌, inl, ◌∙◌, ap, pos, IfErr, subst, ℕ, arith, refl, sym, ◌+◌, ◌*◌, ◌≤◌, true, false, true≢false, length, Some, None, Result, Ok, Err, IfOk}
 use Rattle.std.specs.FinMap.{entries}
 use Rattle.plan_basics.specs.Refusals.{NoneRefuses}
 use Rattle.plan_basics.specs.declared.Refusal.{Refusal}
@@ -13,6 +13,8 @@ use Rattle.plan_outcomes.specs.declared.anew.Anew.{Anew}
 use Rattle.plan_outcomes.specs.declared.anew.Remade.{Remade}
 use Rattle.plan_steps.specs.LooksLaws.{WholePlansLookFew}
 use Rattle.plan_records.specs.Acceptance.{IsLoad, MayBeAccepted, NeedsPlan}
+use Rattle.plan_records.specs.Answer.{refused}
+use Rattle.plan_records.specs.Step.{Step}
 use Rattle.plan_records.specs.declared.Request.{Request}
 use Rattle.plan_records.specs.declared.What.{What}
 use Rattle.plan_records.specs.declared.What.TheVariants as what
@@ -36,8 +38,12 @@ needs_plan P clock q clear = needs_by q.what (clear refusal.Loaded)
 -- what comes of a plan that this request makes is what the request leads to
 module _ (P : Plan) (q : Request) (allows : NoneRefuses (MayBeAccepted P q)) (Q : Contents) (made : AreMadeBy P.contents q.what Q) (m : ℕ) (at : q.at ≡ pos m) (a : Anew) where
   pub anew_by : IfOk a.remade (λ x. IsSettledOf Q m a.shown.contents x.settled) → IfOk a.remade (IsToldOf P m a.shown.contents) → IfErr a.remade (λ r. r ≡ refusal.Memory) → IsAnewOf P q m a
-  anew_by settled told memory = record { remade = both a.remade settled told; refused = memory }
+  anew_by settled told memory = record { remade = both a.remade settled told; refused = unfound a.remade memory }
     where
+      unfound : (r : Result Remade Refusal) → IfErr r (λ e. e ≡ refusal.Memory) → IfErr r (λ e. (e ≡ refusal.Memory) ⊎ Step P q (refused e) P)
+      unfound (Ok x) memory = tt
+      unfound (Err e) memory = inl memory
+
       both : (r : Result Remade Refusal) → IfOk r (λ x. IsSettledOf Q m a.shown.contents x.settled) → IfOk r (IsToldOf P m a.shown.contents) → IfOk r (IsRemadeBy P q m a.shown.contents)
       both (Ok x) settled told = record {
         step = accepted_step P q allows Q made m at (plan_held m (Some a.shown.contents)) x.settled.named.items settled.chosen (ap (λ (R : Contents). plan_held m (Some R)) settled.after);

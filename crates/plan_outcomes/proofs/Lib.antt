@@ -1,3 +1,4 @@
+pub mod Extensions
 pub mod HandedGraphs
 pub mod KeptRecords
 pub mod KnownRows
@@ -6,6 +7,7 @@ pub mod Made
 pub mod Preparing
 pub mod Refusing
 pub mod SmallTried
+pub mod Staying
 pub mod TriedLooks
 pub mod Trying
 pub mod WholeLooks

@@ -1,5 +1,6 @@
 -- Contents that a request makes.
 use Rattle.std.proofs.Common.{◌≡◌, refl, sym, subst, ℕ, true, Option, Some, None, is_some, Result, IfOk}
+use Rattle.std.specs.FinMap.{len}
 use Rattle.plan_basics.specs.Refusals.{NoneRefuses}
 use Rattle.plan_basics.specs.declared.Refusal.TheVariants as refusal
 use Rattle.plan_records.specs.plan_model.specs.Contents.{AddedParts, Contents}
@@ -7,9 +8,9 @@ use Rattle.plan_records.specs.Acceptance.{MayBeDone}
 use Rattle.plan_records.specs.Changes.{Changes, IsRequest}
 use Rattle.plan_records.specs.declared.What.{What}
 use Rattle.plan_records.specs.declared.What.TheVariants as what
-use Rattle.plan_records.specs.plan_drafts.specs.Contents.{AreAdditionParts, added_of}
-use Rattle.plan_records.specs.plan_drafts.specs.Drafts.{IsAddition}
-use Rattle.plan_records.specs.plan_drafts.specs.declared.contents.AdditionParts.{AdditionParts}
+use Rattle.plan_records.specs.plan_drafts.specs.Contents.{AreExtensionParts, added_of}
+use Rattle.plan_records.specs.plan_drafts.specs.Drafts.{IsAddition, IsExtension}
+use Rattle.plan_records.specs.plan_drafts.specs.declared.contents.ExtensionParts.{ExtensionParts}
 use Rattle.plan_outcomes.specs.Requested.{AreMadeBy}
 use Rattle.plan_steps.specs.plan_changes.proofs.Answered.{if_ok}
 
@@ -32,5 +33,5 @@ has_addition P m None clear = absurd (clear refusal.BadPlan)
 has_addition P m (Some s) clear = refl
 
 -- what its parts show of an addition
-pub legal_by_parts : (s : AddedParts) (parts : AdditionParts) → s ≡ added_of parts → AreAdditionParts parts → IsAddition s
-legal_by_parts s parts is told = subst (λ (s : AddedParts). IsAddition s) (sym is) told.addition
+pub legal_by_parts : (s : AddedParts) (parts : ExtensionParts) → s ≡ added_of parts → len s.occurrences ≡ 1 → AreExtensionParts parts → IsAddition s
+legal_by_parts s parts is one told = record { one = one; extension = subst (λ (s : AddedParts). IsExtension s) (sym is) told.extension }

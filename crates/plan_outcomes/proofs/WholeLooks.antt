@@ -35,6 +35,7 @@ whole_allowed law P Q w looks whole most = by_kind w whole
     by_kind (what.Load draft) whole n is = subst (λ z. looks ≤ z) (sym is) (law Q looks few)
     by_kind (what.DeleteOccurrence c) whole n is = subst (λ z. looks ≤ z) (sym is) (law Q looks few)
     by_kind (what.AddOccurrence a) whole n is = subst (λ z. looks ≤ z) (sym is) (law Q looks few)
+    by_kind (what.Extend a) whole n is = subst (λ z. looks ≤ z) (sym is) (omega (arith, few))
     by_kind (what.AddDependency p s) whole n is = subst (λ z. looks ≤ z) (sym is) (law Q looks few)
     by_kind _ whole n is = absurd (whole tt)
 

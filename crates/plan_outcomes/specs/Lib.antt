@@ -5,6 +5,7 @@ pub use Rattle.plan_records.specs.plan_model
 pub use Rattle.plan_records
 pub use Rattle.plan_steps.specs.plan_figures
 pub use Rattle.plan_steps.specs.plan_status
+pub mod Leaving
 pub mod Next
 pub mod Looked
 pub mod Outcomes

@@ -11,7 +11,7 @@ ghost use Rattle.plan_records.specs.plan_drafts.specs.PlanGraphs.{IsGraphFor};
 ghost use Rattle.plan_records.specs.plan_model.specs.Contents.{nothing};
 ghost use Rattle.plan_records.specs.plan_model.specs.Plan.{IsSoundPlan, plan_held};
 
-use super::anew::{Anew, made_anew};
+use super::anew::{Anew, Before, made_anew};
 use super::requests::drafted;
 use operation_graph::Graph;
 use plan_basics::{Moment, Refusal};
@@ -66,7 +66,8 @@ fn loaded_first(
         clock,
         loaded: None,
     };
-    Ok(made_anew(alloc, &before, copy.into_shown(), graph, at))
+    let kept = Before::Kept(&before);
+    Ok(made_anew(alloc, &kept, copy.into_shown(), graph, at))
 }
 
 /// What a request that is made at a moment leads to where no plan is loaded; or the least refusal that applies, or that no memory

@@ -5,9 +5,11 @@
 mod accepted;
 mod anew;
 mod asked;
+mod extending;
 mod first;
 mod graphs;
 mod led;
+mod left;
 mod outcomes;
 mod requests;
 mod settle;

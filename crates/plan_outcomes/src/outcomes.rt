@@ -9,6 +9,7 @@ ghost use Rattle.plan_outcomes.specs.Requested.{MayBeMadeAt};
 ghost use Rattle.plan_records.specs.Answer.{refused};
 ghost use Rattle.plan_records.specs.Step.{Step};
 ghost use Rattle.plan_steps.specs.KeptEdits.{IsSmall};
+ghost use Rattle.plan_steps.specs.plan_checks.specs.Commands.{Extends};
 ghost use Rattle.plan_steps.specs.plan_choice.specs.Choices.{AreLatestStarts};
 ghost use Rattle.plan_records.specs.plan_drafts.specs.PlanGraphs.{IsGraphFor};
 ghost use Rattle.plan_records.specs.plan_model.specs.Plan.{plan_held};
@@ -16,6 +17,7 @@ ghost use Rattle.plan_steps.specs.plan_figures.specs.Figures.{AreFigures};
 ghost use Rattle.plan_steps.specs.plan_figures.specs.Frames.{IsFrameOf};
 
 use super::asked::Asked;
+use super::extending::extended_outcome;
 use super::led::Led;
 use super::small::tried_small;
 use super::telling::told;
@@ -27,7 +29,8 @@ use plan_records::What;
 use plan_steps::{Figures, Frame, Setting, Shown, check_load, check_request, is_small};
 use std::alloc::Global;
 
-// What stands in the way of a request that is made at a moment where a plan is loaded, but for that moment: by one look at most.
+// What stands in the way of a request that extends nothing and is made at a moment where a plan is loaded, but for that moment: by one
+// look at most.
 fn check_in(
     alloc: Global,
     shown: &mut Shown,
@@ -36,6 +39,7 @@ fn check_in(
     at: Moment,
 ) -> Result<(), Refusal>
     requires frame { IsFrameOf shown.old.contents frame }
+    requires stays { ¬ Extends what.now }
     ensures ok { (clock : ℕ) → OnOk result (NoneRefuses (MayBeMadeAt (plan_held clock (Some shown.old.contents)) at what.now)) }
     ensures refused { (clock : ℕ) → IfErr result (λ r. (r ≡ Refusal.Memory) ⊎ IsLeastRefusal (MayBeMadeAt (plan_held clock (Some shown.old.contents)) at what.now) r) }
     ensures contents { shown.new.contents ≡ shown.old.contents }
@@ -93,8 +97,8 @@ fn small_outcome(
     }
 }
 
-// What a request in whose way nothing stands leads to in a plan, of which this is shown: tried there where it is small, or else worked
-// out over a copy. All comes back as it was. The error is always `Memory`.
+// What a request that extends nothing and in whose way nothing stands leads to in a plan, of which this is shown: tried there where it is
+// small, or else worked out over a copy. All comes back as it was. The error is always `Memory`.
 fn accepted_outcome(
     alloc: Global,
     shown: Shown,
@@ -107,6 +111,7 @@ fn accepted_outcome(
     requires latest { AreLatestStarts shown.contents latest.now.starts }
     requires figures { AreFigures shown.contents figures }
     requires acceptable { IsAcceptable shown.contents asked.now }
+    requires stays { ¬ Extends asked.now.request.now.what }
     requires few { shown.looks ≤ 1 }
     ensures contents { result.0.contents ≡ shown.contents }
     ensures figures { AreFigures shown.contents result.1 }
@@ -129,10 +134,47 @@ fn accepted_outcome(
     }
 }
 
+// What a request that extends nothing and is made at a moment leads to in a plan at its clock, of which this is shown and nothing was
+// looked at; or the least refusal that applies, or that no memory is found. What is shown and what is kept come back as they were.
+fn checked_outcome(
+    alloc: Global,
+    shown: Shown,
+    graph: &Graph,
+    latest: &Latest,
+    figures: Figures,
+    asked: &Asked<'_>,
+) -> (Shown, Figures, Result<Led, Refusal>)
+    requires graph { IsGraphFor shown.contents graph.now }
+    requires latest { AreLatestStarts shown.contents latest.now.starts }
+    requires figures { AreFigures shown.contents figures }
+    requires clock { IsMoment asked.now.clock }
+    requires moment { IsMoment asked.now.at }
+    requires at { asked.now.request.now.at ≡ pos asked.now.at }
+    requires onward { pos asked.now.clock ≤ℤ asked.now.request.now.at }
+    requires stays { ¬ Extends asked.now.request.now.what }
+    requires none { shown.looks ≡ 0 }
+    ensures contents { result.0.contents ≡ shown.contents }
+    ensures figures { AreFigures shown.contents result.1 }
+    ensures led { IfOk result.2 (IsLedFor shown.contents asked.now) }
+    ensures looked { IfOk result.2 (λ l. AreLooksLed shown.contents asked.now.request.now.what l result.0.looks) }
+    ensures refused { IfErr result.2 (λ r. (r ≡ Refusal.Memory) ⊎ Step (plan_asked shown.contents asked.now) asked.now.request.now (refused r) (plan_asked shown.contents asked.now)) }
+{
+    let mut shown = shown;
+    let frame = Frame {
+        graph,
+        latest,
+        figures: &figures,
+    };
+    match check_in(alloc, &mut shown, frame, &asked.request.what, asked.at) {
+        Ok(()) => accepted_outcome(alloc, shown, graph, latest, figures, asked),
+        Err(refusal) => (shown, figures, Err(refusal)),
+    }
+}
+
 /// What a request that is made at a moment leads to in a plan at its clock, of which this is shown and nothing was looked at; or
 /// the least refusal that applies, or that no memory is found. What is shown and what is kept come back as they were. A request by
 /// which only marks and flags change, which special resources are available, or when workstations are open, is tried in what is
-/// shown; any other works all out afresh over a copy.
+/// shown; any other works all out afresh over a copy, of which what is over has left for an extension.
 pub fn outcome_of(
     alloc: Global,
     shown: Shown,
@@ -155,14 +197,18 @@ pub fn outcome_of(
     ensures looked { IfOk result.2 (λ l. AreLooksLed shown.contents asked.now.request.now.what l result.0.looks) }
     ensures refused { IfErr result.2 (λ r. (r ≡ Refusal.Memory) ⊎ Step (plan_asked shown.contents asked.now) asked.now.request.now (refused r) (plan_asked shown.contents asked.now)) }
 {
-    let mut shown = shown;
-    let frame = Frame {
-        graph,
-        latest,
-        figures: &figures,
-    };
-    match check_in(alloc, &mut shown, frame, &asked.request.what, asked.at) {
-        Ok(()) => accepted_outcome(alloc, shown, graph, latest, figures, asked),
-        Err(refusal) => (shown, figures, Err(refusal)),
+    if let What::Extend(extension) = &asked.request.what {
+        let mut shown = shown;
+        let frame = Frame {
+            graph,
+            latest,
+            figures: &figures,
+        };
+        match extended_outcome(alloc, &mut shown, frame, asked, extension) {
+            Ok(anew) => (shown, figures, Ok(Led::Whole(anew))),
+            Err(refusal) => (shown, figures, Err(refusal)),
+        }
+    } else {
+        checked_outcome(alloc, shown, graph, latest, figures, asked)
     }
 }

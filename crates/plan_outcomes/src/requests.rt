@@ -11,6 +11,7 @@ ghost use Rattle.plan_records.specs.Changes.{with_added};
 ghost use Rattle.plan_records.specs.declared.What.{What};
 ghost use Rattle.plan_outcomes.specs.Requested.{AreMadeBy};
 ghost use Rattle.plan_steps.specs.KeptEdits.{IsSmall};
+ghost use Rattle.plan_steps.specs.plan_checks.specs.Commands.{Extends};
 
 use operation_graph::Graph;
 use plan_basics::Refusal;
@@ -18,25 +19,23 @@ use plan_records::{Addition, PlanDraft, What};
 use plan_steps::RecordCopy;
 use std::alloc::{AllocError, Global};
 
-// What is copied with what is added, of whose occurrence there is nothing yet. Its parts are looked at for the proof alone, which
-// learns that it is legal.
-#[tactic(auto, using(crate::proofs::Made::legal_by_parts))]
+// What is copied with what is added, of whose occurrence there is nothing yet; it is legal.
 fn added(alloc: Global, copy: RecordCopy, addition: &Addition) -> Result<RecordCopy, AllocError>
     requires sound { IsSound copy }
     requires new { MayBeAdded copy addition.now Refusal.Duplicate }
     ensures legal { IsAddition addition.now }
     ensures plan { IfOk result (λ new. new ≡ with_added copy addition.now) }
 {
-    let _ = addition.parts();
-    copy.with_addition(alloc, addition)
+    copy.with_addition(alloc, addition.parts())
 }
 
-/// What a request makes of a copy of a plan, that is no load and not small, and in whose way nothing stands. The error is always
-/// `Memory`.
+/// What a request makes of a copy of a plan, that is no load and not small and extends nothing, and in whose way nothing stands. The
+/// error is always `Memory`.
 pub fn changed(alloc: Global, copy: RecordCopy, what: &What) -> Result<RecordCopy, Refusal>
     requires sound { IsSound copy }
     requires needs { NeedsPlan what.now }
     requires whole { ¬ IsSmall what.now }
+    requires stays { ¬ Extends what.now }
     requires clear { (at : ℕ) × NoneRefuses (MayBeDone copy at what.now) }
     ensures made { IfOk result (AreMadeBy copy what.now) }
     ensures refused { IfErr result (λ r. r ≡ Refusal.Memory) }

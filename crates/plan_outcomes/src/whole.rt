@@ -1,4 +1,4 @@
-// What a request leads to that isn't small, worked out afresh over a copy of the plan.
+// What a request leads to that isn't small and extends nothing, worked out afresh over a copy of the plan.
 ghost use Rattle.std.specs.Prelude.{◌≡◌, ◌+◌, ◌*◌, ◌≤◌, Some, IfErr, IfOk, length};
 ghost use Rattle.std.specs.FinMap.{entries};
 ghost use Rattle.plan_basics.specs.declared.Refusal.{Refusal};
@@ -6,9 +6,10 @@ ghost use Rattle.plan_outcomes.specs.Anew.{AreLooksAnew, IsAnewOf};
 ghost use Rattle.plan_outcomes.specs.Asked.{IsAcceptable, plan_asked};
 ghost use Rattle.plan_outcomes.specs.Requested.{AreMadeBy};
 ghost use Rattle.plan_steps.specs.KeptEdits.{IsSmall};
+ghost use Rattle.plan_steps.specs.plan_checks.specs.Commands.{Extends};
 ghost use Rattle.plan_steps.specs.plan_figures.specs.Frames.{IsFrameOf};
 
-use super::anew::{Anew, made_anew};
+use super::anew::{Anew, Before, made_anew};
 use super::asked::Asked;
 use super::graphs::graph_after;
 use super::requests::changed;
@@ -16,8 +17,8 @@ use plan_basics::Refusal;
 use plan_steps::{Beside, Frame, PlanBefore, Shown, TableSource, columns_of, whole_plans_look_few};
 use std::alloc::Global;
 
-// What comes of what is shown, which a request that isn't small, and in whose way nothing stands, made anew of the plan beside whose
-// records this stands. It takes four looks at each operation at most, but for one at each that there was before.
+// What comes of what is shown, which a request that isn't small and extends nothing, and in whose way nothing stands, made anew of the
+// plan beside whose records this stands. It takes four looks at each operation at most, but for one at each that there was before.
 fn anew_of(
     alloc: Global,
     beside: &Beside<'_>,
@@ -28,6 +29,7 @@ fn anew_of(
     requires frame { IsFrameOf beside.now.contents.now frame }
     requires acceptable { IsAcceptable beside.now.contents.now asked.now }
     requires whole { ¬ IsSmall asked.now.request.now.what }
+    requires stays { ¬ Extends asked.now.request.now.what }
     requires made { AreMadeBy beside.now.contents.now asked.now.request.now.what new.contents }
     ensures anew { IsAnewOf (plan_asked beside.now.contents.now asked.now) asked.now.request.now asked.now.at result }
     ensures operations { IfOk result.remade (λ x. length (entries result.shown.contents.operations) ≡ length (entries new.contents.operations)) }
@@ -43,7 +45,7 @@ fn anew_of(
         }),
     };
     match graph_after(alloc, beside, frame.graph, &request.what, &new.beside()) {
-        Ok(graph) => made_anew(alloc, &before, new, graph, at),
+        Ok(graph) => made_anew(alloc, &Before::Kept(&before), new, graph, at),
         Err(refusal) => Anew {
             shown: new,
             remade: Err(refusal),
@@ -51,9 +53,9 @@ fn anew_of(
     }
 }
 
-/// What a request that isn't small, and in whose way nothing stands, leads to in a plan, of which this is shown and one record at most
-/// was looked at: each record is copied by a look, and all is worked out over the copy, of which each record is shown by a look too. The
-/// error is always `Memory`.
+/// What a request that isn't small and extends nothing, and in whose way nothing stands, leads to in a plan, of which this is shown
+/// and one record at most was looked at: each record is copied by a look, and all is worked out over the copy, of which each record
+/// is shown by a look too. The error is always `Memory`.
 pub fn whole_outcome(
     alloc: Global,
     shown: &mut Shown,
@@ -63,6 +65,7 @@ pub fn whole_outcome(
     requires frame { IsFrameOf shown.old.contents frame }
     requires acceptable { IsAcceptable shown.old.contents asked.now }
     requires whole { ¬ IsSmall asked.now.request.now.what }
+    requires stays { ¬ Extends asked.now.request.now.what }
     requires few { shown.old.looks ≤ 1 }
     ensures contents { shown.new.contents ≡ shown.old.contents }
     ensures anew { IfOk result (IsAnewOf (plan_asked shown.old.contents asked.now) asked.now.request.now asked.now.at) }

@@ -1,23 +1,21 @@
 -- The reasons that others leave too little of special resources.
-use Rattle.std.proofs.Common.{◌≡◌, ◌≢◌, ◌↔◌, inl, inr, refl, sym, ap, subst, ◌∙◌, true≢false, arith, ℕ, suc, ◌+◌, ◌-◌, ◌<◌, ◌≤◌, Bool, true, false, cond, List, [], ◌∷◌, ◌++◌, Contains, Option, Some, None, MatchOption, get_or}
+use Rattle.std.proofs.Common.{◌≡◌, ◌≢◌, ◌↔◌, inl, inr, refl, sym, ap, subst, ◌∙◌, arith, ℕ, ◌-◌, ◌<◌, ◌≤◌, Bool, true, false, cond, List, [], ◌∷◌, ◌++◌, Contains, Option, Some, None, MatchOption, get_or}
 use Rattle.std.specs.FinMap.{get}
-use Rattle.std.specs.Cmp.{tied_itself}
-use Rattle.std.specs.List.{All, AllPairs}
+use Rattle.std.specs.List.{AllPairs}
 use Rattle.std.specs.Option.{option_to_list}
-use Rattle.std.specs.Ordering.{eq_by_cmp, is_eq}
+use Rattle.std.specs.Ordering.{eq_by_cmp}
 use Rattle.std.specs.declared.cmp.Ordering.TheVariants.{Less}
-use Rattle.std.proofs.lemmas.List.Elements.{All-cons, All-head, All-nil, All-tail, Contains-append_cases, Contains-append_left, Contains-append_right, Contains-get_or, Contains-push_cases}
-use Rattle.std.proofs.lemmas.List.Kept.{AllPairs-cons}
+use Rattle.std.proofs.lemmas.List.Elements.{Contains-append_cases, Contains-append_left, Contains-append_right, Contains-get_or, Contains-push_cases}
 use Rattle.std.proofs.lemmas.Option.{none-some, same_Some}
 use Rattle.plan_basics.proofs.Members.{contains_cases, contains_head, contains_later, contains_none, tied_is}
-use Rattle.plan_basics.specs.Keys.{Name, name_cmp, operation_cmp, operation_cmp_total, operation_cmp-IsAntisymmetric}
+use Rattle.plan_basics.specs.Keys.{Name, name_cmp, operation_cmp, operation_cmp-IsAntisymmetric}
 use Rattle.plan_basics.specs.declared.keys.OpKey.{OpKey}
 use Rattle.special_resources.specs.Holders.{HoldsAmount, OtherHolds, Usage, amount_held}
 use Rattle.special_resources.specs.Holdings.{AreInOrder, Held, HoldsIn, holding_of, usage_of}
 use Rattle.special_resources.specs.Needs.{AreInNameOrder, Usages, usages_of}
 use Rattle.special_resources.specs.declared.Need.{Need}
 use Rattle.special_resources.specs.declared.holders.Holder.{Holder}
-use Rattle.special_resources.proofs.Amounts.{AreAllHolders, amount_others, holding_apart, others, same_operation, some_of_all, taken_from}
+use Rattle.special_resources.proofs.Amounts.{AreAllHolders, all_others, amount_others, holding_apart, others, others_once, same_operation, some_of_all, taken_from}
 use Rattle.special_resources.proofs.MoreNeeds.{need_by_usage, usage_by_need}
 use Rattle.plan_choice.specs.Choices.{AreHeldIn}
 use Rattle.plan_model.specs.Contents.{Contents, Operation, Resources}
@@ -62,37 +60,12 @@ module _ (held : Held) (o : OpKey) (r : Name) where
         | inr later ↦ contains_later (x.operation, x.claim.amount) (others held o r items) (h.operation, h.claim.amount) (rest later)
       ]
 
-  -- what holds of each of these but o holds of the others among them
-  each_other : (P : OpKey × ℕ → Type 0) (items : List Holder) → All (λ h. h.operation ≢ o → P (h.operation, h.claim.amount)) items → All P (others held o r items)
-  each_other P [] each = All-nil P
-  each_other P (x ∷ items) each =
-      let Q = λ (h : Holder). h.operation ≢ o → P (h.operation, h.claim.amount) in
-      by_test (eq_by_cmp operation_cmp x.operation o) refl (All-head Q x items each) (each_other P items (All-tail Q x items each))
-    where
-      by_test : (t : Bool) → eq_by_cmp operation_cmp x.operation o ≡ t → (x.operation ≢ o → P (x.operation, x.claim.amount)) → All P (others held o r items)
-          → All P (cond t (others held o r items) ((x.operation, x.claim.amount) ∷ others held o r items))
-      by_test true own first later = later
-      by_test false other first later =
-          All-cons P (x.operation, x.claim.amount) (others held o r items) (first (λ same. true≢false (sym (ap is_eq (ap (operation_cmp x.operation) (sym same) ∙ tied_itself operation_cmp_total x.operation)) ∙ other))) later
-
-  each_once : (items : List Holder) → AllPairs (λ a b. a.operation ≢ b.operation) items → AllPairs (λ a b. a.0 ≢ b.0) (others held o r items)
-  each_once [] apart = λ i j d lt within. absurd (omega (arith, within))
-  each_once (x ∷ items) apart =
-      let first : All (λ (h : Holder). x.operation ≢ h.operation) items = λ k d lt. apart 0 (suc k) d (omega arith) (omega (arith, lt)) in
-      by_test (eq_by_cmp operation_cmp x.operation o) (each_other (λ h. x.operation ≢ h.0) items (λ k d lt _. first k d lt))
-      (each_once items (λ i j d lt within. apart (suc i) (suc j) d (omega (arith, lt)) (omega (arith, within))))
-    where
-      by_test : (t : Bool) → All (λ (h : OpKey × ℕ). x.operation ≢ h.0) (others held o r items) → AllPairs (λ (a b : OpKey × ℕ). a.0 ≢ b.0) (others held o r items)
-          → AllPairs (λ (a b : OpKey × ℕ). a.0 ≢ b.0) (cond t (others held o r items) ((x.operation, x.claim.amount) ∷ others held o r items))
-      by_test true first later = later
-      by_test false first later = AllPairs-cons (λ (a b : OpKey × ℕ). a.0 ≢ b.0) (x.operation, x.claim.amount) (others held o r items) first later
-
   module _ (items : List Holder) (sorted : AreInOrder items) (members : (h : Holder) → Contains items h ↔ ((h.resource ≡ r) × (get held (holding_of h) ≡ Some h.claim))) where
     pub all_others_are : AreAllOthers (HoldsIn held) o r (others held o r items)
     all_others_are = record {
       are = record {
-        once = each_once items (holding_apart items sorted r (λ h has. ((members h).0 has).0));
-        hold = each_other (λ h. HoldsAmount (OtherHolds (HoldsIn held) o) h.0 r h.1) items (λ k d lt apart.
+        once = others_once held o r items (holding_apart items sorted r (λ h has. ((members h).0 has).0));
+        hold = all_others held o r (λ h. HoldsAmount (OtherHolds (HoldsIn held) o) h.0 r h.1) items (λ k d lt apart.
             let h = get_or items k d in
             let it = (members h).0 (Contains-get_or items k d lt) in
             (record { claim = h.claim; keep = false }, (apart, subst (λ z. get held (z, h.operation) ≡ Some h.claim) it.0 it.1), refl));

@@ -1,15 +1,14 @@
 -- Rows that are compared are equal exactly where they are the same.
-use Rattle.std.proofs.Common.{◌≡◌, refl, sym, subst, ap, Bool, true, ◌&&◌}
-use Rattle.std.specs.Prelude.{ℕ, ℤ, List, Decides, eqb}
+use Rattle.std.proofs.Common.{◌≡◌, refl, subst, ap, Bool, true, ◌&&◌}
+use Rattle.std.specs.Prelude.{ℕ, ℤ, Decides, eqb}
 use Rattle.std.specs.Bool.{beq}
 use Rattle.std.specs.Str.{bytes_eq}
 use Rattle.std.specs.Ordering.{int_eq}
-use Rattle.std.specs.Cmp.{IsEquivalence, first_so, second_so, booleans_Decides, signed_Decides, unsigned_Decides}
+use Rattle.std.specs.Cmp.{first_so, second_so, booleans_Decides, signed_Decides, unsigned_Decides}
 use Rattle.std.proofs.lemmas.Slice.Eq.{bytes_eq-Decides}
 use denote.Enum.Bare.{same_true}
 use Rattle.plan_basics.specs.Keys.{Name}
 use Rattle.plan_basics.specs.Intervals.{OpenInterval}
-use Rattle.plan_basics.specs.declared.Attr.{Attr}
 use Rattle.plan_basics.specs.declared.keys.OccKey.{OccKey}
 use Rattle.plan_basics.specs.declared.keys.OpKey.{OpKey}
 use Rattle.plan_drafts.specs.status_rules.specs.declared.Mark.{Mark}

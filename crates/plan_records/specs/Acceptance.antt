@@ -22,7 +22,7 @@ use Rattle.plan_records.specs.declared.What.{What}
 use Rattle.plan_records.specs.declared.What.TheVariants as what
 use Rattle.plan_records.specs.declared.Request.{Request}
 use Rattle.plan_drafts.specs.Drafts.{IsOwn}
-use Rattle.plan_records.specs.Changes.{with_added, with_pair}
+use Rattle.plan_records.specs.Changes.{with_added, with_pair, LeavesOver}
 
 -- a start may be reported: of a named operation on an automatic workstation; where starts are reported, of one that is allowed to start; elsewhere of none
 abbrev pub MayBeStarted : Contents → ℕ → OpKey → Operation → Option Attr → Refusal → Type 0
@@ -149,6 +149,8 @@ MayBeDone P m (what.Complete o) r = OfOperation P o (MayBeCompleted P o) r
 MayBeDone P m (what.DeleteOccurrence c) r = MayBeDeleted P c r
 MayBeDone P m (what.AddOccurrence None) r = IsBadText r
 MayBeDone P m (what.AddOccurrence (Some s)) r = MayBeAdded P s r
+MayBeDone P m (what.Extend None) r = IsBadText r
+MayBeDone P m (what.Extend (Some s)) r = (left : Contents) → LeavesOver P left → MayBeAdded left s r
 MayBeDone P m (what.AddDependency p s) r = MayBePaired P p s r
 MayBeDone P m (what.SetAvailable n available) r = MayBeSetAvailable P n r
 MayBeDone P m (what.ReplaceIntervals w items) r = MayBeOpenBy P w items.items r

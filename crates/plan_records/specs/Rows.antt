@@ -54,7 +54,7 @@ IsRow P (row.Quantity r quantity) = (stock : Stock) × (get P.contents.resources
 -- of a shared need, where it isn't 1, which isn't written
 IsRow P (row.Amount o r amount) = Has P.contents o (λ op. (usage : Usage) × (get op.needs r ≡ Some usage) × (usage.claim ≡ record { mode = Shared; amount = amount }) × (amount ≢ 1))
 
--- a row of the tables of the first version for P, which name this version and have no quantities and amounts
+-- a row of P, where the row of meta names the first version: what the nine tables of that version hold are such rows
 abbrev pub IsFirstRow : Plan → PlanRow → Type 0
 IsFirstRow P (row.Meta version loaded clock) = (version ≡ 1) × (loaded ≡ P.loaded) × (clock ≡ P.clock)
 IsFirstRow P r = IsRow P r

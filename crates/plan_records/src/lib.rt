@@ -6,8 +6,9 @@ ghost use Rattle.plan_records.specs.Rows.{key_of};
 
 use plan_basics::{Attr, ErrCode, Interval, Moment, OccKey, OpKey, Refusal, ResName, WsName};
 pub use plan_drafts::{
-    Addition, AdditionParts, ExactKey, Occurrence, OperationRecord, PlanContents, PlanDraft,
-    Record, RowKey, Stock, copies_of, graph_of, is_acyclic, keys, one_denotation, row_place,
+    Addition, ExactKey, Extension, ExtensionParts, Occurrence, OperationRecord, PlanContents,
+    PlanDraft, Record, RowKey, Stock, copies_of, graph_of, is_acyclic, keys, one_denotation,
+    row_place,
 };
 use plan_drafts::{Mark, Mode, OccStatus, Status};
 
@@ -31,6 +32,9 @@ pub enum What {
     DeleteOccurrence(OccKey),
     /// The occurrence of a text is to be added; `None` for a text that denotes none.
     AddOccurrence(Option<Addition>),
+    /// The plan is to be extended by the occurrences of a text, once those that are complete or deleted have left it; `None`
+    /// for a text that denotes none.
+    Extend(Option<Extension>),
     AddDependency(OpKey, OpKey),
     SetAvailable(ResName, bool),
     ReplaceIntervals(WsName, Vec<Interval>),

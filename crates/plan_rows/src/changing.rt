@@ -100,6 +100,8 @@ pub fn rows_of(
     ensures rows { IfOk result (λ v. AreRows (plan_held clock (Some shown.old.contents)) v.items) }
     ensures in_order { IfOk result (λ v. IsStrictlySortedBy row_cmp (map key_of v.items)) }
     ensures contents { shown.new.contents ≡ shown.old.contents }
+    ensures fewest { shown.old.looks ≤ shown.new.looks }
+    ensures most { IfOk result (λ v. shown.new.looks ≤ shown.old.looks + 2 * length (entries shown.old.contents.operations)) }
 {
     let nothing = PlanBefore {
         clock,

@@ -1,6 +1,7 @@
 //! The rows of the tables for a loaded plan, and which of them change from one plan to the next.
 #![tactic(auto)]
 
+mod all_rows;
 mod changing;
 mod columns;
 mod dependencies;
@@ -22,6 +23,7 @@ mod tables;
 mod workplaces;
 mod written;
 
+pub use all_rows::changed_rows;
 pub use changing::{changes_between, rows_of};
 pub use columns::{SourceColumns, columns_of};
 pub use dependencies::push_dependencies;

@@ -76,6 +76,7 @@ module _ (P : Contents) (valid : IsValid P) (m : ℕ) (places : List ℕ) (Q : C
   small_moves (what.Complete o) small clear change are = marks (what.Complete o) o mark.Done refl refl clear are change
   small_moves (what.DeleteOccurrence c) small clear change are = absurd small
   small_moves (what.AddOccurrence s) small clear change are = absurd small
+  small_moves (what.Extend s) small clear change are = absurd small
   small_moves (what.AddDependency p s) small clear change are = absurd small
   small_moves (what.SetAvailable r available) small clear change are =
       let made : Resources = revise (with_availability r available) P.resources in
@@ -105,6 +106,7 @@ module _ (P Q : Contents) where
   }
   others (what.DeleteOccurrence c) small change = absurd small
   others (what.AddOccurrence s) small change = absurd small
+  others (what.Extend s) small change = absurd small
   others (what.AddDependency p s) small change = absurd small
   others (what.SetAvailable r available) small change = record {
     resources = λ keeps. absurd keeps;

@@ -41,6 +41,7 @@ use Rattle.plan_steps.specs.StepLooks.{IsStepLooked, one_at_least}
 by_change : (P R : Contents) (w : What) (n : ℕ) → IsSmall w → IsAllowance P w R n → IsAllowanceByChange P w R n
 by_change P R (what.Load draft) n small is = absurd small
 by_change P R (what.AddOccurrence a) n small is = absurd small
+by_change P R (what.Extend a) n small is = absurd small
 by_change P R (what.AddDependency p s) n small is = absurd small
 by_change P R (what.DeleteOccurrence c) n small is = absurd small
 by_change P R w n small is = is

@@ -19,6 +19,7 @@ abbrev pub IsSmall : What → Type 0
 IsSmall (what.Load draft) = ⊥
 IsSmall (what.DeleteOccurrence c) = ⊥
 IsSmall (what.AddOccurrence a) = ⊥
+IsSmall (what.Extend a) = ⊥
 IsSmall (what.AddDependency p s) = ⊥
 IsSmall _ = Unit {0}
 

@@ -14,7 +14,7 @@ use plan_records::What;
 use std::alloc::Global;
 
 /// Whether a request changes marks and flags, which special resources are available or when workstations are open, and
-/// nothing else: all but a load, an addition, a new pair and a deletion.
+/// nothing else: all but a load, an addition, an extension, a new pair and a deletion.
 pub fn is_small(what: &What) -> bool
     ensures { Decides result (IsSmall what.now) }
 {
@@ -23,6 +23,7 @@ pub fn is_small(what: &What) -> bool
         What::Load(_)
             | What::DeleteOccurrence(_)
             | What::AddOccurrence(_)
+            | What::Extend(_)
             | What::AddDependency(_, _)
     )
 }

@@ -36,14 +36,14 @@ pub use laws::{
     edits_lead_on, frame_stays, naming_moves, small_requests_move, small_steps_look_few,
     whole_plans_look_few,
 };
-pub use plan_checks::{check_load, check_request};
+pub use plan_checks::{Outline, check_load, check_request, check_shown};
 pub use plan_figures::{
     Beside, Figures, Frame, LoadedPlan, Parts, RecordCopy, Reported, Shown, WorkedOut, chosen_with,
-    worked_out,
+    is_one_of, worked_out,
 };
 pub use plan_rows::{
-    Notes, PlanBefore, RowSource, SourceColumns, TableSource, changes_between, columns_of,
-    noted_changes,
+    Notes, PlanBefore, RowSource, SourceColumns, TableSource, changed_rows, changes_between,
+    columns_of, noted_changes, rows_of,
 };
 pub use revisions::Revision;
 pub use setting::Setting;

@@ -80,6 +80,7 @@ pub fn revision_of(alloc: Global, beside: &Beside<'_>, what: &What) -> Result<Re
         What::Load(_)
         | What::DeleteOccurrence(_)
         | What::AddOccurrence(_)
+        | What::Extend(_)
         | What::AddDependency(_, _) => unreachable!(),
     }
 }

@@ -2,7 +2,7 @@
 use Rattle.std.proofs.Common.{◌≡◌, true, refl}
 use Rattle.sqlite_resolve.specs.Compile.{first}
 use Rattle.sqlite_tied.specs.Compute.{everything}
-use Rattle.plan_schema.specs.declared.TheConstants.{PUT_META, PUT_RESOURCE, PUT_NEED, PUT_WORKSTATION, PUT_INTERVAL, PUT_OCCURRENCE, PUT_OPERATION, PUT_DEPENDENCY, PUT_RECEIPT, PUT_QUANTITY, PUT_AMOUNT, DROP_INTERVAL}
+use Rattle.plan_schema.specs.declared.TheConstants.{PUT_META, PUT_RESOURCE, PUT_NEED, PUT_WORKSTATION, PUT_INTERVAL, PUT_OCCURRENCE, PUT_OPERATION, PUT_DEPENDENCY, PUT_RECEIPT, PUT_QUANTITY, PUT_AMOUNT, DROP_INTERVAL, DROP_OCCURRENCE, DROP_OPERATION, DROP_DEPENDENCY, DROP_NEED, DROP_AMOUNT}
 use Rattle.plan_writes.proofs.Growth.{reads_as, writes_rows}
 
 pub writes_meta : reads_as writes_rows (first PUT_META.now) ≡ true
@@ -52,3 +52,23 @@ writes_amount = refl
 pub drops_interval : reads_as writes_rows (first DROP_INTERVAL.now) ≡ true
 unfolding first everything
 drops_interval = refl
+
+pub drops_occurrence : reads_as writes_rows (first DROP_OCCURRENCE.now) ≡ true
+unfolding first everything
+drops_occurrence = refl
+
+pub drops_operation : reads_as writes_rows (first DROP_OPERATION.now) ≡ true
+unfolding first everything
+drops_operation = refl
+
+pub drops_dependency : reads_as writes_rows (first DROP_DEPENDENCY.now) ≡ true
+unfolding first everything
+drops_dependency = refl
+
+pub drops_need : reads_as writes_rows (first DROP_NEED.now) ≡ true
+unfolding first everything
+drops_need = refl
+
+pub drops_amount : reads_as writes_rows (first DROP_AMOUNT.now) ≡ true
+unfolding first everything
+drops_amount = refl

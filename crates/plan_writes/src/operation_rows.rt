@@ -3,13 +3,17 @@ ghost use Rattle.std.specs.Prelude.{◌≡◌};
 ghost use Rattle.sqlite.specs.Held.{state};
 ghost use Rattle.plan_schema.specs.Stored.{with_occurrence, with_operation, with_dependency};
 ghost use Rattle.plan_columns.specs.Columns.{occurrence_columns, operation_columns, dependency_columns};
+ghost use Rattle.plan_columns.specs.Tables.{without_row};
+ghost use Rattle.plan_columns.specs.plan_drafts.specs.declared.RowKey.{RowKey};
 ghost use Rattle.plan_writes.specs.Within.{Rewrites, RunsWithin};
 
 use crate::columns::{flag, minute, number};
 use crate::runs::run_text;
 use plan_basics::{Moment, OccKey, OpKey};
 use plan_records::OperationRow;
-use plan_schema::{PUT_DEPENDENCY, PUT_OCCURRENCE, PUT_OPERATION};
+use plan_schema::{
+    DROP_DEPENDENCY, DROP_OCCURRENCE, DROP_OPERATION, PUT_DEPENDENCY, PUT_OCCURRENCE, PUT_OPERATION,
+};
 use sqlite::{Alter, Error, Transaction};
 use status_rules::OccStatus;
 use table_rows::{int, letters, text};
@@ -81,6 +85,63 @@ pub fn put_dependency<S: Alter>(
     run_text(
         tx,
         PUT_DEPENDENCY,
+        &[
+            letters(predecessor.occurrence.app.as_bytes()),
+            minute(predecessor.occurrence.arrival),
+            number(u32::from(predecessor.number)),
+            letters(successor.occurrence.app.as_bytes()),
+            minute(successor.occurrence.arrival),
+            number(u32::from(successor.number)),
+        ],
+    )
+}
+
+/// Takes the occurrence out that has this key; its operations stay.
+pub fn drop_occurrence<S: Alter>(
+    tx: &mut Transaction<'_, S>,
+    occurrence: &OccKey,
+) -> Result<(), Error>
+    ensures same_reference { tx.new.conn.ghost_name ≡ tx.old.conn.ghost_name }
+    ensures written { RunsWithin (Rewrites (without_row (RowKey.Occurrence occurrence.now))) (state S.Store tx.old.conn.now) (state S.Store tx.new.conn.now) result }
+{
+    run_text(
+        tx,
+        DROP_OCCURRENCE,
+        &[
+            letters(occurrence.app.as_bytes()),
+            minute(occurrence.arrival),
+        ],
+    )
+}
+
+/// Takes the operation out that has this key; its pairs and its needs stay.
+pub fn drop_operation<S: Alter>(tx: &mut Transaction<'_, S>, op: &OpKey) -> Result<(), Error>
+    ensures same_reference { tx.new.conn.ghost_name ≡ tx.old.conn.ghost_name }
+    ensures written { RunsWithin (Rewrites (without_row (RowKey.Operation op.now))) (state S.Store tx.old.conn.now) (state S.Store tx.new.conn.now) result }
+{
+    run_text(
+        tx,
+        DROP_OPERATION,
+        &[
+            letters(op.occurrence.app.as_bytes()),
+            minute(op.occurrence.arrival),
+            number(u32::from(op.number)),
+        ],
+    )
+}
+
+/// Takes the pair of these operations out.
+pub fn drop_dependency<S: Alter>(
+    tx: &mut Transaction<'_, S>,
+    predecessor: &OpKey,
+    successor: &OpKey,
+) -> Result<(), Error>
+    ensures same_reference { tx.new.conn.ghost_name ≡ tx.old.conn.ghost_name }
+    ensures written { RunsWithin (Rewrites (without_row (RowKey.Dependency predecessor.now successor.now))) (state S.Store tx.old.conn.now) (state S.Store tx.new.conn.now) result }
+{
+    run_text(
+        tx,
+        DROP_DEPENDENCY,
         &[
             letters(predecessor.occurrence.app.as_bytes()),
             minute(predecessor.occurrence.arrival),

@@ -3,12 +3,14 @@ ghost use Rattle.std.specs.Prelude.{◌≡◌};
 ghost use Rattle.sqlite.specs.Held.{state};
 ghost use Rattle.plan_schema.specs.Stored.{with_quantity, with_amount};
 ghost use Rattle.plan_columns.specs.Columns.{quantity_columns, amount_columns};
+ghost use Rattle.plan_columns.specs.Tables.{without_row};
+ghost use Rattle.plan_columns.specs.plan_drafts.specs.declared.RowKey.{RowKey};
 ghost use Rattle.plan_writes.specs.Within.{Rewrites, RunsWithin};
 
 use crate::columns::{minute, number};
 use crate::runs::run_text;
 use plan_basics::{OpKey, ResName};
-use plan_schema::{PUT_AMOUNT, PUT_QUANTITY};
+use plan_schema::{DROP_AMOUNT, PUT_AMOUNT, PUT_QUANTITY};
 use sqlite::{Alter, Error, Transaction};
 use table_rows::letters;
 
@@ -47,6 +49,27 @@ pub fn put_amount<S: Alter>(
             number(u32::from(op.number)),
             letters(resource.as_bytes()),
             number(amount),
+        ],
+    )
+}
+
+/// Takes the amount out that an operation needs of a special resource.
+pub fn drop_amount<S: Alter>(
+    tx: &mut Transaction<'_, S>,
+    op: &OpKey,
+    resource: &ResName,
+) -> Result<(), Error>
+    ensures same_reference { tx.new.conn.ghost_name ≡ tx.old.conn.ghost_name }
+    ensures written { RunsWithin (Rewrites (without_row (RowKey.Amount op.now resource.now))) (state S.Store tx.old.conn.now) (state S.Store tx.new.conn.now) result }
+{
+    run_text(
+        tx,
+        DROP_AMOUNT,
+        &[
+            letters(op.occurrence.app.as_bytes()),
+            minute(op.occurrence.arrival),
+            number(u32::from(op.number)),
+            letters(resource.as_bytes()),
         ],
     )
 }

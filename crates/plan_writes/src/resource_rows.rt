@@ -4,13 +4,15 @@ ghost use Rattle.sqlite.specs.Held.{state};
 ghost use Rattle.plan_schema.specs.Schema.{desk_schema};
 ghost use Rattle.plan_schema.specs.Stored.{with_meta, with_resource, with_need};
 ghost use Rattle.plan_columns.specs.Columns.{meta_columns, resource_columns, need_columns};
+ghost use Rattle.plan_columns.specs.Tables.{without_row};
+ghost use Rattle.plan_columns.specs.plan_drafts.specs.declared.RowKey.{RowKey};
 ghost use Rattle.plan_writes.specs.Faults.{FindsFree};
 ghost use Rattle.plan_writes.specs.Within.{Rewrites, RunsWithin};
 
 use crate::columns::{flag, keeping, minute, mode_text, number};
 use crate::runs::run_text;
 use plan_basics::{Moment, OpKey, ResName};
-use plan_schema::{PUT_META, PUT_NEED, PUT_RESOURCE};
+use plan_schema::{DROP_NEED, PUT_META, PUT_NEED, PUT_RESOURCE};
 use special_resources::Mode;
 use sqlite::{Alter, Error, Transaction};
 use table_rows::letters;
@@ -73,6 +75,27 @@ pub fn put_need<S: Alter>(
             letters(resource.as_bytes()),
             mode_text(mode),
             keeping(keep),
+        ],
+    )
+}
+
+/// Takes an operation's need of a special resource out.
+pub fn drop_need<S: Alter>(
+    tx: &mut Transaction<'_, S>,
+    op: &OpKey,
+    resource: &ResName,
+) -> Result<(), Error>
+    ensures same_reference { tx.new.conn.ghost_name ≡ tx.old.conn.ghost_name }
+    ensures written { RunsWithin (Rewrites (without_row (RowKey.Need op.now resource.now))) (state S.Store tx.old.conn.now) (state S.Store tx.new.conn.now) result }
+{
+    run_text(
+        tx,
+        DROP_NEED,
+        &[
+            letters(op.occurrence.app.as_bytes()),
+            minute(op.occurrence.arrival),
+            number(u32::from(op.number)),
+            letters(resource.as_bytes()),
         ],
     )
 }

@@ -4,9 +4,11 @@ ghost use Rattle.sqlite.specs.Held.{state};
 ghost use Rattle.plan_columns.specs.Tables.{with_row, without_row, with_rows, without_rows, written};
 ghost use Rattle.plan_writes.specs.Within.{Rewrites, RunsWithin};
 
-use crate::operation_rows::{put_dependency, put_occurrence, put_operation};
-use crate::quantity_rows::{put_amount, put_quantity};
-use crate::resource_rows::{put_meta, put_need, put_resource};
+use crate::operation_rows::{
+    drop_dependency, drop_occurrence, drop_operation, put_dependency, put_occurrence, put_operation,
+};
+use crate::quantity_rows::{drop_amount, put_amount, put_quantity};
+use crate::resource_rows::{drop_need, put_meta, put_need, put_resource};
 use crate::workstation_rows::{drop_interval, put_interval, put_workstation};
 use plan_records::{PlanRow, RowKey};
 use sqlite::{Alter, Error, Transaction};
@@ -51,14 +53,20 @@ pub fn write_row<S: Alter>(tx: &mut Transaction<'_, S>, row: &PlanRow) -> Result
     }
 }
 
-/// Takes the row with this key out of its table. Only intervals ever go; for a key of another table nothing is done.
+/// Takes the row with this key out of its table. The clock, workstations, special resources and their quantities never go;
+/// for a key of theirs nothing is done.
 pub fn drop_row<S: Alter>(tx: &mut Transaction<'_, S>, key: &RowKey) -> Result<(), Error>
     ensures same_reference { tx.new.conn.ghost_name ≡ tx.old.conn.ghost_name }
     ensures written { RunsWithin (Rewrites (without_row key.now)) (state S.Store tx.old.conn.now) (state S.Store tx.new.conn.now) result }
 {
     match key {
         RowKey::Interval(ws, from) => drop_interval(tx, ws, *from),
-        _ => Ok(()),
+        RowKey::Occurrence(occurrence) => drop_occurrence(tx, occurrence),
+        RowKey::Operation(op) => drop_operation(tx, op),
+        RowKey::Dependency(predecessor, successor) => drop_dependency(tx, predecessor, successor),
+        RowKey::Need(op, resource) => drop_need(tx, op, resource),
+        RowKey::Amount(op, resource) => drop_amount(tx, op, resource),
+        RowKey::Meta | RowKey::Workstation(_) | RowKey::Resource(_) | RowKey::Quantity(_) => Ok(()),
     }
 }
 

@@ -1,8 +1,10 @@
 // The tables `workstation` and `interval`.
-ghost use Rattle.std.specs.Prelude.{◌≡◌, pos};
+ghost use Rattle.std.specs.Prelude.{◌≡◌};
 ghost use Rattle.sqlite.specs.Held.{state};
-ghost use Rattle.plan_schema.specs.Stored.{with_workstation, with_interval, without_interval};
+ghost use Rattle.plan_schema.specs.Stored.{with_workstation, with_interval};
 ghost use Rattle.plan_columns.specs.Columns.{workstation_columns, interval_columns};
+ghost use Rattle.plan_columns.specs.Tables.{without_row};
+ghost use Rattle.plan_columns.specs.plan_drafts.specs.declared.RowKey.{RowKey};
 ghost use Rattle.plan_writes.specs.Within.{Rewrites, RunsWithin};
 
 use crate::columns::{minute, number};
@@ -59,7 +61,7 @@ pub fn drop_interval<S: Alter>(
     from: Moment,
 ) -> Result<(), Error>
     ensures same_reference { tx.new.conn.ghost_name ≡ tx.old.conn.ghost_name }
-    ensures written { RunsWithin (Rewrites (without_interval ws.now (pos from))) (state S.Store tx.old.conn.now) (state S.Store tx.new.conn.now) result }
+    ensures written { RunsWithin (Rewrites (without_row (RowKey.Interval ws.now from))) (state S.Store tx.old.conn.now) (state S.Store tx.new.conn.now) result }
 {
     run_text(tx, DROP_INTERVAL, &[letters(ws.as_bytes()), minute(from)])
 }

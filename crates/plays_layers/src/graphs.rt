@@ -260,3 +260,68 @@ pub fn edges_of_a_diamond_in_turn(alloc: Global) -> bool {
         _ => false,
     }
 }
+
+// The graph of the nodes that are kept, where they get these numbers.
+fn rebuilt(graph: &Graph, keep: &[bool], numbers: &[Option<usize>]) -> Option<Graph> {
+    if keep.len() != graph.nodes() {
+        return None;
+    }
+    match graph.rebuilt(keep) {
+        Ok((rebuilt, found)) => {
+            if found.as_slice() == numbers {
+                Some(rebuilt)
+            } else {
+                None
+            }
+        }
+        Err(_) => None,
+    }
+}
+
+// Without one of its sides a diamond is a chain.
+fn is_a_chain_without_a_side(graph: &Graph) -> bool {
+    let numbers = [Some(0), None, Some(1), Some(2), Some(3)];
+    match rebuilt(graph, &[true, false, true, true, true], &numbers) {
+        Some(chain) => chain.nodes() == 4
+            && stands(&chain, 0, &[], &[1])
+            && stands(&chain, 1, &[0], &[2])
+            && stands(&chain, 2, &[1], &[3])
+            && stands(&chain, 3, &[2], &[])
+            && rises(&chain, 0, 1)
+            && rises(&chain, 1, 2)
+            && rises(&chain, 2, 3),
+        None => false,
+    }
+}
+
+// Without the node in which it ends nothing leads to its tail.
+fn is_cut_before_its_tail(graph: &Graph) -> bool {
+    let numbers = [Some(0), Some(1), Some(2), None, Some(3)];
+    match rebuilt(graph, &[true, true, true, false, true], &numbers) {
+        Some(cut) => cut.nodes() == 4
+            && stands(&cut, 0, &[], &[1, 2])
+            && stands(&cut, 1, &[0], &[])
+            && stands(&cut, 2, &[0], &[])
+            && stands(&cut, 3, &[], &[]),
+        None => false,
+    }
+}
+
+// Without any node nothing is left.
+fn is_nothing_without_nodes(graph: &Graph) -> bool {
+    match rebuilt(graph, &[false; 5], &[None; 5]) {
+        Some(empty) => empty.nodes() == 0 && has_no_edges(&empty),
+        None => false,
+    }
+}
+
+/// The diamond with some of its nodes, which keep their order and the edges between them; it is itself as before.
+pub fn rebuilt_of_some_nodes(alloc: Global) -> bool {
+    match graph_of(alloc, 5, DIAMOND) {
+        Some(Ok(graph)) => is_a_chain_without_a_side(&graph)
+            && is_cut_before_its_tail(&graph)
+            && is_nothing_without_nodes(&graph)
+            && is_a_diamond(&graph),
+        _ => false,
+    }
+}

@@ -1,5 +1,8 @@
-// Records and texts that denote an occurrence to be added, and others that denote none.
-use super::cases::{denotes_no_addition, is_addition_built, is_past_needs, takes_needs};
+// Records and texts that denote an occurrence to be added, or occurrences by which a plan is extended, and others that denote
+// none.
+use super::cases::{
+    denotes_no_addition, is_addition_built, is_extension_built, is_past_needs, takes_needs,
+};
 use super::claims::{Claim, each};
 use super::tables::{push_lines, so};
 use std::alloc::{AllocError, Global};
@@ -44,14 +47,32 @@ O,PAYROLL,2024-03-01T22:00,5,2024-03-02T05:00,,,,,
 P,PAYROLL,2024-03-01T22:00,40,CPU1,30,0,0,,
 ";
 
-/// Records denote BILLING, and others denote no addition.
+const THE_TWO_OCCURRENCES: &str = "extension
+O,BILLING/2024-03-01T22:00,5,2024-03-02T03:00,
+O,PAYROLL/2024-03-01T22:00,5,2024-03-02T05:00,
+P,BILLING/2024-03-01T22:00/010,CPU1,30,0,0,1972-01-01T00:00,2024-03-02T03:00,
+N,BILLING/2024-03-01T22:00/010,CUSTFILE,S,F,1,
+P,PAYROLL/2024-03-01T22:00/040,CPU1,30,0,0,1972-01-01T00:00,2024-03-02T05:00,
+D,PAYROLL/2024-03-01T22:00/040,BILLING/2024-03-01T22:00/010,
+";
+
+/// Records denote BILLING, and others denote neither an addition nor an extension.
 pub fn builds_billing(alloc: Global) -> Result<(), &'static str> {
     so(is_addition_built(alloc, PAIRED, THE_PAIRED), "billing")?;
+    each(alloc, Claim::Neither, PAIRED, OTHERS)
+}
+
+/// Records of two occurrences denote an extension and no addition, and so do no records.
+pub fn builds_extensions(alloc: Global) -> Result<(), &'static str> {
     so(
         denotes_no_addition(alloc, TWO_OCCURRENCES),
+        "no addition of two occurrences",
+    )?;
+    so(
+        is_extension_built(alloc, TWO_OCCURRENCES, THE_TWO_OCCURRENCES),
         "two occurrences",
     )?;
-    each(alloc, Claim::NoAddition, PAIRED, OTHERS)
+    so(is_extension_built(alloc, "", "extension\n"), "no records")
 }
 
 // An occurrence of one operation, which needs a special resource.
@@ -126,19 +147,39 @@ pub fn reads_billing(alloc: Global) -> Result<(), &'static str> {
     each(alloc, Claim::AdditionRead, THE_DESCENDING, DESCENDING)
 }
 
+// Texts that denote an extension by nothing.
+const NOTHING: &str = "an empty text;
+empty lines;|||
+a byte order mark;\u{feff}
+";
+
+// Texts that denote an extension by two occurrences, in another order, and with other ends of lines.
+const BOTH: &str =
+    "by occurrence;O,PAYROLL,2024-03-01T22:00,5,2024-03-02T05:00,,,,,|P,PAYROLL,2024-03-01T22:00,40,CPU1,30,0,0,,|O,BILLING,2024-03-01T22:00,5,2024-03-02T03:00,,,,,|P,BILLING,2024-03-01T22:00,10,CPU1,30,0,0,,|N,BILLING,2024-03-01T22:00,10,CUSTFILE,S,F,,,|D,PAYROLL,2024-03-01T22:00,40,BILLING,2024-03-01T22:00,10,,,|
+by kind, with CR LF;D,PAYROLL,2024-03-01T22:00,40,BILLING,2024-03-01T22:00,10,,,\r|N,BILLING,2024-03-01T22:00,10,CUSTFILE,S,F,1,,\r|P,BILLING,2024-03-01T22:00,10,CPU1,30,0,0,,\r|P,PAYROLL,2024-03-01T22:00,40,CPU1,30,0,0,,\r|O,BILLING,2024-03-01T22:00,5,2024-03-02T03:00,,,,,\r|O,PAYROLL,2024-03-01T22:00,5,2024-03-02T05:00,,,,,\r|
+";
+
+/// Texts of no occurrence and of two are read as extensions, and as no additions.
+pub fn reads_extensions(alloc: Global) -> Result<(), &'static str> {
+    each(alloc, Claim::ExtensionRead, "extension\n", NOTHING)?;
+    each(alloc, Claim::ExtensionRead, THE_TWO_OCCURRENCES, BOTH)?;
+    each(alloc, Claim::NoAdditionRead, "", NOTHING)?;
+    each(alloc, Claim::NoAdditionRead, "", BOTH)
+}
+
 // Whole texts.
-const NO_OCCURRENCE: &str = "an empty text;
-no O;P,BILLING,2024-03-01T22:00,10,CPU1,30,0,0,,|N,BILLING,2024-03-01T22:00,10,CUSTFILE,S,F,,,|
+const INCOMPLETE: &str =
+    "no O;P,BILLING,2024-03-01T22:00,10,CPU1,30,0,0,,|N,BILLING,2024-03-01T22:00,10,CUSTFILE,S,F,,,|
+a D alone;D,PAYROLL,2024-03-01T22:00,30,PAYROLL,2024-03-01T22:00,40,,,|
 no P;O,BILLING,2024-03-01T22:00,5,2024-03-02T03:00,,,,,|
+no P of one of two;O,BILLING,2024-03-01T22:00,5,2024-03-02T03:00,,,,,|O,PAYROLL,2024-03-01T22:00,5,2024-03-02T05:00,,,,,|P,PAYROLL,2024-03-01T22:00,40,CPU1,30,0,0,,|
 a P of nine fields;O,BILLING,2024-03-01T22:00,5,2024-03-02T03:00,,,,,|P,BILLING,2024-03-01T22:00,10,CPU1,30,0,0,|
 an O of nine fields;O,BILLING,2024-03-01T22:00,5,2024-03-02T03:00,,,,|P,BILLING,2024-03-01T22:00,10,CPU1,30,0,0,,|
 a kind of record that there isn't;O,BILLING,2024-03-01T22:00,5,2024-03-02T03:00,,,,,|P,BILLING,2024-03-01T22:00,10,CPU1,30,0,0,,|R,BILLING,2024-03-01T22:00,10,,,,,,|
 ";
 
 // Records after BILLING's that are of another occurrence, or of the plan.
-const OF_OTHERS: &str =
-    "two O;O,PAYROLL,2024-03-01T22:00,5,2024-03-02T05:00,,,,,|P,PAYROLL,2024-03-01T22:00,40,CPU1,20,0,0,,|
-a W;W,CPU1,A,,,,,,,|
+const OF_OTHERS: &str = "a W;W,CPU1,A,,,,,,,|
 an I;I,CPU1,2024-03-01T22:00,2024-03-02T06:00,2,3,0,,,|
 an X;X,CUSTFILE,Y,,,,,,,|
 a P of another application;P,PAYROLL,2024-03-01T22:00,40,CPU1,20,0,0,,|
@@ -164,12 +205,12 @@ another N of that key;N,BILLING,2024-03-01T22:00,10,CUSTFILE,X,K,,,|
 the same D;D,PAYROLL,2024-03-01T22:00,40,BILLING,2024-03-01T22:00,10,,,|D,PAYROLL,2024-03-01T22:00,40,BILLING,2024-03-01T22:00,10,,,|
 ";
 
-/// Texts that denote no addition are read as none.
+/// Texts that denote neither an addition nor an extension are read as none.
 pub fn texts_of_no_occurrence(alloc: Global) -> Result<(), &'static str> {
-    each(alloc, Claim::NoAdditionRead, "", NO_OCCURRENCE)?;
-    each(alloc, Claim::NoAdditionRead, BILLING, OF_OTHERS)?;
-    each(alloc, Claim::NoAdditionRead, BILLING, NAMING)?;
-    each(alloc, Claim::NoAdditionRead, BILLING, TWICE)
+    each(alloc, Claim::NeitherRead, "", INCOMPLETE)?;
+    each(alloc, Claim::NeitherRead, BILLING, OF_OTHERS)?;
+    each(alloc, Claim::NeitherRead, BILLING, NAMING)?;
+    each(alloc, Claim::NeitherRead, BILLING, TWICE)
 }
 
 // An addition with so many needs more.
@@ -184,7 +225,7 @@ fn with_needs(alloc: Global, text: &str, more: u16) -> Result<String, AllocError
     Ok(longer)
 }
 
-/// An operation of an addition has 16 needs at most, by its records and by its text.
+/// An operation of an addition or an extension has 16 needs at most, by its records and by its text.
 pub fn sixteen_needs_and_no_more(alloc: Global) -> Result<(), &'static str> {
     so(
         takes_needs(alloc, with_needs(alloc, BILLING, 15), 16),

@@ -1,9 +1,10 @@
 // What holds of a row of a table, and of what stands before it.
 use super::denoting::{
-    addition_of_records, addition_of_text, offered, plan_of_records, plan_of_text,
+    addition_of_records, addition_of_text, extension_of_records, extension_of_text, offered,
+    plan_of_records, plan_of_text,
 };
 use super::tables::{bytes_of, count, part, text_in};
-use super::telling::{told_of_addition, told_of_plan};
+use super::telling::{told_of_addition, told_of_extension, told_of_plan};
 use std::alloc::{AllocError, Global};
 
 /// Whether something was written, and is this.
@@ -58,10 +59,15 @@ pub fn denotes_no_addition(alloc: Global, text: &str) -> bool {
     is(&addition_of_records(alloc, text), "") && says(&told_of_addition(alloc, text.as_bytes()))
 }
 
-/// The text in the case of the row denotes no addition.
-pub fn is_no_addition(alloc: Global, text: &str, case: &str) -> bool {
+// The records of a text's lines denote no extension, and something is wrong with the text.
+fn denotes_no_extension(alloc: Global, text: &str) -> bool {
+    is(&extension_of_records(alloc, text), "") && says(&told_of_extension(alloc, text.as_bytes()))
+}
+
+/// The text in the case of the row denotes neither an addition nor an extension.
+pub fn is_neither(alloc: Global, text: &str, case: &str) -> bool {
     match text_in(alloc, text, case) {
-        Some(text) => denotes_no_addition(alloc, &text),
+        Some(text) => denotes_no_addition(alloc, &text) && denotes_no_extension(alloc, &text),
         None => false,
     }
 }
@@ -69,6 +75,11 @@ pub fn is_no_addition(alloc: Global, text: &str, case: &str) -> bool {
 /// The records of a text's lines denote this addition.
 pub fn is_addition_built(alloc: Global, text: &str, written: &str) -> bool {
     is(&addition_of_records(alloc, text), written)
+}
+
+/// The records of a text's lines denote this extension.
+pub fn is_extension_built(alloc: Global, text: &str, written: &str) -> bool {
+    is(&extension_of_records(alloc, text), written)
 }
 
 /// The text of the row is read as this plan.
@@ -95,11 +106,36 @@ pub fn is_addition_read(alloc: Global, written: &str, row: &str) -> bool {
     }
 }
 
+// A text is read as no addition, and something is wrong with it.
+fn is_read_as_no_addition(alloc: Global, text: &[u8]) -> bool {
+    is(&addition_of_text(alloc, text), "") && says(&told_of_addition(alloc, text))
+}
+
 /// The text of the row behind another one is read as no addition.
 pub fn is_no_addition_read(alloc: Global, front: &str, row: &str) -> bool {
     match bytes_of(alloc, front, part(row, ';', 1)) {
-        Ok(text) => is(&addition_of_text(alloc, &text), "")
-            && says(&told_of_addition(alloc, &text)),
+        Ok(text) => is_read_as_no_addition(alloc, &text),
+        Err(_) => false,
+    }
+}
+
+/// The text of the row is read as this extension.
+pub fn is_extension_read(alloc: Global, written: &str, row: &str) -> bool {
+    match bytes_of(alloc, "", part(row, ';', 1)) {
+        Ok(text) => {
+            is(&extension_of_text(alloc, &text), written)
+                && is(&told_of_extension(alloc, &text), "")
+        }
+        Err(_) => false,
+    }
+}
+
+/// The text of the row behind another one is read as neither an addition nor an extension.
+pub fn is_neither_read(alloc: Global, front: &str, row: &str) -> bool {
+    match bytes_of(alloc, front, part(row, ';', 1)) {
+        Ok(text) => {
+            is_read_as_no_addition(alloc, &text) && is(&extension_of_text(alloc, &text), "")
+        }
         Err(_) => false,
     }
 }
@@ -116,6 +152,14 @@ pub fn is_told(alloc: Global, front: &str, row: &str) -> bool {
 pub fn is_told_of_addition(alloc: Global, front: &str, row: &str) -> bool {
     match bytes_of(alloc, front, part(row, ';', 0)) {
         Ok(text) => is(&told_of_addition(alloc, &text), part(row, ';', 1)),
+        Err(_) => false,
+    }
+}
+
+/// The row tells what is wrong with its text behind an extension.
+pub fn is_told_of_extension(alloc: Global, front: &str, row: &str) -> bool {
+    match bytes_of(alloc, front, part(row, ';', 0)) {
+        Ok(text) => is(&told_of_extension(alloc, &text), part(row, ';', 1)),
         Err(_) => false,
     }
 }
@@ -174,14 +218,17 @@ fn is_needy(written: &Option<String>, needs: usize) -> bool {
     has(written, "\nP,", 1) && has(written, "\nN,BILLING/2024-03-01T22:00/010,", needs)
 }
 
-// Both the records of a text and the text denote an addition with so many needs, and nothing is wrong with the text.
+// Both the records of a text and the text denote an addition and an extension with so many needs, and nothing is wrong with the
+// text.
 fn has_needs(alloc: Global, text: &str, needs: usize) -> bool {
     is_needy(&addition_of_records(alloc, text), needs)
         && is_needy(&addition_of_text(alloc, text.as_bytes()), needs)
+        && is_needy(&extension_of_records(alloc, text), needs)
+        && is_needy(&extension_of_text(alloc, text.as_bytes()), needs)
         && is(&told_of_addition(alloc, text.as_bytes()), "")
 }
 
-/// Records and text denote an addition with so many needs, and nothing is wrong with the text.
+/// Records and text denote an addition and an extension with so many needs, and nothing is wrong with the text.
 pub fn takes_needs(alloc: Global, text: Result<String, AllocError>, needs: usize) -> bool {
     match text {
         Ok(text) => has_needs(alloc, &text, needs),
@@ -189,11 +236,18 @@ pub fn takes_needs(alloc: Global, text: Result<String, AllocError>, needs: usize
     }
 }
 
-/// Records and text denote no addition, and something is wrong with the text.
+// Neither the records of a text nor the text denotes an addition or an extension, and something is wrong with the text.
+fn denotes_neither(alloc: Global, text: &str) -> bool {
+    denotes_no_addition(alloc, text)
+        && denotes_no_extension(alloc, text)
+        && is(&addition_of_text(alloc, text.as_bytes()), "")
+        && is(&extension_of_text(alloc, text.as_bytes()), "")
+}
+
+/// Records and text denote neither an addition nor an extension, and something is wrong with the text.
 pub fn is_past_needs(alloc: Global, text: Result<String, AllocError>) -> bool {
     match text {
-        Ok(text) => denotes_no_addition(alloc, &text)
-            && is(&addition_of_text(alloc, text.as_bytes()), ""),
+        Ok(text) => denotes_neither(alloc, &text),
         Err(_) => false,
     }
 }

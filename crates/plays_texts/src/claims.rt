@@ -1,8 +1,9 @@
 // What tables claim of their rows.
 use super::bodies::{is_no_report, is_no_request, is_report, is_request};
 use super::cases::{
-    is_addition_read, is_no_addition, is_no_addition_read, is_no_plan, is_offered, is_plan,
-    is_read, is_read_as_none, is_read_as_plan, is_told, is_told_of_addition,
+    is_addition_read, is_extension_read, is_neither, is_neither_read, is_no_addition_read,
+    is_no_plan, is_offered, is_plan, is_read, is_read_as_none, is_read_as_plan, is_told,
+    is_told_of_addition, is_told_of_extension,
 };
 use super::counting::is_counted;
 use std::alloc::Global;
@@ -14,8 +15,8 @@ pub enum Claim {
     Plan,
     /// It denotes no plan.
     NoPlan,
-    /// It denotes no addition.
-    NoAddition,
+    /// It denotes neither an addition nor an extension.
+    Neither,
     /// The text of the row is read as the plan that is written before it.
     Read,
     /// It is read as a plan, behind a text.
@@ -26,10 +27,16 @@ pub enum Claim {
     AdditionRead,
     /// It is read as no addition, behind a text.
     NoAdditionRead,
+    /// It is read as the extension that is written before it.
+    ExtensionRead,
+    /// It is read as neither an addition nor an extension, behind a text.
+    NeitherRead,
     /// What is wrong with it as a plan's text, behind another, is what the row tells.
     Told,
     /// What is wrong with it as an addition's text, behind another, is what the row tells.
     ToldOfAddition,
+    /// What is wrong with it as an extension's text, behind another, is what the row tells.
+    ToldOfExtension,
     /// A workstation of the plan offers at a moment what the row tells.
     Offered,
     /// The records of the text begin on the lines that the row tells.
@@ -48,14 +55,17 @@ fn holds(alloc: Global, claim: Claim, front: &str, row: &str) -> bool {
     match claim {
         Claim::Plan => is_plan(alloc, front, row),
         Claim::NoPlan => is_no_plan(alloc, front, row),
-        Claim::NoAddition => is_no_addition(alloc, front, row),
+        Claim::Neither => is_neither(alloc, front, row),
         Claim::Read => is_read(alloc, front, row),
         Claim::ReadAsPlan => is_read_as_plan(alloc, front, row),
         Claim::ReadAsNone => is_read_as_none(alloc, front, row),
         Claim::AdditionRead => is_addition_read(alloc, front, row),
         Claim::NoAdditionRead => is_no_addition_read(alloc, front, row),
+        Claim::ExtensionRead => is_extension_read(alloc, front, row),
+        Claim::NeitherRead => is_neither_read(alloc, front, row),
         Claim::Told => is_told(alloc, front, row),
         Claim::ToldOfAddition => is_told_of_addition(alloc, front, row),
+        Claim::ToldOfExtension => is_told_of_extension(alloc, front, row),
         Claim::Offered => is_offered(alloc, front, row),
         Claim::Counted => is_counted(alloc, front, row),
         Claim::Request => is_request(alloc, front, row),

@@ -1,9 +1,9 @@
 // What records and texts denote, written down. The text is empty where they denote nothing.
 use super::tables::part;
-use super::writing::{addition_text, capacity_text, plan_text};
+use super::writing::{addition_text, capacity_text, extension_text, plan_text};
 use plan_basics::{Moment, Watched, WsName};
-use plan_import::{read_occurrence, read_plan};
-use plan_records::{Addition, PlanContents, PlanDraft, Record};
+use plan_import::{read_extension, read_occurrence, read_plan};
+use plan_records::{Addition, Extension, PlanContents, PlanDraft, Record};
 use std::alloc::{AllocError, Global};
 use std::array;
 use std::io::Read;
@@ -71,6 +71,25 @@ pub fn addition_of_text(alloc: Global, text: &[u8]) -> Option<String> {
     let mut reader = Watched::new(text);
     match read_occurrence(alloc, &mut reader) {
         Ok(Some(addition)) => addition_text(alloc, addition.parts()).ok(),
+        Ok(None) => Some(String::new(alloc)),
+        Err(_) => None,
+    }
+}
+
+/// The extension that the records of a text's lines denote.
+pub fn extension_of_records(alloc: Global, text: &str) -> Option<String> {
+    match Extension::build(records(alloc, text)?) {
+        Ok(Some(extension)) => extension_text(alloc, extension.parts()).ok(),
+        Ok(None) => Some(String::new(alloc)),
+        Err(_) => None,
+    }
+}
+
+/// The extension that a text denotes.
+pub fn extension_of_text(alloc: Global, text: &[u8]) -> Option<String> {
+    let mut reader = Watched::new(text);
+    match read_extension(alloc, &mut reader) {
+        Ok(Some(extension)) => extension_text(alloc, extension.parts()).ok(),
         Ok(None) => Some(String::new(alloc)),
         Err(_) => None,
     }

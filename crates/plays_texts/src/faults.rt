@@ -234,7 +234,7 @@ const AFTER_BILLING: &str = ";
 W,CPU1,A,,,,,,,|;line 5: an addition brings no workstation, open interval or special resource: its records are O, P, D and N|
 I,CPU1,2024-03-01T22:00,2024-03-02T06:00,2,3,0,,,|;line 5: an addition brings no workstation, open interval or special resource: its records are O, P, D and N|
 X,CUSTFILE,Y,,,,,,,|;line 5: an addition brings no workstation, open interval or special resource: its records are O, P, D and N|
-O,PAYROLL,2024-03-01T22:00,5,2024-03-02T05:00,,,,,|P,PAYROLL,2024-03-01T22:00,30,CPU1,20,0,0,,|;line 5: occurrence: another is in line 1: an addition is of one|
+O,PAYROLL,2024-03-01T22:00,5,2024-03-02T05:00,,,,,|P,PAYROLL,2024-03-01T22:00,30,CPU1,20,0,0,,|;line 4: operation PAYROLL/2024-03-01T22:00/040: no record defines it|line 5: occurrence: another is in line 1: an addition is of one|
 O,BILLING,2024-03-01T22:00,5,2024-03-02T03:00,,,,,|;line 5: occurrence BILLING/2024-03-01T22:00: given before, in line 1: each is given once|line 5: occurrence: another is in line 1: an addition is of one|
 P,PAYROLL,2024-03-01T22:00,30,CPU1,20,0,0,,|;line 5: occurrence PAYROLL/2024-03-01T22:00: no record defines it|
 P,BILLING,2024-03-01T22:00,10,SETP,60,0,0,,|;line 5: operation BILLING/2024-03-01T22:00/010: given before, in line 2: each is given once|
@@ -242,7 +242,7 @@ P,BILLING,2024-03-01T22:00,20,CPU1,6000,0,0,,|;line 5: operation: duration: must
 R,BILLING,,,,,,,,|;line 5: unknown kind: the first field is W, I, X, O, P, D or N|
 ||P,BILLING|;line 7: 2 fields: a record has 10|
 N,PAYROLL,2024-03-01T22:00,40,CUSTFILE,X,K,,,|;line 5: operation PAYROLL/2024-03-01T22:00/040: no record defines it|
-D,PAYROLL,2024-03-01T22:00,30,PAYROLL,2024-03-01T22:00,40,,,|;line 5: dependency: one of its operations must be of the occurrence that is added|
+D,PAYROLL,2024-03-01T22:00,30,PAYROLL,2024-03-01T22:00,40,,,|;line 5: dependency: one of its operations must be of an occurrence that is added|
 D,BILLING,2024-03-01T22:00,10,BILLING,2024-03-01T22:00,20,,,|;line 5: operation BILLING/2024-03-01T22:00/020: no record defines it|
 D,BILLING,2024-03-01T22:00,10,PAYROLL,2024-03-01T22:00,40,,,|;
 N,BILLING,2024-03-01T22:00,10,TAPE,S,F,999999,,|;
@@ -257,6 +257,34 @@ const WHOLE_ADDITIONS: &str =
 O,BILLING,2024-03-01T22:00,5,2024-03-02T03:00,,,,,|;line 1: occurrence: it has no operation: it must have at least one|
 P,BILLING,2024-03-01T22:00,10,CPU1,30,0,0,,|;line 1: occurrence BILLING/2024-03-01T22:00: no record defines it|line 1: occurrence: the addition has none: it must have one|
 ";
+
+// What follows the occurrence in an extension, and what is told.
+const AFTER_BILLING_IN_AN_EXTENSION: &str = ";
+W,CPU1,A,,,,,,,|;line 5: an extension brings no workstation, open interval or special resource: its records are O, P, D and N|
+O,WEEKLY,2024-03-01T22:00,5,2024-03-02T05:00,,,,,|P,WEEKLY,2024-03-01T22:00,30,CPU1,20,0,0,,|D,BILLING,2024-03-01T22:00,10,WEEKLY,2024-03-01T22:00,30,,,|;
+O,WEEKLY,2024-03-01T22:00,5,2024-03-02T05:00,,,,,|;line 5: occurrence: it has no operation: it must have at least one|
+O,BILLING,2024-03-01T22:00,5,2024-03-02T03:00,,,,,|;line 5: occurrence BILLING/2024-03-01T22:00: given before, in line 1: each is given once|
+O,WEEKLY,2024-03-01T22:00,5,2024-03-02T05:00,,,,,|P,WEEKLY,2024-03-01T22:00,30,CPU1,20,0,0,,|D,WEEKLY,2024-03-01T22:00,40,PAYROLL,2024-03-01T22:00,30,,,|;line 7: operation WEEKLY/2024-03-01T22:00/040: no record defines it|
+D,PAYROLL,2024-03-01T22:00,30,PAYROLL,2024-03-01T22:00,40,,,|;line 5: dependency: one of its operations must be of an occurrence that is added|
+";
+
+// Whole texts of extensions, and what is told.
+const WHOLE_EXTENSIONS: &str = ";
+P,BILLING,2024-03-01T22:00,10,CPU1,30,0,0,,|;line 1: occurrence BILLING/2024-03-01T22:00: no record defines it|
+N,BILLING,2024-03-01T22:00,10,CUSTFILE,S,F,,,|;line 1: operation BILLING/2024-03-01T22:00/010: no record defines it|
+D,PAYROLL,2024-03-01T22:00,30,PAYROLL,2024-03-01T22:00,40,,,|;line 1: dependency: one of its operations must be of an occurrence that is added|
+";
+
+/// What is wrong with an extension's text is told.
+pub fn faults_of_extensions(alloc: Global) -> Result<(), &'static str> {
+    each(
+        alloc,
+        Claim::ToldOfExtension,
+        BILLING,
+        AFTER_BILLING_IN_AN_EXTENSION,
+    )?;
+    each(alloc, Claim::ToldOfExtension, "", WHOLE_EXTENSIONS)
+}
 
 /// What is wrong with an addition's text is told.
 pub fn faults_of_additions(alloc: Global) -> Result<(), &'static str> {

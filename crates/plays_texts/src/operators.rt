@@ -22,6 +22,7 @@ const REQUESTS: &str = r#""do":"tick"
 "do":"delete","occ":"PAYROLL/2024-03-01T22:00"
 "do":"load","records":""
 "do":"add","records":"no record"
+"do":"extend","records":""
 "do":"depend","from":"A/1972-01-01T00:00/001","to":"B/1972-01-01T00:00/001"
 "do":"available","resource":"CUST.FILE-1","value":true
 "do":"intervals","ws":"CPU1","intervals":[]
@@ -31,7 +32,8 @@ const REQUESTS: &str = r#""do":"tick"
 const NO_REQUESTS: &str = r#""do":"tick","op":"A/1972-01-01T00:00/001"
 "do":"tick","do":"tock"
 "do":"Tick"
-"do":"extend","records":""
+"do":"extend"
+"do":"extend","record":""
 "do":null
 "op":"A/1972-01-01T00:00/001"
 "do":"started"

@@ -1,6 +1,6 @@
-// Plans and additions, written down: a line for each row, in the order of the tables, with a comma behind each field.
+// Plans, additions and extensions, written down: a line for each row, in the order of the tables, with a comma behind each field.
 use plan_basics::{Interval, OccKey, OpKey, ResName, WsName};
-use plan_records::{AdditionParts, Occurrence, OperationRecord, PlanContents, Stock};
+use plan_records::{ExtensionParts, Occurrence, OperationRecord, PlanContents, Stock};
 use special_resources::{Mode, Need};
 use status_rules::Mark;
 use std::alloc::{AllocError, Global};
@@ -159,12 +159,24 @@ pub fn plan_text(alloc: Global, contents: &PlanContents) -> Result<String, Alloc
     Ok(text)
 }
 
+// What comes in.
+fn push_parts(text: &mut String, parts: &ExtensionParts) -> Result<(), AllocError> {
+    push_occurrences(text, &parts.occurrences)?;
+    push_operations(text, &parts.operations)?;
+    push_pairs(text, &parts.pairs)
+}
+
 /// What an addition holds.
-pub fn addition_text(alloc: Global, parts: &AdditionParts) -> Result<String, AllocError> {
+pub fn addition_text(alloc: Global, parts: &ExtensionParts) -> Result<String, AllocError> {
     let mut text = String::new(alloc);
-    push_occurrence(&mut text, &parts.key, &parts.terms)?;
-    push_operations(&mut text, &parts.operations)?;
-    push_pairs(&mut text, &parts.pairs)?;
+    push_parts(&mut text, parts)?;
+    Ok(text)
+}
+
+/// What an extension holds, behind a line that tells that it is one, since it may hold nothing.
+pub fn extension_text(alloc: Global, parts: &ExtensionParts) -> Result<String, AllocError> {
+    let mut text = String::from_str(alloc, "extension\n")?;
+    push_parts(&mut text, parts)?;
     Ok(text)
 }
 

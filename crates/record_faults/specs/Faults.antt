@@ -97,7 +97,7 @@ need_said o = option_and_then as_need o
 abbrev pub resource_said : Option Item → Option (Name × Stock)
 resource_said o = option_and_then as_resource o
 
--- it needs more than there is of a resource, which the record at this place says first
+-- it needs more of a resource than there is, by the record at the other place, the first that says this resource
 abbrev pub IsBeyondStock : Sayings → ℕ → Fault → Type 0
 IsBeyondStock said place (fault.BeyondStock other) = (y : OpKey × Need) × (z : Name × Stock) × (need_said (slice_index_or said place None) ≡ Some y) × IsFirst (given said) (key.Resource y.1.name) other
     × (resource_said (slice_index_or said other None) ≡ Some z) × (z.1.quantity < y.1.amount)

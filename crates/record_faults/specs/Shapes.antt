@@ -46,7 +46,7 @@ operation_number = form.Number LEAST_NUMBER GREATEST_NUMBER
 abbrev pub fixed_amount : Form
 fixed_amount = form.Number 0 MOST_FIXED
 
--- how much there is of a special resource, or how much a need takes of it
+-- how much there is of a special resource, or how much a need takes of it; or empty
 abbrev pub quantity : Form
 quantity = form.NumberOrEmpty 1 MOST_QUANTITY
 

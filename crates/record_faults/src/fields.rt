@@ -22,7 +22,7 @@ fn is_plain(text: &[u8]) -> bool
     }
 }
 
-// The value of such a text, if it is of four bytes.
+// The value of such a text, if it is below 4,294,967,296.
 fn plain_value(text: &[u8]) -> Option<u32>
     requires { IsPlainNumeral text.now }
     ensures { MatchOption result (2 ^ 32 ≤ digits_value 10 text.now) (λ n. n ≡ digits_value 10 text.now) }

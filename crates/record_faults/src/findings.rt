@@ -13,7 +13,7 @@ use super::faults::{Fault, RecordFault};
 use super::gather::all_faults;
 use super::index::index_of;
 use super::readings::{Reading, reading_of};
-use super::sayings::{Fields, keys_given, sayings};
+use super::sayings::{Fields, keys_given, sayings_of};
 use std::alloc::{AllocError, Global};
 
 // The fault of records of which none has one and that denote no plan: that of the dependency that closes a path.
@@ -46,7 +46,7 @@ pub fn faults_of(alloc: Global, records: &[Fields]) -> Result<Vec<RecordFault>, 
     ensures in_order { IfOk result (λ v. AllPairs (λ a b. a.place ≤ b.place) v.items) }
     ensures once { IfOk result (λ v. AllPairs (λ a b. a ≢ b) v.items) }
 {
-    let said = sayings(alloc, records)?;
+    let said = sayings_of(alloc, records)?;
     if say_some(alloc, &said)? {
         return Ok(Vec::new(alloc));
     }
@@ -65,7 +65,7 @@ pub fn faults_of(alloc: Global, records: &[Fields]) -> Result<Vec<RecordFault>, 
 pub fn circle_of_records(alloc: Global, records: &[Fields]) -> Result<Option<Circle>, AllocError>
     ensures { IfOk result (λ found. MatchOption found (NoCircleIn (texts_of records.now)) (λ c. IsCircleOf (texts_of records.now) c.place c.first c.way.items)) }
 {
-    let said = sayings(alloc, records)?;
+    let said = sayings_of(alloc, records)?;
     let keys = keys_given(alloc, &said)?;
     let index = index_of(alloc, &keys)?;
     let found = circle_of(alloc, &keys, &index)?;

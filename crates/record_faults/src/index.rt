@@ -6,7 +6,7 @@ use plan_drafts::RowKey;
 use std::alloc::{AllocError, Global};
 use std::collections::BTreeMap;
 
-// For each key the first place that gives it.
+/// For each key the first place that gives it.
 pub type Index = BTreeMap<RowKey, usize>;
 
 // The place gives this key, if it gives one: it is kept, where the key is new.
@@ -23,7 +23,7 @@ fn keep_first(index: &mut Index, given: &Option<RowKey>, place: usize) -> Result
     Ok(())
 }
 
-// For each key the first place that gives it.
+/// For each key the first place that gives it. It fails for want of memory only.
 pub fn index_of(alloc: Global, keys: &[Option<RowKey>]) -> Result<Index, AllocError>
     ensures { IfOk result (IsIndex keys.now) }
 {
@@ -34,7 +34,7 @@ pub fn index_of(alloc: Global, keys: &[Option<RowKey>]) -> Result<Index, AllocEr
     Ok(index)
 }
 
-// The first place that gives a key, if one does.
+/// The first place that gives a key, if one does.
 pub fn first_place(index: &Index, key: &RowKey) -> Option<usize>
     ensures { result ≡ place_in index.now key.now }
 {

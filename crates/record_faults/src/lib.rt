@@ -23,6 +23,7 @@ pub use circles::Circle;
 pub use faults::{Fault, RecordFault};
 pub use findings::{circle_of_records, faults_of};
 pub use groups::{Group, most};
+pub use index::{Index, first_place, index_of};
 pub use kinds::{Form, Kind, Shape};
 pub use names::Naming;
-pub use sayings::Fields;
+pub use sayings::{Fields, keys_given, sayings_of};

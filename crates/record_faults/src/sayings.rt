@@ -12,8 +12,8 @@ use std::alloc::{AllocError, Global};
 /// The fields of a record, however many there are.
 pub type Fields = Vec<Vec<u8>>;
 
-// What each record says.
-pub fn sayings(alloc: Global, records: &[Fields]) -> Result<Vec<Option<Item>>, AllocError>
+/// What each record says. It fails for want of memory only.
+pub fn sayings_of(alloc: Global, records: &[Fields]) -> Result<Vec<Option<Item>>, AllocError>
     ensures { IfOk result (λ said. AreSayings (texts_of records.now) said.items) }
 {
     let mut said = Vec::new(alloc);
@@ -74,7 +74,7 @@ fn owner_given(said: &Option<Item>) -> Option<RowKey>
     }
 }
 
-// The keys that are given.
+/// The keys that are given. It fails for want of memory only.
 pub fn keys_given(alloc: Global, said: &[Option<Item>]) -> Result<Vec<Option<RowKey>>, AllocError>
     ensures { IfOk result (λ v. v.items ≡ given said.now) }
 {

@@ -43,6 +43,10 @@ pub addition_said : (d : Data) (count : ℕ) (x : What) → AsksBy d (codes "add
 addition_said d count (what.AddOccurrence addition) a = let has = rw a.1.2 at a.3 in (counted count a.0 _ a.2 a.1.2, (a.1.1, has.0, tt))
 addition_said d count _ a = absurd (apart a.1.0 refl)
 
+pub extension_said : (d : Data) (count : ℕ) (x : What) → AsksBy d (codes "extend") count x → (count ≡ 3) × HasText d (codes "records") (λ text. Unit {0})
+extension_said d count (what.Extend extension) a = let has = rw a.1.2 at a.3 in (counted count a.0 _ a.2 a.1.2, (a.1.1, has.0, tt))
+extension_said d count _ a = absurd (apart a.1.0 refl)
+
 pub delete_said : (d : Data) (count : ℕ) (x : What) → AsksBy d (codes "delete") count x
     → (count ≡ 3) × ((key : OccKey) × HasText d (codes "occ") (λ text. SpellsOccurrence text key))
 delete_said d count (what.DeleteOccurrence key) a = let has = rw a.1.3 at a.3 in (counted count a.0 _ a.2 a.1.3, (key, (a.1.1, has.0, a.1.2)))
@@ -71,17 +75,18 @@ intervals_said d count (what.ReplaceIntervals workstation intervals) a =
 intervals_said d count _ a = absurd (apart a.1.0 refl)
 
 -- what has another `do` than these is asked of one operation
-pub operation_said : (x : What) (verb : List ℕ) (more : List Member) → ¬ (verb ≡ codes "tick") → ¬ (verb ≡ codes "error") → ¬ (verb ≡ codes "load") → ¬ (verb ≡ codes "add")
+pub operation_said : (x : What) (verb : List ℕ) (more : List Member) → ¬ (verb ≡ codes "tick") → ¬ (verb ≡ codes "error") → ¬ (verb ≡ codes "load") → ¬ (verb ≡ codes "add") → ¬ (verb ≡ codes "extend")
     → ¬ (verb ≡ codes "delete") → ¬ (verb ≡ codes "depend") → ¬ (verb ≡ codes "available") → ¬ (verb ≡ codes "intervals") → Asks x verb more → IsOnOperation x
-operation_said what.Tick verb more tick error load add delete depend available intervals a = absurd (tick a.0)
-operation_said (what.Error key code) verb more tick error load add delete depend available intervals a = absurd (error a.0)
-operation_said (what.Load plan) verb more tick error load add delete depend available intervals a = absurd (load a.0)
-operation_said (what.AddOccurrence addition) verb more tick error load add delete depend available intervals a = absurd (add a.0)
-operation_said (what.DeleteOccurrence key) verb more tick error load add delete depend available intervals a = absurd (delete a.0)
-operation_said (what.AddDependency p s) verb more tick error load add delete depend available intervals a = absurd (depend a.0)
-operation_said (what.SetAvailable resource b) verb more tick error load add delete depend available intervals a = absurd (available a.0)
-operation_said (what.ReplaceIntervals workstation rows) verb more tick error load add delete depend available intervals a = absurd (intervals a.0)
-operation_said _ verb more tick error load add delete depend available intervals a = refl
+operation_said what.Tick verb more tick error load add extend delete depend available intervals a = absurd (tick a.0)
+operation_said (what.Error key code) verb more tick error load add extend delete depend available intervals a = absurd (error a.0)
+operation_said (what.Load plan) verb more tick error load add extend delete depend available intervals a = absurd (load a.0)
+operation_said (what.AddOccurrence addition) verb more tick error load add extend delete depend available intervals a = absurd (add a.0)
+operation_said (what.Extend extension) verb more tick error load add extend delete depend available intervals a = absurd (extend a.0)
+operation_said (what.DeleteOccurrence key) verb more tick error load add extend delete depend available intervals a = absurd (delete a.0)
+operation_said (what.AddDependency p s) verb more tick error load add extend delete depend available intervals a = absurd (depend a.0)
+operation_said (what.SetAvailable resource b) verb more tick error load add extend delete depend available intervals a = absurd (available a.0)
+operation_said (what.ReplaceIntervals workstation rows) verb more tick error load add extend delete depend available intervals a = absurd (intervals a.0)
+operation_said _ verb more tick error load add extend delete depend available intervals a = refl
 
 -- arrays of the same values are made of the same
 items_apart : (xs ys : List Data) → items_of xs ≡ items_of ys → xs ≡ ys

@@ -16,13 +16,13 @@ one_text d name s t h k = cc (h, k)
 one_count : (d : Data) (others m n : ℕ) → HasBeside d others m → HasBeside d others n → m ≡ n
 one_count d others m n h k = let same : m + others ≡ n + others = cc (h, k) in omega (arith, same)
 
--- what is asked with another `do` than the eight
-pub asked_on : (d : Data) (count : ℕ) (verb : List ℕ) (r : Option What) → ¬ (verb ≡ codes "tick") → ¬ (verb ≡ codes "error") → ¬ (verb ≡ codes "load") → ¬ (verb ≡ codes "add")
+-- what is asked with another `do` than the nine
+pub asked_on : (d : Data) (count : ℕ) (verb : List ℕ) (r : Option What) → ¬ (verb ≡ codes "tick") → ¬ (verb ≡ codes "error") → ¬ (verb ≡ codes "load") → ¬ (verb ≡ codes "add") → ¬ (verb ≡ codes "extend")
     → ¬ (verb ≡ codes "delete") → ¬ (verb ≡ codes "depend") → ¬ (verb ≡ codes "available") → ¬ (verb ≡ codes "intervals")
     → IsReading (λ x. AsksBy d verb count x × IsOnOperation x) r → IsReading (AsksBy d verb count) r
-asked_on d count verb None tick error load add delete depend available intervals none =
-    λ x a. none x (a, operation_said x verb a.0 tick error load add delete depend available intervals a.1)
-asked_on d count verb (Some x) tick error load add delete depend available intervals a = a.0
+asked_on d count verb None tick error load add extend delete depend available intervals none =
+    λ x a. none x (a, operation_said x verb a.0 tick error load add extend delete depend available intervals a.1)
+asked_on d count verb (Some x) tick error load add extend delete depend available intervals a = a.0
 
 -- where nothing is asked, no request is said
 pub nothing_said : (d : Data) (others count : ℕ) (verb : List ℕ) → HasMember d (codes "do", string verb) → HasBeside d others count → ((x : What) → ¬ AsksBy d verb count x)

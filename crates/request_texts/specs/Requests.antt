@@ -12,7 +12,7 @@ use Rattle.plan_import.specs.plan_model.specs.Contents.{Contents, AddedParts}
 use Rattle.plan_records.specs.declared.Request.{Request}
 use Rattle.plan_records.specs.declared.What.{What}
 use Rattle.plan_records.specs.declared.What.TheVariants as what
-use Rattle.plan_import.specs.Texts.{TextDenotes, TextDenotesAddition}
+use Rattle.plan_import.specs.Texts.{TextDenotes, TextDenotesAddition, TextDenotesExtension}
 use Rattle.serde_json.specs.Data.{Data, boolean, string, array}
 use Rattle.serde_json.specs.View.{items_of}
 use Rattle.request_texts.specs.Members.{Member, IsJsonOf, HasExactly}
@@ -56,6 +56,9 @@ Asks (what.Load plan) verb members = (verb ≡ codes "load") × (records : List 
 -- and so has an addition
 Asks (what.AddOccurrence addition) verb members = (verb ≡ codes "add") × (records : List ℕ) × (members ≡ (codes "records", string records) ∷ [])
     × MatchOption addition ((s : AddedParts) → ¬ TextDenotesAddition records s) (TextDenotesAddition records)
+-- and so has an extension
+Asks (what.Extend extension) verb members = (verb ≡ codes "extend") × (records : List ℕ) × (members ≡ (codes "records", string records) ∷ [])
+    × MatchOption extension ((s : AddedParts) → ¬ TextDenotesExtension records s) (TextDenotesExtension records)
 -- a deletion has the key of an occurrence
 Asks (what.DeleteOccurrence key) verb members = (verb ≡ codes "delete") × (occ : List ℕ) × SpellsOccurrence occ key × (members ≡ (codes "occ", string occ) ∷ [])
 -- a dependency goes from its predecessor to its successor

@@ -9,7 +9,7 @@
 //! | `started`, `ended`, `interrupted`, `unknown`, `hold`, `release`, `nop`, `unnop`, `rerun`, `complete` | `op`: the key of an operation |
 //! | `error` | `op`; `code`: the error code |
 //! | `delete` | `occ`: the key of an occurrence |
-//! | `load`, `add` | `records`: the text of a plan, or of an occurrence |
+//! | `load`, `add`, `extend` | `records`: the text of a plan, of an occurrence, or of an extension |
 //! | `depend` | `from`, `to`: the keys of two operations |
 //! | `available` | `resource`: its name; `value`: true or false |
 //! | `intervals` | `ws`: the name of a workstation; `intervals`: an array of arrays of a first minute, an end, servers, R1 and R2 |

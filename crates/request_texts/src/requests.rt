@@ -11,7 +11,7 @@ use super::members::{
     text_at, workstation_at,
 };
 use super::operations::read_on_operation;
-use super::records::{read_add, read_load};
+use super::records::{read_add, read_extend, read_load};
 use plan_records::{Request, What};
 use serde_json::Value;
 use std::alloc::{AllocError, Global};
@@ -61,6 +61,7 @@ fn read_what(
         "error" => Ok(read_error(value, count)),
         "load" => read_load(alloc, value, count),
         "add" => read_add(alloc, value, count),
+        "extend" => read_extend(alloc, value, count),
         "delete" => Ok(read_delete(value, count)),
         "depend" => Ok(read_depend(value, count)),
         "available" => Ok(read_available(value, count)),

@@ -42,7 +42,22 @@ $ load --db :memory: --plan @night.csv --at 2024-03-01T22:00
 $ load --db '' --plan @night.csv --at 2024-03-01T22:00
 !fault file
 =3
+$ extend --db @absent --plan @absent --at 2024-3-1
+!fault moment
+=2
+$ extend --db @absent --plan @next.csv --at 2024-03-01T22:00
+!fault file
+=3
+$ extend --db @empty.db --plan @absent --at 2024-03-01T22:00
+!fault file
+=3
+$ extend --db @empty.db --plan @ --at 2024-03-01T22:00
+!fault file
+=3
 $ validate --plan @absent
+!fault file
+=3
+$ validate --extension @absent
 !fault file
 =3
 - absent
@@ -54,6 +69,9 @@ pub const NO_DESKS: &str =
 $ do --request {"at":"2024-03-01T22:00","do":"tick"} --db @absent.db
 !fault file
 =3
+$ extend --plan @next.csv --at 2024-03-01T22:00 --db @absent.db
+!fault file
+=3
 $ report --kind errors --db @absent.db
 !fault file
 =3
@@ -61,6 +79,9 @@ $ serve --port 8080 --requests 1 --db @absent.db
 !fault file
 =3
 $ do --request {"at":"2024-03-01T22:00","do":"tick"} --db @empty
+refused 28 Damaged
+=1
+$ extend --plan @next.csv --at 2024-03-01T22:00 --db @empty
 refused 28 Damaged
 =1
 $ report --kind errors --db @empty
@@ -72,6 +93,9 @@ refused 28 Damaged
 $ do --request {"at":"2024-03-01T22:00","do":"tick"} --db @no_tables.db
 refused 28 Damaged
 =1
+$ extend --plan @next.csv --at 2024-03-01T22:00 --db @no_tables.db
+refused 28 Damaged
+=1
 $ report --kind errors --db @no_tables.db
 refused 28 Damaged
 =1
@@ -81,6 +105,9 @@ refused 28 Damaged
 $ do --request {"at":"2024-03-01T22:00","do":"tick"} --db @other.db
 !fault file
 =3
+$ extend --plan @next.csv --at 2024-03-01T22:00 --db @other.db
+!fault file
+=3
 $ report --kind errors --db @other.db
 !fault file
 =3
@@ -88,6 +115,9 @@ $ serve --port 8080 --requests 1 --db @other.db
 !fault file
 =3
 $ do --request {"at":"2024-03-01T22:00","do":"tick"} --db @
+!fault file
+=3
+$ extend --plan @next.csv --at 2024-03-01T22:00 --db @
 !fault file
 =3
 $ report --kind errors --db @

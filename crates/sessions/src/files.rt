@@ -55,6 +55,21 @@ N,BBB,2024-03-01T22:00,10,TAPE,S,F,2,,
 N,CCC,2024-03-01T22:00,10,TAPE,S,F,1,,
 ";
 
+// The next night, of one run.
+const NEXT: &str = "O,PAYROLL,2024-03-02T22:00,5,2024-03-03T05:00,,,,,
+P,PAYROLL,2024-03-02T22:00,10,CPU1,30,0,0,,
+";
+
+// It comes after the printing of the night before.
+const AFTER_THE_OLD: &str = "O,PAYROLL,2024-03-02T22:00,5,2024-03-03T05:00,,,,,
+P,PAYROLL,2024-03-02T22:00,10,CPU1,30,0,0,,
+D,PAYROLL,2024-03-01T22:00,40,PAYROLL,2024-03-02T22:00,10,,,
+";
+
+// It has no run.
+const NO_OPERATION: &str = "O,PAYROLL,2024-03-02T22:00,5,2024-03-03T05:00,,,,,
+";
+
 // Requests that are played. The line with only blanks is passed over.
 const PLAYED: &str =
     "{\"at\":\"2024-03-01T21:59\",\"do\":\"started\",\"op\":\"PAYROLL/2024-03-01T22:00/005\"}
@@ -77,12 +92,15 @@ D,DAILY,2024-03-01T22:00,10,DAILY,2024-03-01T22:00,20,,,
 ";
 
 /// The files that stand in a session's folder.
-pub const FILES: [(&str, &str); 11] = [
+pub const FILES: [(&str, &str); 14] = [
     ("empty", ""),
     ("night.csv", NIGHT),
     ("wrong.csv", WRONG),
     ("old.csv", OLD),
     ("tapes.csv", TAPES),
+    ("next.csv", NEXT),
+    ("after_the_old.csv", AFTER_THE_OLD),
+    ("no_operation.csv", NO_OPERATION),
     ("played", PLAYED),
     ("broken_off", BROKEN_OFF),
     ("other.db", "a letter, and no database"),

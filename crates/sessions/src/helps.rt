@@ -5,7 +5,7 @@ use std::env;
 use std::path::PathBuf;
 
 // What is shown by the help of each command, and by that of the program.
-const HELPS: [(&str, &str); 9] = [
+const HELPS: [(&str, &str); 10] = [
     ("--help", "Usage: plandesk <COMMAND>"),
     (
         "validate --help",
@@ -13,6 +13,7 @@ const HELPS: [(&str, &str); 9] = [
     ),
     ("check --help", "Example: plandesk check --plan day.csv"),
     ("load --help", "Example: plandesk load --db night.db"),
+    ("extend --help", "Example: plandesk extend --db night.db"),
     ("do --help", "Example: plandesk do --db night.db"),
     (
         "report --help",

@@ -4,14 +4,18 @@ use super::faults::{
 };
 use super::first_file::FIRST_FILE;
 use super::runs::{play, play_with};
-use super::scripts::{JUDGED, ORDER, PLAYS, SAMPLES, SESSION, TAPES, VERSION, WHYS};
+use super::scripts::{
+    HELD_BACK, JUDGED, NIGHTS, ORDER, PLAYS, SAMPLES, SESSION, TAPES, VERSION, WHYS,
+};
 
-/// A night, why its operations don't go on, what is tried out, what is judged, tape drives, and the version.
+/// A night, why its operations don't go on, what is tried out, what is judged, tape drives, nights at one desk, and the version.
 pub fn sessions(rt: &HostRuntime) -> Result<(), &'static str> {
     play(
         rt,
         "sessions",
-        &[SESSION, WHYS, PLAYS, JUDGED, TAPES, ORDER, VERSION],
+        &[
+            SESSION, WHYS, PLAYS, JUDGED, TAPES, NIGHTS, HELD_BACK, ORDER, VERSION,
+        ],
     )
 }
 

@@ -161,7 +161,125 @@ accepted
 starts BBB/2024-03-01T22:00/010
 "#;
 
-/// Texts of plans that are judged.
+/// Nights at one desk: what is over leaves, and what is new comes in, by `extend` and by `do`, until no occurrence is there.
+pub const NIGHTS: &str = r#"$ load --db @nights.db --plan @night.csv --at 2024-03-01T21:00
+accepted
+$ do --db @nights.db --request {"at":"2024-03-01T22:00","do":"started","op":"PAYROLL/2024-03-01T22:00/005"}
+accepted
+$ do --db @nights.db --request {"at":"2024-03-01T22:10","do":"ended","op":"PAYROLL/2024-03-01T22:00/005"}
+accepted
+starts PAYROLL/2024-03-01T22:00/010
+$ do --db @nights.db --request {"at":"2024-03-01T22:40","do":"ended","op":"PAYROLL/2024-03-01T22:00/010"}
+accepted
+starts PAYROLL/2024-03-01T22:00/020
+$ do --db @nights.db --request {"at":"2024-03-01T22:45","do":"add","records":"O,BILLING,2024-03-01T22:00,5,2024-03-02T03:00,,,,,\nP,BILLING,2024-03-01T22:00,10,CPU1,30,0,0,,\nN,BILLING,2024-03-01T22:00,10,CUSTFILE,S,F,,,"}
+accepted
+$ extend --db @nights.db --plan @empty --at 2024-03-01T22:50
+accepted
+$ do --db @nights.db --request {"at":"2024-03-01T22:50","do":"extend","records":""}
+accepted
+$ report --db @nights.db --kind occurrences
+OCCURRENCES AT 2024-03-01T22:50
+BILLING          2024-03-01T22:00 5 W 2024-03-02T03:00     1     0
+PAYROLL          2024-03-01T22:00 5 S 2024-03-02T05:00     5     2
+END 2
+$ do --db @nights.db --request {"at":"2024-03-01T23:40","do":"ended","op":"PAYROLL/2024-03-01T22:00/020"}
+accepted
+starts BILLING/2024-03-01T22:00/010
+$ do --db @nights.db --request {"at":"2024-03-01T23:50","do":"ended","op":"PAYROLL/2024-03-01T22:00/040"}
+accepted
+$ extend --db @nights.db --plan @after_the_old.csv --at 2024-03-01T23:55
+refused 5 UnknownOperation
+=1
+$ do --db @nights.db --request {"at":"2024-03-01T23:55","do":"extend","records":"O,PAYROLL,2024-03-02T22:00,5,2024-03-03T05:00,,,,,\nP,PAYROLL,2024-03-02T22:00,10,CPU1,30,0,0,,\nD,PAYROLL,2024-03-01T22:00,40,PAYROLL,2024-03-02T22:00,10,,,"}
+refused 5 UnknownOperation
+=1
+$ extend --db @nights.db --plan @next.csv --at 2024-03-01T23:49
+refused 1 Past
+=1
+$ do --db @nights.db --request {"at":"2024-03-01T23:49","do":"extend","records":""}
+refused 1 Past
+=1
+$ extend --db @nights.db --plan @night.csv --at 2024-03-01T23:55
+refused 21 BadPlan
+=1
+$ report --db @nights.db --kind occurrences
+OCCURRENCES AT 2024-03-01T23:50
+BILLING          2024-03-01T22:00 5 S 2024-03-02T03:00     1     0
+PAYROLL          2024-03-01T22:00 5 C 2024-03-02T05:00     5     5
+END 2
+$ extend --db @nights.db --plan @next.csv --at 2024-03-01T23:55
+accepted
+starts PAYROLL/2024-03-02T22:00/010
+$ report --db @nights.db --kind occurrences
+OCCURRENCES AT 2024-03-01T23:55
+BILLING          2024-03-01T22:00 5 S 2024-03-02T03:00     1     0
+PAYROLL          2024-03-02T22:00 5 S 2024-03-03T05:00     1     0
+END 2
+$ do --db @nights.db --request {"at":"2024-03-02T00:10","do":"ended","op":"BILLING/2024-03-01T22:00/010"}
+accepted
+$ do --db @nights.db --request {"at":"2024-03-02T00:25","do":"ended","op":"PAYROLL/2024-03-02T22:00/010"}
+accepted
+$ do --db @nights.db --request {"at":"2024-03-02T00:30","do":"extend","records":"O,PAYROLL,2024-03-02T22:00,5,2024-03-03T05:00,,,,,\nP,PAYROLL,2024-03-02T22:00,10,CPU1,30,0,0,,"}
+accepted
+starts PAYROLL/2024-03-02T22:00/010
+$ do --db @nights.db --request {"at":"2024-03-02T01:00","do":"ended","op":"PAYROLL/2024-03-02T22:00/010"}
+accepted
+$ extend --db @nights.db --plan @empty --at 2024-03-02T01:00
+accepted
+$ report --db @nights.db --kind occurrences
+OCCURRENCES AT 2024-03-02T01:00
+END 0
+$ report --db @nights.db --kind ready --ws SETP
+READY SETP AT 2024-03-02T01:00
+END 0
+$ why --db @nights.db --op PAYROLL/2024-03-02T22:00/010
+refused 5 UnknownOperation
+=1
+$ load --db @nights.db --plan @night.csv --at 2024-03-02T01:00
+refused 4 Loaded
+=1
+"#;
+
+/// The bills came after the night, and are held: as it leaves, they stay, and wait for nothing.
+pub const HELD_BACK: &str = r#"$ load --db @held.db --plan @night.csv --at 2024-03-01T21:00
+accepted
+$ do --db @held.db --request {"at":"2024-03-01T21:00","do":"add","records":"O,BILLING,2024-03-01T22:00,5,2024-03-02T03:00,,,,,\nP,BILLING,2024-03-01T22:00,10,CPU1,30,0,0,,\nN,BILLING,2024-03-01T22:00,10,CUSTFILE,S,F,,,\nD,PAYROLL,2024-03-01T22:00,40,BILLING,2024-03-01T22:00,10,,,"}
+accepted
+$ do --db @held.db --request {"at":"2024-03-01T21:00","do":"hold","op":"BILLING/2024-03-01T22:00/010"}
+accepted
+$ do --db @held.db --request {"at":"2024-03-01T22:00","do":"started","op":"PAYROLL/2024-03-01T22:00/005"}
+accepted
+$ do --db @held.db --request {"at":"2024-03-01T22:10","do":"ended","op":"PAYROLL/2024-03-01T22:00/005"}
+accepted
+starts PAYROLL/2024-03-01T22:00/010
+$ do --db @held.db --request {"at":"2024-03-01T22:40","do":"ended","op":"PAYROLL/2024-03-01T22:00/010"}
+accepted
+starts PAYROLL/2024-03-01T22:00/020
+$ do --db @held.db --request {"at":"2024-03-01T23:40","do":"ended","op":"PAYROLL/2024-03-01T22:00/020"}
+accepted
+$ do --db @held.db --request {"at":"2024-03-01T23:50","do":"ended","op":"PAYROLL/2024-03-01T22:00/040"}
+accepted
+$ why --db @held.db --op BILLING/2024-03-01T22:00/010
+BILLING/2024-03-01T22:00/010 R 2024-03-01T23:50
+held
+END 1
+$ extend --db @held.db --plan @empty --at 2024-03-01T23:55
+accepted
+$ report --db @held.db --kind occurrences
+OCCURRENCES AT 2024-03-01T23:55
+BILLING          2024-03-01T22:00 5 W 2024-03-02T03:00     1     0
+END 1
+$ why --db @held.db --op BILLING/2024-03-01T22:00/010
+BILLING/2024-03-01T22:00/010 A 2024-03-01T23:55
+held
+END 1
+$ do --db @held.db --request {"at":"2024-03-01T23:55","do":"extend","records":"O,PAYROLL,2024-03-02T22:00,5,2024-03-03T05:00,,,,,\nP,PAYROLL,2024-03-02T22:00,10,CPU1,30,0,0,,"}
+accepted
+starts PAYROLL/2024-03-02T22:00/010
+"#;
+
+/// Texts of plans and of extensions that are judged.
 pub const JUDGED: &str = r#"$ validate --plan @night.csv
 no faults
 $ validate --plan @empty
@@ -171,6 +289,16 @@ line 1: occurrence: the plan has none: it must have at least one
 =1
 $ validate --plan @wrong.csv
 line 5: workstation CPU1: given before, in line 1: each is given once
+1 faults
+=1
+$ validate --extension @next.csv
+no faults
+$ validate --extension @empty
+no faults
+$ validate --extension @after_the_old.csv
+no faults
+$ validate --extension @no_operation.csv
+line 1: occurrence: it has no operation: it must have at least one
 1 faults
 =1
 "#;
@@ -192,7 +320,7 @@ $ play --plan @absent --at 22:00 --requests @absent
 
 /// The program's version, by either option.
 pub const VERSION: &str = r#"$ --version
-plandesk 0.15.0
+plandesk 0.16.0
 $ -V
-plandesk 0.15.0
+plandesk 0.16.0
 "#;

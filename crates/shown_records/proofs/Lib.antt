@@ -1,2 +1,3 @@
+pub mod LeftRows
 pub mod Marked
 pub mod RowRules

@@ -10,3 +10,4 @@ pub use Rattle.plan_status.specs.plan_model
 pub mod States
 pub mod Looks
 pub mod Rules
+pub mod Leaving

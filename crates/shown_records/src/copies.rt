@@ -1,15 +1,21 @@
 // A copy of what is shown, which shows nothing until it is shown itself.
 ghost use Rattle.std.specs.Prelude.{◌≡◌, ◌⊎◌, ◌+◌, ◌<◌, ◌≤◌, IfOk, OnOk, Some, length, slice_get};
 ghost use Rattle.std.specs.FinMap.{entries};
+ghost use Rattle.std.specs.List.Sorted.{IsStrictlySortedBy};
+ghost use Rattle.std.specs.Map.{keys_of};
+ghost use Rattle.plan_basics.specs.Keys.{occurrence_cmp};
 ghost use Rattle.plan_changes.specs.Additions.{HasNothingOf};
 ghost use Rattle.plan_status.specs.plan_model.specs.Valid.{IsSound};
-ghost use Rattle.plan_status.specs.plan_records.specs.Changes.{Changes, with_added, with_pair as with_pair_of};
+ghost use Rattle.plan_status.specs.plan_drafts.specs.Contents.{added_of, AreExtensionParts};
+ghost use Rattle.plan_status.specs.plan_records.specs.Changes.{Changes, with_added, with_only as only_those, with_pair as with_pair_of};
 ghost use Rattle.plan_status.specs.plan_records.specs.declared.What.TheVariants as what;
+ghost use Rattle.shown_records.specs.Leaving.{is_one_of};
 
+use super::leaving::with_only;
 use super::shown::Shown;
 use plan_basics::{OccKey, OpKey};
-use plan_changes::{deleted, with_addition, with_pair};
-use plan_records::{Addition, PlanDraft, copies_of};
+use plan_changes::{Occurrence, deleted, with_addition, with_pair};
+use plan_records::{ExtensionParts, PlanDraft, copies_of};
 use plan_status::{OperationRecord, PlanContents};
 use std::alloc::{AllocError, Global};
 use std::marker::Model;
@@ -62,12 +68,30 @@ impl RecordCopy {
         Ok(RecordCopy { contents })
     }
 
-    /// The same, with an occurrence that is added, of which there is nothing yet.
-    pub fn with_addition(self, alloc: Global, addition: &Addition) -> Result<RecordCopy, AllocError>
-        requires { HasNothingOf self addition.now }
-        ensures { IfOk result (λ new. new ≡ with_added self addition.now) }
+    /// The same, with what is added, of which there is nothing yet.
+    pub fn with_addition(
+        self,
+        alloc: Global,
+        parts: &ExtensionParts,
+    ) -> Result<RecordCopy, AllocError>
+        requires in_order { AreExtensionParts parts.now }
+        requires apart { HasNothingOf self (added_of parts.now) }
+        ensures { IfOk result (λ new. new ≡ with_added self (added_of parts.now)) }
     {
-        let contents = with_addition(alloc, &self.contents, addition)?;
+        let contents = with_addition(alloc, &self.contents, parts)?;
+        Ok(RecordCopy { contents })
+    }
+
+    /// The same, with these occurrences alone of those that there are, with their operations and the pairs that name no others.
+    pub fn with_only(
+        self,
+        alloc: Global,
+        staying: &[(OccKey, Occurrence)],
+    ) -> Result<RecordCopy, AllocError>
+        requires { IsStrictlySortedBy occurrence_cmp (keys_of staying.now) }
+        ensures { IfOk result (λ new. new ≡ only_those (is_one_of staying.now) self) }
+    {
+        let contents = with_only(alloc, &self.contents, staying)?;
         Ok(RecordCopy { contents })
     }
 

@@ -1,10 +1,11 @@
 //! What a request is shown of a plan: records of operations by one call, which counts, and all that stands beside them; and what
-//! it writes into the plan, for which no record is shown.
+//! it writes into the plan, or takes out of a copy, for which no record is shown.
 #![tactic(auto)]
 
 mod beside;
 mod briefs;
 mod copies;
+mod leaving;
 mod markings;
 mod rules;
 mod shown;
@@ -12,6 +13,7 @@ mod writing;
 
 pub use beside::Beside;
 pub use copies::RecordCopy;
+pub use leaving::is_one_of;
 pub use plan_cascade::{Kept, rerun, settle_up};
 pub use plan_changes::{Marking, Occurrence};
 pub use plan_status::{

@@ -1,18 +1,22 @@
-// Marks, flags, availability and open intervals, written into what is shown: it shows no record, so it takes no look.
-ghost use Rattle.std.specs.Prelude.{◌≡◌, true};
+// Marks, flags, availability, open intervals and what is added, written into what is shown: it shows no record, so it takes no look.
+ghost use Rattle.std.specs.Prelude.{◌≡◌, true, IfErr, OnOk};
 ghost use Rattle.std.specs.FinMap.{contains_key, insert};
+ghost use Rattle.plan_changes.specs.Additions.{HasNothingOf};
 ghost use Rattle.plan_changes.specs.Markings.{DifferInMarks, WereMarked};
+ghost use Rattle.plan_status.specs.plan_drafts.specs.Contents.{added_of, AreExtensionParts};
 ghost use Rattle.plan_status.specs.plan_model.specs.Contents.{Contents, with_availability};
 ghost use Rattle.plan_status.specs.plan_model.specs.Ready.{with_mark};
 ghost use Rattle.plan_status.specs.plan_model.specs.Revise.{revise};
 ghost use Rattle.plan_status.specs.plan_model.specs.Valid.{IsSound};
-ghost use Rattle.plan_status.specs.plan_records.specs.Changes.{is_at, revised};
+ghost use Rattle.plan_status.specs.plan_records.specs.Changes.{is_at, revised, with_added};
 ghost use Rattle.plan_status.specs.ready_list.specs.Choice.{is_among};
 
 use super::shown::Shown;
 use plan_basics::{OpKey, ResName};
-use plan_changes::Marking;
+use plan_changes::{Marking, with_addition};
+use plan_records::ExtensionParts;
 use status_rules::Mark;
+use std::alloc::{AllocError, Global};
 use workstations::Workstation;
 
 impl Shown {
@@ -86,5 +90,26 @@ impl Shown {
         let (mut rows, looks) = self.into_rows();
         rows.set_workstation(workstation);
         Shown::of_rows(rows, looks)
+    }
+
+    /// With what is added, of which it holds nothing yet and by which it stays sound; or as it was, where no memory is found.
+    pub fn with_addition(
+        self,
+        alloc: Global,
+        parts: &ExtensionParts,
+    ) -> (Shown, Result<(), AllocError>)
+        requires in_order { AreExtensionParts parts.now }
+        requires apart { HasNothingOf self.contents (added_of parts.now) }
+        requires sound { IsSound (with_added self.contents (added_of parts.now)) }
+        ensures contents { OnOk result.1 (result.0.contents ≡ with_added self.contents (added_of parts.now)) }
+        ensures unchanged { IfErr result.1 (λ _. result.0.contents ≡ self.contents) }
+        ensures looks { result.0.looks ≡ self.looks }
+    {
+        self.beside().are_sound();
+        let (rows, looks) = self.into_rows();
+        match with_addition(alloc, &rows, parts) {
+            Ok(new) => (Shown::of_rows(new, looks), Ok(())),
+            Err(error) => (Shown::of_rows(rows, looks), Err(error)),
+        }
     }
 }

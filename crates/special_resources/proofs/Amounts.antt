@@ -169,7 +169,8 @@ module _ (held : Held) (o : OpKey) (r : Name) where
   abbrev pub AreApart : List Holder → Type 0
   AreApart items = AllPairs (λ a b. a.operation ≢ b.operation) items
 
-  all_others : (P : OpKey × ℕ → Type 0) (items : List Holder) → All (λ h. h.operation ≢ o → P (h.operation, h.claim.amount)) items → All P (others items)
+  -- what holds of each of these but o holds of the others among them
+  pub all_others : (P : OpKey × ℕ → Type 0) (items : List Holder) → All (λ h. h.operation ≢ o → P (h.operation, h.claim.amount)) items → All P (others items)
   all_others P [] each = All-nil P
   all_others P (x ∷ items) each =
       let Q = λ (h : Holder). h.operation ≢ o → P (h.operation, h.claim.amount) in
@@ -180,7 +181,7 @@ module _ (held : Held) (o : OpKey) (r : Name) where
       by_test true e first later = later
       by_test false e first later = All-cons P _ (others items) (first (λ same. true≢false (sym (ap is_eq (ap (operation_cmp x.operation) (sym same) ∙ tied_itself operation_cmp_total x.operation)) ∙ e))) later
 
-  others_once : (items : List Holder) → AreApart items → AreOnce (others items)
+  pub others_once : (items : List Holder) → AreApart items → AreOnce (others items)
   others_once [] apart = λ i j d lt within. absurd (omega (arith, within))
   others_once (x ∷ items) apart =
       let first : All (λ (h : Holder). x.operation ≢ h.operation) items = λ k d lt. apart 0 (suc k) d (omega arith) (omega (arith, lt)) in

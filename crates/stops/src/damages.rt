@@ -12,15 +12,15 @@ const DAMAGES: &str = "UPDATE operation SET status = 'R' WHERE num = 20
 UPDATE operation SET waiting = 0 WHERE num = 30
 UPDATE operation SET latest = latest + 1 WHERE num = 5
 UPDATE operation SET mark = 'none' WHERE num = 5
-UPDATE occurrence SET status = 'W'
+UPDATE occurrence SET status = 'W' WHERE app = 'PAYROLL'
 UPDATE operation SET held = 2 WHERE num = 5
-UPDATE need SET mode = 'Y'
-INSERT INTO dependency SELECT app, ia, 40, app, ia, 5 FROM occurrence
+UPDATE need SET mode = 'Y' WHERE app = 'PAYROLL'
+INSERT INTO dependency SELECT app, ia, 40, app, ia, 5 FROM occurrence WHERE app = 'PAYROLL'
 INSERT INTO meta (id, version, loaded, clock) VALUES (2, 2, 1, 0)
-INSERT INTO occurrence SELECT 'EMPTY', ia, priority, deadline, 'W' FROM occurrence
+INSERT INTO occurrence SELECT 'EMPTY', ia, priority, deadline, 'W' FROM occurrence WHERE app = 'PAYROLL'
 UPDATE meta SET version = 3
 INSERT INTO quantity VALUES ('CUSTFILE', 999999)
-INSERT INTO amount SELECT app, ia, num, resource, 1 FROM need
+INSERT INTO amount SELECT app, ia, num, resource, 1 FROM need WHERE app = 'PAYROLL'
 DROP TABLE need
 UPDATE receipt SET number = 0";
 

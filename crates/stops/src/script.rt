@@ -1,13 +1,16 @@
-// The script that is stopped: the tables are made, a night is loaded, and a tracker reports four times.
+// The script that is stopped: the tables are made, a night is loaded, a tracker reports four times, and the plan is extended
+// twice. Each time an occurrence comes in that is complete at once, as its only operation reports nothing and comes after one
+// that is complete; the second time the first of them leaves, with its dependency and its need of two.
 use plan_basics::Watched;
 use sqlite::{Alter, Connection, MemStore};
 use std::alloc::Global;
 use tracker_http::{Desk, serve_one};
 use wires::{After, NIGHT, Paper, Pieces, Report, post, reply, tables_text};
 
-/// A step after the making of the tables: the load, whose number is 0, or a report of T1 on an operation; and the body of
-/// its reply.
+/// A step after the making of the tables: what an operator asks by a body, or else a report of T1 on an operation; and the
+/// body of its reply.
 pub struct Step {
+    body: &'static str,
     number: u64,
     at: &'static str,
     verb: &'static str,
@@ -15,9 +18,29 @@ pub struct Step {
     told: &'static str,
 }
 
-/// The steps.
-pub const STEPS: [Step; 5] = [
+const CHECKS: &str = concat!(
+    "{\"at\":\"2024-03-01T22:45\",\"do\":\"extend\",\"records\":\"",
+    "O,CHECKS,2024-03-01T22:00,5,2024-03-02T05:00,,,,,\\n",
+    "P,CHECKS,2024-03-01T22:00,90,DUMM,1,0,0,,\\n",
+    "D,PAYROLL,2024-03-01T22:00,5,CHECKS,2024-03-01T22:00,90,,,\\n",
+    "N,CHECKS,2024-03-01T22:00,90,CUSTFILE,S,F,2,,\\n",
+    "\"}",
+);
+
+const AUDITS: &str = concat!(
+    "{\"at\":\"2024-03-01T22:50\",\"do\":\"extend\",\"records\":\"",
+    "O,AUDITS,2024-03-01T22:00,5,2024-03-02T05:00,,,,,\\n",
+    "P,AUDITS,2024-03-01T22:00,90,DUMM,1,0,0,,\\n",
+    "D,PAYROLL,2024-03-01T22:00,5,AUDITS,2024-03-01T22:00,90,,,\\n",
+    "N,AUDITS,2024-03-01T22:00,90,CUSTFILE,S,F,2,,\\n",
+    "\"}",
+);
+
+/// The steps. One that an operator asks may be asked again, once it is carried out: the load is refused then, and what came in
+/// leaves and comes in again.
+pub const STEPS: [Step; 7] = [
     Step {
+        body: NIGHT,
         number: 0,
         at: "",
         verb: "",
@@ -25,6 +48,7 @@ pub const STEPS: [Step; 5] = [
         told: "{\"named\":[]}",
     },
     Step {
+        body: "",
         number: 1,
         at: "22:00",
         verb: "started",
@@ -32,6 +56,7 @@ pub const STEPS: [Step; 5] = [
         told: "{\"named\":[]}",
     },
     Step {
+        body: "",
         number: 2,
         at: "22:10",
         verb: "ended",
@@ -39,6 +64,7 @@ pub const STEPS: [Step; 5] = [
         told: "{\"named\":[\"PAYROLL/2024-03-01T22:00/010\"]}",
     },
     Step {
+        body: "",
         number: 3,
         at: "22:11",
         verb: "started",
@@ -46,17 +72,35 @@ pub const STEPS: [Step; 5] = [
         told: "{\"named\":[]}",
     },
     Step {
+        body: "",
         number: 4,
         at: "22:40",
         verb: "ended",
         op: "010",
         told: "{\"named\":[\"PAYROLL/2024-03-01T22:00/020\"]}",
     },
+    Step {
+        body: CHECKS,
+        number: 0,
+        at: "",
+        verb: "",
+        op: "",
+        told: "{\"named\":[]}",
+    },
+    Step {
+        body: AUDITS,
+        number: 0,
+        at: "",
+        verb: "",
+        op: "",
+        told: "{\"named\":[]}",
+    },
 ];
 
-/// The steps after those, when the bills have come in: the second run ends, and then the printing.
+/// The steps after the reports, when the bills have come in: the second run ends, and then the printing.
 pub const REST: [Step; 2] = [
     Step {
+        body: "",
         number: 5,
         at: "23:40",
         verb: "ended",
@@ -64,6 +108,7 @@ pub const REST: [Step; 2] = [
         told: "{\"named\":[\"BILLING/2024-03-01T22:00/010\"]}",
     },
     Step {
+        body: "",
         number: 6,
         at: "23:50",
         verb: "ended",
@@ -75,8 +120,8 @@ pub const REST: [Step; 2] = [
 impl Step {
     /// The request that makes it.
     pub fn request(&self, alloc: Global) -> Option<String> {
-        if self.number == 0 {
-            return post(alloc, "/operator", NIGHT);
+        if !self.body.is_empty() {
+            return post(alloc, "/operator", self.body);
         }
         let report = Report {
             tracker: "T1",

@@ -52,7 +52,7 @@ fn sweep(alloc: Global, stopped: &Stopped, end: End, least: u64) -> Result<(), &
 // The script is stopped so.
 fn sweep_script(alloc: Global, end: End) -> Result<(), &'static str> {
     let texts = texts(alloc).ok_or(FAILED)?;
-    sweep(alloc, &Stopped::Script(texts), end, 5)
+    sweep(alloc, &Stopped::Script(texts), end, 7)
 }
 
 // The opening is stopped so.

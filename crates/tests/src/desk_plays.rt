@@ -28,6 +28,11 @@ fn lists_of_a_loaded_plan(rt: HostRuntime) -> Result<(), &'static str> {
 }
 
 #[test]
+fn lists_of_an_emptied_plan(rt: HostRuntime) -> Result<(), &'static str> {
+    desks::lists_of_an_emptied_plan(rt.alloc())
+}
+
+#[test]
 fn no_list_before_a_plan_is_loaded(rt: HostRuntime) -> Result<(), &'static str> {
     desks::no_list_before_a_plan_is_loaded(rt.alloc())
 }

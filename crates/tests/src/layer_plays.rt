@@ -94,6 +94,11 @@ fn edges_in_turn(rt: HostRuntime) {
 }
 
 #[test]
+fn rebuilt_of_some_nodes(rt: HostRuntime) {
+    assert!(rt; graphs::rebuilt_of_some_nodes(rt.alloc()));
+}
+
+#[test]
 fn reads_workstations(rt: HostRuntime) {
     assert!(rt; items::reads_workstations(rt.alloc()));
 }

@@ -15,6 +15,16 @@ fn reads_billing(rt: HostRuntime) -> Result<(), &'static str> {
 }
 
 #[test]
+fn builds_extensions(rt: HostRuntime) -> Result<(), &'static str> {
+    additions::builds_extensions(rt.alloc())
+}
+
+#[test]
+fn reads_extensions(rt: HostRuntime) -> Result<(), &'static str> {
+    additions::reads_extensions(rt.alloc())
+}
+
+#[test]
 fn texts_of_no_occurrence(rt: HostRuntime) -> Result<(), &'static str> {
     additions::texts_of_no_occurrence(rt.alloc())
 }
@@ -47,6 +57,11 @@ fn words_of_groups(rt: HostRuntime) -> Result<(), &'static str> {
 #[test]
 fn faults_of_additions(rt: HostRuntime) -> Result<(), &'static str> {
     faults::faults_of_additions(rt.alloc())
+}
+
+#[test]
+fn faults_of_extensions(rt: HostRuntime) -> Result<(), &'static str> {
+    faults::faults_of_extensions(rt.alloc())
 }
 
 #[test]

@@ -16,6 +16,11 @@ fn an_addition_without_memory_is_refused(rt: HostRuntime) {
 }
 
 #[test]
+fn an_extension_without_memory_is_refused(rt: HostRuntime) {
+    assert!(rt; nights::an_extension_without_memory_is_refused(rt.alloc()));
+}
+
+#[test]
 fn a_load_without_memory_changes_nothing(rt: HostRuntime) {
     assert!(rt; nights::a_load_without_memory_changes_nothing(rt.alloc()));
 }

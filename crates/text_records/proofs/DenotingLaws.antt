@@ -6,12 +6,12 @@ use Rattle.csv.specs.declared.parser.State.TheVariants as st
 use Rattle.plan_import.specs.plan_items.specs.Items.{Fields, IsRecordOf, Says}
 use Rattle.plan_import.specs.plan_items.specs.declared.Item.{Item}
 use Rattle.plan_import.specs.plan_items.specs.declared.Item.TheVariants as item
-use Rattle.plan_import.specs.plan_drafts.specs.Records.{Denotes, DenotesAddition}
+use Rattle.plan_import.specs.plan_drafts.specs.Records.{Denotes, DenotesAddition, DenotesExtension}
 use Rattle.plan_import.specs.Records.{IsTen}
 use Rattle.plan_import.specs.Texts.{ReadsAs}
 use Rattle.plan_import.proofs.Rows.{one_reading}
 use Rattle.text_records.specs.Records.{AreRecordsOf}
-use Rattle.text_records.specs.Denoting.{DenotesPlansOf, DenotesAdditionsOf}
+use Rattle.text_records.specs.Denoting.{DenotesPlansOf, DenotesAdditionsOf, DenotesExtensionsOf}
 
 -- what an item's record is has ten fields
 ten_said : (x : Item) (fields : Fields) → IsRecordOf x fields → IsTen fields
@@ -45,3 +45,6 @@ denotes_plans text records all = denotes_of Denotes (λ rs P d. all_ten rs d.des
 
 pub denotes_additions : (text : List ℕ) (records : List Fields) → AreRecordsOf text records → DenotesAdditionsOf text records
 denotes_additions text records all = denotes_of DenotesAddition (λ rs s d. all_ten rs d.described.items d.described.said) text records all
+
+pub denotes_extensions : (text : List ℕ) (records : List Fields) → AreRecordsOf text records → DenotesExtensionsOf text records
+denotes_extensions text records all = denotes_of DenotesExtension (λ rs s d. all_ten rs d.described.items d.described.said) text records all

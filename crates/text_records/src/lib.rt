@@ -4,7 +4,7 @@
 ghost use Rattle.std.specs.Prelude.{◌≡◌, IfOk, length};
 ghost use Rattle.text_records.specs.Records.{AreRecordsOf, texts_of};
 ghost use Rattle.text_records.specs.Lines.{BeginOn};
-ghost use Rattle.text_records.specs.Denoting.{DenotesPlansOf, DenotesAdditionsOf};
+ghost use Rattle.text_records.specs.Denoting.{DenotesPlansOf, DenotesAdditionsOf, DenotesExtensionsOf};
 
 mod lines;
 mod reading;
@@ -30,6 +30,7 @@ pub fn records_of_text(alloc: Global, text: &[u8]) -> Result<TextRecords, AllocE
     ensures each { IfOk result (λ found. length found.lines.items ≡ length found.records.items) }
     ensures plans { IfOk result (λ found. DenotesPlansOf text.now (texts_of found.records.items)) }
     ensures additions { IfOk result (λ found. DenotesAdditionsOf text.now (texts_of found.records.items)) }
+    ensures extensions { IfOk result (λ found. DenotesExtensionsOf text.now (texts_of found.records.items)) }
 {
     let records = records_of_bytes(alloc, text)?;
     let lines = lines_of_text(alloc, text)?;

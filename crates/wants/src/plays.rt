@@ -47,7 +47,7 @@ pub fn a_failed_run_is_run_again(alloc: Global) -> Result<(), &'static str> {
     play(alloc, FAILED_RUN)
 }
 
-/// The night ends.
+/// The night ends, and the next one comes in.
 pub fn a_night_to_its_end(alloc: Global) -> Result<(), &'static str> {
     play(alloc, WHOLE_NIGHT)
 }

@@ -25,7 +25,7 @@ NIGHT | refused Loaded
 close
 open"#;
 
-/// The second run ends when the bills are in, and then the printing.
+/// The second run ends when the bills are in, and then the printing; and the next night comes in when this one leaves.
 pub const WHOLE_NIGHT: &str = r#"+ create
 + NIGHT | names
 + {"at":"2024-03-01T22:00","do":"started","op":"PAYROLL/2024-03-01T22:00/005"} | names
@@ -33,7 +33,9 @@ pub const WHOLE_NIGHT: &str = r#"+ create
 + {"at":"2024-03-01T22:40","do":"ended","op":"PAYROLL/2024-03-01T22:00/010"} | names PAYROLL/2024-03-01T22:00/020
 + {"at":"2024-03-01T22:45","do":"add","records":"O,BILLING,2024-03-01T22:00,5,2024-03-02T03:00,,,,,\nP,BILLING,2024-03-01T22:00,10,CPU1,30,0,0,,\nN,BILLING,2024-03-01T22:00,10,CUSTFILE,S,F,,,\n"} | names
 {"at":"2024-03-01T23:40","do":"ended","op":"PAYROLL/2024-03-01T22:00/020"} | names BILLING/2024-03-01T22:00/010
-{"at":"2024-03-01T23:50","do":"ended","op":"PAYROLL/2024-03-01T22:00/040"} | names"#;
+{"at":"2024-03-01T23:50","do":"ended","op":"PAYROLL/2024-03-01T22:00/040"} | names
+{"at":"2024-03-01T23:55","do":"extend","records":"O,PAYROLL,2024-03-02T22:00,5,2024-03-03T05:00,,,,,\nP,PAYROLL,2024-03-02T22:00,10,CPU1,30,0,0,,\nD,PAYROLL,2024-03-01T22:00,40,PAYROLL,2024-03-02T22:00,10,,,\n"} | refused UnknownOperation
+{"at":"2024-03-01T23:55","do":"extend","records":"O,PAYROLL,2024-03-02T22:00,5,2024-03-03T05:00,,,,,\nP,PAYROLL,2024-03-02T22:00,10,CPU1,30,0,0,,\n"} | names PAYROLL/2024-03-02T22:00/010"#;
 
 /// The bills are to come after the printing: by the pair with which they come in, and by one that is added. The night is deleted
 /// then, and doesn't come in again.

@@ -46,13 +46,13 @@ backup_is = get-from_entries operation_cmp_total three_operations backup_key
 first_precedes : Precedes with_backup first second
 first_precedes = contains-from_list pair_cmp_total two_pairs (first, second)
 
-second_precedes : Precedes with_backup second backup_key
+pub second_precedes : Precedes with_backup second backup_key
 second_precedes = contains-from_list pair_cmp_total two_pairs (second, backup_key)
 
 before_second : (q : OpKey) → Precedes with_backup q second → q ≡ first
 before_second q h = only q first (one_before two_pairs q second h)
 
-before_backup : (q : OpKey) → Precedes with_backup q backup_key → q ≡ second
+pub before_backup : (q : OpKey) → Precedes with_backup q backup_key → q ≡ second
 before_backup q h = only q second (one_before two_pairs q backup_key h)
 
 first_arrives : HasStatus with_backup first status.Arriving

@@ -60,14 +60,16 @@ backup_operation_key = (backup_occurrence_key, omega arith, omega arith)
 pub is_addition : IsAddition backup_addition
 is_addition = record {
   one = len-entries backup_addition.occurrences ∙ ap length (entries-from_entries occurrence_cmp_total occurrence_cmp-IsAntisymmetric ((backup, occurrence) ∷ []) tt);
-  occurrences = record {
-    each_occurrence = each_entry occurrence_cmp_total occurrence_cmp-IsAntisymmetric ((backup, occurrence) ∷ []) IsOccurrence (record { key = backup_occurrence_key; priority = (omega arith, omega arith); deadline = omega arith }, tt);
-    each_operation = of_backup (λ o op. IsOperation o op × IsOwn backup_addition o) (lasting_is backup_key 30 backup_operation_key (omega arith, omega arith), is_own);
-    not_empty = of_occurrence (λ c. (o : OpKey) × (o.occurrence ≡ c) × (contains_key backup_addition.operations o ≡ true)) (backup_key, refl, is_new);
+  extension = record {
+    occurrences = record {
+      each_occurrence = each_entry occurrence_cmp_total occurrence_cmp-IsAntisymmetric ((backup, occurrence) ∷ []) IsOccurrence (record { key = backup_occurrence_key; priority = (omega arith, omega arith); deadline = omega arith }, tt);
+      each_operation = of_backup (λ o op. IsOperation o op × IsOwn backup_addition o) (lasting_is backup_key 30 backup_operation_key (omega arith, omega arith), is_own);
+      not_empty = of_occurrence (λ c. (o : OpKey) × (o.occurrence ≡ c) × (contains_key backup_addition.operations o ≡ true)) (backup_key, refl, is_new);
+    };
+    untouched = of_backup (λ o op. IsUntouched op) (refl, refl, refl);
+    pairs = of_pair (λ p o. IsEnd backup_addition p × IsEnd backup_addition o × (IsOwn backup_addition p ⊎ IsOwn backup_addition o))
+        (((daily_key, omega arith, omega arith), λ own. absurd (second_is_other own)), (backup_operation_key, λ own. is_new), inr is_own);
   };
-  untouched = of_backup (λ o op. IsUntouched op) (refl, refl, refl);
-  pairs = of_pair (λ p o. IsEnd backup_addition p × IsEnd backup_addition o × (IsOwn backup_addition p ⊎ IsOwn backup_addition o))
-      (((daily_key, omega arith, omega arith), λ own. absurd (second_is_other own)), (backup_operation_key, λ own. is_new), inr is_own);
 }
 
 -- ---- the plan with it

@@ -28,3 +28,4 @@ pub mod NightReruns
 pub mod NightTold
 pub mod BackupComing
 pub mod BackupChosen
+pub mod BackupLeft

@@ -1,10 +1,13 @@
 -- Members and splits of lists that are written out, and the entries of finite maps.
 use Rattle.std.proofs.Common.{arith, ◌≡◌, inl, inr, refl, sym, ◌∙◌, ap, ap₂, subst, zero, suc, Bool, true, false, cond, ◌||◌, List, [], ◌∷◌, ◌++◌, Contains, T, Option, Some, None, option_map}
 use Rattle.std.proofs.lemmas.List.Folds.{list_any-append}
+use Rattle.std.specs.List.{filter}
 use Rattle.std.specs.declared.cmp.Ordering.{Ordering}
+use Rattle.std.specs.declared.cmp.Ordering.TheVariants.{Equal}
 use Rattle.std.specs.Ordering.{eq_by_cmp}
 use Rattle.std.specs.Cmp.{IsTotalOrder}
-use Rattle.std.specs.FinMap.{IsAntisymmetric, entries, entries-from_sorted, find, from_entries, from_sorted, get-from_entries, get-from_sorted, is_sorted, same_map}
+use Rattle.std.specs.FinMap.{FinMap, IsAntisymmetric, entries, entries-from_sorted, find, from_entries, from_sorted, get, get-empty, get-from_entries, get-from_sorted, get-retain_keys, is_sorted, retain_keys, same_map}
+use Rattle.std.specs.FinMap.Entries.{find-where_key}
 use Rattle.std.specs.FinSet as set
 use Rattle.plan_laws.specs.plan_model.specs.Revise.{get-joined, get-revise, joined, or_else, revise}
 use Rattle.plan_laws.specs.plan_drafts.proofs.MadeEntries.{find-made}
@@ -85,6 +88,23 @@ module _ {K X : Type 0} {R : K → K → Ordering} where
         first_of_two : (b : Bool) (x : X) (y : Option X) → or_else (cond b (Some x) None) y ≡ cond b (Some x) y
         first_of_two true x y = refl
         first_of_two false x y = refl
+
+    -- of a map written out, the entries whose keys pass the test
+    pub kept_written : (p : K → Bool) (es : List (K × X)) → retain_keys (from_entries {R = R} es) p ≡ from_entries (filter (λ e. p e.0) es)
+    kept_written p es =
+        same_map o same (retain_keys (from_entries es) p) (from_entries (filter (λ e. p e.0) es))
+        (λ q.
+        get-retain_keys (from_entries es) p q (alike q)
+        ∙ ap (λ x. cond (p q) x None) (get-from_entries o es q)
+        ∙ sym (find-where_key R p q (alike q) es)
+        ∙ sym (get-from_entries o (filter (λ e. p e.0) es) q))
+      where
+        alike : (q x : K) → R q x ≡ Equal → p x ≡ p q
+        alike q x e = ap p (sym (same q x e))
+
+    -- a map with nothing more
+    pub joined_empty : (m : FinMap R X) → joined m (from_entries []) ≡ m
+    joined_empty m = same_map o same (joined m (from_entries [])) m (λ q. get-joined o m (from_entries []) q ∙ ap (λ x. or_else x (get m q)) (get-empty R q))
 
 -- two sets written out, together
 pub union_written : {K : Type 0} {R : K → K → Ordering} → IsTotalOrder R → IsAntisymmetric R → (ks js : List K) → set.union (set.from_list {R = R} ks) (set.from_list js) ≡ set.from_list (ks ++ js)

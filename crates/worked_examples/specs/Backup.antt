@@ -1,11 +1,13 @@
--- The small plan with BACKUP, which is added at 22:00: one operation behind DAILY's second.
+-- The small plan with BACKUP, which is added at 22:00: one operation behind DAILY's second; and what is left of it once DAILY is over.
 use Rattle.std.specs.Prelude.{[], ◌∷◌, List, codes}
-use Rattle.std.specs.FinMap.{from_entries}
+use Rattle.std.specs.FinMap.{from_entries, empty}
 use Rattle.std.specs.FinSet.{from_list}
 use Rattle.plan_basics.specs.declared.keys.OccKey.{OccKey}
 use Rattle.plan_basics.specs.declared.keys.OpKey.{OpKey}
+use Rattle.plan_laws.specs.status_rules.specs.declared.Mark.TheVariants as mark
 use Rattle.plan_laws.specs.plan_model.specs.Contents.{Contents, Operation, AddedParts}
 use Rattle.plan_laws.specs.plan_model.specs.declared.Occurrence.{Occurrence}
+use Rattle.plan_laws.specs.plan_records.specs.Changes.{marked}
 use Rattle.worked_examples.specs.Billing.{eleven}
 use Rattle.worked_examples.specs.Day.{daily, day, first, lasting, occurrence, second}
 
@@ -36,3 +38,15 @@ two_pairs = (first, second) ∷ (second, backup_key) ∷ []
 -- the small plan with it
 abbrev pub with_backup : Contents
 with_backup = record day { occurrences = from_entries two_occurrences; operations = from_entries three_operations; pairs = from_list two_pairs }
+
+-- DAILY's operations are done, one after the other
+abbrev pub day_over : Contents
+day_over = marked second mark.Done (marked first mark.Done with_backup)
+
+-- an extension of nothing
+abbrev pub nothing_added : AddedParts
+nothing_added = record { occurrences = empty; operations = empty; pairs = from_list [] }
+
+-- BACKUP alone, with its operation and no pair; workstations and resources are as they were
+abbrev pub backup_alone : Contents
+backup_alone = record with_backup { occurrences = from_entries ((backup, occurrence) ∷ []); operations = from_entries ((backup_key, lasting 30) ∷ []); pairs = from_list [] }

@@ -9,7 +9,7 @@ use Rattle.plan_laws.specs.plan_model.specs.Contents.{Contents, Has}
 use Rattle.plan_laws.specs.plan_records.specs.declared.What.{What}
 use Rattle.plan_laws.specs.plan_records.specs.declared.What.TheVariants as what
 use Rattle.plan_laws.specs.plan_records.specs.Answer.{Answer, accepted, refused}
-use Rattle.plan_laws.specs.plan_records.specs.Changes.{Changes}
+use Rattle.plan_laws.specs.plan_records.specs.Changes.{Changes, LeavesOver}
 use Rattle.plan_laws.specs.plan_records.specs.Run.{Run, numbered, usable}
 use Rattle.plan_laws.specs.plan_records.specs.Step.{Numbered, NumberedStep, Step}
 use Rattle.plan_laws.specs.plan_model.specs.Status.{HasStatus}
@@ -20,7 +20,7 @@ use Rattle.worked_examples.specs.Day.{day, evening, first, loaded_at, morning, s
 use Rattle.worked_examples.specs.Overdue.{old_at, overdue}
 use Rattle.worked_examples.specs.Trio.{aaa, bbb, ccc, by_duration, by_fixed_resource, by_key, by_latest_start, by_priority, three, half_past_three, four, ten_past_four}
 use Rattle.worked_examples.specs.Tracker.{after_told, ended_told, failure_told, no_receipts, one_receipt}
-use Rattle.worked_examples.specs.Backup.{backup_addition, backup_key, with_backup}
+use Rattle.worked_examples.specs.Backup.{backup_addition, backup_alone, backup_key, day_over, nothing_added, with_backup}
 use Rattle.worked_examples.specs.Billing.{billing_key, eleven, failed}
 use Rattle.worked_examples.specs.Night.{alone, fourth_held, from_first_again, from_third_again, custfile, end_of_second, second_ended, second_started, night, payroll, third_started, three_done, two_passed, payroll_at, loading, two_at_night, end_of_night}
 
@@ -168,6 +168,14 @@ BackupAdded =
     × HasStatus (named (first ∷ []) with_backup) first status.Started
     × HasStatus (named (first ∷ []) with_backup) second status.Waiting
     × HasStatus (named (first ∷ []) with_backup) backup_key status.Waiting
+
+-- DAILY, which is done, leaves with its operations and pairs, and an extension of nothing does no more: BACKUP's operation, which was ready, is arriving then
+abbrev pub DailyLeaves : Type 0
+DailyLeaves =
+    HasStatus day_over backup_key status.Ready
+    × LeavesOver day_over backup_alone
+    × Changes day_over (what.Extend (Some nothing_added)) backup_alone
+    × HasStatus backup_alone backup_key status.Arriving
 
 -- the first request of a tracker is accepted, and leaves a receipt
 abbrev pub NumberedRequest : Type 0

@@ -13,7 +13,7 @@ ghost use Rattle.plan_laws.specs.plan_records.specs.declared.What.{What};
 ghost use Rattle.plan_laws.specs.plan_records.specs.Answer.{refused, accepted};
 ghost use Rattle.plan_basics.specs.declared.Refusal.{Refusal};
 ghost use Rattle.plan_laws.specs.status_rules.specs.declared.Status.{Status};
-ghost use Rattle.worked_examples.specs.Statements.{MomentsOfTheNight, LatestStartsOfTheNight, StatusesWhenLoaded, StatusesAfterTheThird, StatusesOfHeld, StatusesOfPassed, StartsWhileClosed, PairThatLeadsBack, DeletionWhileStarted, SecondLoad, ChoicesForTwoServers, ChoiceForFixedResource, TickThatNames, LatestStartsOfOverdueWork, KeptResource, LoadThatNames, LoadOfTheNight, EndOfTheSecond, RerunOfTheThird, RerunOfTheFirst, BackupAdded, NumberedRequest, NumberedAgain, RunToldTwice};
+ghost use Rattle.worked_examples.specs.Statements.{MomentsOfTheNight, LatestStartsOfTheNight, StatusesWhenLoaded, StatusesAfterTheThird, StatusesOfHeld, StatusesOfPassed, StartsWhileClosed, PairThatLeadsBack, DeletionWhileStarted, SecondLoad, ChoicesForTwoServers, ChoiceForFixedResource, TickThatNames, LatestStartsOfOverdueWork, KeptResource, LoadThatNames, LoadOfTheNight, EndOfTheSecond, RerunOfTheThird, RerunOfTheFirst, BackupAdded, DailyLeaves, NumberedRequest, NumberedAgain, RunToldTwice};
 ghost use Rattle.worked_examples.specs.Day.{day, idle, loaded_at, first, second, evening};
 
 /// The first operation is arriving, the second waits for it.
@@ -139,6 +139,11 @@ pub fn reruns()
 /// An occurrence is added to the small plan behind an operation that is there, and takes time from what is before it.
 pub fn addition_behind_the_second()
     ensures { BackupAdded }
+{}
+
+/// What is over leaves with its pairs: BACKUP's operation, which was ready, is arriving then.
+pub fn what_is_over_leaves()
+    ensures { DailyLeaves }
 {}
 
 /// A tracker's accepted request leaves a receipt; sent again it is answered the same; a number out of turn is refused.

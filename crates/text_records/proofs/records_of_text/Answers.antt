@@ -3,7 +3,7 @@ use Rattle.std.proofs.lemmas.List.{length-map}
 use Rattle.csv.specs.Reading.{strip_bom}
 use Rattle.csv.specs.declared.parser.State.TheVariants as st
 use Rattle.text_records.specs.Records.{texts_of}
-use Rattle.text_records.proofs.DenotingLaws.{denotes_plans, denotes_additions}
+use Rattle.text_records.proofs.DenotingLaws.{denotes_plans, denotes_additions, denotes_extensions}
 use Rattle.text_records.proofs.LineLaws.{as_many}
 use Rattle.text_records.proofs.records_of_text.Goals as goal
 
@@ -16,3 +16,6 @@ returns-clause-plans c = denotes_plans c.args.text.now (texts_of c.in_ok-records
 
 pub returns-clause-additions : goal.returns-clause-additions
 returns-clause-additions c = denotes_additions c.args.text.now (texts_of c.in_ok-records.records.items) c.in_ok-records.ensures
+
+pub returns-clause-extensions : goal.returns-clause-extensions
+returns-clause-extensions c = denotes_extensions c.args.text.now (texts_of c.in_ok-records.records.items) c.in_ok-records.ensures

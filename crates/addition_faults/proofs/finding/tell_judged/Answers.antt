@@ -1,13 +1,13 @@
 use Rattle.std.proofs.Common.{refl, sym, subst}
 use Rattle.record_faults.specs.Faults.{StayOnce}
 use Rattle.record_faults.proofs.Once.{one_more_once}
-use Rattle.addition_faults.specs.declared.faults.AdditionFault.TheVariants as of_addition
+use Rattle.addition_faults.specs.declared.faults.AddedFault.TheVariants as of_added
 use Rattle.addition_faults.specs.declared.faults.PlacedFault.{PlacedFault}
-use Rattle.addition_faults.specs.AdditionFaults.{IsToldOf}
+use Rattle.addition_faults.specs.AddedFaults.{IsToldOf}
 use Rattle.addition_faults.proofs.finding.tell_judged.Goals as goal
 
 pub returns-clause-once : goal.returns-clause-once
 returns-clause-once c =
-    let told = IsToldOf c.args.said.now c.args.found.now in
-    let r : PlacedFault = record { place = c.args.found.now.place; fault = of_addition.OfRecord c.args.found.now.fault } in
+    let told = IsToldOf c.args.added c.args.said.now c.args.found.now in
+    let r : PlacedFault = record { place = c.args.found.now.place; fault = of_added.OfRecord c.args.found.now.fault } in
     subst (StayOnce told c.args.faults.now.items) (sym c.in_ok-extend_from_slice.ensures.items) (one_more_once told c.args.faults.now.items r (refl, refl, c.if-not-is_judged.ensures.0 refl))

@@ -1,13 +1,19 @@
-use Rattle.std.proofs.Common.{ℕ, List}
-use Rattle.std.proofs.lemmas.Result.{IfOk-weaker}
+use Rattle.std.proofs.Common.{◌≡◌, rules, sym, codes, Some, None, IfOk, subst}
+use Rattle.clap.specs.Matches.{first_value, found_of}
 use Rattle.plan_basics.specs.Watched.{inner_of}
-use Rattle.command_answers.specs.Judged.{IsJudged}
-use Rattle.command_answers.specs.declared.endings.Ending.{Ending}
+use Rattle.command_answers.specs.Judged.{IsValidated}
 use Rattle.command_answers.proofs.validating.validate.Goals as goal
 
-pub returns-in-Ok-clause-shown : goal.returns-in-Ok-clause-shown
-returns-in-Ok-clause-shown g c =
+pub returns-in-Some-clause-shown : goal.returns-in-Some-clause-shown
+returns-in-Some-clause-shown g c =
     let old = g.W.Write.contents (inner_of c.args.out.now) in
-    let new = g.W.Write.contents (inner_of c.tell_faults.new.out) in
-    let text = c.deref.result.now in
-    IfOk-weaker c.tell_faults.result (IsJudged text old new) (λ e. (read : List ℕ) × IsJudged read old new e) (λ (e : Ending) (was : IsJudged text old new e). (text, was)) c.tell_faults.ensures.shown
+    let new = g.W.Write.contents (inner_of c.validate_extension.new.out) in
+    let given : first_value (found_of c.args.given.now) (codes "extension") ≡ Some c.in-Some.path.now = search rules in
+    subst (λ o. IfOk c.validate_extension.result (IsValidated o old new)) (sym given) c.validate_extension.ensures.shown
+
+pub returns-in-None-clause-shown : goal.returns-in-None-clause-shown
+returns-in-None-clause-shown g c =
+    let old = g.W.Write.contents (inner_of c.args.out.now) in
+    let new = g.W.Write.contents (inner_of c.validate_plan.new.out) in
+    let given : first_value (found_of c.args.given.now) (codes "extension") ≡ None = search rules in
+    subst (λ o. IfOk c.validate_plan.result (IsValidated o old new)) (sym given) c.validate_plan.ensures.shown

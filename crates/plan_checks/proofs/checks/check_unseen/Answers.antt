@@ -1,9 +1,11 @@
-use Rattle.std.proofs.Common.{◌≡◌, ◌⊎◌, ap, subst, ◌∙◌, List, Some, IfErr, rules}
+use Rattle.std.proofs.Common.{◌≡◌, ◌⊎◌, ap, subst, ◌∙◌, List, Some, IfErr, OnOk, rules}
 use Rattle.plan_basics.specs.Intervals.{OpenInterval}
-use Rattle.plan_basics.specs.Refusals.{IsLeastRefusal}
+use Rattle.plan_basics.specs.Refusals.{IsLeastRefusal, NoneRefuses}
 use Rattle.plan_basics.specs.declared.Refusal.TheVariants as refusal
-use Rattle.plan_records.specs.Acceptance.{MayBeOpenBy}
+use Rattle.plan_records.specs.Acceptance.{MayBeAdded, MayBeOpenBy}
+use Rattle.plan_model.specs.Contents.{Contents}
 use Rattle.plan_records.specs.declared.What.TheVariants as what
+use Rattle.plan_records.specs.plan_drafts.specs.Contents.{added_of}
 use Rattle.plan_checks.proofs.Reporting.{if_barred, if_fails, if_none_refuses}
 use Rattle.plan_checks.proofs.checks.check_unseen.Goals as goal
 
@@ -11,10 +13,17 @@ pub returns-in-DeleteOccurrence-clause-refused : goal.returns-in-DeleteOccurrenc
 returns-in-DeleteOccurrence-clause-refused c at =
     if_fails c.args.outline.now at c.in-DeleteOccurrence.is c.check_deleted.result c.check_deleted.ensures.refused
 
-pub returns-in_ok-ok_or-in-AddOccurrence-clause-refused : goal.returns-in_ok-ok_or-in-AddOccurrence-clause-refused
-returns-in_ok-ok_or-in-AddOccurrence-clause-refused c at =
-    let some : c.in-AddOccurrence.addition ≡ Some c.in_ok-ok_or-in-AddOccurrence.field-0.now = search rules in
-    if_barred c.args.outline.now at (c.in-AddOccurrence.is ∙ ap what.AddOccurrence some) c.check_added.result c.check_added.ensures.refused
+pub returns-in_ok-addition-in-AddOccurrence-clause-ok : goal.returns-in_ok-addition-in-AddOccurrence-clause-ok
+returns-in_ok-addition-in-AddOccurrence-clause-ok c at =
+    let some : c.in-AddOccurrence.addition ≡ Some c.in_ok-addition-in-AddOccurrence.addition.now = search rules in
+    if_none_refuses c.args.outline.now at (c.in-AddOccurrence.is ∙ ap what.AddOccurrence (some ∙ ap Some c.parts.ensures.view)) c.check_added.result
+    (subst (λ (P : Contents). OnOk c.check_added.result (NoneRefuses (MayBeAdded P (added_of c.parts.result.now)))) c.known.ensures c.check_added.ensures.ok)
+
+pub returns-in_ok-addition-in-AddOccurrence-clause-refused : goal.returns-in_ok-addition-in-AddOccurrence-clause-refused
+returns-in_ok-addition-in-AddOccurrence-clause-refused c at =
+    let some : c.in-AddOccurrence.addition ≡ Some c.in_ok-addition-in-AddOccurrence.addition.now = search rules in
+    if_barred c.args.outline.now at (c.in-AddOccurrence.is ∙ ap what.AddOccurrence (some ∙ ap Some c.parts.ensures.view)) c.check_added.result
+    (subst (λ (P : Contents). IfErr c.check_added.result (λ r. (r ≡ refusal.Memory) ⊎ IsLeastRefusal (MayBeAdded P (added_of c.parts.result.now)) r)) c.known.ensures c.check_added.ensures.refused)
 
 pub returns-in-AddDependency-clause-ok : goal.returns-in-AddDependency-clause-ok
 returns-in-AddDependency-clause-ok c at =

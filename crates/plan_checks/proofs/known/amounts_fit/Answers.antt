@@ -6,7 +6,7 @@ use Rattle.plan_checks.proofs.known.amounts_fit.Goals as goal
 
 pub returns : goal.returns
 returns c =
-    let Q = NeedsFit c.args.outline.now in
+    let Q = NeedsFit c.args.plan.now in
     let told = operations_told c.args.parts.now c.requires c.deref.ensures.value Q c.all.result
     (cases_from_all _ _ _ (λ row. Q row.1) (λ row. ¬ Q row.1) c.all.ensures.ran (YieldsList-from_slice c.deref.result.now cc) (λ x q k. search (rules, tests)) (λ x q k. search (rules, tests))) in (
       λ yes o op is r usage need stock there. ((told.0 yes o op is).fit r usage need).enough stock there,

@@ -6,6 +6,6 @@ use Rattle.plan_checks.proofs.known.are_workstations_known.Goals as goal
 
 pub returns : goal.returns
 returns c =
-    let Q = HasWorkstation c.args.outline.now in
+    let Q = HasWorkstation c.args.plan.now in
     operations_told c.args.parts.now c.requires c.deref.ensures.value Q c.all.result
     (cases_from_all _ _ _ (λ row. Q row.1) (λ row. ¬ Q row.1) c.all.ensures.ran (YieldsList-from_slice c.deref.result.now cc) (λ x q k. search (rules, tests)) (λ x q k. search (rules, tests)))

@@ -8,7 +8,7 @@ use Rattle.plan_checks.proofs.known.has_resources.Goals as goal
 
 pub returns : goal.returns
 returns c =
-    let P = c.args.outline.now in
+    let P = c.args.plan.now in
     let Q = λ (need : Need). contains_key P.resources need.name ≡ true in
     let needs = c.as_slice.result.now in
     let same = sym (ap (λ (op : Operation). op.needs) c.operation.view_is) ∙ c.as_slice.ensures.usages in

@@ -9,7 +9,7 @@ use Rattle.plan_checks.proofs.known.needs_fit.Goals as goal
 
 pub returns : goal.returns
 returns c =
-    let P = c.args.outline.now in
+    let P = c.args.plan.now in
     let Q = λ (need : Need). HasSoMuch P need.name need.amount in
     let needs = c.as_slice.result.now in
     let same = sym (ap (λ (op : Operation). op.needs) c.operation.view_is) ∙ c.as_slice.ensures.usages in

@@ -5,6 +5,7 @@ use Rattle.plan_outcomes.specs.Led.{AreLooksLed, IsLedOf}
 use Rattle.plan_outcomes.specs.declared.led.Led.{Led}
 use Rattle.plan_outcomes.specs.plan_model.specs.Contents.{Contents}
 use Rattle.plan_outcomes.specs.plan_model.specs.Plan.{plan_held}
+use Rattle.plan_outcomes.specs.plan_steps.specs.plan_checks.proofs.Searching.{if_err}
 use Rattle.plan_outcomes.specs.plan_steps.specs.shown_records.specs.States.{ShownState}
 
 -- what is shown is what the plan holds
@@ -29,3 +30,8 @@ returns-in-Ok-clause-prepared c =
     let looked = subst (λ r. IfOk r (λ (l : Led). AreLooksLed H q.what l looks)) c.in-Ok.is c.outcome_of-shown.ensures.looked in
     let counted = subst (AreLooksLed c.args.loaded q.what c.in-Ok.led) (sym c.into_contents-contents.ensures.looks) (subst (λ (P : Contents). AreLooksLed P q.what c.in-Ok.led looks) (is_shown at) looked) in
     c.prepared_by.ensures.prepared (plan_held c.args.clock (Some c.args.loaded)) q (led at) counted
+
+pub returns-in-Ok-clause-refused : goal.returns-in-Ok-clause-refused
+returns-in-Ok-clause-refused c =
+    let at = (goal.at.returns-in-Ok-clause-refused c).In-Ok in
+    if_err c.prepared_by.result c.prepared_by.ensures.refused (λ r told. told (plan_held c.args.clock (Some c.args.loaded)) c.args.request.now (led at))

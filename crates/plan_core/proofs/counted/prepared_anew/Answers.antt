@@ -1,9 +1,15 @@
-use Rattle.std.proofs.Common.{◌≡◌, sym, subst, IfOk}
+use Rattle.std.proofs.Common.{◌≡◌, ◌⊎◌, sym, subst, IfErr, IfOk}
 use Rattle.plan_core.proofs.counted.prepared_anew.Goals as goal
 use Rattle.plan_core.proofs.counted.prepared_anew.Goals.{After-into_contents-contents}
-use Rattle.plan_outcomes.specs.Anew.{IsKeptOf, IsRemadeBy}
+use Rattle.plan_outcomes.specs.Anew.{IsAnewOf, IsKeptOf, IsRemadeBy}
 use Rattle.plan_outcomes.specs.declared.settle.Settled.{Settled}
+use Rattle.plan_basics.specs.declared.Refusal.TheVariants as refusal
 use Rattle.plan_outcomes.specs.plan_model.specs.Contents.{Contents}
+use Rattle.plan_outcomes.specs.plan_model.specs.Plan.{Plan}
+use Rattle.plan_outcomes.specs.plan_records.specs.Answer.{refused}
+use Rattle.plan_outcomes.specs.plan_records.specs.Step.{Step}
+use Rattle.plan_outcomes.specs.plan_records.specs.declared.Request.{Request}
+use Rattle.plan_outcomes.specs.plan_steps.specs.plan_checks.proofs.ByPair.{handed_on}
 
 -- what is kept of some contents is kept of those that they are
 kept_at : (P Q : Contents) (s : Settled) → P ≡ Q → IsKeptOf P s → IsKeptOf Q s
@@ -23,3 +29,8 @@ pub of-plan-requires-clause-figures : goal.of-plan-requires-clause-figures
 of-plan-requires-clause-figures c =
     let by = subst (λ r. IfOk r (IsRemadeBy c.requires.0 c.requires.1 c.args.at c.args.anew.shown.contents)) c.in_ok-settled.was c.requires.2.remade in
     (kept_at _ _ _ (sym c.into_contents-contents.ensures.contents) by.kept).figures
+
+pub returns-in_err-settled-clause-refused : goal.returns-in_err-settled-clause-refused
+returns-in_err-settled-clause-refused c =
+    handed_on (λ r. (P : Plan) (request : Request) → IsAnewOf P request c.args.at c.args.anew → (r ≡ refusal.Memory) ⊎ Step P request (refused r) P) c.from_residual.result c.in_err-settled.field-0.0 c.from_residual.ensures.1
+    (λ P request of. subst (λ r. IfErr r (λ e. (e ≡ refusal.Memory) ⊎ Step P request (refused e) P)) c.in_err-settled.was of.refused)

@@ -1,4 +1,5 @@
 use Rattle.std.proofs.Common.{sym, subst}
+use Rattle.plan_outcomes.specs.plan_steps.specs.plan_checks.proofs.Searching.{if_err}
 use Rattle.plan_core.proofs.Seen.{prepared_in}
 use Rattle.plan_core.proofs.counted.prepared_by.Goals as goal
 use Rattle.plan_outcomes.specs.Led.{AreLooksLed, IsLedOf}
@@ -17,3 +18,7 @@ prepared_anew-requires c = (c.requires.0, c.requires.1, subst (λ (l : Led). IsL
 pub returns-in-Whole-clause-prepared : goal.returns-in-Whole-clause-prepared
 returns-in-Whole-clause-prepared c = λ P request of looked.
     c.prepared_anew.ensures.prepared P request (subst (λ (l : Led). IsLedOf P request c.args.at l) c.in-Whole.is of) (subst (λ (l : Led). AreLooksLed P.contents request.what l c.args.looks) c.in-Whole.is looked)
+
+pub returns-in-Whole-clause-refused : goal.returns-in-Whole-clause-refused
+returns-in-Whole-clause-refused c =
+    if_err c.prepared_anew.result c.prepared_anew.ensures.refused (λ r told P request of. told P request (subst (λ (l : Led). IsLedOf P request c.args.at l) c.in-Whole.is of))

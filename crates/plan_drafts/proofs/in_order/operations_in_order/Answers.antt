@@ -1,64 +1,17 @@
-use Rattle.std.proofs.Common.{◌∙◌, sym, subst, ap, map, All, true≢false, refl, rules, arith}
-use Rattle.std.specs.List.Sorted.{IsStrictlySortedBy}
+use Rattle.std.proofs.Common.{sym, subst, All, true≢false, refl, arith}
 use Rattle.std.specs.Map.{keys_of}
-use Rattle.std.proofs.lemmas.List.Sorted.{IsPermutation-sym}
-use Rattle.plan_basics.specs.Keys.{operation_cmp}
-use Rattle.plan_items.specs.declared.OperationItem.{OperationItem}
-use Rattle.plan_drafts.specs.PlanItems.{BelongsTo, EachHasOperation, IsOneOf, row_of}
-use Rattle.plan_drafts.specs.KeyOrder.{AreInKeyOrder}
-use Rattle.plan_drafts.proofs.InOrder.{belonging, fitting, named, none_has, permuted_all, rows_are, rows_ordered}
+use Rattle.std.proofs.lemmas.Result.{IfOk-weaker}
+use Rattle.plan_drafts.specs.PlanItems.{IsOneOf}
+use Rattle.plan_drafts.proofs.InOrder.{named, rows_told}
 use Rattle.plan_drafts.proofs.in_order.operations_in_order.Goals as goal
-use Rattle.plan_drafts.proofs.in_order.operations_in_order.Goals.{In-Some, In-Some-2}
-
--- what is said, in key order
-sorted : (c : In-Some) → AreInKeyOrder operation_cmp (λ (s : OperationItem). s.key) c.args.said.items c.in-Some.said.items
-sorted c = rw c.in-Some.is at c.in_ok-said.ensures (λ (s : OperationItem). s.key) (λ x r h. search rules)
-
--- the rows in key order
-ordered : (c : In-Some-2) → AreInKeyOrder operation_cmp (λ row. row.0) (map (row_of c.args.occurrences.now c.args.needs.now) c.args.said.items) c.in-Some-2.rows.items
-ordered c =
-    let made = rw c.in-Some-2.is at c.in_ok-rows.ensures in
-    rows_ordered c.args.occurrences.now c.args.needs.now c.args.said.items c.in-Some.said.items c.in-Some-2.rows.items (sorted (goal.at.In-Some-2 c).In-Some)
-    (made.1 ∙ ap (map (row_of c.args.occurrences.now c.args.needs.now)) c.deref-2.ensures.value)
-
--- all belong to one of the occurrences
-belong : (c : In-Some-2) → All (BelongsTo c.args.occurrences.now c.args.needs.now) c.args.said.items
-belong c =
-    let made = rw c.in-Some-2.is at c.in_ok-rows.ensures in
-    let same = (sorted (goal.at.In-Some-2 c).In-Some).same in
-    permuted_all (BelongsTo c.args.occurrences.now c.args.needs.now) c.in-Some.said.items c.args.said.items (IsPermutation-sym c.args.said.items c.in-Some.said.items same)
-    (subst (All (BelongsTo c.args.occurrences.now c.args.needs.now)) c.deref-2.ensures.value made.0)
 
 pub returns-then-not-are_named : goal.returns-then-not-are_named
 returns-then-not-are_named c = λ are.
     true≢false (sym (c.if-not-are_named.ensures.1 (subst (All (IsOneOf (keys_of c.args.workstations.now))) (sym c.deref.ensures.value) (named (keys_of c.args.workstations.now) c.args.occurrences.now c.args.needs.now c.args.said.items are.fit))))
 
-pub returns-in_default : goal.returns-in_default
-returns-in_default c = λ are. (rw c.in_default.is at c.in_ok-said.ensures (λ (s : OperationItem). s.key) (λ x r h. search rules)) are.distinct
-
-pub returns-in_default-2 : goal.returns-in_default-2
-returns-in_default-2 c = λ are.
-    let same = (sorted (goal.at.returns-in_default-2 c).In-Some).same in
-    let all = belonging (keys_of c.args.workstations.now) c.args.occurrences.now c.args.needs.now c.args.said.items are.fit in
-    (rw c.in_default-2.is at c.in_ok-rows.ensures)
-    (subst (All (BelongsTo c.args.occurrences.now c.args.needs.now)) (sym c.deref-2.ensures.value) (permuted_all (BelongsTo c.args.occurrences.now c.args.needs.now) c.args.said.items c.in-Some.said.items same all))
-
-pub each_has_operation-requires : goal.each_has_operation-requires
-each_has_operation-requires c =
-    let keyed = c.deref-4.ensures.value ∙ c.in_ok-keys.ensures ∙ ap keys_of c.deref-3.ensures.value in
-    subst (IsStrictlySortedBy operation_cmp) (sym keyed) (ordered (goal.at.each_has_operation-requires c).In-Some-2).in_order
-
-pub returns-then-not-each_has_operation : goal.returns-then-not-each_has_operation
-returns-then-not-each_has_operation c =
-    let keyed = c.deref-4.ensures.value ∙ c.in_ok-keys.ensures ∙ ap keys_of c.deref-3.ensures.value in
-    none_has (keys_of c.args.workstations.now) c.args.occurrences.now c.args.needs.now c.args.said.items c.in-Some-2.rows.items (ordered (goal.at.returns-then-not-each_has_operation c).In-Some-2).same
-    (λ has. true≢false (sym (c.if-not-each_has_operation.ensures.1 (subst (λ ks. EachHasOperation ks c.args.occurrences.now) (sym keyed) has))))
-
 pub returns : goal.returns
 returns c =
-    let keyed = c.deref-4.ensures.value ∙ c.in_ok-keys.ensures ∙ ap keys_of c.deref-3.ensures.value in
-    rows_are (keys_of c.args.workstations.now) c.args.occurrences.now c.args.needs.now c.args.said.items c.in-Some-2.rows.items (omega (arith, c.args.said.ok.0))
-    (fitting (keys_of c.args.workstations.now) c.args.occurrences.now c.args.needs.now c.args.said.items
-    (subst (All (IsOneOf (keys_of c.args.workstations.now))) c.deref.ensures.value (c.if-not-are_named.ensures.0 refl)) (belong (goal.at.returns c).In-Some-2))
-    (ordered (goal.at.returns c).In-Some-2)
-    (subst (λ ks. EachHasOperation ks c.args.occurrences.now) keyed (c.if-not-each_has_operation.ensures.0 refl))
+    let named = subst (All (IsOneOf (keys_of c.args.workstations.now))) c.deref.ensures.value (c.if-not-are_named.ensures.0 refl) in
+    IfOk-weaker c.their_rows.result _ _
+    (rows_told (λ v. v.items) (keys_of c.args.workstations.now) c.args.occurrences.now c.args.needs.now c.args.said.items (omega (arith, c.args.said.ok.0)) named)
+    c.their_rows.ensures

@@ -1,4 +1,4 @@
-use Rattle.std.proofs.Common.{◌≡◌, ◌∙◌, sym, arith, rules}
+use Rattle.std.proofs.Common.{◌∙◌, sym, arith, rules}
 use Rattle.plan_drafts.proofs.Stocks.{fits_stock, no_stock, stock_fits}
 use Rattle.plan_drafts.proofs.needs.amount_fits.Goals as goal
 

@@ -3,12 +3,12 @@ use Rattle.std.specs.FinMap.{entries}
 use Rattle.plan_outcomes.proofs.WholeLooks.{named_count}
 use Rattle.plan_outcomes.proofs.anew.made_anew.Goals as goal
 use Rattle.plan_outcomes.proofs.anew.made_anew.Goals.{In-Ok}
-use Rattle.plan_outcomes.specs.Anew.{IsKeptOf, IsSettledOf, IsToldOf, contents_before, plan_before}
+use Rattle.plan_outcomes.specs.Anew.{IsBefore, IsKeptOf, IsPlanBefore, IsSettledOf, IsToldOf}
 use Rattle.plan_outcomes.specs.declared.settle.Settled.{Settled}
 use Rattle.plan_records.specs.plan_model.specs.Contents.{Contents}
+use Rattle.plan_records.specs.plan_model.specs.Plan.{Plan}
 use Rattle.plan_records.specs.plan_model.specs.Ready.{IsChosen, named}
 use Rattle.plan_steps.specs.plan_changes.proofs.Answered.{if_ok}
-use Rattle.plan_steps.specs.plan_rows.specs.Kept.{KeepsRecords}
 
 -- what is named then, and what is kept
 module _ (c : In-Ok) where
@@ -28,10 +28,10 @@ module _ (c : In-Ok) where
 pub told-remade-requires-clause-kept : goal.told-remade-requires-clause-kept
 told-remade-requires-clause-kept c = (settled ((goal.at.told-remade-requires-clause-kept c).In-Ok)).kept
 
-pub told-remade-requires-clause-records : goal.told-remade-requires-clause-records
-told-remade-requires-clause-records c =
-    let is = settled ((goal.at.told-remade-requires-clause-records c).In-Ok) in
-    subst (KeepsRecords (contents_before c.args.before.now)) (sym is.after) (c.requires.records c.in-Ok.settled.named.items is.chosen)
+pub told-remade-requires-clause-before : goal.told-remade-requires-clause-before
+told-remade-requires-clause-before c =
+    let is = settled ((goal.at.told-remade-requires-clause-before c).In-Ok) in
+    subst (IsBefore c.args.before.now) (sym is.after) (c.requires.before c.in-Ok.settled.named.items is.chosen)
 
 pub returns-in-Ok-clause-settled : goal.returns-in-Ok-clause-settled
 returns-in-Ok-clause-settled c =
@@ -40,7 +40,7 @@ returns-in-Ok-clause-settled c =
     if_ok c.told-remade.result (λ x same. subst (IsSettledOf (Q at) c.args.at c.told-remade.new.shown.contents) (sym same) is) c.told-remade.ensures.settled
 
 pub returns-in-Ok-clause-told : goal.returns-in-Ok-clause-told
-returns-in-Ok-clause-told c = subst (λ (R : Contents). IfOk c.told-remade.result (IsToldOf (plan_before c.args.before.now) c.args.at R)) (sym c.told-remade.ensures.contents) c.told-remade.ensures.told
+returns-in-Ok-clause-told c = subst (λ (R : Contents). IfOk c.told-remade.result (λ x. (P : Plan) → IsPlanBefore c.args.before.now P → IsToldOf P c.args.at R x)) (sym c.told-remade.ensures.contents) c.told-remade.ensures.told
 
 pub returns-in-Ok-clause-most : goal.returns-in-Ok-clause-most
 returns-in-Ok-clause-most c =

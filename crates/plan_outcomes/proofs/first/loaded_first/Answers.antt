@@ -1,4 +1,4 @@
-use Rattle.std.proofs.Common.{◌≡◌, ap, arith, subst, sym, None}
+use Rattle.std.proofs.Common.{◌≡◌, refl, ap, arith, subst, sym, None}
 use Rattle.plan_outcomes.proofs.LedTo.{anew_by, first_is_whole, first_looks, settled_count}
 use Rattle.plan_outcomes.proofs.Preparing.{made_sound}
 use Rattle.plan_outcomes.proofs.first.loaded_first.Goals as goal
@@ -20,15 +20,16 @@ into_shown-requires c =
 pub made_anew-requires-clause-graph : goal.made_anew-requires-clause-graph
 made_anew-requires-clause-graph c = subst (λ (s : ShownState). IsGraphFor s.contents c.in_ok-copy.graph) (sym c.into_shown.ensures) c.in_ok-copy.ensures.graph
 
-pub made_anew-requires-clause-records : goal.made_anew-requires-clause-records
-made_anew-requires-clause-records c os chosen = nothing_kept (named os c.into_shown.result.contents)
+pub made_anew-requires-clause-before : goal.made_anew-requires-clause-before
+made_anew-requires-clause-before c os chosen = (tt, nothing_kept (named os c.into_shown.result.contents))
 
 -- it is what the request leads to
 is_anew : (c : After-made_anew) → IsAnewOf (plan_held c.args.clock None) c.args.request.now c.args.at c.made_anew.result
 is_anew c =
     let Q = c.into_shown.result.contents in
     let made = subst (λ (s : ShownState). AreMadeBy nothing c.args.request.now.what s.contents) (sym c.into_shown.ensures) c.in_ok-copy.ensures.made in
-    anew_by (plan_held c.args.clock None) c.args.request.now c.requires.clear Q made c.args.at c.requires.at c.made_anew.result c.made_anew.ensures.settled c.made_anew.ensures.told c.made_anew.ensures.refused
+    anew_by (plan_held c.args.clock None) c.args.request.now c.requires.clear Q made c.args.at c.requires.at c.made_anew.result c.made_anew.ensures.settled
+    (if_ok c.made_anew.result.remade (λ x told. told (plan_held c.args.clock None) refl) c.made_anew.ensures.told) c.made_anew.ensures.refused
 
 pub returns-clause-anew : goal.returns-clause-anew
 returns-clause-anew c = is_anew ((goal.at.returns-clause-anew c).After-made_anew)

@@ -1,4 +1,4 @@
-use Rattle.std.proofs.Common.{sym, subst}
+use Rattle.std.proofs.Common.{inl, refl, sym, subst}
 use Rattle.plan_outcomes.proofs.KeptRecords.{request_keeps}
 use Rattle.plan_outcomes.proofs.LedTo.{anew_by, needs_plan, settled_count}
 use Rattle.plan_outcomes.proofs.Preparing.{is_clear}
@@ -8,6 +8,7 @@ use Rattle.plan_outcomes.specs.Requested.{AreMadeBy}
 use Rattle.plan_records.specs.Acceptance.{minute_of}
 use Rattle.plan_records.specs.plan_drafts.specs.PlanGraphs.{IsGraphFor}
 use Rattle.plan_records.specs.plan_model.specs.Contents.{Contents}
+use Rattle.plan_steps.specs.plan_changes.proofs.Answered.{if_ok}
 
 pub graph_after-requires-clause-clear : goal.graph_after-requires-clause-clear
 graph_after-requires-clause-clear c =
@@ -18,26 +19,26 @@ graph_after-requires-clause-clear c =
 pub graph_after-requires-clause-made : goal.graph_after-requires-clause-made
 graph_after-requires-clause-made c = subst (AreMadeBy c.args.beside.now.contents.now c.args.asked.now.request.now.what) (sym c.beside.ensures.contents) c.requires.made
 
-pub made_anew-requires-clause-before : goal.made_anew-requires-clause-before
-made_anew-requires-clause-before c = c.columns_of.ensures c.args.beside.now.contents.now c.are_sound.ensures c.requires.frame
-
 pub made_anew-requires-clause-graph : goal.made_anew-requires-clause-graph
 made_anew-requires-clause-graph c = subst (λ (P : Contents). IsGraphFor P c.in-Ok.graph) c.beside.ensures.contents c.in-Ok.ensures.graph
 
-pub made_anew-requires-clause-records : goal.made_anew-requires-clause-records
-made_anew-requires-clause-records c os chosen =
+pub made_anew-requires-clause-before : goal.made_anew-requires-clause-before
+made_anew-requires-clause-before c os chosen =
     let P = c.args.beside.now.contents.now in
-    let q = c.args.asked.now.request.now in
-    request_keeps P c.args.new.contents q.what (minute_of q.at) c.args.asked.now.at c.are_sound.ensures (needs_plan P c.args.asked.now.clock q c.requires.acceptable.clear) c.requires.whole
-    (is_clear (plan_asked P c.args.asked.now) q c.requires.acceptable.clear) c.requires.made os chosen
+    let q = c.args.asked.now.request.now in (
+      c.columns_of.ensures P c.are_sound.ensures c.requires.frame,
+      request_keeps P c.args.new.contents q.what (minute_of q.at) c.args.asked.now.at c.are_sound.ensures (needs_plan P c.args.asked.now.clock q c.requires.acceptable.clear) c.requires.whole c.requires.stays
+          (is_clear (plan_asked P c.args.asked.now) q c.requires.acceptable.clear) c.requires.made os chosen,
+    )
 
 pub returns-in-Ok-clause-anew : goal.returns-in-Ok-clause-anew
 returns-in-Ok-clause-anew c =
     let q = c.args.asked.now in
-    anew_by (plan_asked c.args.beside.now.contents.now q) q.request.now c.requires.acceptable.clear c.args.new.contents c.requires.made q.at c.requires.acceptable.at c.made_anew.result c.made_anew.ensures.settled c.made_anew.ensures.told c.made_anew.ensures.refused
+    anew_by (plan_asked c.args.beside.now.contents.now q) q.request.now c.requires.acceptable.clear c.args.new.contents c.requires.made q.at c.requires.acceptable.at c.made_anew.result c.made_anew.ensures.settled
+    (if_ok c.made_anew.result.remade (λ x told. told (plan_asked c.args.beside.now.contents.now q) refl) c.made_anew.ensures.told) c.made_anew.ensures.refused
 
 pub returns-in-Err-clause-anew : goal.returns-in-Err-clause-anew
-returns-in-Err-clause-anew c = record { remade = tt; refused = c.in-Err.ensures.refused }
+returns-in-Err-clause-anew c = record { remade = tt; refused = inl c.in-Err.ensures.refused }
 
 pub returns-in-Ok-clause-operations : goal.returns-in-Ok-clause-operations
 returns-in-Ok-clause-operations c = settled_count c.args.new.contents c.args.asked.now.at c.made_anew.result c.made_anew.result.remade c.made_anew.ensures.settled

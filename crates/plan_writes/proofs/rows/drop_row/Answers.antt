@@ -1,6 +1,4 @@
-use Rattle.std.proofs.Common.{◌≡◌, refl, sym, subst}
-use Rattle.plan_columns.specs.plan_drafts.specs.declared.RowKey.{RowKey}
-use Rattle.plan_columns.specs.plan_drafts.specs.declared.RowKey.TheVariants as key
+use Rattle.std.proofs.Common.{◌≡◌, inl, inr, refl, sym, ap, subst}
 use Rattle.sqlite.specs.Held.{state}
 use Rattle.plan_schema.specs.Stored.{Held, Stores}
 use Rattle.plan_columns.specs.Tables.{without_row}
@@ -8,23 +6,31 @@ use Rattle.plan_writes.specs.Within.{Rewrites}
 use Rattle.plan_writes.proofs.Within.{nothing_done}
 use Rattle.plan_writes.proofs.rows.drop_row.Goals as goal
 
--- only an interval goes
-stays : (k : RowKey) → ((w : _) (from : _) → k ≡ key.Interval w from → ⊥) → (held : Held) → without_row k held ≡ held
-stays key.Meta other held = refl
-stays (key.Workstation name) other held = refl
-stays (key.Interval w from) other held = absurd (other w from refl)
-stays (key.Resource name) other held = refl
-stays (key.Occurrence c) other held = refl
-stays (key.Operation o) other held = refl
-stays (key.Dependency p s) other held = refl
-stays (key.Need o name) other held = refl
-stays (key.Quantity name) other held = refl
-stays (key.Amount o name) other held = refl
-
 pub returns-in-Interval-clause-written : goal.returns-in-Interval-clause-written
 returns-in-Interval-clause-written g c = rw c.in-Interval.is c.drop_interval.ensures.written
 
-pub returns-in_default-clause-written : goal.returns-in_default-clause-written
-returns-in_default-clause-written g c =
+pub returns-in-Occurrence-clause-written : goal.returns-in-Occurrence-clause-written
+returns-in-Occurrence-clause-written g c = rw c.in-Occurrence.is c.drop_occurrence.ensures.written
+
+pub returns-in-Operation-clause-written : goal.returns-in-Operation-clause-written
+returns-in-Operation-clause-written g c = rw c.in-Operation.is c.drop_operation.ensures.written
+
+pub returns-in-Dependency-clause-written : goal.returns-in-Dependency-clause-written
+returns-in-Dependency-clause-written g c = rw c.in-Dependency.is c.drop_dependency.ensures.written
+
+pub returns-in-Need-clause-written : goal.returns-in-Need-clause-written
+returns-in-Need-clause-written g c = rw c.in-Need.is c.drop_need.ensures.written
+
+pub returns-in-Amount-clause-written : goal.returns-in-Amount-clause-written
+returns-in-Amount-clause-written g c = rw c.in-Amount.is c.drop_amount.ensures.written
+
+pub returns-in-Meta-clause-written : goal.returns-in-Meta-clause-written
+returns-in-Meta-clause-written g c =
     let now = state g.S.Store c.args.tx.now.conn.now in
-    nothing_done (Rewrites (without_row c.args.key.now)) now (record { turns = λ held was. subst (Stores now.now) (sym (stays c.args.key.now c.in_default.not-Interval held)) was; schema_stays = refl })
+    let stays : (held : Held) → without_row c.args.key.now held ≡ held = λ held. elim c.in-Meta.is [
+      | inl e ↦ ap (λ k. without_row k held) e
+      | inr (inl e) ↦ ap (λ k. without_row k held) e.1
+      | inr (inr (inl e)) ↦ ap (λ k. without_row k held) e.1
+      | inr (inr (inr e)) ↦ ap (λ k. without_row k held) e.1
+    ] in
+    nothing_done (Rewrites (without_row c.args.key.now)) now (record { turns = λ held was. subst (Stores now.now) (sym (stays held)) was; schema_stays = refl })

@@ -19,5 +19,5 @@ returns-in-available c = rw c.in-available.is c.read_available.ensures
 
 pub returns-in_default : goal.returns-in_default
 returns-in_default c =
-    asked_on (view c.args.value.now) c.args.count c.args.verb.now c.read_on_operation.result c.in_default.not-tick c.in_default.not-error c.in_default.not-load c.in_default.not-add
+    asked_on (view c.args.value.now) c.args.count c.args.verb.now c.read_on_operation.result c.in_default.not-tick c.in_default.not-error c.in_default.not-load c.in_default.not-add c.in_default.not-extend
     c.in_default.not-delete c.in_default.not-depend c.in_default.not-available c.in_default.not-intervals c.read_on_operation.ensures

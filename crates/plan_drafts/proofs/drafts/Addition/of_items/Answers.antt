@@ -1,12 +1,24 @@
-use Rattle.plan_drafts.proofs.DenotingAdditions.{addition_denoted, no_addition_denoted}
-use Rattle.plan_drafts.proofs.MadeAdditions as made_of
+use Rattle.std.proofs.Common.{◌≡◌, ◌∙◌, arith, length}
+use Rattle.plan_drafts.proofs.DenotingExtensions.{addition_denoted, no_extension_denoted, not_one_denoted, occurrences_added}
+use Rattle.plan_drafts.proofs.MadeExtensions as made_of
+use Rattle.plan_drafts.proofs.Unique.{as_extension}
 use Rattle.plan_drafts.proofs.drafts.Addition.of_items.Goals as goal
 
 pub returns-in_default-clause-denoted : goal.returns-in_default-clause-denoted
-returns-in_default-clause-denoted c = λ records said. no_addition_denoted records c.args.items.now said (rw c.in_default.is at c.in_ok-parts.ensures)
+returns-in_default-clause-denoted c = λ records said s d. no_extension_denoted records c.args.items.now said (rw c.in_default.is at c.in_ok-parts.ensures) s (as_extension records s d)
+
+pub returns-then-len-ne1-clause-denoted : goal.returns-then-len-ne1-clause-denoted
+returns-then-len-ne1-clause-denoted c = λ records said.
+    let several : ¬ (length c.in-Some.parts.occurrences.items ≡ 1) = λ one. absurd (omega (arith, one)) in
+    not_one_denoted records c.args.items.now said c.in-Some.parts (rw c.in-Some.is at c.in_ok-parts.ensures) several
 
 pub invariant_of-result : goal.invariant_of-result
-invariant_of-result c = made_of.are_addition_parts c.args.items.now c.in-Some.parts c.requires (rw c.in-Some.is at c.in_ok-parts.ensures)
+invariant_of-result c =
+    let made = rw c.in-Some.is at c.in_ok-parts.ensures in
+    let one : length c.in-Some.parts.occurrences.items ≡ 1 = omega arith in
+    (occurrences_added c.in-Some.parts made.occurrences_in_order ∙ one, made_of.are_extension_parts c.args.items.now c.in-Some.parts c.requires made)
 
 pub returns-clause-denoted : goal.returns-clause-denoted
-returns-clause-denoted c = λ records said. addition_denoted records c.args.items.now said c.in-Some.parts (rw c.in-Some.is at c.in_ok-parts.ensures)
+returns-clause-denoted c =
+    let one : length c.in-Some.parts.occurrences.items ≡ 1 = omega arith in
+    λ records said. addition_denoted records c.args.items.now said c.in-Some.parts (rw c.in-Some.is at c.in_ok-parts.ensures) one
