@@ -1,9 +1,9 @@
 #!/usr/bin/env python3
 """Measures accepted requests at the plan of a database: what the store takes of each, beside the C library of SQLite.
 
-    calls.py [--runs N] [--requests N] [--size N] [--program PATH] [--calls PATH]
+    calls.py [--extension] [--runs N] [--requests N] [--size N] [--program PATH] [--calls PATH]
 
-README.md says how the program `calls` is built, and what each figure is. Exit status: 0 the target is kept, 1 it is
+With --extension it is one by which half of the occurrences leave and as many come in, else ends of operations. README.md says how the program `calls` is built, and what each figure is. Exit status: 0 the target is kept, 1 it is
 missed, 2 nothing could be measured.
 """
 import argparse
@@ -44,15 +44,23 @@ def rows_of(folder, name):
         return {table: set(database.execute(f"SELECT * FROM {table}").fetchall()) for table in TABLES}
 
 
-def changes_of(calls, folder, keys):
-    """For each request the rows that it changes, as the C library reads them before and after."""
+def keys_of(rows):
+    """The rows of each table by their keys."""
+    return {table: {row[:KEYS[table]]: row for row in found} for table, found in rows.items()}
+
+
+def changes_of(calls, folder, words):
+    """For each request the rows that it changes and the keys of those that it takes out, as the C library reads them before and
+    after, each with its table."""
     changes = []
     name = copy_database(folder, "night.db", "step.db")
-    before = rows_of(folder, name)
-    for key in keys:
-        told_by([calls, "parts", name, key], folder)
-        after = rows_of(folder, name)
-        changes.append([(table, row) for table in TABLES for row in sorted(after[table] - before[table])])
+    before = keys_of(rows_of(folder, name))
+    for word in words:
+        told_by([calls, "parts", name, word], folder)
+        after = keys_of(rows_of(folder, name))
+        changed = [(table, row) for table in TABLES for key, row in sorted(after[table].items()) if before[table].get(key) != row]
+        gone = [(table, key) for table in TABLES for key in sorted(before[table].keys() - after[table].keys())]
+        changes.append((changed, gone))
         before = after
     return changes
 
@@ -64,49 +72,65 @@ def upsert(database, table):
     return f"INSERT INTO {table} VALUES ({', '.join('?' * len(columns))}) ON CONFLICT ({', '.join(key)}) DO {change}"
 
 
+def deletion(database, table):
+    columns = [column[1] for column in database.execute(f"PRAGMA table_info({table})")]
+    return f"DELETE FROM {table} WHERE " + " AND ".join(f"{name} = ?" for name in columns[:KEYS[table]])
+
+
 def seconds_by_library(folder, changes):
-    """Seconds that the C library takes, called by Python, for each list of rows, in a transaction with one sync."""
+    """Seconds that the C library takes, called by Python, for the rows of each request, in a transaction with one sync."""
     database = sqlite3.connect(folder / copy_database(folder, "night.db", "peer.db"), isolation_level=None)
     database.execute("PRAGMA journal_mode = WAL")
     database.execute("PRAGMA synchronous = FULL")
     texts = {table: upsert(database, table) for table in TABLES}
+    deletions = {table: deletion(database, table) for table in TABLES}
     taken = []
-    for rows in changes:
+    for rows, gone in changes:
         begun = time.perf_counter()
         database.execute("BEGIN")
         for table, row in rows:
             database.execute(texts[table], row)
+        for table, key in gone:
+            database.execute(deletions[table], key)
         database.execute("COMMIT")
         taken.append(time.perf_counter() - begun)
     database.close()
     return taken
 
 
-def measured(given, folder):
-    words = [sys.executable, HERE / "generate.py", str(given.size), "plan.csv"]
+def asked(given, folder):
+    """Loads a plan, and gives the words of the requests."""
+    words = [sys.executable, HERE / "generate.py", str(given.size), "plan.csv"] + (["--over", "next.csv"] if given.extension else [])
     subprocess.run(words, cwd=folder, check=True)
     told = told_by([given.program, "load", "--db", "night.db", "--plan", "plan.csv", "--at", MOMENT], folder)
+    if given.extension:
+        return ["@next.csv"]
     keys = [line.split(" ")[1] for line in told[1:]][:given.requests]
     if len(keys) < given.requests:
         raise Unmeasured(f"only {len(keys)} operations are started")
-    changes = changes_of(given.calls, folder, keys)
+    return keys
+
+
+def measured(given, folder):
+    words = asked(given, folder)
+    changes = changes_of(given.calls, folder, words)
     parts, whole, library = [], [], []
     for _ in range(given.runs):
         name = copy_database(folder, "night.db", "parts.db")
-        parts += [[int(part) for part in line.split()] for line in told_by([given.calls, "parts", name, *keys], folder)]
+        parts += [[int(part) for part in line.split()] for line in told_by([given.calls, "parts", name, *words], folder)]
         library += seconds_by_library(folder, changes)
         name = copy_database(folder, "night.db", "whole.db")
-        whole += [int(line) for line in told_by([given.calls, "whole", name, *keys], folder)]
-    if [line[3] for line in parts] != [len(rows) for rows in changes] * given.runs:
+        whole += [int(line) for line in told_by([given.calls, "whole", name, *words], folder)]
+    if [line[3:] for line in parts] != [[len(rows), len(gone)] for rows, gone in changes] * given.runs:
         raise Unmeasured("the rows that were written aren't those that changed")
     return parts, whole, library
 
 
 def tell(parts, whole, library):
     """Prints the figures in milliseconds; whether the target is kept."""
-    prepare, write, apply, rows = (median(line[part] for line in parts) for part in range(4))
+    prepare, write, apply, rows, gone = (median(line[part] for line in parts) for part in range(5))
     peer = median(library) * 1e6
-    print(f"rows      {rows:.0f} median, {min(line[3] for line in parts)} to {max(line[3] for line in parts)}")
+    print(f"rows      {rows:.0f} median, {min(line[3] for line in parts)} to {max(line[3] for line in parts)}; {gone:.0f} taken out")
     print(f"prepare   {prepare / 1e3:9.3f} ms median")
     print(f"write     {write / 1e3:9.3f} ms median: the store's part")
     print(f"apply     {apply / 1e3:9.3f} ms median")
@@ -119,6 +143,7 @@ def tell(parts, whole, library):
 
 def main():
     words = argparse.ArgumentParser(description=__doc__.splitlines()[0])
+    words.add_argument("--extension", action="store_true", help="an extension in place of ends of operations")
     words.add_argument("--runs", type=int, default=5, help="runs of each")
     words.add_argument("--requests", type=int, default=12, help="requests, one after the other")
     words.add_argument("--size", type=int, default=FULL, help="operations of the plan")

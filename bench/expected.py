@@ -77,6 +77,7 @@ MEMBERS = {
     "delete": {"occ": is_occurrence},
     "load": {"records": is_text},
     "add": {"records": is_text},
+    "extend": {"records": is_text},
     "depend": {"from": is_operation, "to": is_operation},
     "available": {"resource": lambda value: is_name(value, RESOURCE), "value": lambda value: isinstance(value, bool)},
     "intervals": {"ws": lambda value: is_name(value, WORKSTATION),

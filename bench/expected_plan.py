@@ -1,5 +1,5 @@
-"""Whether a text denotes a plan, and whether one denotes an addition: docs/PROFILE.md, "The text of a plan" and "Limits",
-read a second time and written in Python, apart from the desk's own code."""
+"""Whether a text denotes a plan, an addition or an extension: docs/PROFILE.md, "The text of a plan" and "Limits", read a
+second time and written in Python, apart from the desk's own code."""
 import re
 from collections import Counter
 
@@ -127,8 +127,8 @@ def keys_of(kinds):
     return {kind: [tuple(fields[:KEY_FIELDS[kind]]) for fields in kinds[kind]] for kind in FORMS}
 
 
-def denotes_addition(text):
-    kinds = kinds_of(text)
+def come_in(kinds):
+    """Whether these records are of occurrences that may come in together, of any number of them."""
     if not kinds or kinds["W"] or kinds["I"] or kinds["X"]:
         return False
     keys = keys_of(kinds)
@@ -136,15 +136,24 @@ def denotes_addition(text):
     ends = [(key[:3], key[3:]) for key in keys["D"]]
     named = {key[:3] for key in keys["N"]} | {end for pair in ends for end in pair if end[:2] in own}
     return (all(len(set(found)) == len(found) for found in keys.values())
-            and len(keys["O"]) == 1 and {key[:2] for key in keys["P"]} == own
+            and {key[:2] for key in keys["P"]} == own
             and {key[:2] for key in keys["N"]} <= own and named <= set(keys["P"])
             and all(one[:2] in own or other[:2] in own for one, other in ends)
             and max(Counter(key[:3] for key in keys["N"]).values(), default=0) <= MOST_NEEDS)
 
 
-def fits_quantities(addition, quantities):
-    """Whether no need of a text that denotes an addition takes more than there is in the plan."""
-    return are_within(kinds_of(addition)["N"], quantities)
+def denotes_addition(text):
+    kinds = kinds_of(text)
+    return come_in(kinds) and len(kinds["O"]) == 1
+
+
+def denotes_extension(text):
+    return come_in(kinds_of(text))
+
+
+def fits_quantities(text, quantities):
+    """Whether no need of a text that denotes an addition or an extension takes more than there is in the plan."""
+    return are_within(kinds_of(text)["N"], quantities)
 
 
 def denotes_plan(text):

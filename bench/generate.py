@@ -1,7 +1,7 @@
 #!/usr/bin/env python3
 """Writes a plan of a given size, and the same graph for ninja.
 
-    generate.py OPERATIONS PLAN.csv [--ninja build.ninja] [--no-resources] [--ascending] [--in-order] [--chains]
+    generate.py OPERATIONS PLAN.csv [--ninja build.ninja] [--no-resources] [--ascending] [--in-order] [--chains] [--over NEXT.csv]
 
 The plan is the same each time: nothing in it is drawn by chance. README.md says how it is made.
 """
@@ -47,10 +47,14 @@ def spread(records):
 
 
 class Operations:
-    """The operations by their turn: each comes after its predecessors. Their keys go up with the turn, or up and down."""
+    """The operations by their turn: each comes after its predecessors. Their keys go up with the turn, or up and down. Those of
+    the first turns may be on workstations that report nothing, so that they are complete when the plan is loaded."""
 
-    def __init__(self, count, ascending):
+    def __init__(self, count, ascending, over=0):
         self.count = count
+        self.turns = range(count)
+        self.days = 0
+        self.over = over
         self.occurrences = count // MEMBERS
         self.ascending = ascending
         self.step = 1 if ascending else stride_of(self.occurrences, self.occurrences * 3 // 8 + 1)
@@ -58,8 +62,17 @@ class Operations:
     def occurrence(self, turn):
         return turn // MEMBERS * self.step % self.occurrences
 
+    def later(self):
+        """The first turns under keys of a week later, on their own workstations."""
+        again = Operations(self.count, self.ascending)
+        again.turns, again.days = range(self.over), 7
+        return again
+
     def occurrence_fields(self, number):
-        return f"BATCH{number // 2:05},{moment(22 * 60 + number % 2 * 1440)}"
+        return f"BATCH{number // 2:05},{moment(22 * 60 + (self.days + number % 2) * 1440)}"
+
+    def workstation(self, turn):
+        return f"W{13 + 20 * (turn % 5) if turn < self.over else turn * 37 % WORKSTATIONS:03}"
 
     def number(self, turn):
         member = turn % MEMBERS
@@ -135,7 +148,7 @@ def need_records(operations):
     """Half of the operations need none, a quarter one and a quarter two; one need in three is exclusive, half are kept on error."""
     resources = share(RESOURCES, operations.count)
     records = []
-    for turn in range(operations.count):
+    for turn in operations.turns:
         for i in range((0, 1, 0, 2)[(turn // MEMBERS + turn) % 4]):
             number = (turn * 31 + i * 17) % resources
             mode, on_error = "SXS"[(turn + i) % 3], "KF"[(turn // 2 + i) % 2]
@@ -145,7 +158,7 @@ def need_records(operations):
 
 def occurrence_records(operations):
     records = []
-    for number in range(operations.occurrences):
+    for number in sorted({operations.occurrence(turn) for turn in operations.turns}):
         deadline = moment(4 * 1440 + number * 7 % 4320)
         records.append(f"O,{operations.occurrence_fields(number)},{1 + number % 9},{deadline},,,,,")
     return records
@@ -153,8 +166,8 @@ def occurrence_records(operations):
 
 def operation_records(operations):
     records = []
-    for turn in range(operations.count):
-        workstation = f"W{turn * 37 % WORKSTATIONS:03}"
+    for turn in operations.turns:
+        workstation = operations.workstation(turn)
         not_before = moment(21 * 60 + turn % 120) if turn % 9 == 0 else ""
         deadline = moment(5 * 1440 + turn * 11 % 2880) if turn % 7 == 0 else ""
         needs = f"{1 + turn * 13 % 90},{turn % 3},{turn % 2}"
@@ -163,7 +176,7 @@ def operation_records(operations):
 
 
 def pair_records(operations, before):
-    return [f"D,{operations.key(p)},{operations.key(turn)},,," for turn in range(operations.count) for p in before[turn]]
+    return [f"D,{operations.key(p)},{operations.key(turn)},,," for turn in operations.turns for p in before[turn]]
 
 
 def plan_records(operations, before, with_resources):
@@ -173,6 +186,13 @@ def plan_records(operations, before, with_resources):
     if with_resources:
         kinds += [resource_records(operations), need_records(operations)]
     return kinds
+
+
+def extension_records(operations, before, with_resources):
+    """The records of the first turns under keys of a week later, by kind."""
+    later = operations.later()
+    kinds = [occurrence_records(later), operation_records(later), pair_records(later, before)]
+    return kinds + ([need_records(later)] if with_resources else [])
 
 
 def write_plan(path, kinds, in_order):
@@ -202,12 +222,17 @@ def main():
     words.add_argument("--ascending", action="store_true", help="each pair leads from a smaller to a greater key")
     words.add_argument("--in-order", action="store_true", help="records of a kind in the order of turns, not spread")
     words.add_argument("--chains", action="store_true", help="operations in chains of twenty, so that an end releases the next one")
+    words.add_argument("--over", help="half of the occurrences are complete when the plan is loaded; to this file "
+                       "goes what comes in as they leave: as many, under keys of a week later, on the workstations of a plan without --over")
     given = words.parse_args()
     if not 40 <= given.operations <= FULL or given.operations % (5 * MEMBERS):
         words.error(f"a multiple of 20 from 40 to {FULL}")
-    operations = Operations(given.operations, given.ascending)
+    over = given.operations // (2 * MEMBERS) * MEMBERS if given.over else 0
+    operations = Operations(given.operations, given.ascending, over)
     before = predecessors_in_chains(operations) if given.chains else all_predecessors(operations)
     write_plan(given.plan, plan_records(operations, before, not given.no_resources), given.in_order)
+    if given.over:
+        write_plan(given.over, extension_records(operations, before, not given.no_resources), given.in_order)
     if given.ninja:
         write_ninja(given.ninja, operations, before)
 

@@ -3,7 +3,7 @@
 
     growths.py [--every N] [--program PATH]
 
-A night's requests are made over a database, each once for each growth that it asks for: by `load` and `do`, and a tracker's
+A night's requests are made over a database, each once for each growth that it asks for: by `load`, `extend` and `do`, a tracker's
 reports by `serve`; and the commands that only read, `validate`, `check`, `play`, `report` and `why`. Each answer has to be
 that of a run with memory, or tell that memory lacks: `refused 25 Memory`, `fault memory`, 503 with 25, or no reply; of a
 text a beginning may stand before that. Then the tables have to be those from before the request (after no reply, those
@@ -51,6 +51,11 @@ N,BILLING,2024-03-01T22:00,10,CUSTFILE,S,F,,,
 """
 BILLING_LAST = BILLING + "D,PAYROLL,2024-03-01T22:00,40,BILLING,2024-03-01T22:00,10,,,\n"
 PAYROLL = "".join(line for line in PLAN.splitlines(True) if line[0] in "OPD")
+NEXT_NIGHT = """O,PAYROLL,2024-03-02T22:00,5,2024-03-03T05:00,,,,,
+P,PAYROLL,2024-03-02T22:00,10,CPU1,30,0,0,,
+"""
+AFTER_THE_OLD = NEXT_NIGHT + "D,PAYROLL,2024-03-01T22:00,40,PAYROLL,2024-03-02T22:00,10,,,\n"
+TEXTS = ("plan.csv", "next.csv", "asked.jsonl")
 FIRST_GROWTHS_MISSED = 3
 GROWTHS_AROUND = 200
 MOST_SHOWN = 20
@@ -83,7 +88,10 @@ NIGHTS = {
         (on("22:20", "interrupted", 10), "refused 10 WrongWorkstation\n")] + UNTIL_TEN_ENDS[3:] + [
         FAILED, (on("23:05", "rerun", 20), told(operation(10, "BILLING")))]),
     "a run that ends": (5, UNTIL_TEN_ENDS + [
-        (on("23:40", "ended", 20), told(operation(10, "BILLING"))), (on("23:50", "ended", 40), told())]),
+        (on("23:40", "ended", 20), told(operation(10, "BILLING"))), (on("23:50", "ended", 40), told()),
+        ({"at": "2024-03-01T23:55", "do": "extend", "records": AFTER_THE_OLD}, "refused 5 UnknownOperation\n"),
+        ("extend", told("PAYROLL/2024-03-02T22:00/010")),
+        ({"at": "2024-03-01T23:56", "do": "extend", "records": ""}, told())]),
     "a deletion while it runs": (5, UNTIL_TEN_ENDS + [
         ({**DELETED, "at": "2024-03-01T22:50"}, "refused 17 Running\n")]),
     "a deletion, an addition and a dependency": (1, LOADING + [
@@ -105,6 +113,7 @@ REPORTS = [
     (report_text("T1", 0, "2024-03-01T22:11", "started", operation(10)), 409, '{"name":"Old","refusal":22}')]
 READING = [
     ["validate", "--plan", "plan.csv"],
+    ["validate", "--extension", "next.csv"],
     ["check", "--plan", "plan.csv", "--at", "2024-03-01T21:00"],
     ["play", "--plan", "plan.csv", "--at", "2024-03-01T21:00", "--requests", "asked.jsonl"],
     *(["report", "--db", "night.db", "--kind", kind, "--ws", "CPU1"]
@@ -120,6 +129,8 @@ class Wrong(Exception):
 def words_of(asked):
     if asked == "load":
         return ["load", "--db", "night.db", "--plan", "plan.csv", "--at", "2024-03-01T21:00"]
+    if asked == "extend":
+        return ["extend", "--db", "night.db", "--plan", "next.csv", "--at", "2024-03-01T23:55"]
     return ["do", "--db", "night.db", "--request", json.dumps(asked, separators=(",", ":"))]
 
 
@@ -288,7 +299,7 @@ def sweep(given, folder, name, command, way):
         parts.append(folder / f"part{at}")
         shutil.rmtree(parts[-1], ignore_errors=True)
         parts[-1].mkdir()
-        for text in ("plan.csv", "asked.jsonl"):
+        for text in TEXTS:
             shutil.copy(folder / text, parts[-1] / text)
     with ProcessPoolExecutor(given.workers) as pool:
         made = [pool.submit(swept, given, part, kept, command, way, first + at * given.every)
@@ -309,7 +320,7 @@ def asked_once(given, folder, words):
     copy = folder / "copy"
     shutil.rmtree(copy, ignore_errors=True)
     copy.mkdir()
-    for text in ("plan.csv", "asked.jsonl"):
+    for text in TEXTS:
         shutil.copy(folder / text, copy / text)
     put_back(copy, folder)
     return copy, before, run(given, copy, words) if isinstance(words, list) else served(given, copy, words)[0]
@@ -329,7 +340,7 @@ def play_night(given, folder, name, lead, turns):
         if ended != (status, wanted, ""):
             raise Unmeasured(f"{words} ended with {ended}")
         if at >= lead:
-            verb = asked if asked == "load" else asked["do"]
+            verb = asked if isinstance(asked, str) else asked["do"]
             sweep(given, folder, f"{name}: {verb}", (words, ended, before, tables_of(copy)), without_growth)
         put_back(folder, copy)
 
@@ -369,6 +380,7 @@ def build(folder):
 def play_all(given, folder):
     given.refuser = build(folder)
     (folder / "plan.csv").write_text(PLAN)
+    (folder / "next.csv").write_text(NEXT_NIGHT)
     lines = [json.dumps(asked) for asked, _ in UNTIL_TEN_ENDS[1:] + [FAILED]]
     (folder / "asked.jsonl").write_text("".join(f"{line}\n" for line in lines))
     for night, (lead, turns) in NIGHTS.items():

@@ -1,6 +1,6 @@
 #!/usr/bin/env python3
-"""Throws at `plandesk serve` what no client should send and texts of additions, and texts of plans at `check` and of
-requests at `do`.
+"""Throws at `plandesk serve` what no client should send and texts of additions and extensions, and texts of plans at `check`
+and of requests at `do`.
 
     hostile.py [--rounds N] [--texts N] [--seed N] [--program PATH]
 
@@ -9,9 +9,9 @@ clients that go away at once. Over all rounds each request is cut at each length
 `expected.py` says of its form, byte for byte but for what the plan says; none may end the desk or hold it for good; and
 at the end of a round the tables, as the C library reads them, have to be those of the accepted requests alone, which
 are sent again as they are to a desk over a copy of the tables from before. A plan's text has to be accepted where
-`expected_plan.py` says that it denotes a plan, and else be refused 21; that of an addition has to be refused 21 just where
-it says that it denotes none, and 20 or less where it needs more of a resource than there is; a request's text has to be a
-fault just where `expected.py` says that it is none, and to change the tables only where it is accepted.
+`expected_plan.py` says that it denotes a plan, and else be refused 21; that of an addition or an extension has to be refused
+21 just where it says that it denotes none, and 20 or less where it needs more of a resource than there is; a request's text
+has to be a fault just where `expected.py` says that it is none, and to change the tables only where it is accepted.
 
 Exit status: 0 all is so, 1 it isn't, 2 nothing could be tried.
 """
@@ -32,7 +32,7 @@ from contextlib import closing
 from pathlib import Path
 
 from expected import MOST_BODY_BYTES, MOST_HEAD_BYTES, REPORTS, is_operation, is_operators_request, status_of
-from expected_plan import denotes_addition, denotes_plan, fits_quantities
+from expected_plan import denotes_addition, denotes_extension, denotes_plan, fits_quantities
 from measure import HERE, PROGRAM, Unmeasured
 from served import Cut, Served, load, received, reply_of, request_bytes, rows
 
@@ -64,6 +64,13 @@ ADDITIONS = [
     b"D,MORE,2024-03-01T22:00,20,REPORTS,2024-03-02T01:00,20,,,\n",
     b"O,TAPES,2024-03-01T22:00,5,2024-03-02T05:00,,,,,\nP,TAPES,2024-03-01T22:00,10,CPU1,30,0,0,,\n"
     b"N,TAPES,2024-03-01T22:00,10,TAPE-1,S,F,4,,\nN,TAPES,2024-03-01T22:00,10,STOCK.FILE,S,F,5,,\n"]
+TWO_NIGHTS = (
+    b"O,BATCH,2024-03-02T22:00,5,2024-03-03T05:00,,,,,\nP,BATCH,2024-03-02T22:00,10,CPU1,30,1,0,,\n"
+    b"P,BATCH,2024-03-02T22:00,20,PRT1,30,0,0,,\nO,BATCH,2024-03-03T22:00,4,2024-03-04T05:00,,,,,\n"
+    b"P,BATCH,2024-03-03T22:00,10,CPU2,20,1,0,2024-03-03T23:00,2024-03-04T04:00\nN,BATCH,2024-03-02T22:00,20,TAPE-1,S,F,4,,\n"
+    b"N,BATCH,2024-03-03T22:00,10,TAPE-1,X,K,,,\nD,BATCH,2024-03-02T22:00,10,BATCH,2024-03-02T22:00,20,,,\n"
+    b"D,BATCH,2024-03-02T22:00,20,BATCH,2024-03-03T22:00,10,,,\nD,REPORTS,2024-03-02T01:00,20,BATCH,2024-03-02T22:00,10,,,\n")
+EXTENSIONS = [*ADDITIONS, TWO_NIGHTS, ADDITIONS[0] + TWO_NIGHTS]
 QUANTITIES = {"TAPE-1": 4, "STOCK.FILE": 5}
 ABOVE = ADDITIONS[2].replace(b",4,,", b",5,,")
 LIMIT = b'{"name":"Limit","refusal":20}'
@@ -89,6 +96,8 @@ def bodies_of_a_night():
               {"do": "depend", "from": f"{extra}/010", "to": operation}]
     before += [{"do": verb, "op": f"{extra}/010"} for verb in ("nop", "unnop", "hold", "release", "complete", "rerun")]
     before += [{"do": "unknown", "op": operation}, {"do": "delete", "occ": extra},
+               {"do": "extend", "records": ADDITIONS[0].decode()}, {"do": "delete", "occ": extra},
+               {"do": "extend", "records": ""},
                {"do": "available", "resource": "TAPE-1", "value": False},
                {"do": "available", "resource": "TAPE-1", "value": True},
                {"do": "intervals", "ws": "WAIT", "intervals": [["2024-03-01T19:30", "2024-03-02T02:00", 2, 0, 0]]}]
@@ -404,29 +413,29 @@ def set_quantities(folder):
         database.commit()
 
 
-def add_texts(given, folder, told):
-    """Texts of additions, mutated, at one desk, to which they are operators' requests."""
-    chance = random.Random(f"{given.seed}/additions")
+def coming_in(given, folder, told, verb, texts, denotes):
+    """Texts of additions or of extensions, mutated, at one desk, to which they are operators' requests."""
+    chance = random.Random(f"{given.seed}/{verb}")
     shutil.copy(folder / "loaded.db", folder / "night.db")
     (folder / "night.db-wal").unlink(missing_ok=True)
     set_quantities(folder)
     desk = Served(given.program, folder)
     try:
-        got = desk.ask("POST", "/operator", json.dumps({"at": EVENING, "do": "add", "records": ABOVE.decode()}))
+        got = desk.ask("POST", "/operator", json.dumps({"at": EVENING, "do": verb, "records": ABOVE.decode()}))
         told.judge(got == (409, LIMIT), "20 is due, and nothing else is wrong", ABOVE, got)
         for turn in range(given.texts):
-            one = ADDITIONS[turn // 2 % len(ADDITIONS)]
-            text = rewritten(chance, one) if turn % 2 else mutated(chance, one, ADDITIONS)
+            one = texts[turn // 2 % len(texts)]
+            text = rewritten(chance, one) if turn % 2 else mutated(chance, one, texts)
             text = text.decode(errors="replace")
-            is_addition = denotes_addition(text.encode())
-            got = desk.ask("POST", "/operator", json.dumps({"at": EVENING, "do": "add", "records": text}))
+            comes_in = denotes(text.encode())
+            got = desk.ask("POST", "/operator", json.dumps({"at": EVENING, "do": verb, "records": text}))
             is_bad = got == (409, b'{"name":"BadPlan","refusal":21}')
-            is_within = not is_addition or fits_quantities(text.encode(), QUANTITIES)
+            is_within = not comes_in or fits_quantities(text.encode(), QUANTITIES)
             told.judge(got[0] == 409 if not is_within else got[1] != LIMIT, "20 where it needs more than there is", text, got)
-            told.ways["additions of more than there is"] += not is_within
-            told.judge(is_bad != is_addition and is_answer(*got, "operator"),
-                       "the text denotes an addition" if is_addition else "the text denotes no addition", text, got)
-            told.ways[f"additions answered {got[0]}" if is_addition else "texts that are no additions"] += 1
+            told.ways[f"texts to {verb} that need more than there is"] += not is_within
+            told.judge(is_bad != comes_in and is_answer(*got, "operator"),
+                       f"the text denotes what may {verb}" if comes_in else f"the text denotes nothing to {verb}", text, got)
+            told.ways[f"texts to {verb} answered {got[0]}" if comes_in else f"texts of nothing to {verb}"] += 1
     finally:
         desk.kill()
 
@@ -467,14 +476,15 @@ def try_all(given, folder, told):
     keep_still(given, folder, told)
     serve_so_many(given, folder, told)
     check_plans(given, folder, told)
-    add_texts(given, folder, told)
+    coming_in(given, folder, told, "add", ADDITIONS, denotes_addition)
+    coming_in(given, folder, told, "extend", EXTENSIONS, denotes_extension)
     do_texts(given, folder, told)
 
 
 def main():
     words = argparse.ArgumentParser(description=__doc__.splitlines()[0])
     words.add_argument("--rounds", type=int, default=180, help="rounds, of some 600 inputs each")
-    words.add_argument("--texts", type=int, default=1000, help="texts of plans, of additions, and of requests for `do`")
+    words.add_argument("--texts", type=int, default=1000, help="texts of plans, of additions, of extensions, and of requests for `do`")
     words.add_argument("--seed", type=int, default=1, help="what chance draws the inputs from")
     words.add_argument("--program", type=Path, default=PROGRAM)
     given = words.parse_args()

@@ -1,6 +1,7 @@
 #!/usr/bin/env python3
 """Measures requests that `Plan::run` accepts in memory: ends of operations, additions of occurrences with one operation,
-new dependencies and deletions of occurrences, beside `check` of the same plan.
+new dependencies and deletions of occurrences, beside `check` of the same plan; and an extension by which half of the
+occurrences leave and as many come in.
 
     runs.py [--runs N] [--requests N] [--sizes N,N..] [--program PATH] [--runner PATH]
 
@@ -38,6 +39,13 @@ def made(folder, size):
     plan = folder / f"{size}.csv"
     told_by([sys.executable, HERE / "generate.py", size, plan])
     return plan
+
+
+def made_over(folder, size):
+    """A plan of which half is over, and the text of what comes in."""
+    plan, comes_in = folder / f"{size}_over.csv", folder / f"{size}_next.csv"
+    told_by([sys.executable, HERE / "generate.py", size, plan, "--over", comes_in])
+    return plan, comes_in
 
 
 def new_dependencies(texts, started, count):
@@ -95,7 +103,9 @@ def measured(given, folder, size):
         "dependency": ["dependencies", *new_dependencies(texts, set(started), given.requests)],
         "deletion": ["deletions", *deletions(texts, started, given.requests)],
     }
-    return {"check": check} | {kind: milliseconds(given, plan, words) for kind, words in asked.items()}
+    took = {"check": check} | {kind: milliseconds(given, plan, words) for kind, words in asked.items()}
+    over, comes_in = made_over(folder, size)
+    return took | {"extension": milliseconds(given, over, ["extensions", comes_in])}
 
 
 def main():
@@ -112,7 +122,8 @@ def main():
         for size in sizes:
             with tempfile.TemporaryDirectory() as folder:
                 took = measured(given, Path(folder), size)
-                print(f"{size:>6} operations, milliseconds: " + ", ".join(f"{kind} {each:.3f}" for kind, each in took.items()), flush=True)
+                print(f"{size:>6} operations, milliseconds: " + ", ".join(f"{kind} {each:.3f}" for kind, each in took.items())
+                      + f"; the extension takes {took['extension'] / took['addition']:.2f} times an addition", flush=True)
     except (Unmeasured, OSError) as why:
         print(f"runs.py: {why}", file=sys.stderr)
         return 2

@@ -188,6 +188,22 @@ def plan_of(chance):
     return "\n".join(lines) + "\n"
 
 
+def extension_of(chance, tables):
+    """The text of one occurrence of one or two operations, at times after an operation of the plan, with a need at times."""
+    name = f"NEXT{chance.randrange(1_000_000)}"
+    lines = [f"O,{name},{EVENING},{chance.randint(1, 9)},2024-03-02T06:00,,,,,"]
+    for number in range(1, chance.choice((2, 3))):
+        lines.append(f"P,{name},{EVENING},{number},{chance.choice(sorted(tables.attribute))},{chance.randint(1, 90)},0,0,,")
+        if number > 1:
+            lines.append(f"D,{name},{EVENING},1,{name},{EVENING},{number},,,")
+    if chance.random() < 0.7:
+        application, arrival, number = chance.choice(sorted(tables.operations))
+        lines.append(f"D,{application},{moment_text(arrival)},{number},{name},{EVENING},1,,,")
+    if chance.random() < 0.5:
+        lines.append(f"N,{name},{EVENING},1,{chance.choice(sorted(tables.available))},{chance.choice('SX')},{chance.choice('KF')},,,")
+    return "\n".join(lines) + "\n"
+
+
 def request_of(chance, tables, at):
     """A request that is often accepted."""
     operation = chance.choice(sorted(tables.operations))
@@ -196,7 +212,7 @@ def request_of(chance, tables, at):
               "W": ("hold", "nop", "release", "unnop"), "S": ("ended", "error", "interrupted", "unknown", "started"),
               "E": ("rerun", "complete"), "U": ("ended", "error", "complete"), "I": ("started", "complete", "rerun"),
               "C": ("rerun", "tick", "tick"), "D": ("tick",)}
-    others = ("release", "release", "available", "available", "tick", "tick", "delete")
+    others = ("release", "release", "available", "available", "tick", "tick", "delete", "extend")
     what = chance.choice(likely[status] if chance.random() < 0.75 else others)
     told = {"at": moment_text(at), "do": what}
     if what == "available":
@@ -205,6 +221,8 @@ def request_of(chance, tables, at):
         pass
     elif what == "delete":
         told |= {"occ": key_text(operation)[:-4]}
+    elif what == "extend":
+        told |= {"records": extension_of(chance, tables)}
     else:
         told |= {"op": key_text(operation)} | ({"code": "S0C7"} if what == "error" else {})
     return json.dumps(told)
