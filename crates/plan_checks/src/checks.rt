@@ -2,7 +2,8 @@
 ghost use Rattle.std.specs.Prelude.{◌≡◌, ◌⊎◌, ℕ, ◌+◌, ◌≤◌, true, Some, None, IsSome, IfErr, OnOk};
 ghost use Rattle.plan_basics.specs.Refusals.{IsLeastRefusal, NoneRefuses};
 ghost use Rattle.plan_basics.specs.declared.keys.OpKey.{OpKey as OpKeyValue};
-ghost use Rattle.plan_checks.specs.Commands.{Extends, operation_of};
+ghost use Rattle.plan_checks.specs.Commands.{Extends};
+ghost use Rattle.plan_records.specs.Changes.{operation_of};
 ghost use Rattle.plan_records.specs.Acceptance.{MayBeDone, MayBeEnded, MayBeInterrupted, MayBeUndecided, NeedsPlan};
 ghost use Rattle.plan_checks.specs.Bars.{FailsAt, MayBeStartedAt, MeetsAll};
 ghost use Rattle.plan_figures.specs.Frames.{IsFrameOf};
@@ -133,26 +134,6 @@ fn check_undecided(reported: &Reported<'_>) -> Result<(), Refusal>
     }
 }
 
-// The operation of which a request reports, or that it commands, if it is about one.
-fn operation_of(what: &What) -> Option<OpKey>
-    ensures { result ≡ operation_of what.now }
-{
-    match what {
-        What::Started(key)
-        | What::Ended(key)
-        | What::Error(key, _)
-        | What::Interrupted(key)
-        | What::Unknown(key)
-        | What::Hold(key)
-        | What::Release(key)
-        | What::Nop(key)
-        | What::Unnop(key)
-        | What::Rerun(key)
-        | What::Complete(key) => Some(*key),
-        _ => None,
-    }
-}
-
 // What stands in the way of a report or a command, where this is reported of its operation.
 fn check_reported(
     alloc: Global,
@@ -255,7 +236,7 @@ pub fn check_request(
     ensures fewest { shown.old.looks ≤ shown.new.looks }
     ensures most { shown.new.looks ≤ shown.old.looks + 1 }
 {
-    match operation_of(what) {
+    match what.operation() {
         Some(key) => check_operation(alloc, shown, frame, &key, what, at),
         None => check_unseen(alloc, &Outline::of(shown.beside(), frame), what),
     }

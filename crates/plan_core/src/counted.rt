@@ -77,19 +77,9 @@ fn prepare_first(
 fn seeking(contents: SoundContents, what: &What) -> SoundContents
     ensures { result ≡ contents }
 {
-    match what {
-        What::Started(key)
-        | What::Ended(key)
-        | What::Error(key, _)
-        | What::Interrupted(key)
-        | What::Unknown(key)
-        | What::Hold(key)
-        | What::Release(key)
-        | What::Nop(key)
-        | What::Unnop(key)
-        | What::Rerun(key)
-        | What::Complete(key) => contents.seeking(key),
-        _ => contents,
+    match what.operation() {
+        Some(key) => contents.seeking(&key),
+        None => contents,
     }
 }
 

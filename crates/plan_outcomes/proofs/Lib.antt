@@ -9,5 +9,4 @@ pub mod Refusing
 pub mod SmallTried
 pub mod Staying
 pub mod TriedLooks
-pub mod Trying
 pub mod WholeLooks

@@ -13,5 +13,3 @@ pub mod Asked
 pub mod Anew
 pub mod Led
 pub mod Requested
-pub mod Trials
-pub mod Tried

@@ -13,7 +13,6 @@ mod left;
 mod outcomes;
 mod requests;
 mod settle;
-mod small;
 mod telling;
 mod whole;
 

@@ -19,14 +19,15 @@ ghost use Rattle.plan_steps.specs.plan_figures.specs.Frames.{IsFrameOf};
 use super::asked::Asked;
 use super::extending::extended_outcome;
 use super::led::Led;
-use super::small::tried_small;
 use super::telling::told;
 use super::whole::whole_outcome;
 use latest_start::Latest;
 use operation_graph::Graph;
 use plan_basics::{Moment, Refusal};
 use plan_records::What;
-use plan_steps::{Figures, Frame, Setting, Shown, check_load, check_request, is_small};
+use plan_steps::{
+    Figures, Frame, Setting, Shown, check_load, check_request, is_small, small_trial,
+};
 use std::alloc::Global;
 
 // What stands in the way of a request that extends nothing and is made at a moment where a plan is loaded, but for that moment: by one
@@ -80,15 +81,15 @@ fn small_outcome(
         latest,
         at: asked.at,
     };
-    let (mut shown, figures, tried) = tried_small(&setting, shown, figures, &asked.request.what);
-    match tried {
-        Ok(tried) => {
+    let (mut shown, figures, trial) = small_trial(&setting, shown, figures, &asked.request.what);
+    match trial {
+        Ok((edit, step)) => {
             let frame = Frame {
                 graph,
                 latest,
                 figures: &figures,
             };
-            match told(alloc, &mut shown, frame, asked, tried) {
+            match told(alloc, &mut shown, frame, asked, edit, step) {
                 Ok(outcome) => (shown, figures, Ok(Led::Small(outcome))),
                 Err(refusal) => (shown, figures, Err(refusal)),
             }

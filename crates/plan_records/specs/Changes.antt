@@ -1,5 +1,5 @@
 -- What each request changes where it is accepted.
-use Rattle.std.specs.Prelude.{◌≡◌, ◌⊎◌, ◌↔◌, ◌&&◌, Bool, true, false, cond, Some, All}
+use Rattle.std.specs.Prelude.{◌≡◌, ◌⊎◌, ◌↔◌, ◌&&◌, Bool, true, false, cond, Option, Some, None, All}
 use Rattle.std.specs.Ordering.{eq_by_cmp}
 use Rattle.std.specs.FinMap.{retain_keys}
 use Rattle.std.specs.FinSet as set
@@ -29,6 +29,21 @@ IsRequest (what.Extend (Some s)) = IsExtension s
 IsRequest (what.Error o code) = IsName 4 code
 IsRequest (what.ReplaceIntervals w items) = All IsInterval items.items
 IsRequest _ = Unit {0}
+
+-- the operation of which a request reports, or that it commands, if it is about one
+abbrev pub operation_of : What → Option OpKey
+operation_of (what.Started o) = Some o
+operation_of (what.Ended o) = Some o
+operation_of (what.Error o code) = Some o
+operation_of (what.Interrupted o) = Some o
+operation_of (what.Unknown o) = Some o
+operation_of (what.Hold o) = Some o
+operation_of (what.Release o) = Some o
+operation_of (what.Nop o) = Some o
+operation_of (what.Unnop o) = Some o
+operation_of (what.Rerun o) = Some o
+operation_of (what.Complete o) = Some o
+operation_of _ = None
 
 -- what a plan holds, with the operations at which the test passes made anew
 abbrev pub revised : (OpKey → Bool) → (Operation → Operation) → Contents → Contents

@@ -2,6 +2,7 @@
 #![tactic(auto)]
 
 ghost use Rattle.std.specs.Prelude.{◌≡◌};
+ghost use Rattle.plan_records.specs.Changes.{operation_of};
 ghost use Rattle.plan_records.specs.Rows.{key_of};
 
 use plan_basics::{Attr, ErrCode, Interval, Moment, OccKey, OpKey, Refusal, ResName, WsName};
@@ -38,6 +39,28 @@ pub enum What {
     AddDependency(OpKey, OpKey),
     SetAvailable(ResName, bool),
     ReplaceIntervals(WsName, Vec<Interval>),
+}
+
+impl What {
+    /// The operation of which it reports, or that it commands, if it is about one.
+    pub fn operation(&self) -> Option<OpKey>
+        ensures { result ≡ operation_of self.now }
+    {
+        match self {
+            What::Started(key)
+            | What::Ended(key)
+            | What::Error(key, _)
+            | What::Interrupted(key)
+            | What::Unknown(key)
+            | What::Hold(key)
+            | What::Release(key)
+            | What::Nop(key)
+            | What::Unnop(key)
+            | What::Rerun(key)
+            | What::Complete(key) => Some(*key),
+            _ => None,
+        }
+    }
 }
 
 /// A request, and the minute at which it is made, which may be out of a plan's range.

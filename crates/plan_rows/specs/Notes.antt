@@ -1,12 +1,14 @@
 -- The rows that are noted of a plan as a step leaves it, and what they say of the plan before.
-use Rattle.std.specs.Prelude.{◌≡◌, ◌<◌, ℕ, Bool, true, false, List, length, slice_get, Contains, Option, Some}
+use Rattle.std.specs.Prelude.{◌≡◌, ◌<◌, ℕ, Bool, true, false, List, length, slice_get, Contains, Option, Some, Result}
 use Rattle.std.specs.FinMap.{entries}
 use Rattle.std.specs.List.{AllZip}
 use Rattle.plan_model.specs.Contents.{Contents}
+use Rattle.plan_figures.specs.plan_records.specs.declared.Changes.{Changes}
 use Rattle.plan_figures.specs.plan_records.specs.declared.PlanRow.{PlanRow}
 use Rattle.plan_figures.specs.plan_records.specs.declared.PlanRow.TheVariants as row
 use Rattle.plan_rows.specs.Rows.{all_intervals, keyed_occurrences, keyed_operations, rows_of}
 use Rattle.plan_rows.specs.Shown.{IsShown, contents_shown}
+use Rattle.plan_rows.specs.Tables.{AddsChanges}
 use Rattle.plan_rows.specs.Touched.{AreOccurrencesOf, AreTouched, KeepsQuantities, StaysBeside}
 use Rattle.plan_rows.specs.declared.noted_rows.NotedRow.{NotedRow}
 use Rattle.plan_rows.specs.declared.notes.NotedBeside.{NotedBeside}
@@ -27,6 +29,18 @@ AreNotedAt rows places notes = AllZip (IsNotedAt rows) places notes
 -- each of them notes a row of a table of this length
 abbrev pub AreWithin : ℕ → List NotedRow → Type 0
 AreWithin n notes = (note : NotedRow) → Contains notes note → note.place < n
+
+-- from notes of the occurrences of the touched operations, as they are in any plan that may follow the one that is shown, d has what changes in their table beside what c has
+abbrev pub AddsNotedOccurrences : {E : Type 0} → RowSource → List NotedRow → Result (Unit {0}) E → Changes → Changes → Type 0
+AddsNotedOccurrences s notes r c d = (after : RowSource) (touched places : List ℕ)
+    → IsShown after → AreTouched (Some s) (Some after) touched → AreOccurrencesOf after.contents.now touched places
+    → AreNotedAt (rows_of (keyed_occurrences after)) places notes → AddsChanges 4 5 (Some s) (Some after) r c d
+
+-- so from notes of the touched operations themselves
+abbrev pub AddsNotedOperations : {E : Type 0} → RowSource → List NotedRow → Result (Unit {0}) E → Changes → Changes → Type 0
+AddsNotedOperations s notes r c d = (after : RowSource) (touched : List ℕ)
+    → IsShown after → AreTouched (Some s) (Some after) touched
+    → AreNotedAt (rows_of (keyed_operations after)) touched notes → AddsChanges 5 6 (Some s) (Some after) r c d
 
 -- it has the table that may differ beside operations, if one may
 abbrev pub IsNotedBeside : Contents → ChangeBeside → NotedBeside → Type 0

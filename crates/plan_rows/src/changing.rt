@@ -1,12 +1,12 @@
 // All tables together: what changes from one plan to another, and all rows of a plan.
-ghost use Rattle.std.specs.Prelude.{◌≡◌, ◌+◌, ◌*◌, ◌≤◌, ℕ, Some, IfOk, OnOk, length, map};
+ghost use Rattle.std.specs.Prelude.{◌≡◌, ◌+◌, ◌*◌, ◌≤◌, Some, IfOk, length, map};
 ghost use Rattle.std.specs.FinMap.{entries};
 ghost use Rattle.std.specs.List.Sorted.{IsStrictlySortedBy};
 ghost use Rattle.plan_figures.specs.plan_records.specs.Rows.{AreChanges, AreRows, key_of, row_cmp};
 ghost use Rattle.plan_model.specs.Plan.{plan_held};
 ghost use Rattle.plan_rows.specs.Kept.{AreNewNeeds, KeepsRecords};
 ghost use Rattle.plan_rows.specs.Shown.{IsShown, IsShownIfAny, contents_shown, plan_shown, shown_with, source_if_any, source_of};
-ghost use Rattle.plan_rows.specs.Tables.{AreChangesBelow};
+ghost use Rattle.plan_rows.specs.Tables.{AddsChanges};
 
 use super::columns::SourceColumns;
 use super::dependencies::push_dependencies;
@@ -33,7 +33,7 @@ fn push_stations(
 ) -> Result<(), AllocError>
     requires before { IsShownIfAny (source_if_any before) }
     requires after { IsShown (source_of after) }
-    ensures { (clock now : ℕ) → AreChangesBelow 1 (plan_shown clock (source_if_any before.entry)) (plan_shown now (Some (source_of after.entry))) changes.old → OnOk result (AreChangesBelow 4 (plan_shown clock (source_if_any before.entry)) (plan_shown now (Some (source_of after.entry))) changes.new) }
+    ensures { AddsChanges 1 4 (source_if_any before.entry) (Some (source_of after.entry)) result changes.old changes.new }
 {
     push_workstations(alloc, before, Some(after), changes)?;
     push_intervals(alloc, before, Some(after), changes)?;
@@ -51,7 +51,7 @@ fn push_links(
 ) -> Result<(), AllocError>
     requires kept { KeepsRecords (contents_shown (source_if_any before)) after.beside.contents.now }
     requires needs { AreNewNeeds (contents_shown (source_if_any before)) after.beside.contents.now needs.now }
-    ensures { (clock now : ℕ) → AreChangesBelow 6 (plan_shown clock (source_if_any before.entry)) (plan_shown now (Some (source_of after.entry))) changes.old → OnOk result (AreChangesBelow 10 (plan_shown clock (source_if_any before.entry)) (plan_shown now (Some (source_of after.entry))) changes.new) }
+    ensures { AddsChanges 6 10 (source_if_any before.entry) (Some (source_of after.entry)) result changes.old changes.new }
 {
     push_dependencies(alloc, before, Some(after), changes)?;
     push_needs(needs, changes)?;

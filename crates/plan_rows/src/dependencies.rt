@@ -1,10 +1,10 @@
 // The table of dependencies.
-ghost use Rattle.std.specs.Prelude.{◌≡◌, ◌↔◌, ◌<◌, ℕ, List, Some, OnOk, length, map, refl, slice_get};
+ghost use Rattle.std.specs.Prelude.{◌≡◌, ◌↔◌, ◌<◌, List, Some, length, map, refl, slice_get};
 ghost use Rattle.plan_figures.specs.plan_drafts.specs.declared.RowKey.TheVariants as key;
 ghost use Rattle.plan_rows.specs.Alike.{pair_exact};
 ghost use Rattle.plan_rows.specs.Rows.{dependency_row};
-ghost use Rattle.plan_rows.specs.Shown.{plan_shown, source_if_any};
-ghost use Rattle.plan_rows.specs.Tables.{AreChangesBelow};
+ghost use Rattle.plan_rows.specs.Shown.{source_if_any};
+ghost use Rattle.plan_rows.specs.Tables.{AddsChanges};
 
 use super::kept::pairs_of;
 use super::shown::TableSource;
@@ -82,7 +82,7 @@ pub fn push_dependencies(
     after: Option<TableSource<'_>>,
     changes: &mut Changes,
 ) -> Result<(), AllocError>
-    ensures { (clock now : ℕ) → AreChangesBelow 6 (plan_shown clock (source_if_any before.entry)) (plan_shown now (source_if_any after.entry)) changes.old → OnOk result (AreChangesBelow 7 (plan_shown clock (source_if_any before.entry)) (plan_shown now (source_if_any after.entry)) changes.new) }
+    ensures { AddsChanges 6 7 (source_if_any before.entry) (source_if_any after.entry) result changes.old changes.new }
 {
     push_changes(
         alloc,

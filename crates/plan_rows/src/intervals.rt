@@ -1,5 +1,5 @@
 // The table of the intervals of workstations.
-ghost use Rattle.std.specs.Prelude.{◌≡◌, ◌↔◌, ◌<◌, ◌++◌, ℕ, List, Option, Some, IfOk, OnOk, length, map, refl, slice_get};
+ghost use Rattle.std.specs.Prelude.{◌≡◌, ◌↔◌, ◌<◌, ◌++◌, List, Option, Some, IfOk, OnOk, length, map, refl, slice_get};
 ghost use Rattle.std.specs.FinMap.{entries};
 ghost use Rattle.std.specs.List.Sorted.{IsStrictlySortedBy};
 ghost use Rattle.std.specs.Map.{keys_of};
@@ -7,8 +7,8 @@ ghost use Rattle.plan_basics.specs.Keys.{name_cmp};
 ghost use Rattle.plan_figures.specs.plan_drafts.specs.declared.RowKey.TheVariants as key;
 ghost use Rattle.plan_rows.specs.Alike.{interval_alike, interval_key_cmp, interval_key_exact};
 ghost use Rattle.plan_rows.specs.Rows.{all_intervals, interval_row, intervals_within, under_both};
-ghost use Rattle.plan_rows.specs.Shown.{IsShownIfAny, contents_shown, plan_shown, source_if_any};
-ghost use Rattle.plan_rows.specs.Tables.{AreChangesBelow};
+ghost use Rattle.plan_rows.specs.Shown.{IsShownIfAny, contents_shown, source_if_any};
+ghost use Rattle.plan_rows.specs.Tables.{AddsChanges};
 ghost use Rattle.plan_rows.specs.declared.shown.RowSource.{RowSource as RowSourceValue};
 
 use super::kept::workstations_of;
@@ -82,7 +82,7 @@ pub fn push_noted_intervals(
 ) -> Result<(), AllocError>
     requires before { IsStrictlySortedBy name_cmp (keys_of before.now) }
     requires in_order { IsStrictlySortedBy interval_key_cmp (keys_of after.now) }
-    ensures { (clock now : ℕ) (was shown : Option RowSourceValue) → IsShownIfAny was → IsShownIfAny shown → before.now ≡ entries (contents_shown was).workstations → after.now ≡ all_intervals (entries (contents_shown shown).workstations) → AreChangesBelow 2 (plan_shown clock was) (plan_shown now shown) changes.old → OnOk result (AreChangesBelow 3 (plan_shown clock was) (plan_shown now shown) changes.new) }
+    ensures { (was shown : Option RowSourceValue) → IsShownIfAny was → IsShownIfAny shown → before.now ≡ entries (contents_shown was).workstations → after.now ≡ all_intervals (entries (contents_shown shown).workstations) → AddsChanges 2 3 was shown result changes.old changes.new }
 {
     let old = intervals_of(alloc, before)?;
     push_changes(
@@ -104,7 +104,7 @@ pub fn push_intervals(
 ) -> Result<(), AllocError>
     requires before { IsShownIfAny (source_if_any before) }
     requires after { IsShownIfAny (source_if_any after) }
-    ensures { (clock now : ℕ) → AreChangesBelow 2 (plan_shown clock (source_if_any before.entry)) (plan_shown now (source_if_any after.entry)) changes.old → OnOk result (AreChangesBelow 3 (plan_shown clock (source_if_any before.entry)) (plan_shown now (source_if_any after.entry)) changes.new) }
+    ensures { AddsChanges 2 3 (source_if_any before.entry) (source_if_any after.entry) result changes.old changes.new }
 {
     let new = intervals_of(alloc, workstations_of(after))?;
     push_noted_intervals(alloc, workstations_of(before), &new, changes)

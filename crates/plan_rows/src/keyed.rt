@@ -1,5 +1,5 @@
 // The table of special resources: whether each is available.
-ghost use Rattle.std.specs.Prelude.{◌≡◌, ◌↔◌, ◌<◌, ℕ, List, Some, OnOk, length, map, refl, slice_get};
+ghost use Rattle.std.specs.Prelude.{◌≡◌, ◌↔◌, ◌<◌, List, Some, OnOk, length, map, refl, slice_get};
 ghost use Rattle.std.specs.FinMap.{entries};
 ghost use Rattle.std.specs.List.Sorted.{IsStrictlySortedBy};
 ghost use Rattle.std.specs.Map.{keys_of};
@@ -7,8 +7,8 @@ ghost use Rattle.plan_basics.specs.Keys.{name_cmp, name_cmp-IsAntisymmetric};
 ghost use Rattle.plan_model.specs.Plan.{Plan};
 ghost use Rattle.plan_figures.specs.plan_drafts.specs.declared.RowKey.TheVariants as key;
 ghost use Rattle.plan_rows.specs.Rows.{resource_row};
-ghost use Rattle.plan_rows.specs.Shown.{plan_shown, source_if_any};
-ghost use Rattle.plan_rows.specs.Tables.{AreChangesBelow};
+ghost use Rattle.plan_rows.specs.Shown.{source_if_any};
+ghost use Rattle.plan_rows.specs.Tables.{AddsChanges, AreChangesBelow};
 
 use super::kept::resources_of;
 use super::shown::TableSource;
@@ -100,7 +100,7 @@ pub fn push_resources(
     after: Option<TableSource<'_>>,
     changes: &mut Changes,
 ) -> Result<(), AllocError>
-    ensures { (clock now : ℕ) → AreChangesBelow 3 (plan_shown clock (source_if_any before.entry)) (plan_shown now (source_if_any after.entry)) changes.old → OnOk result (AreChangesBelow 4 (plan_shown clock (source_if_any before.entry)) (plan_shown now (source_if_any after.entry)) changes.new) }
+    ensures { AddsChanges 3 4 (source_if_any before.entry) (source_if_any after.entry) result changes.old changes.new }
 {
     push_noted_resources(alloc, resources_of(before), resources_of(after), changes)
 }

@@ -7,8 +7,8 @@ ghost use Rattle.plan_model.specs.Contents.{Contents};
 ghost use Rattle.plan_model.specs.Plan.{plan_held};
 ghost use Rattle.plan_figures.specs.plan_records.specs.Rows.{AreChanges};
 ghost use Rattle.plan_rows.specs.Notes.{AreNotes, IsNotedBeside, IsNotedStep, NotesBeside, is_operation, operations_noted};
-ghost use Rattle.plan_rows.specs.Shown.{IsShown, plan_shown, shown_with};
-ghost use Rattle.plan_rows.specs.Tables.{AreChangesBelow};
+ghost use Rattle.plan_rows.specs.Shown.{IsShown, shown_with};
+ghost use Rattle.plan_rows.specs.Tables.{AddsChanges};
 ghost use Rattle.plan_rows.specs.declared.shown.RowSource.{RowSource as RowSourceValue};
 
 use super::columns::SourceColumns;
@@ -110,7 +110,7 @@ fn push_noted_beside(
     changes: &mut Changes,
 ) -> Result<(), AllocError>
     requires noted { (after : RowSourceValue) × IsShown after × NotesBeside shown.now.contents after.contents.now noted.now }
-    ensures { (clock now : ℕ) (before after : RowSourceValue) → before.contents.now ≡ shown.now.contents → IsShown before → IsShown after → NotesBeside shown.now.contents after.contents.now noted.now → AreChangesBelow 2 (plan_shown clock (Some before)) (plan_shown now (Some after)) changes.old → OnOk result (AreChangesBelow 4 (plan_shown clock (Some before)) (plan_shown now (Some after)) changes.new) }
+    ensures { (before after : RowSourceValue) → before.contents.now ≡ shown.now.contents → IsShown before → IsShown after → NotesBeside shown.now.contents after.contents.now noted.now → AddsChanges 2 4 (Some before) (Some after) result changes.old changes.new }
 {
     let kept = shown.beside();
     match noted {

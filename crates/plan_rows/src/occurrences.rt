@@ -1,5 +1,5 @@
 // The table of occurrences.
-ghost use Rattle.std.specs.Prelude.{◌≡◌, ◌<◌, ℕ, List, Contains, Some, IfOk, OnOk, length, refl, slice_get};
+ghost use Rattle.std.specs.Prelude.{◌≡◌, ◌<◌, ℕ, List, Contains, Some, IfOk, length, refl, slice_get};
 ghost use Rattle.std.specs.FinMap.{entries};
 ghost use Rattle.std.specs.List.Sorted.{IsStrictlySortedBy};
 ghost use Rattle.std.specs.Map.{keys_of};
@@ -7,11 +7,11 @@ ghost use Rattle.std.specs.Ordering.{nat_cmp};
 ghost use Rattle.plan_basics.specs.Keys.{occurrence_cmp-IsAntisymmetric};
 ghost use Rattle.plan_figures.specs.plan_drafts.specs.declared.RowKey.TheVariants as key;
 ghost use Rattle.plan_rows.specs.Kept.{KeepsRecords};
-ghost use Rattle.plan_rows.specs.Notes.{AreNotedAt, AreWithin};
+ghost use Rattle.plan_rows.specs.Notes.{AddsNotedOccurrences, AreNotedAt, AreWithin};
 ghost use Rattle.plan_rows.specs.Rows.{keyed_occurrences, rows_of};
-ghost use Rattle.plan_rows.specs.Shown.{IsShown, IsShownIfAny, contents_shown, plan_shown, shown_with, source_if_any, source_of};
-ghost use Rattle.plan_rows.specs.Tables.{AreChangesBelow};
-ghost use Rattle.plan_rows.specs.Touched.{AreOccurrencesOf, AreTouched};
+ghost use Rattle.plan_rows.specs.Shown.{IsShown, IsShownIfAny, contents_shown, shown_with, source_if_any, source_of};
+ghost use Rattle.plan_rows.specs.Tables.{AddsChanges};
+ghost use Rattle.plan_rows.specs.Touched.{AreOccurrencesOf};
 ghost use Rattle.plan_rows.specs.declared.shown.RowSource.{RowSource as RowSourceValue};
 
 use super::columns::SourceColumns;
@@ -96,7 +96,7 @@ pub fn push_occurrences(
     requires before { IsShownIfAny (source_if_any before) }
     requires shown { IsShown (shown_with shown.old.contents columns) }
     requires kept { KeepsRecords (contents_shown (source_if_any before)) shown.old.contents }
-    ensures changes { (clock now : ℕ) → AreChangesBelow 4 (plan_shown clock (source_if_any before.entry)) (plan_shown now (Some (shown_with shown.old.contents columns.entry))) changes.old → OnOk result (AreChangesBelow 5 (plan_shown clock (source_if_any before.entry)) (plan_shown now (Some (shown_with shown.old.contents columns.entry))) changes.new) }
+    ensures changes { AddsChanges 4 5 (source_if_any before.entry) (Some (shown_with shown.old.contents columns.entry)) result changes.old changes.new }
     ensures unchanged { shown.new ≡ shown.old }
 {
     push_shown::<Occurrence>(alloc, before, shown, columns, changes)
@@ -136,7 +136,7 @@ pub fn push_noted_occurrences(
 ) -> Result<(), AllocError>
     requires shown { IsShown (shown_with shown.old.contents columns) }
     requires within { AreWithin (length (entries shown.old.contents.occurrences)) notes.now }
-    ensures told { (clock now : ℕ) (after : RowSourceValue) (touched places : List ℕ) → IsShown after → AreTouched (Some (shown_with shown.old.contents columns.entry)) (Some after) touched → AreOccurrencesOf after.contents.now touched places → AreNotedAt (rows_of (keyed_occurrences after)) places notes.now → AreChangesBelow 4 (plan_shown clock (Some (shown_with shown.old.contents columns.entry))) (plan_shown now (Some after)) changes.old → OnOk result (AreChangesBelow 5 (plan_shown clock (Some (shown_with shown.old.contents columns.entry))) (plan_shown now (Some after)) changes.new) }
+    ensures told { AddsNotedOccurrences (shown_with shown.old.contents columns.entry) notes.now result changes.old changes.new }
     ensures unchanged { shown.new ≡ shown.old }
 {
     push_noted::<Occurrence>(shown, columns, notes, &mut changes.rows)

@@ -1,16 +1,14 @@
 // The table of operations.
-ghost use Rattle.std.specs.Prelude.{◌≡◌, ◌⊎◌, ◌↔◌, ◌+◌, ◌<◌, ◌≤◌, ℕ, List, Contains, Decides, Some, IfOk, IsTrue, OnOk, option_map, count_by, length, refl, slice_get};
+ghost use Rattle.std.specs.Prelude.{◌≡◌, ◌⊎◌, ◌↔◌, ◌+◌, ◌<◌, ◌≤◌, ℕ, Contains, Decides, Some, IfOk, IsTrue, OnOk, option_map, count_by, length, refl, slice_get};
 ghost use Rattle.std.specs.FinMap.{entries};
 ghost use Rattle.plan_basics.specs.Keys.{operation_cmp-IsAntisymmetric};
 ghost use Rattle.plan_model.specs.Contents.{Contents};
 ghost use Rattle.plan_figures.specs.plan_drafts.specs.declared.RowKey.TheVariants as key;
 ghost use Rattle.plan_rows.specs.Kept.{AreKnownAlike, KeepsRecords};
-ghost use Rattle.plan_rows.specs.Notes.{AreNotedAt, AreWithin, is_operation};
+ghost use Rattle.plan_rows.specs.Notes.{AddsNotedOperations, AreNotedAt, AreWithin, is_operation};
 ghost use Rattle.plan_rows.specs.Rows.{keyed_operations, rows_of};
-ghost use Rattle.plan_rows.specs.Shown.{IsShown, IsShownIfAny, contents_shown, plan_shown, shown_with, source_if_any};
-ghost use Rattle.plan_rows.specs.Tables.{AreChangesBelow};
-ghost use Rattle.plan_rows.specs.Touched.{AreTouched};
-ghost use Rattle.plan_rows.specs.declared.shown.RowSource.{RowSource as RowSourceValue};
+ghost use Rattle.plan_rows.specs.Shown.{IsShown, IsShownIfAny, contents_shown, shown_with, source_if_any};
+ghost use Rattle.plan_rows.specs.Tables.{AddsChanges};
 
 use super::columns::SourceColumns;
 use super::noted_rows::{Noted, NotedRow, note_rows, push_noted};
@@ -158,7 +156,7 @@ pub fn push_operations(
     requires before { IsShownIfAny (source_if_any before) }
     requires shown { IsShown (shown_with shown.old.contents columns) }
     requires kept { KeepsRecords (contents_shown (source_if_any before)) shown.old.contents }
-    ensures changes { (clock now : ℕ) → AreChangesBelow 5 (plan_shown clock (source_if_any before.entry)) (plan_shown now (Some (shown_with shown.old.contents columns.entry))) changes.old → OnOk result (AreChangesBelow 6 (plan_shown clock (source_if_any before.entry)) (plan_shown now (Some (shown_with shown.old.contents columns.entry))) changes.new) }
+    ensures changes { AddsChanges 5 6 (source_if_any before.entry) (Some (shown_with shown.old.contents columns.entry)) result changes.old changes.new }
     ensures contents { shown.new.contents ≡ shown.old.contents }
     ensures fewest { shown.old.looks ≤ shown.new.looks }
     ensures most { shown.new.looks ≤ shown.old.looks + length (entries shown.old.contents.operations) }
@@ -202,7 +200,7 @@ pub fn push_noted_operations(
 ) -> Result<(), AllocError>
     requires shown { IsShown (shown_with shown.old.contents columns) }
     requires within { AreWithin (length (entries shown.old.contents.operations)) notes.now }
-    ensures told { (clock now : ℕ) (after : RowSourceValue) (touched : List ℕ) → IsShown after → AreTouched (Some (shown_with shown.old.contents columns.entry)) (Some after) touched → AreNotedAt (rows_of (keyed_operations after)) touched notes.now → AreChangesBelow 5 (plan_shown clock (Some (shown_with shown.old.contents columns.entry))) (plan_shown now (Some after)) changes.old → OnOk result (AreChangesBelow 6 (plan_shown clock (Some (shown_with shown.old.contents columns.entry))) (plan_shown now (Some after)) changes.new) }
+    ensures told { AddsNotedOperations (shown_with shown.old.contents columns.entry) notes.now result changes.old changes.new }
     ensures operations { OnOk result (count_by is_operation changes.new.rows.items ≤ count_by is_operation changes.old.rows.items + length notes.now) }
     ensures contents { shown.new.contents ≡ shown.old.contents }
     ensures fewest { shown.old.looks ≤ shown.new.looks }

@@ -1,13 +1,13 @@
 // The table of the quantities of special resources: of those of which there isn't the greatest quantity.
-ghost use Rattle.std.specs.Prelude.{◌≡◌, ◌↔◌, ◌<◌, ℕ, List, Some, IfOk, OnOk, length, map, refl, slice_get};
+ghost use Rattle.std.specs.Prelude.{◌≡◌, ◌↔◌, ◌<◌, List, Some, IfOk, length, map, refl, slice_get};
 ghost use Rattle.std.specs.List.{filter_map};
 ghost use Rattle.std.specs.Map.{keys_of};
 ghost use Rattle.plan_basics.specs.Keys.{name_cmp-IsAntisymmetric};
 ghost use Rattle.plan_figures.specs.plan_drafts.specs.declared.RowKey.TheVariants as key;
 ghost use Rattle.plan_rows.specs.Alike.{quantity_alike};
 ghost use Rattle.plan_rows.specs.Rows.{quantity_row, quantity_written};
-ghost use Rattle.plan_rows.specs.Shown.{plan_shown, source_if_any};
-ghost use Rattle.plan_rows.specs.Tables.{AreChangesBelow};
+ghost use Rattle.plan_rows.specs.Shown.{source_if_any};
+ghost use Rattle.plan_rows.specs.Tables.{AddsChanges};
 
 use super::kept::resources_of;
 use super::shown::TableSource;
@@ -79,7 +79,7 @@ pub fn push_quantities(
     after: Option<TableSource<'_>>,
     changes: &mut Changes,
 ) -> Result<(), AllocError>
-    ensures { (clock now : ℕ) → AreChangesBelow 8 (plan_shown clock (source_if_any before.entry)) (plan_shown now (source_if_any after.entry)) changes.old → OnOk result (AreChangesBelow 9 (plan_shown clock (source_if_any before.entry)) (plan_shown now (source_if_any after.entry)) changes.new) }
+    ensures { AddsChanges 8 9 (source_if_any before.entry) (source_if_any after.entry) result changes.old changes.new }
 {
     let old = quantities_of(alloc, resources_of(before))?;
     let new = quantities_of(alloc, resources_of(after))?;

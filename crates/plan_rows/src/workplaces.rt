@@ -1,11 +1,11 @@
 // The table of workstations.
-ghost use Rattle.std.specs.Prelude.{◌≡◌, ◌↔◌, ◌<◌, ℕ, List, Some, OnOk, length, map, refl, slice_get};
+ghost use Rattle.std.specs.Prelude.{◌≡◌, ◌↔◌, ◌<◌, List, Some, length, map, refl, slice_get};
 ghost use Rattle.std.specs.Map.{keys_of};
 ghost use Rattle.plan_basics.specs.Keys.{Name, name_cmp-IsAntisymmetric};
 ghost use Rattle.plan_figures.specs.plan_drafts.specs.declared.RowKey.TheVariants as key;
 ghost use Rattle.plan_rows.specs.Rows.{workstation_row};
-ghost use Rattle.plan_rows.specs.Shown.{plan_shown, source_if_any};
-ghost use Rattle.plan_rows.specs.Tables.{AreChangesBelow};
+ghost use Rattle.plan_rows.specs.Shown.{source_if_any};
+ghost use Rattle.plan_rows.specs.Tables.{AddsChanges};
 
 use super::kept::workstations_of;
 use super::shown::TableSource;
@@ -91,7 +91,7 @@ pub fn push_workstations(
     after: Option<TableSource<'_>>,
     changes: &mut Changes,
 ) -> Result<(), AllocError>
-    ensures { (clock now : ℕ) → AreChangesBelow 1 (plan_shown clock (source_if_any before.entry)) (plan_shown now (source_if_any after.entry)) changes.old → OnOk result (AreChangesBelow 2 (plan_shown clock (source_if_any before.entry)) (plan_shown now (source_if_any after.entry)) changes.new) }
+    ensures { AddsChanges 1 2 (source_if_any before.entry) (source_if_any after.entry) result changes.old changes.new }
 {
     push_changes(
         alloc,

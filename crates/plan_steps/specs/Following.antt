@@ -8,12 +8,15 @@ use Rattle.plan_records.specs.plan_model.specs.Ready.{IsChosen, named as named_i
 use Rattle.plan_steps.specs.StepLooks.{AreBoth}
 use Rattle.plan_figures.specs.Entries.{AreEntriesAt}
 use Rattle.plan_rows.specs.declared.notes.ChangeBeside.{ChangeBeside}
-use Rattle.plan_steps.specs.Columns.{AreColumnsOf, IsExcerptOf, IsReadyListOf}
-use Rattle.plan_steps.specs.Edits.{ArePlacesIn}
+use Rattle.plan_steps.specs.Columns.{AreColumnsOf, IsExcerptOf, IsReadyListOf, figures_of}
+use Rattle.plan_steps.specs.Edits.{ArePlacesIn, WasEdited}
 use Rattle.plan_steps.specs.Naming.{IsNaming, IsStepOf}
 use Rattle.plan_steps.specs.declared.columns.FigureColumns.{FigureColumns}
+use Rattle.plan_steps.specs.declared.columns.Shares.{Shares}
+use Rattle.plan_steps.specs.declared.edits.Edit.{Edit}
 use Rattle.plan_steps.specs.declared.followed.Followed.{Followed}
 use Rattle.plan_steps.specs.declared.following.SmallStep.{SmallStep}
+use Rattle.plan_steps.specs.declared.setting.Setting.{Setting}
 use Rattle.ready_list.specs.Entries.{ReadyEntries}
 use Rattle.status_rules.specs.declared.Status.{Status}
 use Rattle.status_rules.specs.declared.Status.TheVariants.{Started}
@@ -53,3 +56,7 @@ pub record WasFollowed (P R : Contents) (m : ℕ) (edited : List ℕ) (starts : 
 -- it is such a step once columns were moved on by a look at each of these places
 abbrev pub IsMovedStepOf : Contents → ℕ → List ℕ → ChangeBeside → ℕ → ℕ → SmallStep → Type 0
 IsMovedStepOf Q m moved b before after s = (between : ℕ) × (before ≤ between) × (between ≤ before + length moved) × IsStepOf Q m moved b between after s
+
+-- the edit made Q of P; graph and latest starts of P are in the setting, and these columns, ready list and shares are the figures of P
+abbrev pub WasEditedBeside : Contents → Contents → Edit → Setting → FigureColumns → ReadyEntries → Shares → Type 0
+WasEditedBeside P Q e setting l r s = WasEdited P Q e setting.graph.now setting.latest.now.starts (figures_of l r s)

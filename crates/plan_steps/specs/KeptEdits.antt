@@ -1,5 +1,5 @@
 -- What small requests edit: which operations, and at which indices these are.
-use Rattle.std.specs.Prelude.{◌≡◌, ◌↔◌, ℕ, ◌<◌, true, List, length, Contains, Option, Some, None, slice_get}
+use Rattle.std.specs.Prelude.{◌≡◌, ◌↔◌, ℕ, ◌<◌, true, List, length, Contains, Option, None, Some, slice_get}
 use Rattle.std.specs.Ordering.{nat_cmp}
 use Rattle.std.specs.FinMap.{entries}
 use Rattle.std.specs.List.Sorted.{IsStrictlySortedBy}
@@ -9,6 +9,7 @@ use Rattle.plan_checks.specs.status_rules.specs.declared.Mark.TheVariants.{Delet
 use Rattle.plan_checks.specs.plan_model.specs.Contents.{Contents, Operation}
 use Rattle.plan_checks.specs.plan_model.specs.Starts.{Reaches}
 use Rattle.plan_checks.specs.plan_model.specs.Status.{IsSatisfied}
+use Rattle.plan_records.specs.Changes.{operation_of}
 use Rattle.plan_records.specs.declared.What.{What}
 use Rattle.plan_records.specs.declared.What.TheVariants as what
 
@@ -30,17 +31,8 @@ IsRerun _ = ⊥
 
 -- the operation of which it reports, or that it commands, where it edits no other
 abbrev pub target_of : What → Option OpKey
-target_of (what.Started o) = Some o
-target_of (what.Ended o) = Some o
-target_of (what.Error o code) = Some o
-target_of (what.Interrupted o) = Some o
-target_of (what.Unknown o) = Some o
-target_of (what.Hold o) = Some o
-target_of (what.Release o) = Some o
-target_of (what.Nop o) = Some o
-target_of (what.Unnop o) = Some o
-target_of (what.Complete o) = Some o
-target_of _ = None
+target_of (what.Rerun o) = None
+target_of w = operation_of w
 
 -- the small request edits the mark or a flag of q
 abbrev pub Edits : Contents → What → OpKey → Type 0

@@ -29,3 +29,4 @@ pub mod Shifts
 pub mod Groundworks
 pub mod Naming
 pub mod Following
+pub mod Trials

@@ -33,17 +33,8 @@ fn target_of(what: &What) -> Option<OpKey>
     ensures { result ≡ target_of what.now }
 {
     match what {
-        What::Started(key)
-        | What::Ended(key)
-        | What::Error(key, _)
-        | What::Interrupted(key)
-        | What::Unknown(key)
-        | What::Hold(key)
-        | What::Release(key)
-        | What::Nop(key)
-        | What::Unnop(key)
-        | What::Complete(key) => Some(*key),
-        _ => None,
+        What::Rerun(_) => None,
+        _ => what.operation(),
     }
 }
 

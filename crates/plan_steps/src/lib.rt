@@ -25,11 +25,12 @@ mod settling;
 mod shifting;
 mod statuses;
 mod steps;
+mod trials;
 mod trying;
 mod values;
 mod writing;
 
-pub use edits::{Edit, edit_of};
+pub use edits::Edit;
 pub use following::SmallStep;
 pub use kept_edits::is_small;
 pub use laws::{
@@ -49,5 +50,5 @@ pub use revisions::Revision;
 pub use setting::Setting;
 pub use settling::{Settled, settle};
 pub use shifting::{Shift, shifted};
-pub use steps::small_step;
+pub use trials::small_trial;
 pub use writing::stepped;

@@ -6,9 +6,8 @@ ghost use Rattle.plan_records.specs.plan_model.specs.Ready.{IsChosen, named as n
 ghost use Rattle.plan_figures.specs.Figures.{KeepsFrame};
 ghost use Rattle.plan_steps.specs.StepLooks.{IsStepLooked};
 ghost use Rattle.plan_rows.specs.Notes.{operations_noted};
-ghost use Rattle.plan_steps.specs.Columns.{AreAlike, AreSharesOf, IsReadyListOf, figures_of};
-ghost use Rattle.plan_steps.specs.Edits.{WasEdited};
-ghost use Rattle.plan_steps.specs.Following.{IsMovedStepOf};
+ghost use Rattle.plan_steps.specs.Columns.{AreAlike, AreSharesOf, IsReadyListOf};
+ghost use Rattle.plan_steps.specs.Following.{IsMovedStepOf, WasEditedBeside};
 ghost use Rattle.plan_steps.specs.Groundworks.{HasGroundwork};
 ghost use Rattle.plan_steps.specs.Naming.{AreStepNotes};
 ghost use Rattle.plan_steps.specs.Shifts.{IsShift};
@@ -75,15 +74,15 @@ pub fn step_after(
     shares: Shares,
     edit: &Edit,
 ) -> (Shown, Result<SmallStep, Refusal>)
-    requires { (P : Contents) × WasEdited P after.contents edit.now setting.now.graph.now setting.now.latest.now.starts (figures_of columns.old ready.old shares) }
+    requires { (P : Contents) × WasEditedBeside P after.contents edit.now setting.now columns.old ready.old shares }
     ensures contents { result.0.contents ≡ after.contents }
     ensures unchanged { AreAlike columns.new columns.old }
-    ensures ready { (P : Contents) → WasEdited P after.contents edit.now setting.now.graph.now setting.now.latest.now.starts (figures_of columns.old ready.old shares) → IsReadyListOf P ready.new }
+    ensures ready { (P : Contents) → WasEditedBeside P after.contents edit.now setting.now columns.old ready.old shares → IsReadyListOf P ready.new }
     ensures chosen { IfOk result.1 (λ s. IsChosen after.contents setting.now.at s.named.items) }
-    ensures shift { IfOk result.1 (λ s. (P : Contents) → WasEdited P after.contents edit.now setting.now.graph.now setting.now.latest.now.starts (figures_of columns.old ready.old shares) → IsShift P (named_in s.named.items after.contents) s.shift) }
-    ensures frame { IfOk result.1 (λ s. (P : Contents) → WasEdited P after.contents edit.now setting.now.graph.now setting.now.latest.now.starts (figures_of columns.old ready.old shares) → KeepsFrame P (named_in s.named.items after.contents)) }
-    ensures notes { IfOk result.1 (λ s. (P : Contents) → WasEdited P after.contents edit.now setting.now.graph.now setting.now.latest.now.starts (figures_of columns.old ready.old shares) → AreStepNotes P (named_in s.named.items after.contents) s.notes) }
-    ensures looked { IfOk result.1 (λ s. (P : Contents) → WasEdited P after.contents edit.now setting.now.graph.now setting.now.latest.now.starts (figures_of columns.old ready.old shares) → IsStepLooked P after.contents edit.now.is_rerun edit.now.places.items s.named.items (operations_noted s.notes) after.looks result.0.looks) }
+    ensures shift { IfOk result.1 (λ s. (P : Contents) → WasEditedBeside P after.contents edit.now setting.now columns.old ready.old shares → IsShift P (named_in s.named.items after.contents) s.shift) }
+    ensures frame { IfOk result.1 (λ s. (P : Contents) → WasEditedBeside P after.contents edit.now setting.now columns.old ready.old shares → KeepsFrame P (named_in s.named.items after.contents)) }
+    ensures notes { IfOk result.1 (λ s. (P : Contents) → WasEditedBeside P after.contents edit.now setting.now columns.old ready.old shares → AreStepNotes P (named_in s.named.items after.contents) s.notes) }
+    ensures looked { IfOk result.1 (λ s. (P : Contents) → WasEditedBeside P after.contents edit.now setting.now columns.old ready.old shares → IsStepLooked P after.contents edit.now.is_rerun edit.now.places.items s.named.items (operations_noted s.notes) after.looks result.0.looks) }
     ensures refused { IfErr result.1 (λ r. r ≡ Refusal.Memory) }
 {
     let mut shares = shares;

@@ -1,5 +1,5 @@
 use Rattle.std.proofs.Common.{ap, inl, inr}
-use Rattle.plan_checks.specs.Commands.{operation_of}
+use Rattle.plan_records.specs.Changes.{operation_of}
 use Rattle.plan_checks.proofs.Reporting.{asks_completion, asks_end, asks_flag, asks_interruption, asks_rerun, asks_start, asks_unknown, told_anywhere, told_here}
 use Rattle.plan_checks.proofs.checks.check_reported.Goals as goal
 

@@ -7,13 +7,13 @@ use Rattle.plan_figures.specs.Frames.{IsFrameOf}
 use Rattle.plan_checks.proofs.checks.check_request.Goals as goal
 
 pub check_operation-requires-clause-operation : goal.check_operation-requires-clause-operation
-check_operation-requires-clause-operation c = sym c.operation_of.ensures ∙ c.in-Some.is
+check_operation-requires-clause-operation c = sym c.operation.ensures ∙ c.in-Some.is
 
 pub of-requires : goal.of-requires
 of-requires c = subst (λ (Q : Contents). IsFrameOf Q c.args.frame) (sym c.beside.ensures.contents) c.requires.frame
 
 pub check_unseen-requires-clause-none : goal.check_unseen-requires-clause-none
-check_unseen-requires-clause-none c = sym c.operation_of.ensures ∙ c.in-None.is
+check_unseen-requires-clause-none c = sym c.operation.ensures ∙ c.in-None.is
 
 pub returns-in-None-clause-ok : goal.returns-in-None-clause-ok
 returns-in-None-clause-ok c =

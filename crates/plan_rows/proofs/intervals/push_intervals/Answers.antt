@@ -10,5 +10,5 @@ push_noted_intervals-requires-clause-in_order c =
 
 pub returns : goal.returns
 returns c = λ clock now so_far.
-    c.push_noted_intervals.ensures clock now (source_if_any c.args.before) (source_if_any c.args.after) c.requires.before c.requires.after c.workstations_of-2.ensures.rows
-    (c.deref.ensures.value ∙ c.in_ok-new.ensures ∙ ap all_intervals c.workstations_of.ensures.rows) so_far
+    c.push_noted_intervals.ensures (source_if_any c.args.before) (source_if_any c.args.after) c.requires.before c.requires.after c.workstations_of-2.ensures.rows
+    (c.deref.ensures.value ∙ c.in_ok-new.ensures ∙ ap all_intervals c.workstations_of.ensures.rows) clock now so_far

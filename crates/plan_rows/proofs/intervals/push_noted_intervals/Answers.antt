@@ -11,7 +11,7 @@ pub push_changes-requires-clause-before : goal.push_changes-requires-clause-befo
 push_changes-requires-clause-before c = intervals_ascend c.args.before.now c.requires.before c.deref.result.now (c.deref.ensures.value ∙ c.in_ok-old.ensures)
 
 pub returns : goal.returns
-returns c = λ clock now was shown is_was is_shown from same so_far.
+returns c = λ was shown is_was is_shown from same clock now so_far.
     let P = plan_shown clock was in
     let Q = plan_shown now shown in
     let old = c.deref.ensures.value ∙ c.in_ok-old.ensures ∙ ap all_intervals (from ∙ ap (λ C. entries C.workstations) (contents_of_plan clock was)) in

@@ -58,11 +58,11 @@ before_operations c R step =
     let meta = c.in_ok-push_meta.ensures P Q refl refl refl refl start in
     let workstations = workstations_stay was now old (Some after) c.push_meta.new.changes step.touched step.among.moved meta in
     let beside =
-    c.in_ok-push_noted_beside.ensures was now (shown_with c.args.shown.now.contents c.args.columns) after refl c.requires.shown step.shown
-    (all_beside c.args.shown.now.contents after.contents.now step.beside c.args.notes.now.beside step.stays step.noted.beside) workstations
+    c.in_ok-push_noted_beside.ensures (shown_with c.args.shown.now.contents c.args.columns) after refl c.requires.shown step.shown
+    (all_beside c.args.shown.now.contents after.contents.now step.beside c.args.notes.now.beside step.stays step.noted.beside) was now workstations
     in
-    c.in_ok-push_noted_occurrences.ensures.told was now after step.touched step.noted.places step.shown step.among step.noted.of_operations
-    (subst (AreNotedAt (rows_of (keyed_occurrences after)) step.noted.places) (sym c.deref.ensures.value) step.noted.occurrences) beside
+    c.in_ok-push_noted_occurrences.ensures.told after step.touched step.noted.places step.shown step.among step.noted.of_operations
+    (subst (AreNotedAt (rows_of (keyed_occurrences after)) step.noted.places) (sym c.deref.ensures.value) step.noted.occurrences) was now beside
 
 pub returns-clause-changes : goal.returns-clause-changes
 returns-clause-changes c = λ R step.
@@ -77,9 +77,9 @@ returns-clause-changes c = λ R step.
     let so_far = c.push_noted_operations.new.changes in
     let operations =
     subst (λ (x : ShownState). AreChangesBelow 6 (plan_shown was (Some (shown_with x.contents l))) Q so_far) same
-    (c.in_ok-push_noted_operations.ensures.told was now after step.touched step.shown
+    (c.in_ok-push_noted_operations.ensures.told after step.touched step.shown
     (subst (λ (x : ShownState). AreTouched (Some (shown_with x.contents l)) (Some after) step.touched) (sym same) step.among)
-    (subst (AreNotedAt (rows_of (keyed_operations after)) step.touched) (sym c.deref-2.ensures.value) step.noted.operations)
+    (subst (AreNotedAt (rows_of (keyed_operations after)) step.touched) (sym c.deref-2.ensures.value) step.noted.operations) was now
     (subst (λ (x : ShownState). AreChangesBelow 5 (plan_shown was (Some (shown_with x.contents l))) Q c.push_noted_occurrences.new.changes) (sym same) (before_operations ((goal.at.returns-clause-changes c).After-deref-2) R step)))
     in
     let dependencies = dependencies_stay was now (Some s) (Some after) so_far (pairs_stay c.args.shown.now.contents after.contents.now step.beside step.stays) operations in

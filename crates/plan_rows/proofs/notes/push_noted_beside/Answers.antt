@@ -26,13 +26,13 @@ push_noted_intervals-requires-clause-in_order c =
     intervals_ascend (entries after.contents.now.workstations) (entries_in_order name_cmp after.contents.now.workstations) c.deref-in-Intervals.result.now (c.deref-in-Intervals.ensures.value ∙ h.2)
 
 pub returns-in-Nothing : goal.returns-in-Nothing
-returns-in-Nothing c = λ clock now before after same was is notes so_far.
+returns-in-Nothing c = λ before after same was is notes clock now so_far.
     let h = subst (NotesBeside c.args.shown.now.contents after.contents.now) c.in-Nothing.is notes in
     resources_stay clock now (Some before) (Some after) c.args.changes.now (h.1 ∙ ap (λ (P : Contents). P.resources) (sym same))
     (intervals_stay clock now (Some before) (Some after) c.args.changes.now (h.0 ∙ ap (λ (P : Contents). P.workstations) (sym same)) so_far)
 
 pub returns-in-Resources : goal.returns-in-Resources
-returns-in-Resources c = λ clock now before after same was is notes so_far.
+returns-in-Resources c = λ before after same was is notes clock now so_far.
     let h = subst (NotesBeside c.args.shown.now.contents after.contents.now) c.in-Resources.is notes in
     c.push_noted_resources.ensures (plan_shown clock (Some before)) (plan_shown now (Some after))
     (c.resources.ensures.rows ∙ ap (λ (P : Contents). entries P.resources) (c.beside-kept.ensures.contents ∙ sym same))
@@ -40,9 +40,9 @@ returns-in-Resources c = λ clock now before after same was is notes so_far.
     (intervals_stay clock now (Some before) (Some after) c.args.changes.now (h.0 ∙ ap (λ (P : Contents). P.workstations) (sym same)) so_far)
 
 pub returns-in-Intervals : goal.returns-in-Intervals
-returns-in-Intervals c = λ clock now before after same was is notes so_far.
+returns-in-Intervals c = λ before after same was is notes clock now so_far.
     let h = subst (NotesBeside c.args.shown.now.contents after.contents.now) c.in-Intervals.is notes in
     on_ok_weaker c.push_noted_intervals.result (resources_stay clock now (Some before) (Some after) c.push_noted_intervals.new.changes (h.0 ∙ ap (λ (P : Contents). P.resources) (sym same)))
-    (c.push_noted_intervals.ensures clock now (Some before) (Some after) was is
+    (c.push_noted_intervals.ensures (Some before) (Some after) was is
     (c.workstations.ensures.rows ∙ ap (λ (P : Contents). entries P.workstations) (c.beside-kept.ensures.contents ∙ sym same))
-    (c.deref-in-Intervals.ensures.value ∙ h.2) so_far)
+    (c.deref-in-Intervals.ensures.value ∙ h.2) clock now so_far)

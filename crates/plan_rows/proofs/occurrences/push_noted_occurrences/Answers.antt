@@ -19,7 +19,7 @@ push_noted-requires-clause-within c = λ note has.
     within_keys (entries s.contents.now.occurrences) (keys_of (keyed_occurrences s)) (occurrence_keys s c.requires.shown) note.place (c.requires.within note has)
 
 pub returns-clause-told : goal.returns-clause-told
-returns-clause-told c = λ clock now after touched places shown among of noted so_far.
+returns-clause-told c = λ after touched places shown among of noted clock now so_far.
     let s = shown_with c.args.shown.now.contents c.args.columns in
     let before = Some s in
     let was = c.requires.shown in

@@ -18,7 +18,7 @@ push_noted-requires-clause-within c = λ note has.
     within_keys (entries s.contents.now.operations) (keys_of (keyed_operations s)) (operation_keys s c.requires.shown) note.place (c.requires.within note has)
 
 pub returns-clause-told : goal.returns-clause-told
-returns-clause-told c = λ clock now after touched shown among noted so_far.
+returns-clause-told c = λ after touched shown among noted clock now so_far.
     let s = shown_with c.args.shown.now.contents c.args.columns in
     let before = Some s in
     let was = c.requires.shown in
