@@ -1,30 +1,24 @@
-// Desks over a store, of which contracts see nothing.
+// Desks over a store, of which contracts see nothing, and what is asked of them.
 use plan_basics::{Refusal, TrackerName};
 use plan_records::{Reply, Request};
 use plan_tables::{Desk, Plan, run_all};
 use sqlite::{Alter, Connection, MemStore};
 use std::alloc::Global;
-use std::marker::Model;
+use wires::Unseen;
 
-/// A desk over a store. Contracts see nothing of it: plays compare what it answers and tells as they run.
+/// A desk over a store.
 #[derive(Drop)]
 pub struct Bench<S: Alter + Drop> {
-    pub desk: Desk<S>,
-}
-
-impl<S: Alter + Drop> Model for Bench<S> {
-    ghost use Rattle.std.specs.Prelude.{Bool, true};
-
-    ghost Value = { Bool };
-
-    ghost view = { λ _. true };
+    pub desk: Unseen<Desk<S>>,
 }
 
 impl<S: Alter + Drop> Bench<S> {
     /// One that is made over a connection.
     pub fn created(alloc: Global, conn: Connection<S>) -> Result<Self, Refusal> {
         match Desk::create(alloc, conn) {
-            Ok(desk) => Ok(Bench { desk }),
+            Ok(held) => Ok(Bench {
+                desk: Unseen { held },
+            }),
             Err((refusal, _)) => Err(refusal),
         }
     }
@@ -32,29 +26,31 @@ impl<S: Alter + Drop> Bench<S> {
     /// The one that is opened over a connection.
     pub fn opened(alloc: Global, conn: Connection<S>) -> Result<Self, Refusal> {
         match Desk::open(alloc, conn) {
-            Ok(desk) => Ok(Bench { desk }),
+            Ok(held) => Ok(Bench {
+                desk: Unseen { held },
+            }),
             Err((refusal, _)) => Err(refusal),
         }
     }
 
     /// Its connection.
     pub fn close(self) -> Connection<S> {
-        self.desk.close()
+        self.desk.held.close()
     }
 
     /// The plan that it has come to.
     pub fn plan(&self) -> &Plan {
-        self.desk.plan()
+        self.desk.held.plan()
     }
 
     /// What it replies to a request.
     pub fn call(&mut self, request: &Request) -> Reply {
-        self.desk.call(request)
+        self.desk.held.call(request)
     }
 
     /// What it replies to requests, which are made at once.
     pub fn call_all(&mut self, requests: &[Request]) -> Result<Vec<Reply>, Refusal> {
-        run_all(&mut self.desk, requests)
+        run_all(&mut self.desk.held, requests)
     }
 
     /// What it replies to a tracker's request of this number and this text.
@@ -65,7 +61,7 @@ impl<S: Alter + Drop> Bench<S> {
         text: &[u8],
         request: &Request,
     ) -> Reply {
-        self.desk.call_numbered(tracker, number, text, request)
+        self.desk.held.call_numbered(tracker, number, text, request)
     }
 }
 

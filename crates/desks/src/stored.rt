@@ -63,7 +63,7 @@ fn are_second_run<S: Alter + Drop>(rows: &mut ErrorRows<'_, S>) -> bool {
 
 // Whether the second run alone is in error, with the code that was reported.
 fn has_one_error<S: Alter + Drop>(bench: &Bench<S>) -> bool {
-    match bench.desk.errors() {
+    match bench.desk.held.errors() {
         Ok(mut rows) => are_second_run(&mut rows),
         Err(_) => false,
     }
@@ -71,7 +71,7 @@ fn has_one_error<S: Alter + Drop>(bench: &Bench<S>) -> bool {
 
 // Whether the rows of a desk are handed out, of which none is asked for.
 fn hands_out<S: Alter + Drop>(bench: &Bench<S>) -> bool {
-    bench.desk.errors().is_ok()
+    bench.desk.held.errors().is_ok()
 }
 
 /// The operation in error, as it is handed out, also by the desk opened again.

@@ -1,63 +1,35 @@
 //! Worked nights, as texts that read like an operator's log: requests in turn, each with its answer, and what the plan
-//! shows afterwards. They are played by whatever answers requests (`Player`): a plan in memory here, in three ways, or a
-//! desk. And which rows requests change, plans from rows, how many records requests look at, why operations don't go on, and
-//! plans in want of memory. Only crates of tests stand on this one.
+//! shows afterwards. They are read here, and played by whatever answers requests (`Player`): a plan in memory
+//! (night_plays), or a desk (desks). Only crates of tests stand on this one.
 #![tactic(auto)]
 
 mod additions;
-mod afresh;
-mod answers;
 mod beginnings;
-mod chains;
-mod changes;
 mod commands;
 mod crowds;
 mod days;
 mod extensions;
-mod growths;
-mod imports;
-mod kept_rows;
 mod latest;
+mod long_chains;
 mod looks;
-mod memory;
 mod names;
 mod pairs;
 mod parts;
-mod players;
 mod playing;
-mod plays;
-mod reasons;
 mod reports;
 mod requests;
 mod resources;
-mod rows;
 mod sections;
-mod small_day;
-mod steps;
 mod tapes;
-mod told;
 mod topics;
 mod words;
 
-pub use chains::looks_at_a_plan_of_chains;
-pub use growths::nights_in_want_of_memory;
-pub use imports::imports_are_refused_growth_by_growth;
-pub use looks::is_told;
-pub use memory::{
-    a_draft_without_memory_is_refused, a_load_without_memory_changes_nothing,
-    a_run_without_memory_changes_nothing, an_addition_without_memory_is_refused,
-    an_extension_without_memory_is_refused, an_import_without_memory_answers_so,
-};
-pub use playing::{Deviation, Player, after};
-pub use plays::{
-    kept_as_worked_out_afresh, nights_at_once, nights_one_by_one, plans_as_full_as_may_be,
-    two_chains,
-};
+pub use long_chains::two_chains;
+pub use looks::{is_like, is_ready_alike, is_seen, is_told};
+pub use names::{operation, resource};
+pub use plan_core::{Plan, Prepared};
+pub use playing::{Deviation, Player, after, after_lines, pass};
 pub use requests::request;
-pub use rows::{
-    columns_that_follow_are_not_believed, quantities_and_amounts_among_rows,
-    row_given_twice_is_of_no_plan, rows_in_another_order_are_the_same_plan,
-};
-pub use steps::rows_that_a_request_changes;
-pub use told::{nothing_of_what_is_not_in_the_plan, reasons_and_roots};
-pub use topics::play_all;
+pub use sections::joined;
+pub use topics::{are_all, play_all};
+pub use words::{cut, listed};

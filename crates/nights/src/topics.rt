@@ -11,6 +11,21 @@ use super::resources::RESOURCES;
 use super::tapes::TAPES;
 use std::alloc::Global;
 
+/// Where each night goes as it says, and there are so many.
+pub fn are_all(
+    passed: Result<u32, Deviation<'static>>,
+    nights: u32,
+) -> Result<(), Deviation<'static>> {
+    match passed {
+        Ok(count) if count == nights => Ok(()),
+        Ok(_) => Err(Deviation {
+            night: "all",
+            line: "another count of nights",
+        }),
+        Err(deviation) => Err(deviation),
+    }
+}
+
 /// Plays the nights of all topics. Returns how many there are, where each goes as it says.
 pub fn play_all<P: Player>(alloc: Global) -> Result<u32, Deviation<'static>> {
     let reports = pass::<P>(alloc, REPORTS)?;

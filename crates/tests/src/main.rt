@@ -4,9 +4,11 @@
 #[cfg(test)]
 mod desk_plays;
 #[cfg(test)]
+mod exchange_plays;
+#[cfg(test)]
 mod layer_plays;
 #[cfg(test)]
-mod night_plays;
+mod plan_plays;
 #[cfg(test)]
 mod session_plays;
 #[cfg(test)]

@@ -2,42 +2,42 @@
 
 #[test]
 fn an_import_without_memory_answers_so(rt: HostRuntime) {
-    assert!(rt; nights::an_import_without_memory_answers_so(rt.alloc()));
+    assert!(rt; night_plays::an_import_without_memory_answers_so(rt.alloc()));
 }
 
 #[test]
 fn a_draft_without_memory_is_refused(rt: HostRuntime) {
-    assert!(rt; nights::a_draft_without_memory_is_refused(rt.alloc()));
+    assert!(rt; night_plays::a_draft_without_memory_is_refused(rt.alloc()));
 }
 
 #[test]
 fn an_addition_without_memory_is_refused(rt: HostRuntime) {
-    assert!(rt; nights::an_addition_without_memory_is_refused(rt.alloc()));
+    assert!(rt; night_plays::an_addition_without_memory_is_refused(rt.alloc()));
 }
 
 #[test]
 fn an_extension_without_memory_is_refused(rt: HostRuntime) {
-    assert!(rt; nights::an_extension_without_memory_is_refused(rt.alloc()));
+    assert!(rt; night_plays::an_extension_without_memory_is_refused(rt.alloc()));
 }
 
 #[test]
 fn a_load_without_memory_changes_nothing(rt: HostRuntime) {
-    assert!(rt; nights::a_load_without_memory_changes_nothing(rt.alloc()));
+    assert!(rt; night_plays::a_load_without_memory_changes_nothing(rt.alloc()));
 }
 
 #[test]
 fn a_run_without_memory_changes_nothing(rt: HostRuntime) {
-    assert!(rt; nights::a_run_without_memory_changes_nothing(rt.alloc()));
+    assert!(rt; night_plays::a_run_without_memory_changes_nothing(rt.alloc()));
 }
 
 #[test]
 fn imports_are_refused_growth_by_growth(rt: HostRuntime) -> Result<(), &'static str> {
-    nights::imports_are_refused_growth_by_growth(rt.alloc())
+    night_plays::imports_are_refused_growth_by_growth(rt.alloc())
 }
 
 #[test]
 fn nights_in_want_of_memory(rt: HostRuntime) -> Result<(), &'static str> {
-    nights::nights_in_want_of_memory(rt.alloc())
+    night_plays::nights_in_want_of_memory(rt.alloc())
 }
 
 #[test]
@@ -67,10 +67,10 @@ fn tables_of_the_first_version_are_opened(rt: HostRuntime) -> Result<(), &'stati
 
 #[test]
 fn reports_in_want_of_memory(rt: HostRuntime) -> Result<(), &'static str> {
-    desks::reports_in_want_of_memory(rt.alloc())
+    desk_exchanges::reports_in_want_of_memory(rt.alloc())
 }
 
 #[test]
 fn why_in_want_of_memory(rt: HostRuntime) -> Result<(), &'static str> {
-    desks::why_in_want_of_memory(rt.alloc())
+    desk_exchanges::why_in_want_of_memory(rt.alloc())
 }

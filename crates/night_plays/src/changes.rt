@@ -1,6 +1,6 @@
 // The rows of the tables that a request changes, each as a line: its table and its columns, with bars between. And the keys of
 // those that are gone.
-use super::words::listed;
+use nights::listed;
 use plan_basics::{Interval, OpKey, ResName, WsName, minute_text};
 use plan_records::{Changes, OperationRow, PlanRow, RowKey};
 use special_resources::Mode;

@@ -1,10 +1,7 @@
 // What a request makes of the rows of the tables.
 use super::changes::are_changes;
 use super::players::OneByOne;
-use super::playing::after_lines;
-use super::requests::request;
-use super::words::cut;
-use plan_core::Plan;
+use nights::{Plan, after_lines, cut, request};
 use plan_records::Request;
 use std::alloc::Global;
 

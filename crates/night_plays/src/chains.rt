@@ -1,7 +1,5 @@
 // How many operation records a request looks at, on a plan of 20 chains of 255 operations.
-use super::requests::request;
-use super::words::cut;
-use plan_core::{Plan, Prepared};
+use nights::{Plan, Prepared, cut, request};
 use plan_records::{PlanRow, Request};
 use std::alloc::Global;
 

@@ -1,9 +1,8 @@
 // What connections bring, and what is to come of them.
 use super::FAILED;
-use super::benches::Bench;
+use super::benches::{Bench, empty};
 use super::readers::Counting;
 use plan_basics::{OpKey, Watched};
-use plan_tables::OpView;
 use sqlite::{Alter, MemStore};
 use status_rules::{Mark, Status};
 use std::alloc::Global;
@@ -78,7 +77,7 @@ fn ended<S: Alter + Drop>(
 ) -> Told {
     let mut reader = Watched::new(Counting::new(pieces));
     let mut writer = Watched::new(paper);
-    let ended = serve_one(alloc, &mut reader, &mut writer, &mut bench.desk);
+    let ended = serve_one(alloc, &mut reader, &mut writer, &mut bench.held);
     let has_writer_failed = writer.failed();
     Told {
         fault: ended.err(),
@@ -124,26 +123,34 @@ fn load<S: Alter + Drop>(alloc: Global, bench: &mut Bench<S>) -> Option<()> {
 
 /// A desk at which the night is loaded by an exchange.
 pub fn loaded(alloc: Global) -> Result<Bench<MemStore>, &'static str> {
-    let mut bench = Bench::empty(alloc).ok().ok_or(FAILED)?;
+    let mut bench = empty(alloc).ok().ok_or(FAILED)?;
     match load(alloc, &mut bench) {
         Some(()) => Ok(bench),
         None => Err("the night isn't loaded"),
     }
 }
 
-// Whether an operation has this mark and this status, or isn't there.
-fn is_so(view: Option<OpView>, five: Option<(Mark, Status)>) -> bool {
-    match (view, five) {
-        (Some(view), Some((mark, status))) => view.mark == mark && view.status == status,
+// Whether what is there, a mark and a status, is this; or nothing is there.
+fn is_so(there: Option<(Mark, Status)>, five: Option<(Mark, Status)>) -> bool {
+    match (there, five) {
+        (Some(there), Some(five)) => there.0 == five.0 && there.1 == five.1,
         (None, None) => true,
         _ => false,
+    }
+}
+
+// The mark and the status of an operation, if it is there.
+fn marked<S: Alter + Drop>(bench: &Bench<S>, key: &OpKey) -> Option<(Mark, Status)> {
+    match bench.held.plan().view_op(key) {
+        Some(view) => Some((view.mark, view.status)),
+        None => None,
     }
 }
 
 // Whether operation 5 of PAYROLL has this mark and this status, or isn't there.
 fn has_five<S: Alter + Drop>(bench: &Bench<S>, five: Option<(Mark, Status)>) -> bool {
     match OpKey::from_text(b"PAYROLL/2024-03-01T22:00/005") {
-        Some(key) => is_so(bench.plan().view_op(&key), five),
+        Some(key) => is_so(marked(bench, &key), five),
         None => false,
     }
 }

@@ -1,8 +1,7 @@
 // All nights, by plans in memory.
 use super::afresh::Kept;
 use super::players::{AtOnce, OneByOne};
-use super::playing::{Deviation, Player, pass};
-use super::topics::play_all;
+use nights::{Deviation, are_all, pass, play_all};
 use std::alloc::Global;
 
 /// Plans that hold as much as a plan may.
@@ -37,39 +36,6 @@ no-occurrence A0
 
 ";
 
-/// Two occurrences that are as long as may be.
-const CHAINS: &str =
-    "CHAINS: two chains of 255 operations each, one of which begins, and begins again
-22:00 load-chains 2 | names -
-occurrence J01 5 255 0
-occurrence J02 5 255 0
-latest J01.1 00:45
-latest J02.255 04:59
-waits J02.255 1
-22:00 started J01.1 | names -
-22:01 ended J01.1 | names -
-occurrence J01 5 255 1
-waits J01.2 0
-22:02 rerun J01.1 | names -
-occurrence J01 5 255 0
-waits J01.2 1
-22:03 delete J02 | names -
-mark J02.255 deleted
-
-";
-
-// Where each goes as it says, and there are so many.
-fn are_all(passed: Result<u32, Deviation<'static>>, nights: u32) -> Result<(), Deviation<'static>> {
-    match passed {
-        Ok(count) if count == nights => Ok(()),
-        Ok(_) => Err(Deviation {
-            night: "all",
-            line: "another count of nights",
-        }),
-        Err(deviation) => Err(deviation),
-    }
-}
-
 /// All 97 nights, by a plan of which all requests are made at once.
 pub fn nights_at_once(alloc: Global) -> Result<(), Deviation<'static>> {
     are_all(play_all::<AtOnce>(alloc), 97)
@@ -89,9 +55,4 @@ pub fn kept_as_worked_out_afresh(alloc: Global) -> Result<(), Deviation<'static>
 pub fn plans_as_full_as_may_be(alloc: Global) -> Result<(), Deviation<'static>> {
     are_all(pass::<AtOnce>(alloc, FULL_PLANS), 4)?;
     are_all(pass::<OneByOne>(alloc, FULL_PLANS), 4)
-}
-
-/// Two chains of 255 operations each.
-pub fn two_chains<P: Player>(alloc: Global) -> Result<(), Deviation<'static>> {
-    are_all(pass::<P>(alloc, CHAINS), 1)
 }

@@ -1,6 +1,6 @@
 // A report of a tracker, in pieces and cut short; and requests of operators.
 use super::FAILED;
-use super::benches::Bench;
+use super::benches::{Bench, empty};
 use super::exchanges::{Exchange, and_five, loaded, make_exchange, send};
 use sqlite::Alter;
 use status_rules::{Mark, Status};
@@ -84,7 +84,7 @@ fn accepted_tick<S: Alter + Drop>(alloc: Global, bench: &mut Bench<S>) -> Option
 
 // A tick of an operator before a plan is loaded.
 fn a_tick_before_a_load(alloc: Global) -> Result<(), &'static str> {
-    let mut bench = Bench::empty(alloc).ok().ok_or(FAILED)?;
+    let mut bench = empty(alloc).ok().ok_or(FAILED)?;
     let came = refused_tick(alloc, &mut bench).ok_or("a tick before a load");
     and_five(&bench, came, None)
 }

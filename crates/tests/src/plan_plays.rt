@@ -4,60 +4,60 @@ use std::test::Fail;
 
 #[test]
 fn nights_at_once(rt: HostRuntime) -> Result<(), Fail> {
-    Ok(nights::nights_at_once(rt.alloc())?)
+    Ok(night_plays::nights_at_once(rt.alloc())?)
 }
 
 #[test]
 fn nights_one_by_one(rt: HostRuntime) -> Result<(), Fail> {
-    Ok(nights::nights_one_by_one(rt.alloc())?)
+    Ok(night_plays::nights_one_by_one(rt.alloc())?)
 }
 
 #[test]
 fn kept_as_worked_out_afresh(rt: HostRuntime) -> Result<(), Fail> {
-    Ok(nights::kept_as_worked_out_afresh(rt.alloc())?)
+    Ok(night_plays::kept_as_worked_out_afresh(rt.alloc())?)
 }
 
 #[test]
 fn plans_as_full_as_may_be(rt: HostRuntime) -> Result<(), Fail> {
-    Ok(nights::plans_as_full_as_may_be(rt.alloc())?)
+    Ok(night_plays::plans_as_full_as_may_be(rt.alloc())?)
 }
 
 #[test]
 fn rows_that_a_request_changes(rt: HostRuntime) -> Result<(), &'static str> {
-    nights::rows_that_a_request_changes(rt.alloc())
+    night_plays::rows_that_a_request_changes(rt.alloc())
 }
 
 #[test]
 fn looks_at_a_plan_of_chains(rt: HostRuntime) -> Result<(), &'static str> {
-    nights::looks_at_a_plan_of_chains(rt.alloc())
+    night_plays::looks_at_a_plan_of_chains(rt.alloc())
 }
 
 #[test]
 fn rows_in_another_order_are_the_same_plan(rt: HostRuntime) -> Result<(), &'static str> {
-    nights::rows_in_another_order_are_the_same_plan(rt.alloc())
+    night_plays::rows_in_another_order_are_the_same_plan(rt.alloc())
 }
 
 #[test]
 fn columns_that_follow_are_not_believed(rt: HostRuntime) -> Result<(), &'static str> {
-    nights::columns_that_follow_are_not_believed(rt.alloc())
+    night_plays::columns_that_follow_are_not_believed(rt.alloc())
 }
 
 #[test]
 fn quantities_and_amounts_among_rows(rt: HostRuntime) -> Result<(), &'static str> {
-    nights::quantities_and_amounts_among_rows(rt.alloc())
+    night_plays::quantities_and_amounts_among_rows(rt.alloc())
 }
 
 #[test]
 fn reasons_and_roots(rt: HostRuntime) -> Result<(), &'static str> {
-    nights::reasons_and_roots(rt.alloc())
+    night_plays::reasons_and_roots(rt.alloc())
 }
 
 #[test]
 fn nothing_of_what_is_not_in_the_plan(rt: HostRuntime) -> Result<(), &'static str> {
-    nights::nothing_of_what_is_not_in_the_plan(rt.alloc())
+    night_plays::nothing_of_what_is_not_in_the_plan(rt.alloc())
 }
 
 #[test]
 fn row_given_twice_is_of_no_plan(rt: HostRuntime) {
-    assert!(rt; nights::row_given_twice_is_of_no_plan(rt.alloc()));
+    assert!(rt; night_plays::row_given_twice_is_of_no_plan(rt.alloc()));
 }

@@ -8,7 +8,7 @@ use plan_reports::{ReportFault, why_report};
 use sqlite::Alter;
 use std::alloc::Global;
 use taken_memory::{Outcome, SPARES, swept};
-use wires::is_written;
+use wires::{NIGHT, is_written};
 
 // Why the bills don't go on after the failed run.
 const WHY: &str = "BILLING/2024-03-01T22:00/010 A 2024-03-01T23:00
@@ -42,7 +42,7 @@ fn is_reported_at_last<S: Alter + Drop>(alloc: Global, bench: &Bench<S>, sample:
 
 // The same after its turns.
 fn is_reported(alloc: Global, sample: &Sample) -> bool {
-    match bench_after(alloc, sample.turns) {
+    match bench_after(alloc, sample.load, sample.turns) {
         Some(bench) => is_reported_at_last(alloc, &bench, sample),
         None => false,
     }
@@ -67,7 +67,7 @@ pub fn reports_in_want_of_memory(alloc: Global) -> Result<(), &'static str> {
 fn telling<S: Alter + Drop>(alloc: Global, bench: &Bench<S>, bills: &OpKey, at: Moment) -> Outcome {
     let mut room = [0; 512];
     let mut writer = Watched::new(&mut room[..]);
-    let reported = why_report(alloc, &bench.desk, bills, at, &mut writer);
+    let reported = why_report(alloc, &bench.held, bills, at, &mut writer);
     outcome(reported, &room, WHY)
 }
 
@@ -80,7 +80,7 @@ fn is_told_at_last<S: Alter + Drop>(alloc: Global, bench: &Bench<S>) -> Option<b
 
 /// Why an operation doesn't go on, in want of memory.
 pub fn why_in_want_of_memory(alloc: Global) -> Result<(), &'static str> {
-    match bench_after(alloc, FAILED_RUN) {
+    match bench_after(alloc, NIGHT, FAILED_RUN) {
         Some(bench) if is_told_at_last(alloc, &bench) == Some(true) => Ok(()),
         _ => Err(WHY),
     }

@@ -1,14 +1,10 @@
 // Nights of plans in want of memory. Each turn is asked of two plans. Of the one while all memory is taken, and again each time
 // that a block more is given back: until it is answered as it says it is refused for want of memory, and the plan stays as it
 // was. Of the other it is prepared with memory, and carried out while all is taken.
-use super::looks::{is_like, is_told};
 use super::memory::applied_without;
 use super::players::{OneByOne, step};
-use super::playing::{Player, after, after_lines};
-use super::requests::request;
-use super::words::cut;
+use nights::{Plan, Player, after, after_lines, cut, is_like, is_told, request};
 use plan_basics::Refusal;
-use plan_core::Plan;
 use plan_records::{Reply, Request};
 use std::alloc::Global;
 use taken_memory::{Outcome, SPARES, swept};

@@ -1,37 +1,37 @@
 // The reports of desks in memory.
 use super::FAILED;
-use super::benches::Bench;
-use super::samples::{SAMPLES, Sample};
-use nights::request;
+use super::benches::{Bench, empty};
+use super::samples::{OPEN_AND_OLD, SAMPLES, Sample};
 use plan_basics::{Refusal, Watched, WsName};
 use plan_records::Reply;
 use plan_reports::{ReportFault, error_report, late_report, occurrence_report, ready_report};
 use sqlite::{Alter, MemStore};
 use std::alloc::Global;
 use std::io::Write;
+use tracker_http::read_operator;
 
-// Whether a turn is accepted.
-fn is_accepted<S: Alter + Drop>(alloc: Global, bench: &mut Bench<S>, turn: &str) -> bool {
-    match request(alloc, turn) {
-        Some(request) => matches!(bench.call(&request), Reply::Accepted { .. }),
-        None => false,
+// Whether what an operator asks by a body is accepted.
+fn is_accepted<S: Alter + Drop>(alloc: Global, bench: &mut Bench<S>, body: &str) -> bool {
+    match read_operator(alloc, body.as_bytes()) {
+        Ok(Some(request)) => matches!(bench.held.call(&request), Reply::Accepted { .. }),
+        _ => false,
     }
 }
 
-// Whether these turns are accepted, one a line.
-fn are_accepted<S: Alter + Drop>(alloc: Global, bench: &mut Bench<S>, turns: &str) -> bool {
-    for turn in turns.lines() {
-        if !is_accepted(alloc, bench, turn) {
+// Whether what is asked by these bodies, one a line, is accepted.
+fn are_accepted<S: Alter + Drop>(alloc: Global, bench: &mut Bench<S>, bodies: &str) -> bool {
+    for body in bodies.lines() {
+        if !is_accepted(alloc, bench, body) {
             return false;
         }
     }
     true
 }
 
-/// A desk at which these turns were made, each of them accepted.
-pub fn bench_after(alloc: Global, turns: &str) -> Option<Bench<MemStore>> {
-    let mut bench = Bench::empty(alloc).ok()?;
-    if are_accepted(alloc, &mut bench, turns) {
+/// A desk at which a plan was loaded and these turns were made, each of them accepted.
+pub fn bench_after(alloc: Global, load: &str, turns: &str) -> Option<Bench<MemStore>> {
+    let mut bench = empty(alloc).ok()?;
+    if is_accepted(alloc, &mut bench, load) && are_accepted(alloc, &mut bench, turns) {
         Some(bench)
     } else {
         None
@@ -46,7 +46,7 @@ fn write_ready<S: Alter + Drop, W: Write>(
     writer: &mut Watched<W>,
 ) -> Result<(), ReportFault> {
     match WsName::from_text(name.as_bytes()) {
-        Some(workstation) => ready_report(alloc, &bench.desk, &workstation, writer),
+        Some(workstation) => ready_report(alloc, &bench.held, &workstation, writer),
         None => Err(ReportFault::Refused(Refusal::UnknownWorkstation)),
     }
 }
@@ -59,9 +59,9 @@ pub fn write_report<S: Alter + Drop, W: Write>(
     writer: &mut Watched<W>,
 ) -> Result<(), ReportFault> {
     match name {
-        "occurrences" => occurrence_report(alloc, &bench.desk, writer),
-        "errors" => error_report(alloc, &bench.desk, writer),
-        "late" => late_report(alloc, &bench.desk, writer),
+        "occurrences" => occurrence_report(alloc, &bench.held, writer),
+        "errors" => error_report(alloc, &bench.held, writer),
+        "late" => late_report(alloc, &bench.held, writer),
         _ => write_ready(alloc, bench, name, writer),
     }
 }
@@ -75,7 +75,7 @@ fn is_report<S: Alter + Drop>(alloc: Global, bench: &Bench<S>, name: &str, text:
 
 // Whether a sample's report is its text.
 fn is_shown(alloc: Global, sample: &Sample) -> bool {
-    match bench_after(alloc, sample.turns) {
+    match bench_after(alloc, sample.load, sample.turns) {
         Some(bench) => is_report(alloc, &bench, sample.report, sample.text),
         None => false,
     }
@@ -123,13 +123,11 @@ fn are_refused<S: Alter + Drop>(
 
 /// No report before a plan is loaded.
 pub fn refused_before_a_plan_is_loaded(alloc: Global) -> Result<(), &'static str> {
-    match Bench::empty(alloc) {
+    match empty(alloc) {
         Ok(bench) => are_refused(alloc, &bench, "occurrences errors late CPU1"),
         Err(_) => Err(FAILED),
     }
 }
-
-const OPEN_AND_OLD: &str = "21:00 load OPEN OLD | names -";
 
 // Whether the ready list of a workstation that isn't there is refused, and that of one that is isn't.
 fn is_unknown_refused<S: Alter + Drop>(alloc: Global, bench: &Bench<S>) -> bool {
@@ -139,7 +137,7 @@ fn is_unknown_refused<S: Alter + Drop>(alloc: Global, bench: &Bench<S>) -> bool 
 
 /// No ready list of a workstation that isn't in the plan.
 pub fn refused_for_a_workstation(alloc: Global) -> Result<(), &'static str> {
-    match bench_after(alloc, OPEN_AND_OLD) {
+    match bench_after(alloc, OPEN_AND_OLD, "") {
         Some(bench) if is_unknown_refused(alloc, &bench) => Ok(()),
         _ => Err("CPU2 alone is unknown"),
     }
@@ -155,7 +153,7 @@ fn is_cut_at_twenty<S: Alter + Drop>(alloc: Global, bench: &Bench<S>, front: &[u
 
 /// A report that its writer doesn't take whole.
 pub fn cut_by_its_writer(alloc: Global) -> Result<(), &'static str> {
-    match bench_after(alloc, OPEN_AND_OLD) {
+    match bench_after(alloc, OPEN_AND_OLD, "") {
         Some(bench) if is_cut_at_twenty(alloc, &bench, b"READY CPU1 AT 2024-0") => Ok(()),
         _ => Err("READY CPU1 AT 2024-0"),
     }

@@ -1,7 +1,6 @@
 // The two ways in which requests are made of a plan in memory.
-use super::playing::Player;
+use nights::{Plan, Player};
 use plan_basics::Refusal;
-use plan_core::Plan;
 use plan_records::{Reply, Request};
 use std::alloc::Global;
 

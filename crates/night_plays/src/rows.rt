@@ -1,10 +1,6 @@
 // Plans from rows.
 use super::kept_rows::put;
-use super::looks::is_seen;
-use super::names::{operation, resource};
-use super::requests::request;
-use super::words::cut;
-use plan_core::Plan;
+use nights::{Plan, cut, is_seen, operation, request, resource};
 use plan_records::{OperationRow, PlanRow, Request};
 use status_rules::Status;
 use std::alloc::Global;

@@ -1,13 +1,13 @@
 // The lists that a desk tells.
 use super::FAILED;
-use super::benches::Bench;
+use super::benches::{Bench, empty};
 use super::exchanges::{and_five, loaded, send};
 use super::reported::bench_after;
 use super::samples::EMPTIED;
 use sqlite::Alter;
 use status_rules::{Mark, Status};
 use std::alloc::Global;
-use wires::{After, get, reply};
+use wires::{After, NIGHT, get, reply};
 
 const SETP: &str =
     "[{\"duration\":10,\"held\":false,\"latest\":\"2024-03-02T02:59\",\"op\":\"PAYROLL/2024-03-01T22:00/005\",\"priority\":5,\"status\":\"A\"}]";
@@ -75,14 +75,14 @@ pub fn lists_of_a_loaded_plan(alloc: Global) -> Result<(), &'static str> {
 
 /// No list is told before a plan is loaded.
 pub fn no_list_before_a_plan_is_loaded(alloc: Global) -> Result<(), &'static str> {
-    let mut bench = Bench::empty(alloc).ok().ok_or(FAILED)?;
+    let mut bench = empty(alloc).ok().ok_or(FAILED)?;
     let came = each_list(alloc, &mut bench, &BEFORE_A_LOAD);
     and_five(&bench, came, None)
 }
 
 /// The lists of a plan that all occurrences have left.
 pub fn lists_of_an_emptied_plan(alloc: Global) -> Result<(), &'static str> {
-    match bench_after(alloc, EMPTIED) {
+    match bench_after(alloc, NIGHT, EMPTIED) {
         Some(mut bench) => each_list(alloc, &mut bench, &EMPTIED_LISTS),
         None => Err(EMPTIED),
     }

@@ -1,5 +1,5 @@
 // Imports of texts: a plan, an occurrence that is added to one, and what a plan is extended by.
-use super::sections::joined;
+use nights::joined;
 use plan_basics::Watched;
 use plan_import::{ImportFault, read_extension, read_occurrence, read_plan};
 use std::alloc::Global;

@@ -1,8 +1,8 @@
 // Want of memory, met on purpose: each call that can want memory, without any. What comes after all memory is taken is
 // refused, and what the calls leave is looked at.
 use super::small_day::{Built, building, first, is_day, is_untouched, load, reading, records};
+use nights::Plan;
 use plan_basics::{OpKey, Refusal};
-use plan_core::Plan;
 use plan_records::{Reply, Request};
 use std::alloc::Global;
 use taken_memory::{Held, Outcome};

@@ -1,10 +1,8 @@
 // Why operations of worked nights don't go on.
 use super::players::AtOnce;
-use super::playing::{Player, after_lines};
 use super::reasons::REASONS;
-use super::words::cut;
+use nights::{Plan, Player, after_lines, cut};
 use plan_basics::{Moment, OpKey};
-use plan_core::Plan;
 use reason_texts::{why, why_text};
 use std::alloc::Global;
 

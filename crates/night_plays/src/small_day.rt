@@ -1,7 +1,7 @@
 // A day of two operations, and what comes of its import, its build and its load.
 use super::imports::reading_plan;
+use nights::Plan;
 use plan_basics::{OpKey, Refusal, Watched};
-use plan_core::Plan;
 use plan_import::read_plan;
 use plan_records::{Addition, Extension, PlanDraft, Record, Request, What};
 use std::alloc::{AllocError, Global};
