@@ -34,6 +34,7 @@ from pathlib import Path
 from expected import MOST_BODY_BYTES, MOST_HEAD_BYTES, REPORTS, is_operation, is_operators_request, status_of
 from expected_plan import denotes_addition, denotes_extension, denotes_plan, fits_quantities
 from measure import HERE, PROGRAM, Unmeasured
+from rules import REFUSALS
 from served import Cut, Served, load, received, reply_of, request_bytes, rows
 
 NIGHT = HERE.parent / "examples" / "night"
@@ -41,10 +42,6 @@ EVENING = "2024-03-01T19:30"
 MUTANTS_EACH = 4
 EXCHANGE_SECONDS = 10
 MOST_SHOWN = 20
-REFUSALS = dict(enumerate(
-    "Past MomentRange NotLoaded Loaded UnknownOperation UnknownOccurrence UnknownWorkstation UnknownResource WrongStatus "
-    "WrongWorkstation Held TooEarly Closed NoServer NoFixed ResourceBusy Running Duplicate Cycle Limit BadPlan Old Gap "
-    "Reused".split(), 1))
 TELLING = [bytes([code]) for code in b'\0\t\n\r "#%+,-./0159:?ACINX[\\]_e{}\x7f\x80\xc3\xed\xff'] + [
     b"\r\n", b"\r\n\r\n", b"\xef\xbb\xbf", b"\\u0000", b"\\ud800", b"1e400", b"000000000", b"2072", b"null", b'""', b"%2F",
     b"Content-Length: 1\r\n", b"Transfer-Encoding: x\r\n", b" HTTP/1.1", b"/operator", b"9" * 20, b"[" * 130]

@@ -1,6 +1,6 @@
 #!/usr/bin/env python3
-"""Holds what `plandesk why` tells, over nights drawn by chance, and what `plandesk validate` tells of texts, against models
-written apart from the desk's own code.
+"""Holds what `plandesk why` tells, over nights drawn by chance, what their requests are answered and leave in the tables, and
+what `plandesk validate` tells of texts, against models written apart from the desk's own code: rules.py, expected_plan.py.
 
     whys.py [--nights N] [--requests N] [--texts N] [--seed N] [--program PATH]
 
@@ -14,144 +14,58 @@ import sqlite3
 import subprocess
 import sys
 import tempfile
-from collections import Counter, defaultdict
+from collections import Counter
 from contextlib import closing
-from datetime import datetime, timedelta
 from pathlib import Path
 
 from expected_plan import MOST_QUANTITY, denotes_plan
 from hostile import rewritten
 from measure import HERE, PROGRAM, Unmeasured
+from night import answer_text, why_text
+from rules import Interval, Need, Operation, Plan, answered, key_text, minute_of, moment_text, occurrence_text
 
-EPOCH = datetime(1972, 1, 1)
 EVENING = "2024-03-01T21:00"
-STARTS_KNOWN, GOING = "AS", "WAR*"
-MARK_OF_NONE = "none"
-TOO_LITTLE = "{resource} lacks: left {left}, needed {needed}"
 MINUTES = (0, 1, 20, 61, 200, 480, 721)
+TABLES = ("meta", "workstation", "interval", "resource", "occurrence", "operation", "dependency", "need", "quantity", "amount")
 
 
-def moment_text(minute):
-    return (EPOCH + timedelta(minutes=minute)).strftime("%Y-%m-%dT%H:%M")
-
-
-def minute_of(text):
-    return (datetime.strptime(text, "%Y-%m-%dT%H:%M") - EPOCH) // timedelta(minutes=1)
-
-
-def key_text(operation):
-    application, arrival, number = operation
-    return f"{application}/{moment_text(arrival)}/{number:03}"
-
-
-class Tables:
+def rows_of(path):
     """A desk's tables as the C library reads them."""
-
-    def __init__(self, path):
-        with closing(sqlite3.connect(path)) as database:
-            database.row_factory = sqlite3.Row
-            rows = {name: database.execute(f"SELECT * FROM {name}").fetchall() for name in (
-                "meta", "workstation", "interval", "resource", "operation", "dependency", "need", "quantity", "amount")}
-        self.clock = rows["meta"][0]["clock"]
-        self.attribute = {row["name"]: row["attr"] for row in rows["workstation"]}
-        self.available = {row["name"]: row["available"] for row in rows["resource"]}
-        self.quantity = {name: MOST_QUANTITY for name in self.available}
-        self.quantity |= {row["resource"]: row["quantity"] for row in rows["quantity"]}
-        amounts = {(row["app"], row["ia"], row["num"], row["resource"]): row["amount"] for row in rows["amount"]}
-        self.operations = {(row["app"], row["ia"], row["num"]): row for row in rows["operation"]}
-        self.intervals, self.before, self.needs = defaultdict(list), defaultdict(list), defaultdict(dict)
-        for row in rows["interval"]:
-            self.intervals[row["ws"]].append(row)
-        for row in rows["dependency"]:
-            self.before[row["sapp"], row["sia"], row["snum"]].append((row["papp"], row["pia"], row["pnum"]))
-        for row in rows["need"]:
-            operation, resource = (row["app"], row["ia"], row["num"]), row["resource"]
-            amount = amounts.get((*operation, resource), 1) if row["mode"] == "S" else 0
-            self.needs[operation][resource] = (row["mode"], amount, row["keep"])
-
-    def waits_for(self, operation):
-        """Its predecessors that are neither complete nor deleted."""
-        return sorted(one for one in self.before[operation] if self.operations[one]["status"] not in "CD")
-
-    def roots(self, operation):
-        """What holds the chain, found from the operation backwards."""
-        reached, left = {operation}, [operation]
-        while left:
-            for one in self.waits_for(left.pop()):
-                if one not in reached:
-                    reached.add(one)
-                    left.append(one)
-        return sorted(one for one in reached if not self.waits_for(one))
-
-    def takes(self, operation):
-        return self.attribute[self.operations[operation]["ws"]] in STARTS_KNOWN
-
-    def given_out(self, workstation):
-        """Servers, R1 and R2 of what is started or undecided there."""
-        taken = [row for row in self.operations.values() if row["ws"] == workstation and row["status"] in "SU"]
-        return len(taken), sum(row["r1"] for row in taken), sum(row["r2"] for row in taken)
-
-    def holders(self, resource):
-        """Who holds a special resource, each with its mode and its amount."""
-        for operation, needs in sorted(self.needs.items()):
-            mode, amount, keep = needs.get(resource, (None, None, None))
-            status = self.operations[operation]["status"]
-            if mode and self.takes(operation) and (status in "SUI" or (status == "E" and keep == "K")):
-                yield operation, mode, amount
+    with closing(sqlite3.connect(path)) as database:
+        database.row_factory = sqlite3.Row
+        return {name: database.execute(f"SELECT * FROM {name}").fetchall() for name in TABLES}
 
 
-def of_workstation(tables, row, minute):
-    """What the workstation lacks at the minute."""
-    name = row["ws"]
-    opened = [one for one in tables.intervals[name] if one["start"] <= minute < one["stop"]]
-    if not opened:
-        later = [one["start"] for one in tables.intervals[name] if one["start"] > minute]
-        yield f"{name} closed until {moment_text(min(later))}" if later else f"{name} closed"
-        return
-    asked = zip(("servers", "R1", "R2"), tables.given_out(name), (opened[0]["servers"], opened[0]["r1"], opened[0]["r2"]),
-                (1, row["r1"], row["r2"]))
-    for supply, given, offered, needed in asked:
-        if given + needed > offered:
-            yield f"{name} lacks {supply}: given out {given}, open {offered}, needed {needed}"
+def plan_in(rows):
+    """The plan of these tables, without the columns that follow from the others."""
+    intervals = {row["name"]: set() for row in rows["workstation"]}
+    for row in rows["interval"]:
+        intervals[row["ws"]].add(Interval(row["start"], row["stop"], row["servers"], row["r1"], row["r2"]))
+    operations = {(row["app"], row["ia"], row["num"]): Operation(
+        row["ws"], row["duration"], row["r1"], row["r2"], row["not_before"], row["deadline"], row["mark"], row["code"],
+        row["held"] == 1, row["nop"] == 1) for row in rows["operation"]}
+    amounts = {(row["app"], row["ia"], row["num"], row["resource"]): row["amount"] for row in rows["amount"]}
+    needs = {}
+    for row in rows["need"]:
+        key = row["app"], row["ia"], row["num"], row["resource"]
+        needs[key[:3], row["resource"]] = Need(row["mode"], row["keep"], amounts.get(key, 1) if row["mode"] == "S" else 0)
+    return Plan(
+        loaded=rows["meta"][0]["loaded"] == 1, clock=rows["meta"][0]["clock"],
+        attributes={row["name"]: row["attr"] for row in rows["workstation"]}, intervals=intervals,
+        available={row["name"]: row["available"] == 1 for row in rows["resource"]},
+        quantities={row["name"]: MOST_QUANTITY for row in rows["resource"]}
+        | {row["resource"]: row["quantity"] for row in rows["quantity"]},
+        occurrences={(row["app"], row["ia"]): (row["priority"], row["deadline"]) for row in rows["occurrence"]},
+        operations=operations, needs=needs,
+        pairs=frozenset(((row["papp"], row["pia"], row["pnum"]), (row["sapp"], row["sia"], row["snum"]))
+                        for row in rows["dependency"]))
 
 
-def of_resources(tables, operation):
-    """Which of its special resources it can't have, and who is in the way."""
-    needs = sorted(tables.needs[operation].items())
-    for resource, _ in needs:
-        if not tables.available[resource]:
-            yield f"{resource} not available"
-    for resource, (mode, _, _) in needs:
-        for holder, held, _ in tables.holders(resource):
-            if holder != operation and not mode == held == "S":
-                yield f"{resource} held by {key_text(holder)} {'shared' if held == 'S' else 'exclusive'}"
-    for resource, (_, needed, _) in needs:
-        left = tables.quantity[resource] - sum(taken for holder, _, taken in tables.holders(resource) if holder != operation)
-        if left < needed:
-            yield TOO_LITTLE.format(resource=resource, left=left, needed=needed)
-
-
-def why(tables, operation, minute):
-    """The lines that have to be told."""
-    row = tables.operations[operation]
-    status, attribute = row["status"], tables.attribute[row["ws"]]
-    lines = []
-    if status not in GOING and not (status == "I" and attribute == "S"):
-        lines.append(f"status {status}")
-    if status == "W":
-        lines += [f"waits for {key_text(one)} {tables.operations[one]['status']}" for one in tables.waits_for(operation)]
-    if row["held"]:
-        lines.append("held")
-    if attribute in STARTS_KNOWN and not (row["nop"] and row["mark"] == MARK_OF_NONE):
-        if row["not_before"] > minute:
-            lines.append(f"not before {moment_text(row['not_before'])}")
-        lines += of_workstation(tables, row, minute)
-        lines += of_resources(tables, operation)
-    if status == "W":
-        lines += [f"root {key_text(one)} {tables.operations[one]['status']}" for one in tables.roots(operation)]
-    first = f"{key_text(operation)} {status} {moment_text(minute)}"
-    return "\n".join([first, *lines, f"END {len(lines)}"]) + "\n"
-
+def do_follow(rows, plan):
+    """Whether the columns that follow from the others are those of the plan."""
+    return all(row["status"] == plan.occurrence_status((row["app"], row["ia"])) for row in rows["occurrence"]) and all(
+        (row["status"], row["latest"], row["waiting"]) == (plan.statuses[key], plan.latest_starts[key], len(plan.waited_for(key)))
+        for row in rows["operation"] for key in [(row["app"], row["ia"], row["num"])])
 
 
 def plan_of(chance):
@@ -188,26 +102,26 @@ def plan_of(chance):
     return "\n".join(lines) + "\n"
 
 
-def extension_of(chance, tables):
+def extension_of(chance, plan):
     """The text of one occurrence of one or two operations, at times after an operation of the plan, with a need at times."""
     name = f"NEXT{chance.randrange(1_000_000)}"
     lines = [f"O,{name},{EVENING},{chance.randint(1, 9)},2024-03-02T06:00,,,,,"]
     for number in range(1, chance.choice((2, 3))):
-        lines.append(f"P,{name},{EVENING},{number},{chance.choice(sorted(tables.attribute))},{chance.randint(1, 90)},0,0,,")
+        lines.append(f"P,{name},{EVENING},{number},{chance.choice(sorted(plan.attributes))},{chance.randint(1, 90)},0,0,,")
         if number > 1:
             lines.append(f"D,{name},{EVENING},1,{name},{EVENING},{number},,,")
     if chance.random() < 0.7:
-        application, arrival, number = chance.choice(sorted(tables.operations))
+        application, arrival, number = chance.choice(sorted(plan.operations))
         lines.append(f"D,{application},{moment_text(arrival)},{number},{name},{EVENING},1,,,")
     if chance.random() < 0.5:
-        lines.append(f"N,{name},{EVENING},1,{chance.choice(sorted(tables.available))},{chance.choice('SX')},{chance.choice('KF')},,,")
+        lines.append(f"N,{name},{EVENING},1,{chance.choice(sorted(plan.available))},{chance.choice('SX')},{chance.choice('KF')},,,")
     return "\n".join(lines) + "\n"
 
 
-def request_of(chance, tables, at):
+def request_of(chance, plan, at):
     """A request that is often accepted."""
-    operation = chance.choice(sorted(tables.operations))
-    status = tables.operations[operation]["status"]
+    operation = chance.choice(sorted(plan.operations))
+    status = plan.statuses[operation]
     likely = {"A": ("started", "started", "hold", "nop"), "R": ("started", "started", "ended"), "*": ("started", "ended", "nop"),
               "W": ("hold", "nop", "release", "unnop"), "S": ("ended", "error", "interrupted", "unknown", "started"),
               "E": ("rerun", "complete"), "U": ("ended", "error", "complete"), "I": ("started", "complete", "rerun"),
@@ -216,16 +130,16 @@ def request_of(chance, tables, at):
     what = chance.choice(likely[status] if chance.random() < 0.75 else others)
     told = {"at": moment_text(at), "do": what}
     if what == "available":
-        told |= {"resource": chance.choice(sorted(tables.available)), "value": chance.random() < 0.6}
+        told |= {"resource": chance.choice(sorted(plan.available)), "value": chance.random() < 0.6}
     elif what == "tick":
         pass
     elif what == "delete":
-        told |= {"occ": key_text(operation)[:-4]}
+        told |= {"occ": occurrence_text(operation[:2])}
     elif what == "extend":
-        told |= {"records": extension_of(chance, tables)}
+        told |= {"records": extension_of(chance, plan)}
     else:
         told |= {"op": key_text(operation)} | ({"code": "S0C7"} if what == "error" else {})
-    return json.dumps(told)
+    return told
 
 
 class Trial:
@@ -246,35 +160,55 @@ class Trial:
                 print("WRONG", *told, sep="\n", file=sys.stderr)
 
 
-def ask(trial, chance, tables):
+def ask(trial, chance, plan):
     """Why each of some operations doesn't go on, now and at other minutes."""
-    for operation in chance.sample(sorted(tables.operations), min(4, len(tables.operations))):
-        minute = chance.choice((tables.clock, tables.clock, minute_of(EVENING) + chance.choice(MINUTES)))
-        words = [] if minute == tables.clock else ["--at", moment_text(minute)]
+    for operation in chance.sample(sorted(plan.operations), min(4, len(plan.operations))):
+        minute = chance.choice((plan.clock, plan.clock, minute_of(EVENING) + chance.choice(MINUTES)))
+        words = [] if minute == plan.clock else ["--at", moment_text(minute)]
         got = trial.run("why", "--db", "night.db", "--op", key_text(operation), *words)
-        wanted = why(tables, operation, minute)
+        wanted = why_text(plan, operation, minute)
         trial.judge(got == (0, wanted.encode(), b""), "why", got, wanted)
         trial.counts["answers of why"] += 1
         for line in wanted.splitlines()[1:-1]:
             trial.counts["lines: " + re.sub(r"[A-Z0-9]+/\S+|WS\d|FILE\d|\d{4}-\S+|\d+", "_", line)[:24]] += 1
 
 
+def ask_for(trial, plan, request):
+    """One request by `do`; the plan that it has to make."""
+    refusal, named, made = answered(plan, request)
+    got = trial.run("do", "--db", "night.db", "--request", json.dumps(request))
+    wanted = answer_text(refusal, named)
+    trial.judge(got == (1 if refusal else 0, wanted.encode(), b""), "do", request, got, wanted)
+    trial.counts["requests refused" if refusal else "requests accepted"] += 1
+    return made
+
+
+def look_at(trial, wanted):
+    """The plan that stands in the tables, which has to be this one."""
+    rows = rows_of(trial.folder / "night.db")
+    plan = plan_in(rows)
+    trial.judge(plan == wanted and do_follow(rows, plan), "tables", plan, wanted)
+    return plan
+
+
 def play_night(trial, seed, requests):
     chance = random.Random(seed)
     for name in ("night.db", "night.db-wal"):
         (trial.folder / name).unlink(missing_ok=True)
-    (trial.folder / "plan.csv").write_text(plan_of(chance))
+    text = plan_of(chance)
+    (trial.folder / "plan.csv").write_text(text)
+    refusal, named, made = answered(Plan(), {"at": EVENING, "do": "load", "records": text})
+    got = trial.run("load", "--db", "night.db", "--plan", "plan.csv", "--at", EVENING)
+    if refusal or got[0]:
+        raise Unmeasured(f"the plan of {seed} isn't accepted: {refusal}, {got}")
+    trial.judge(got[1:] == (answer_text(refusal, named).encode(), b""), "load", got, named)
     at = minute_of(EVENING)
-    status, told, _ = trial.run("load", "--db", "night.db", "--plan", "plan.csv", "--at", moment_text(at))
-    if status != 0:
-        raise Unmeasured(f"the plan of {seed} isn't accepted: {told!r}")
     for _ in range(requests):
-        tables = Tables(trial.folder / "night.db")
-        ask(trial, chance, tables)
+        plan = look_at(trial, made)
+        ask(trial, chance, plan)
         at += chance.choice((0, 0, 1, 5, 30))
-        status, told, fault = trial.run("do", "--db", "night.db", "--request", request_of(chance, tables, at))
-        trial.judge(status in (0, 1) and not fault, "do", status, told, fault)
-        trial.counts["requests accepted" if status == 0 else "requests refused"] += 1
+        made = ask_for(trial, plan, request_of(chance, plan, at))
+    look_at(trial, made)
 
 
 def judge_texts(trial, seed, texts):
