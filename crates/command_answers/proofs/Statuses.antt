@@ -5,8 +5,8 @@ use Rattle.std.specs.declared.io.ErrorKind.TheVariants as kind
 use Rattle.sqlite.specs.declared.error.Error.{Error as StoreError}
 use Rattle.sqlite.specs.declared.error.Error.TheVariants.{SqliteFailure}
 use Rattle.sqlite.specs.declared.error.ErrorCode.TheVariants as code
-use Rattle.plan_import.specs.declared.ImportFault.{ImportFault}
-use Rattle.plan_import.specs.declared.ImportFault.TheVariants as import_fault
+use Rattle.request_json.specs.plan_import.specs.declared.ImportFault.{ImportFault}
+use Rattle.request_json.specs.plan_import.specs.declared.ImportFault.TheVariants as import_fault
 use Rattle.command_answers.specs.Statuses.{ending_status, fault_status, fault_of_import, fault_of_kind, fault_of_store, IsOfSurroundings, IsStatusOf}
 use Rattle.command_answers.specs.declared.endings.Ending.{Ending}
 use Rattle.command_answers.specs.declared.endings.Ending.TheVariants as ending

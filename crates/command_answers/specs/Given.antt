@@ -5,10 +5,10 @@ use Rattle.plan_basics.specs.Keys.{IsOperationKey}
 use Rattle.plan_basics.specs.Minutes.{IsMinuteText}
 use Rattle.plan_basics.specs.Names.{IsName}
 use Rattle.plan_basics.specs.declared.keys.OpKey.{OpKey}
-use Rattle.plan_import.specs.Texts.{TextDenotes, TextDenotesExtension}
+use Rattle.request_json.specs.plan_import.specs.Texts.{TextDenotes, TextDenotesExtension}
 use Rattle.plan_records.specs.plan_model.specs.Contents.{AddedParts, Contents}
 use Rattle.plan_records.specs.declared.Request.{Request}
-use Rattle.request_texts.specs.Requests.{ReadsAsRequest}
+use Rattle.request_json.specs.Requests.{ReadsAsRequest}
 use Rattle.command_answers.specs.declared.given.Kind.{Kind}
 use Rattle.command_answers.specs.declared.given.Kind.TheVariants as kind
 

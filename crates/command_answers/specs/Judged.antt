@@ -1,9 +1,9 @@
 -- What the program shows of the faults of a text: of a plan's, or of an extension's.
 use Rattle.std.specs.Prelude.{◌≡◌, ◌↔◌, ◌==◌, if◌then◌else◌, ℕ, List, ◌++◌, Option, Some, None, codes, decimal}
 use Rattle.std.specs.Io.KnownBytes.{Appends}
-use Rattle.addition_faults.specs.text_faults.specs.TextFaults.{TextDenotesSome}
-use Rattle.addition_faults.specs.AddedTexts.{TextDenotesSomeAdded}
-use Rattle.addition_faults.specs.declared.faults.AddedText.TheVariants as text
+use Rattle.text_faults.specs.TextFaults.{TextDenotesSome}
+use Rattle.text_faults.specs.AddedTexts.{TextDenotesSomeAdded}
+use Rattle.text_faults.specs.declared.additions.faults.AddedText.TheVariants as text
 use Rattle.command_answers.specs.Answers.{line}
 use Rattle.command_answers.specs.declared.endings.Ending.{Ending}
 use Rattle.command_answers.specs.declared.endings.Ending.TheVariants as ending

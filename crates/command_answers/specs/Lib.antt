@@ -1,4 +1,4 @@
-pub use Rattle.request_texts
+pub use Rattle.request_json
 pub mod Answers
 pub mod Given
 pub mod Judged

@@ -2,7 +2,7 @@
 ghost use Rattle.std.specs.Prelude.{◌≡◌};
 
 use plan_basics::Refusal;
-use plan_import::ImportFault;
+use request_json::ImportFault;
 use sqlite::ErrorCode;
 use std::alloc::AllocError;
 use std::{fmt, io};

@@ -7,14 +7,14 @@ ghost use Rattle.command_answers.specs.Given.{AsksNoReport, AsksReport, IsNoRequ
 ghost use Rattle.command_answers.specs.Given.{IsMinuteGiven, IsNoMinute, IsNoMinuteGiven, IsNoOperationText};
 ghost use Rattle.command_words.specs.Words.{text_given};
 ghost use Rattle.command_answers.specs.declared.endings.Fault.{Fault};
-ghost use Rattle.request_texts.specs.Requests.{ReadsAsRequest};
+ghost use Rattle.request_json.specs.Requests.{ReadsAsRequest};
 
 use crate::endings::Fault;
 use clap::ArgMatches;
 use command_words::value_of;
 use plan_basics::{OpKey, WsName, minute_of_text};
 use plan_records::Request;
-use request_texts::read_operator;
+use request_json::read_operator;
 use std::alloc::Global;
 
 /// Which report is asked for.

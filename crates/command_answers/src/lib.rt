@@ -12,4 +12,5 @@ pub use answers::{tell, tell_no_desk, tell_refusal};
 pub use endings::{Ending, Fault, NoDesk};
 pub use files::{extension_of_file, plan_of_file, text_of, text_of_file};
 pub use given::{Kind, kind_of, moment_if_given, moment_of, operation_of, request_of};
+pub use request_json::{WireFault, read_plan};
 pub use validating::validate;

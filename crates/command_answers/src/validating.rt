@@ -1,9 +1,9 @@
 // `validate`: what is wrong with the text of a plan or of an extension, record by record.
 ghost use Rattle.std.specs.Prelude.{◌≡◌, IfOk, IfErr, OnOk, List, ℕ, codes};
 ghost use Rattle.clap.specs.Matches.{first_value, found_of};
-ghost use Rattle.addition_faults.specs.text_faults.specs.TextFaults.{TextDenotesSome};
-ghost use Rattle.addition_faults.specs.AddedTexts.{TextDenotesSomeAdded};
-ghost use Rattle.addition_faults.specs.declared.faults.AddedText.TheVariants as added;
+ghost use Rattle.text_faults.specs.TextFaults.{TextDenotesSome};
+ghost use Rattle.text_faults.specs.AddedTexts.{TextDenotesSomeAdded};
+ghost use Rattle.text_faults.specs.declared.additions.faults.AddedText.TheVariants as added;
 ghost use Rattle.std.specs.Io.KnownBytes.{Appends};
 ghost use Rattle.plan_basics.specs.Watched.{inner_of};
 ghost use Rattle.command_answers.specs.Judged.{AreFaultsShown, IsJudged, IsValidated, count_line, ending_of_count};
@@ -11,16 +11,16 @@ ghost use Rattle.command_answers.specs.Statuses.{IsOfSurroundings};
 
 use crate::endings::{Ending, Fault};
 use crate::files::text_of_file;
-use addition_faults::{
-    AddedText, AddedTextFaults, TextFaults, added_fault_text, fault_text, faults_of_added_text,
-    faults_of_text,
-};
 use clap::ArgMatches;
 use command_words::value_of;
 use plan_basics::Watched;
 use std::alloc::{AllocError, Global};
 use std::io::Write;
 use std::rt::HostRuntime;
+use text_faults::{
+    AddedText, AddedTextFaults, TextFaults, added_fault_text, fault_text, faults_of_added_text,
+    faults_of_text,
+};
 
 /// How many faults are told one by one.
 const MOST_TOLD: usize = 100;

@@ -3,3 +3,4 @@ mod Loaded
 mod Played
 mod Reasoned
 mod Told
+pub mod LoadedDatabases

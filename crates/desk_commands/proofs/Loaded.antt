@@ -2,10 +2,10 @@
 use Rattle.std.proofs.Common.{refl, inl, inr, ℕ, ℤ, List, Option, Result, IfOk}
 use Rattle.std.proofs.lemmas.Result.{IfOk-weaker}
 use Rattle.plan_basics.specs.Minutes.{IsMinuteText}
-use Rattle.plan_loads.specs.Databases.{IsAnswerToLoad}
-use Rattle.plan_loads.specs.plan_model.specs.Contents.{Contents}
+use Rattle.desk_commands.specs.Databases.{IsAnswerToLoad}
+use Rattle.plan_model.specs.Contents.{Contents}
 use Rattle.plan_records.specs.Answer.{Answer, accepted, refused}
-use Rattle.plan_trials.specs.Trials.{IsAnswerAlone}
+use Rattle.plan_reports.specs.plan_core.specs.Trials.{IsAnswerAlone}
 use Rattle.sqlite.specs.State.{State as StoreState}
 use Rattle.command_answers.specs.Answers.{IsShown}
 use Rattle.desk_commands.specs.Loads.{IsCheckShown, IsLoadAnswer, IsLoadOf, IsLoadShown}

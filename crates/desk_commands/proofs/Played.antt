@@ -5,13 +5,13 @@ use Rattle.std.proofs.KnownBytes.{Appends-nil, Appends-trans}
 use Rattle.plan_basics.specs.Minutes.{IsShownAs}
 use Rattle.plan_basics.specs.declared.Refusal.{Refusal}
 use Rattle.plan_basics.specs.declared.keys.OpKey.{OpKey}
-use Rattle.plan_loads.specs.Databases.{load_request}
-use Rattle.plan_loads.specs.plan_model.specs.Contents.{Contents}
+use Rattle.desk_commands.specs.Databases.{load_request}
+use Rattle.plan_model.specs.Contents.{Contents}
 use Rattle.plan_records.specs.Answer.{Answer, accepted, refused}
 use Rattle.plan_records.specs.Run.{Answers, State, Usable, empty_state, plain}
 use Rattle.plan_records.specs.declared.Request.{Request}
-use Rattle.plan_loads.specs.plan_tables.specs.Desk.{usability}
-use Rattle.command_answers.specs.request_texts.specs.Requests.{ReadsAsRequest}
+use Rattle.plan_reports.specs.desk_tables.specs.Desk.{usability}
+use Rattle.command_answers.specs.request_json.specs.Requests.{ReadsAsRequest}
 use Rattle.command_answers.specs.Statuses.{IsOfSurroundings}
 use Rattle.command_answers.specs.Answers.{IsShown, answer_text}
 use Rattle.command_answers.specs.Given.{IsNoRequest}

@@ -4,11 +4,11 @@ use Rattle.std.proofs.lemmas.Result.{IfOk-weaker}
 use Rattle.plan_basics.specs.KeyTexts.{IsOperationText}
 use Rattle.plan_basics.specs.declared.Refusal.{Refusal}
 use Rattle.plan_basics.specs.declared.keys.OpKey.{OpKey}
-use Rattle.plan_loads.specs.plan_model.specs.Contents.{Contents}
-use Rattle.plan_loads.specs.plan_model.specs.Plan.{Plan}
+use Rattle.plan_model.specs.Contents.{Contents}
+use Rattle.plan_model.specs.Plan.{Plan}
 use Rattle.plan_records.specs.Answer.{accepted, refused}
 use Rattle.plan_records.specs.Run.{State}
-use Rattle.plan_loads.specs.plan_tables.specs.Faults.{IsOpeningRefusal}
+use Rattle.plan_reports.specs.desk_tables.specs.Faults.{IsOpeningRefusal}
 use Rattle.plan_reports.specs.Reports.{IsOwed, IsWhyReport, IsWritten, why_refusal_of}
 use Rattle.plan_reports.specs.declared.reports.ReportFault.{ReportFault}
 use Rattle.plan_reports.specs.declared.reports.ReportFault.TheVariants as report_fault

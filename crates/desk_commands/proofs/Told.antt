@@ -3,13 +3,13 @@ use Rattle.std.proofs.Common.{◌≡◌, ◌⊎◌, refl, inl, inr, ℕ, ℤ, Bo
 use Rattle.std.proofs.lemmas.Result.{IfErr-weaker, IfOk-weaker}
 use Rattle.plan_basics.specs.Minutes.{IsMinuteText}
 use Rattle.plan_basics.specs.declared.Refusal.{Refusal}
-use Rattle.plan_loads.specs.plan_model.specs.Contents.{AddedParts}
-use Rattle.plan_loads.specs.plan_model.specs.Plan.{Plan}
+use Rattle.plan_model.specs.Contents.{AddedParts}
+use Rattle.plan_model.specs.Plan.{Plan}
 use Rattle.plan_records.specs.Answer.{Answer, refused}
 use Rattle.plan_records.specs.Run.{Answers, State, Usable, plain}
 use Rattle.plan_records.specs.declared.Request.{Request}
-use Rattle.plan_loads.specs.plan_tables.specs.Faults.{IsOpeningRefusal}
-use Rattle.command_answers.specs.request_texts.specs.Requests.{ReadsAsRequest}
+use Rattle.plan_reports.specs.desk_tables.specs.Faults.{IsOpeningRefusal}
+use Rattle.command_answers.specs.request_json.specs.Requests.{ReadsAsRequest}
 use Rattle.command_answers.specs.Answers.{IsShown}
 use Rattle.desk_commands.specs.Asked.{IsExtendShown, IsRequestAnswered, IsRequestShown, extend_request}
 use Rattle.command_answers.specs.Given.{AsksReport}

@@ -2,13 +2,13 @@
 use Rattle.std.specs.Prelude.{◌≡◌, ◌⊎◌, ℕ, ℤ, List, Option}
 use Rattle.plan_basics.specs.Minutes.{IsMinuteText}
 use Rattle.plan_basics.specs.declared.Refusal.{Refusal}
-use Rattle.plan_loads.specs.plan_model.specs.Contents.{AddedParts}
+use Rattle.plan_model.specs.Contents.{AddedParts}
 use Rattle.plan_records.specs.Answer.{Answer, refused}
 use Rattle.plan_records.specs.Run.{Answers, State, Usable, plain}
 use Rattle.plan_records.specs.declared.Request.{Request}
 use Rattle.plan_records.specs.declared.What.TheVariants.{Extend}
-use Rattle.plan_loads.specs.plan_tables.specs.Faults.{IsOpeningRefusal}
-use Rattle.command_answers.specs.request_texts.specs.Requests.{ReadsAsRequest}
+use Rattle.plan_reports.specs.desk_tables.specs.Faults.{IsOpeningRefusal}
+use Rattle.command_answers.specs.request_json.specs.Requests.{ReadsAsRequest}
 use Rattle.command_answers.specs.Answers.{IsShown}
 use Rattle.command_answers.specs.declared.endings.Ending.{Ending}
 

@@ -2,12 +2,12 @@
 use Rattle.std.specs.Prelude.{◌≡◌, ◌⊎◌, ℕ, ℤ, List, Option}
 use Rattle.plan_basics.specs.Minutes.{IsMinuteText}
 use Rattle.plan_basics.specs.declared.Refusal.{Refusal}
-use Rattle.plan_loads.specs.Databases.{load_request}
-use Rattle.plan_loads.specs.plan_model.specs.Contents.{Contents}
+use Rattle.desk_commands.specs.Databases.{load_request}
+use Rattle.plan_model.specs.Contents.{Contents}
 use Rattle.plan_records.specs.Answer.{Answer, refused}
 use Rattle.plan_records.specs.Run.{CallStep, State, plain}
-use Rattle.plan_trials.specs.Trials.{IsAnswerAlone}
-use Rattle.plan_loads.specs.plan_tables.specs.Faults.{IsOpeningRefusal}
+use Rattle.plan_reports.specs.plan_core.specs.Trials.{IsAnswerAlone}
+use Rattle.plan_reports.specs.desk_tables.specs.Faults.{IsOpeningRefusal}
 use Rattle.command_answers.specs.Answers.{IsShown}
 use Rattle.command_answers.specs.declared.endings.Ending.{Ending}
 

@@ -2,12 +2,12 @@
 use Rattle.std.specs.Prelude.{◌≡◌, ◌⊎◌, Bool, ℕ, List, Option, Result, Ok, Err}
 use Rattle.std.specs.Io.KnownBytes.{Appends}
 use Rattle.plan_basics.specs.declared.Refusal.{Refusal}
-use Rattle.plan_loads.specs.plan_model.specs.Plan.{Plan}
+use Rattle.plan_model.specs.Plan.{Plan}
 use Rattle.plan_reports.specs.Reports.{IsErrorReport, IsLateReport, IsOccurrenceReport, IsOwed, IsReadyReport, IsWritten, ready_refusal_of, refusal_of}
 use Rattle.plan_reports.specs.declared.reports.ReportFault.{ReportFault}
 use Rattle.plan_reports.specs.declared.reports.ReportFault.TheVariants as report_fault
 use Rattle.plan_records.specs.Answer.{refused}
-use Rattle.plan_loads.specs.plan_tables.specs.Faults.{IsOpeningRefusal}
+use Rattle.plan_reports.specs.desk_tables.specs.Faults.{IsOpeningRefusal}
 use Rattle.command_answers.specs.Answers.{IsShown, refusal_line}
 use Rattle.command_answers.specs.Given.{AsksReport}
 use Rattle.command_answers.specs.declared.endings.Ending.{Ending}

@@ -5,11 +5,11 @@ use Rattle.plan_basics.specs.Minutes.{IsMoment}
 use Rattle.plan_basics.specs.declared.Refusal.{Refusal}
 use Rattle.plan_basics.specs.declared.Refusal.TheVariants as refusal
 use Rattle.plan_basics.specs.declared.keys.OpKey.{OpKey}
-use Rattle.plan_loads.specs.plan_model.specs.Contents.{Contents}
-use Rattle.plan_loads.specs.plan_model.specs.Plan.{Plan}
+use Rattle.plan_model.specs.Contents.{Contents}
+use Rattle.plan_model.specs.Plan.{Plan}
 use Rattle.plan_records.specs.Answer.{accepted, refused}
 use Rattle.plan_records.specs.Run.{State}
-use Rattle.plan_loads.specs.plan_tables.specs.Faults.{IsOpeningRefusal}
+use Rattle.plan_reports.specs.desk_tables.specs.Faults.{IsOpeningRefusal}
 use Rattle.plan_reports.specs.Reports.{IsWhyReport, why_refusal_of}
 use Rattle.command_answers.specs.Answers.{IsShown}
 use Rattle.command_answers.specs.Given.{IsMinuteGiven}

@@ -2,12 +2,12 @@
 ghost use Rattle.std.specs.Prelude.{◌≡◌, false, IfOk, IfErr};
 ghost use Rattle.command_answers.specs.Opened.{IsWhyNoDesk};
 ghost use Rattle.command_answers.specs.Statuses.{IsOfSurroundings};
-ghost use Rattle.plan_loads.specs.plan_tables.specs.Faults.{IsOpeningRefusal};
+ghost use Rattle.plan_reports.specs.desk_tables.specs.Faults.{IsOpeningRefusal};
 
 use command_answers::{Fault, NoDesk};
 use plan_basics::Refusal;
-use plan_loads::Desk;
 use plan_records::Reply;
+use plan_reports::Desk;
 use sqlite::{Alter, Connection, File, FileStore};
 use std::alloc::Global;
 use std::fs;

@@ -9,13 +9,13 @@ ghost use Rattle.command_words.specs.Words.{text_given};
 ghost use Rattle.command_answers.specs.declared.endings.Fault.{Fault};
 
 use crate::databases::{Database, close};
+use crate::loads::load_into;
 use clap::ArgMatches;
 use command_answers::{Ending, Fault, moment_of, plan_of_file, tell};
 use command_words::value_of;
 use plan_basics::Watched;
-use plan_loads::load_into;
-use plan_records::PlanDraft;
-use plan_trials::answer_alone;
+use plan_drafts::PlanDraft;
+use plan_reports::answer_alone;
 use sqlite::{Alter, Connection};
 use std::alloc::Global;
 use std::io::Write;

@@ -10,10 +10,10 @@ ghost use Rattle.desk_commands.specs.Turns.{is_blank_byte, is_refusal, IsFirstLi
 ghost use Rattle.command_answers.specs.declared.endings.Ending.{Ending as Ended};
 ghost use Rattle.plan_records.specs.Answer.{Answer, accepted, answer_of};
 ghost use Rattle.plan_records.specs.Run.{Answers, empty_state, plain};
-ghost use Rattle.plan_loads.specs.Databases.{load_request};
-ghost use Rattle.plan_loads.specs.plan_tables.specs.Faults.{IsOpeningRefusal};
-ghost use Rattle.command_answers.specs.request_texts.specs.Requests.{ReadsAsRequest};
-ghost use Rattle.plan_loads.specs.plan_tables.specs.Desk.{state_of, usability};
+ghost use Rattle.desk_commands.specs.Databases.{load_request};
+ghost use Rattle.plan_reports.specs.desk_tables.specs.Faults.{IsOpeningRefusal};
+ghost use Rattle.command_answers.specs.request_json.specs.Requests.{ReadsAsRequest};
+ghost use Rattle.plan_reports.specs.desk_tables.specs.Desk.{state_of, usability};
 ghost use Rattle.plan_basics.specs.declared.keys.OpKey.{OpKey};
 
 use clap::ArgMatches;
@@ -23,8 +23,9 @@ use command_answers::{
 };
 use command_words::value_of;
 use plan_basics::{Watched, minute_text};
-use plan_loads::Desk;
-use plan_records::{PlanDraft, Reply, Request, What};
+use plan_drafts::PlanDraft;
+use plan_records::{Reply, Request, What};
+use plan_reports::Desk;
 use sqlite::{Alter, Connection, MemStore};
 use std::alloc::Global;
 use std::io::Write;

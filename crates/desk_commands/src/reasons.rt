@@ -16,9 +16,8 @@ use command_answers::{
     Ending, Fault, moment_if_given, operation_of, plan_of_file, tell_no_desk, tell_refusal,
 };
 use plan_basics::{Moment, OpKey, Refusal, Watched};
-use plan_loads::Desk;
-use plan_records::PlanDraft;
-use plan_reports::why_report;
+use plan_drafts::PlanDraft;
+use plan_reports::{Desk, why_report};
 use sqlite::{Alter, Connection};
 use std::alloc::Global;
 use std::io::Write;

@@ -15,8 +15,8 @@ use command_answers::{
 };
 use command_words::value_of;
 use plan_basics::Watched;
-use plan_loads::Desk;
 use plan_records::{Request, What};
+use plan_reports::Desk;
 use sqlite::{Alter, Connection};
 use std::io::Write;
 use std::rt::HostRuntime;

@@ -6,10 +6,9 @@ ghost use Rattle.command_answers.specs.Statuses.{EndsExplaining, fault_status, I
 use crate::serving::serve;
 use clap::ArgMatches;
 use clap::error::{Error, ErrorKind};
+use command_answers::{Ending, Fault, validate};
 use command_words::desk_command;
-use desk_commands::{
-    Database, DatabaseFile, Ending, Fault, check, extend, load, make, play, report, validate, why,
-};
+use desk_commands::{Database, DatabaseFile, check, extend, load, make, play, report, why};
 use plan_basics::Watched;
 use sqlite::{Alter, Connection};
 use std::alloc::Global;

@@ -6,6 +6,7 @@ mod desk;
 mod serving;
 mod timed;
 
+pub use command_answers::read_plan;
 pub use desk::{desk_run, tell_fault};
-pub use desk_commands::{Desk, Fault};
 pub use serving::serve_listener;
+pub use tracker_http::Desk;

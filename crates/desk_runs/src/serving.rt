@@ -1,8 +1,9 @@
 // `serve`: the desk of a database's file over HTTP, so many connections, one after another.
 use super::timed::TimedStream;
 use clap::ArgMatches;
+use command_answers::{Ending, Fault, WireFault, tell_no_desk};
 use command_words::value_of;
-use desk_commands::{Database, Ending, Fault, close_desk, stored_desk, tell_no_desk};
+use desk_commands::{Database, close_desk, stored_desk};
 use plan_basics::Watched;
 use sqlite::{Alter, Connection};
 use std::io;
@@ -10,7 +11,7 @@ use std::io::Write;
 use std::net::{Ipv4Addr, TcpListener, TcpStream};
 use std::rt::HostRuntime;
 use std::time::Instant;
-use tracker_http::{Desk, WireFault, serve_one};
+use tracker_http::{Desk, serve_one};
 
 /// Serves the one exchange of a connection. A client that keeps it longer than its time is a fault of the reader or the
 /// writer.

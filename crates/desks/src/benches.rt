@@ -1,7 +1,7 @@
 // Desks over a store, of which contracts see nothing, and what is asked of them.
+use desk_tables::{Desk, Plan, run_all};
 use plan_basics::{Refusal, TrackerName};
 use plan_records::{Reply, Request};
-use plan_tables::{Desk, Plan, run_all};
 use sqlite::{Alter, Connection, MemStore};
 use std::alloc::Global;
 use wires::Unseen;

@@ -1,9 +1,9 @@
 // The two ways in which nights are played at a desk in memory.
 use super::benches::Bench;
+use desk_tables::Plan;
 use nights::Player;
 use plan_basics::Refusal;
 use plan_records::{Reply, Request};
-use plan_tables::Plan;
 use sqlite::{Alter, MemStore};
 use std::alloc::Global;
 

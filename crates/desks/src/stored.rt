@@ -2,9 +2,9 @@
 use super::FAILED;
 use super::benches::Bench;
 use super::players::AtOnce;
+use desk_tables::{ErrorRow, ErrorRows};
 use nights::after;
 use plan_basics::Refusal;
-use plan_tables::{ErrorRow, ErrorRows};
 use sqlite::{Alter, Connection, Row};
 use std::alloc::Global;
 

@@ -2,9 +2,9 @@
 // either, over which a desk is opened still, or not.
 use super::benches::Bench;
 use super::players::AtOnce;
+use desk_tables::Desk;
 use nights::{after, is_told, request};
 use plan_basics::Refusal;
-use plan_tables::Desk;
 use sqlite::{Alter, Connection, MemStore};
 use std::alloc::Global;
 use wires::{FIRST_EMPTY, FIRST_NIGHT, FIRST_TABLES, RECEIPT, tables_text};

@@ -2,7 +2,8 @@
 // those that are gone.
 use nights::listed;
 use plan_basics::{Interval, OpKey, ResName, WsName, minute_text};
-use plan_records::{Changes, OperationRow, PlanRow, RowKey};
+use plan_drafts::RowKey;
+use plan_records::{Changes, OperationRow, PlanRow};
 use special_resources::Mode;
 use std::alloc::Global;
 

@@ -1,5 +1,6 @@
 // The rows of a plan, kept up to date by what requests change.
-use plan_records::{Changes, PlanRow, RowKey};
+use plan_drafts::RowKey;
+use plan_records::{Changes, PlanRow};
 use std::alloc::{AllocError, Global};
 
 /// Puts a row into the place of the one of its key, or behind all.

@@ -2,8 +2,9 @@
 use super::imports::reading_plan;
 use nights::Plan;
 use plan_basics::{OpKey, Refusal, Watched};
+use plan_drafts::{Addition, Extension, PlanDraft, Record};
 use plan_import::read_plan;
-use plan_records::{Addition, Extension, PlanDraft, Record, Request, What};
+use plan_records::{Request, What};
 use std::alloc::{AllocError, Global};
 use std::array;
 use taken_memory::Outcome;

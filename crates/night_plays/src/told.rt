@@ -3,7 +3,7 @@ use super::players::AtOnce;
 use super::reasons::REASONS;
 use nights::{Plan, Player, after_lines, cut};
 use plan_basics::{Moment, OpKey};
-use reason_texts::{why, why_text};
+use plan_reasons::{why, why_text};
 use std::alloc::Global;
 
 // The operation and the moment of the first line of a text.

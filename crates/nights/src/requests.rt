@@ -3,12 +3,12 @@ use super::crowds::{chains, crowd, crowd_more, filled};
 use super::names::{minute, moment, occurrence, operation, resource, workstation};
 use super::sections::joined;
 use super::words::cut;
-use addition_faults::{AddedText, faults_of_added_text};
 use plan_basics::{ErrCode, Interval, OpKey, Watched};
-use plan_import::{read_extension, read_occurrence, read_plan};
 use plan_records::{Request, What};
 use std::alloc::Global;
-use text_faults::faults_of_text;
+use text_faults::{
+    AddedText, faults_of_added_text, faults_of_text, read_extension, read_occurrence, read_plan,
+};
 
 /// What a turn asks: its minute and its words, before the bar.
 pub fn request(alloc: Global, turn: &str) -> Option<Request> {

@@ -14,7 +14,7 @@ use Rattle.std.proofs.lemmas.List.Elements.{filter-append}
 use Rattle.plan_basics.specs.Keys.{occurrence_cmp, operation_cmp, operation_cmp_total, operation_cmp-IsAntisymmetric}
 use Rattle.plan_basics.specs.declared.keys.OccKey.{OccKey}
 use Rattle.plan_basics.specs.declared.keys.OpKey.{OpKey}
-use Rattle.plan_records.specs.ready_list.specs.Choice.{is_among}
+use Rattle.ready_list.specs.Choice.{is_among}
 use Rattle.plan_records.specs.plan_model.specs.Contents.{Contents, IsInPlan, Operation, Operations}
 use Rattle.plan_records.specs.plan_model.specs.Revise.{get-revise, revise}
 use Rattle.plan_records.specs.plan_drafts.proofs.MadeEntries.{key_of}

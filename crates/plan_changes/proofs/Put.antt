@@ -5,8 +5,8 @@ use Rattle.std.specs.FinMap.{FinMap, IsAntisymmetric, get, get-insert, insert, s
 use Rattle.std.specs.Ordering.{eq_by_cmp}
 use Rattle.plan_basics.specs.Keys.{operation_cmp, operation_cmp_total, operation_cmp-IsAntisymmetric}
 use Rattle.plan_basics.specs.declared.keys.OpKey.{OpKey}
-use Rattle.status_rules.specs.declared.Mark.{Mark}
-use Rattle.plan_records.specs.ready_list.specs.Choice.{is_among}
+use Rattle.plan_records.specs.status_rules.specs.declared.Mark.{Mark}
+use Rattle.ready_list.specs.Choice.{is_among}
 use Rattle.plan_records.specs.plan_drafts.proofs.MadeEntries.{key_of}
 use Rattle.plan_records.specs.plan_model.specs.Contents.{Operation, Operations}
 use Rattle.plan_records.specs.plan_model.specs.Ready.{with_mark}

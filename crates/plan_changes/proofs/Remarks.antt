@@ -5,14 +5,14 @@ use Rattle.std.specs.FinMap.{contains_key, get, get-insert, insert, same_map}
 use Rattle.std.specs.Ordering.{eq_by_cmp}
 use Rattle.plan_basics.specs.Keys.{operation_cmp, operation_cmp_total, operation_cmp-IsAntisymmetric}
 use Rattle.plan_basics.specs.declared.keys.OpKey.{OpKey}
-use Rattle.plan_records.specs.ready_list.specs.Choice.{is_among}
+use Rattle.ready_list.specs.Choice.{is_among}
 use Rattle.plan_records.specs.plan_drafts.proofs.MadeEntries.{key_of}
 use Rattle.plan_records.specs.plan_model.specs.Contents.{Contents, Operation}
 use Rattle.plan_records.specs.plan_model.specs.Ready.{with_mark}
 use Rattle.plan_records.specs.plan_model.specs.Revise.{get-revise}
 use Rattle.plan_records.specs.Changes.{is_at}
-use Rattle.plan_moves.specs.Markings.{marking_of, with_marking}
-use Rattle.plan_moves.specs.declared.Marking.{Marking}
+use Rattle.plan_records.specs.plan_model.specs.Markings.{marking_of, with_marking}
+use Rattle.plan_records.specs.plan_model.specs.declared.moves.Marking.{Marking}
 use Rattle.plan_changes.specs.Markings.{DifferBothWays, DifferInMarks, DifferencesFollow, HoldingRemarks, MarkingRemarks, NopRemarks, OperationsStayInPlan, RemakingRemarks, WereMarked, marking_at}
 
 pub both_ways : DifferBothWays

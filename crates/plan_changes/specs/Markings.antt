@@ -2,13 +2,13 @@
 use Rattle.std.specs.Prelude.{◌≡◌, ◌⊎◌, true, false, List, [], ◌∷◌, Bool, Option, Some, map, option_map}
 use Rattle.std.specs.FinMap.{contains_key, get}
 use Rattle.plan_basics.specs.declared.keys.OpKey.{OpKey}
-use Rattle.status_rules.specs.declared.Mark.{Mark}
-use Rattle.plan_records.specs.ready_list.specs.Choice.{is_among}
+use Rattle.plan_records.specs.status_rules.specs.declared.Mark.{Mark}
+use Rattle.ready_list.specs.Choice.{is_among}
 use Rattle.plan_records.specs.plan_model.specs.Contents.{Contents, IsInPlan, Operation}
 use Rattle.plan_records.specs.plan_model.specs.Ready.{with_mark}
 use Rattle.plan_records.specs.Changes.{is_at, revised}
-use Rattle.plan_moves.specs.Markings.{marking_of, with_marking}
-use Rattle.plan_moves.specs.declared.Marking.{Marking}
+use Rattle.plan_records.specs.plan_model.specs.Markings.{marking_of, with_marking}
+use Rattle.plan_records.specs.plan_model.specs.declared.moves.Marking.{Marking}
 
 -- the marking of an operation of the plan
 abbrev pub marking_at : Contents → OpKey → Option Marking

@@ -4,15 +4,13 @@ ghost use Rattle.std.specs.Ordering.{eq_by_cmp};
 ghost use Rattle.plan_basics.specs.Keys.{occurrence_cmp};
 ghost use Rattle.plan_basics.specs.declared.keys.OpKey.{OpKey as OpKeyValue};
 ghost use Rattle.plan_records.specs.plan_model.specs.Contents.{IsInPlan};
-ghost use Rattle.plan_records.specs.ready_list.specs.Choice.{is_among};
+ghost use Rattle.ready_list.specs.Choice.{is_among};
 ghost use Rattle.plan_records.specs.Changes.{Changes, is_at, revised};
 ghost use Rattle.plan_records.specs.declared.What.TheVariants as what;
 
 use super::mark_rows::with_marks;
 use plan_basics::{OccKey, OpKey};
-use plan_moves::Marking;
-use plan_records::PlanContents;
-use status_rules::Mark;
+use plan_records::{Mark, Marking, PlanContents};
 use std::alloc::{AllocError, Global};
 
 /// Holds an operation, or doesn't any more. A key that has no row is passed over. It takes no memory.

@@ -11,5 +11,4 @@ pub use additions::{with_addition, with_pair};
 pub use commands::{deleted, set_held, set_nop};
 pub use mark_rows::{mark_all, with_marks};
 pub use markings::{markings_differ, put_markings};
-pub use plan_moves::Marking;
-pub use plan_records::Occurrence;
+pub use plan_records::{ExtensionParts, PlanContents, PlanDraft, copies_of, row_place};

@@ -1,12 +1,11 @@
 // Contents with a mark on some of their operations.
 ghost use Rattle.std.specs.Prelude.{◌≡◌, IfOk};
-ghost use Rattle.plan_records.specs.ready_list.specs.Choice.{is_among};
+ghost use Rattle.ready_list.specs.Choice.{is_among};
 ghost use Rattle.plan_records.specs.plan_model.specs.Ready.{with_mark};
 ghost use Rattle.plan_records.specs.Changes.{revised};
 
 use plan_basics::OpKey;
-use plan_records::PlanContents;
-use status_rules::Mark;
+use plan_records::{Mark, PlanContents};
 use std::alloc::{AllocError, Global};
 
 /// Puts this mark on these operations. A key that has no operation is passed over. It takes no memory.

@@ -4,8 +4,7 @@ ghost use Rattle.plan_records.specs.plan_model.specs.Contents.{Contents, IsInPla
 ghost use Rattle.plan_changes.specs.Markings.{DifferBothWays, DifferInMarks, DifferencesFollow, HoldingRemarks, MarkingRemarks, NopRemarks, OperationsStayInPlan, RemakingRemarks, WereMarked};
 
 use plan_basics::OpKey;
-use plan_moves::Marking;
-use plan_records::PlanContents;
+use plan_records::{Marking, PlanContents};
 
 /// Puts these markings on these operations, one for each. It takes no memory.
 pub fn put_markings(contents: &mut PlanContents, keys: &[OpKey], marks: &[Marking])

@@ -17,11 +17,11 @@ use Rattle.status_rules.specs.declared.OccStatus.TheVariants as occurrence
 use Rattle.status_rules.specs.declared.Status.{Status}
 use Rattle.status_rules.specs.declared.Status.TheVariants as status
 use Rattle.status_rules.specs.Classes.{is_completable, is_rerunnable, is_waiting_or_ready}
-use Rattle.plan_figures.specs.plan_laws.proofs.Classes.{passes, waits_by, waits_told}
+use Rattle.derived_figures.specs.plan_laws.proofs.Classes.{passes, waits_by, waits_told}
 use Rattle.plan_checks.specs.Commands.{IsItsUnderWay}
 use Rattle.plan_checks.specs.Bars.{FailsAt, MeetsAll}
-use Rattle.plan_figures.specs.Reports.{IsReported}
-use Rattle.plan_figures.specs.declared.frame.Reported.{Reported}
+use Rattle.derived_figures.specs.Reports.{IsReported}
+use Rattle.derived_figures.specs.declared.frame.Reported.{Reported}
 use Rattle.plan_model.specs.workstations.specs.Timetables.{MayBeTaken}
 
 module _ (P : Contents) (o : OpKey) where

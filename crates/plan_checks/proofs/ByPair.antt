@@ -5,7 +5,7 @@ use Rattle.plan_basics.specs.declared.limits.TheConstants.{MOST_PAIRS}
 use Rattle.std.specs.FinMap.{entries}
 use Rattle.std.specs.FinSet as set
 use Rattle.operation_graph.specs.Graphs.{Digraph, MayTakeEdge}
-use Rattle.plan_records.specs.plan_drafts.specs.PlanGraphs.{IsGraphFor}
+use Rattle.plan_drafts.specs.PlanGraphs.{IsGraphFor}
 use Rattle.plan_basics.specs.declared.Refusal.{Refusal}
 use Rattle.plan_basics.specs.declared.Refusal.TheVariants as refusal
 use Rattle.plan_basics.specs.declared.keys.OpKey.{OpKey}
@@ -19,8 +19,8 @@ use Rattle.status_rules.specs.declared.Status.TheVariants as status
 use Rattle.plan_checks.proofs.AdditionLines.{Below, past}
 use Rattle.plan_checks.proofs.PairedPlaces.{acyclic_with, both_known, edge_by_pair, has_no_room, has_room, node_within, pair_by_edge, returning_with}
 use Rattle.plan_checks.specs.Dependencies.{IsFaultAs}
-use Rattle.plan_figures.specs.Reports.{IsOfStatus}
-use Rattle.plan_figures.specs.plan_laws.proofs.Classes.{waits_by}
+use Rattle.derived_figures.specs.Reports.{IsOfStatus}
+use Rattle.derived_figures.specs.plan_laws.proofs.Classes.{waits_by}
 use Rattle.status_rules.specs.Classes.{is_waiting_or_ready}
 use Rattle.status_rules.specs.declared.Status.{Status}
 use Rattle.plan_checks.proofs.ByCommand.{not_waiting_or_ready}

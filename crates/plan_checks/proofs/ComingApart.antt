@@ -6,11 +6,11 @@ use Rattle.plan_basics.specs.declared.keys.OpKey.{OpKey}
 use Rattle.plan_model.specs.Contents.{Contents, IsPairOf, AddedParts}
 use Rattle.plan_model.specs.Valid.{IsValid}
 use Rattle.plan_records.specs.Acceptance.{MayBeAdded}
-use Rattle.plan_records.specs.plan_drafts.specs.Drafts.{IsExtension}
-use Rattle.plan_figures.specs.plan_laws.proofs.ComingIn.{not_own}
-use Rattle.plan_records.specs.plan_drafts.proofs.Tables.{is_found}
+use Rattle.plan_drafts.specs.Drafts.{IsExtension}
+use Rattle.derived_figures.specs.plan_laws.proofs.ComingIn.{not_own}
+use Rattle.plan_drafts.proofs.Tables.{is_found}
 use Rattle.std.proofs.lemmas.Bool.{false_from_ne_true}
-use Rattle.plan_figures.specs.plan_changes.specs.Additions.{HasNothingOf}
+use Rattle.derived_figures.specs.plan_changes.specs.Additions.{HasNothingOf}
 
 module _ (P : Contents) (valid : IsValid P) (s : AddedParts) (extension : IsExtension s) (new : MayBeAdded P s refusal.Duplicate) where
   not_both : (o : OpKey) → contains_key P.operations o ≡ true → contains_key s.operations o ≡ true → ⊥

@@ -13,17 +13,17 @@ use Rattle.plan_basics.specs.declared.keys.OpKey.{OpKey}
 use Rattle.plan_model.specs.Contents.{Contents, IsPairOf, Operation}
 use Rattle.plan_model.specs.declared.Occurrence.{Occurrence}
 use Rattle.plan_records.specs.Acceptance.{IsNew, IsOld, MayBeAdded}
-use Rattle.plan_records.specs.plan_drafts.specs.Contents.{AreExtensionParts, added_of}
-use Rattle.plan_records.specs.plan_drafts.specs.Drafts.{IsEnd, IsOwn}
-use Rattle.plan_records.specs.plan_drafts.specs.declared.contents.ExtensionParts.{ExtensionParts}
-use Rattle.plan_model.specs.special_resources.specs.Holders.{Usage}
-use Rattle.plan_model.specs.special_resources.specs.Holdings.{usage_of}
-use Rattle.plan_model.specs.special_resources.specs.Needs.{AreInNameOrder, usages_of}
-use Rattle.plan_model.specs.special_resources.specs.declared.Need.{Need}
-use Rattle.plan_model.specs.special_resources.proofs.MoreNeeds.{need_by_usage, usage_by_need}
-use Rattle.plan_figures.specs.plan_laws.proofs.Pairs.{pair_cmp_total, pair_cmp-IsAntisymmetric}
-use Rattle.plan_records.specs.plan_drafts.proofs.Lists.{all_by_members, all_told}
-use Rattle.plan_records.specs.plan_drafts.proofs.Tables.{from_set, get_row, in_set, is_found, row_found, rows_apart, some_is}
+use Rattle.plan_drafts.specs.Contents.{AreExtensionParts, added_of}
+use Rattle.plan_drafts.specs.Drafts.{IsEnd, IsOwn}
+use Rattle.plan_drafts.specs.declared.contents.ExtensionParts.{ExtensionParts}
+use Rattle.special_resources.specs.Holders.{Usage}
+use Rattle.special_resources.specs.Holdings.{usage_of}
+use Rattle.special_resources.specs.Needs.{AreInNameOrder, usages_of}
+use Rattle.special_resources.specs.declared.Need.{Need}
+use Rattle.special_resources.proofs.MoreNeeds.{need_by_usage, usage_by_need}
+use Rattle.derived_figures.specs.plan_laws.proofs.Pairs.{pair_cmp_total, pair_cmp-IsAntisymmetric}
+use Rattle.plan_drafts.proofs.Lists.{all_by_members, all_told}
+use Rattle.plan_drafts.proofs.Tables.{from_set, get_row, in_set, is_found, row_found, rows_apart, some_is}
 use Rattle.plan_checks.specs.Additions.{IsFound, IsFoundPair}
 
 -- ---- what is looked up

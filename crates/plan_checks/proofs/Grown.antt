@@ -14,8 +14,8 @@ use Rattle.plan_basics.proofs.Members.{contains_mapped, mapped_contains}
 use Rattle.plan_basics.specs.Keys.{occurrence_cmp_total, occurrence_cmp-IsAntisymmetric, operation_cmp, operation_cmp_total, operation_cmp-IsAntisymmetric}
 use Rattle.plan_basics.specs.declared.Refusal.TheVariants as refusal
 use Rattle.plan_basics.specs.declared.keys.OpKey.{OpKey}
-use Rattle.plan_figures.specs.plan_changes.proofs.Merging.{differ_both}
-use Rattle.plan_figures.specs.plan_changes.specs.Additions.{HasNothingOf, ShareNoKey, ShareNoMember}
+use Rattle.derived_figures.specs.plan_changes.proofs.Merging.{differ_both}
+use Rattle.derived_figures.specs.plan_changes.specs.Additions.{HasNothingOf, ShareNoKey, ShareNoMember}
 use Rattle.plan_checks.proofs.Limits.{pairs_counted}
 use Rattle.plan_checks.specs.Additions.{HasRoomFor}
 use Rattle.plan_model.proofs.Entries.{entries_in_order, keys_of-entries}
@@ -25,15 +25,15 @@ use Rattle.plan_model.specs.Revise.{get-joined, joined, or_else}
 use Rattle.plan_model.specs.Valid.{IsValid, IsWithinLimits}
 use Rattle.plan_records.specs.Acceptance.{MayBeAdded}
 use Rattle.plan_records.specs.Changes.{with_added}
-use Rattle.plan_records.specs.plan_drafts.proofs.Lists.{Differ, length_map}
-use Rattle.plan_records.specs.plan_drafts.proofs.Tables.{from_set, get_row, in_set, is_found, len_rows, map_count, row_found as row_in, rows_apart, some_is, sorted_apart}
-use Rattle.plan_records.specs.plan_drafts.specs.Contents.{AreExtensionParts, added_of}
-use Rattle.plan_records.specs.plan_drafts.specs.PlanGraphs.{JoinOperations}
-use Rattle.plan_records.specs.plan_drafts.specs.declared.contents.ExtensionParts.{ExtensionParts}
-use Rattle.plan_figures.specs.plan_laws.proofs.ComingIn.{an_end, from_first, pair_cases}
-use Rattle.plan_figures.specs.plan_laws.proofs.Sorted.{sorted_unique}
-use Rattle.plan_figures.specs.plan_status.proofs.LoadedRows.{known_among, row_found}
-use Rattle.plan_figures.specs.plan_status.proofs.RowKeys.{row_of_key}
+use Rattle.plan_drafts.proofs.Lists.{Differ, length_map}
+use Rattle.plan_drafts.proofs.Tables.{from_set, get_row, in_set, is_found, len_rows, map_count, row_found as row_in, rows_apart, some_is, sorted_apart}
+use Rattle.plan_drafts.specs.Contents.{AreExtensionParts, added_of}
+use Rattle.plan_drafts.specs.PlanGraphs.{JoinOperations}
+use Rattle.plan_drafts.specs.declared.contents.ExtensionParts.{ExtensionParts}
+use Rattle.derived_figures.specs.plan_laws.proofs.ComingIn.{an_end, from_first, pair_cases}
+use Rattle.derived_figures.specs.plan_laws.proofs.Sorted.{sorted_unique}
+use Rattle.derived_figures.specs.plan_status.proofs.LoadedRows.{known_among, row_found}
+use Rattle.derived_figures.specs.plan_status.proofs.RowKeys.{row_of_key}
 
 module _ (P : Contents) (valid : IsValid P) (s : AddedParts) (known : MayBeAdded P s refusal.UnknownOperation) where
   -- both ends of each pair are operations of the plan that is made so

@@ -5,8 +5,8 @@ use Rattle.std.specs.FinSet as set
 use Rattle.std.specs.List.Sorted.{IsStrictlySortedBy}
 use Rattle.std.specs.declared.cmp.Ordering.{Ordering}
 use Rattle.plan_basics.specs.declared.keys.OpKey.{OpKey}
-use Rattle.plan_records.specs.plan_drafts.proofs.Tables.{len_set, sorted_apart}
-use Rattle.plan_figures.specs.plan_laws.proofs.Pairs.{pair_cmp_total, pair_cmp-IsAntisymmetric}
+use Rattle.plan_drafts.proofs.Tables.{len_set, sorted_apart}
+use Rattle.derived_figures.specs.plan_laws.proofs.Pairs.{pair_cmp_total, pair_cmp-IsAntisymmetric}
 use Rattle.plan_model.specs.Contents.{Pairs, pair_cmp}
 
 -- as many as it has rows

@@ -9,13 +9,13 @@ use Rattle.operation_graph.proofs.EdgeSets.{edge_added, edge_cases, edge_stays}
 use Rattle.operation_graph.specs.Graphs.{Digraph, Edges, HasEdge, IsEdgeMore, IsEdgeOf, IsGraph}
 use Rattle.plan_basics.specs.Keys.{operation_cmp, operation_cmp_total}
 use Rattle.plan_basics.specs.declared.keys.OpKey.{OpKey}
-use Rattle.plan_figures.specs.plan_laws.proofs.Pairs.{pair_cmp_total, pair_same}
-use Rattle.plan_figures.specs.plan_status.proofs.RowKeys.{key_of_row}
+use Rattle.derived_figures.specs.plan_laws.proofs.Pairs.{pair_cmp_total, pair_same}
+use Rattle.derived_figures.specs.plan_status.proofs.RowKeys.{key_of_row}
 use Rattle.plan_model.proofs.Entries.{entries_in_order}
 use Rattle.plan_model.specs.Contents.{Contents, Operation, Precedes, pair_cmp}
 use Rattle.plan_records.specs.Changes.{with_pair}
-use Rattle.plan_records.specs.plan_drafts.proofs.KeyPlaces.{one_place}
-use Rattle.plan_records.specs.plan_drafts.specs.PlanGraphs.{IsGraphFor}
+use Rattle.plan_drafts.proofs.KeyPlaces.{one_place}
+use Rattle.plan_drafts.specs.PlanGraphs.{IsGraphFor}
 
 -- ---- pairs
 

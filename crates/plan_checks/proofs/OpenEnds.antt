@@ -3,8 +3,8 @@ use Rattle.std.proofs.Common.{◌≡◌, ◌≢◌, refl, sym, subst, ◌∙◌,
 use Rattle.std.proofs.lemmas.Option.{none-some}
 use Rattle.std.specs.FinMap.{get}
 use Rattle.plan_records.specs.Acceptance.{IsOld}
-use Rattle.plan_figures.specs.Reports.{IsOfStatus}
-use Rattle.plan_records.specs.plan_drafts.specs.Drafts.{IsOwn}
+use Rattle.derived_figures.specs.Reports.{IsOfStatus}
+use Rattle.plan_drafts.specs.Drafts.{IsOwn}
 use Rattle.std.proofs.lemmas.Bool.{true_from_ne_false}
 use Rattle.plan_basics.specs.declared.keys.OpKey.{OpKey}
 use Rattle.plan_model.specs.Contents.{Contents, AddedParts}
@@ -12,7 +12,7 @@ use Rattle.plan_model.specs.Status.{HasStatus}
 use Rattle.status_rules.specs.Classes.{is_waiting_or_ready}
 use Rattle.status_rules.specs.declared.Status.{Status}
 use Rattle.status_rules.specs.declared.Status.TheVariants as status
-use Rattle.plan_figures.specs.plan_laws.proofs.Classes.{waits_by}
+use Rattle.derived_figures.specs.plan_laws.proofs.Classes.{waits_by}
 use Rattle.plan_checks.proofs.ByCommand.{not_waiting_or_ready}
 use Rattle.plan_checks.specs.Additions.{IsOldWith, MayPrecede, MaySucceed}
 

@@ -8,16 +8,16 @@ use Rattle.operation_graph.specs.Graphs.{Closes, Digraph, HasEdge}
 use Rattle.operation_graph.specs.Paths.{LeadsBy}
 use Rattle.plan_basics.specs.Keys.{operation_cmp, operation_cmp_total}
 use Rattle.plan_basics.specs.declared.keys.OpKey.{OpKey}
-use Rattle.plan_records.specs.plan_drafts.proofs.KeyPlaces.{one_place}
-use Rattle.plan_records.specs.plan_drafts.proofs.PairEdges.{leads_alike, same_key}
-use Rattle.plan_figures.specs.plan_laws.proofs.Closing.{pair_closes_a_path}
-use Rattle.plan_figures.specs.plan_laws.proofs.Pairs.{pair_cmp_total}
+use Rattle.plan_drafts.proofs.KeyPlaces.{one_place}
+use Rattle.plan_drafts.proofs.PairEdges.{leads_alike, same_key}
+use Rattle.derived_figures.specs.plan_laws.proofs.Closing.{pair_closes_a_path}
+use Rattle.derived_figures.specs.plan_laws.proofs.Pairs.{pair_cmp_total}
 use Rattle.plan_model.specs.Contents.{Contents, IsInPlan, IsPairOf, Operation, Precedes}
 use Rattle.plan_model.specs.Valid.{IsAcyclic, IsValid, IsWithinLimits}
 use Rattle.plan_model.proofs.Entries.{entries_in_order}
-use Rattle.plan_records.specs.plan_drafts.specs.PlanGraphs.{IsGraphFor}
-use Rattle.plan_figures.specs.plan_status.proofs.LoadedRows.{known_among, row_found}
-use Rattle.plan_figures.specs.plan_status.proofs.RowKeys.{key_of_row}
+use Rattle.plan_drafts.specs.PlanGraphs.{IsGraphFor}
+use Rattle.derived_figures.specs.plan_status.proofs.LoadedRows.{known_among, row_found}
+use Rattle.derived_figures.specs.plan_status.proofs.RowKeys.{key_of_row}
 use Rattle.plan_records.specs.Changes.{with_pair}
 use Rattle.plan_checks.proofs.ReachedKeys.{as_many}
 

@@ -7,21 +7,21 @@ use Rattle.plan_basics.specs.declared.Refusal.TheVariants as refusal
 use Rattle.plan_basics.specs.declared.keys.OpKey.{OpKey}
 use Rattle.plan_basics.specs.Refusals.{number_of}
 use Rattle.plan_model.specs.Holdings.{given_out, holds_server, takes}
-use Rattle.plan_figures.specs.plan_laws.proofs.Classes.{passes, ready_by}
+use Rattle.derived_figures.specs.plan_laws.proofs.Classes.{passes, ready_by}
 use Rattle.std.proofs.lemmas.Option.{same_Some}
 use Rattle.plan_model.specs.Contents.{Contents, Operation}
 use Rattle.plan_model.specs.Starts.{MayStart}
 use Rattle.plan_model.specs.Status.{HasStatus, IsReady}
 use Rattle.plan_records.specs.Acceptance.{MayBeEnded, MayBeInterrupted, MayBeUndecided}
-use Rattle.plan_model.specs.special_resources.specs.Holdings.{Held}
+use Rattle.special_resources.specs.Holdings.{Held}
 use Rattle.status_rules.specs.Classes.{is_ready, is_startable}
 use Rattle.status_rules.specs.declared.Status.{Status}
 use Rattle.status_rules.specs.declared.Status.TheVariants as status
 use Rattle.plan_model.specs.workstations.specs.declared.Capacity.{Capacity}
-use Rattle.plan_figures.specs.plan_choice.specs.Choices.{AreHeldIn, HasTaken, IsStartLine}
+use Rattle.derived_figures.specs.start_choice.specs.Choices.{AreHeldIn, HasTaken, IsStartLine}
 use Rattle.plan_checks.specs.Bars.{FailsAt, MeetsAll}
-use Rattle.plan_figures.specs.Reports.{IsReported}
-use Rattle.plan_figures.specs.declared.frame.Reported.{Reported}
+use Rattle.derived_figures.specs.Reports.{IsReported}
+use Rattle.derived_figures.specs.declared.frame.Reported.{Reported}
 
 module _ (P : Contents) (o : OpKey) where
   running_by : (s : Status) → HasStatus P o s → holds_server (Some s) ≡ true → HasStatus P o status.Started ⊎ HasStatus P o status.Undecided

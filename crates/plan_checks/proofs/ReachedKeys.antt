@@ -8,16 +8,16 @@ use Rattle.operation_graph.specs.Paths.{IsPathBy, ReachesBy, end_of}
 use Rattle.plan_basics.proofs.Members.{contains_mapped, mapped_contains}
 use Rattle.plan_basics.specs.Keys.{operation_cmp, operation_cmp_total, operation_cmp-IsAntisymmetric}
 use Rattle.plan_basics.specs.declared.keys.OpKey.{OpKey}
-use Rattle.plan_records.specs.plan_drafts.proofs.PlacePaths.{reach_alike}
-use Rattle.plan_records.specs.plan_drafts.specs.PlanGraphs.{IsGraphFor, HoldsAlike, JoinsAmong, ReachAlike, StandAt}
+use Rattle.plan_drafts.proofs.PlacePaths.{reach_alike}
+use Rattle.plan_drafts.specs.PlanGraphs.{IsGraphFor, HoldsAlike, JoinsAmong, ReachAlike, StandAt}
 use Rattle.plan_model.proofs.Members.{if_member, member_if}
 use Rattle.plan_model.specs.Contents.{Contents, IsInPlan, IsLive, Operation, Precedes}
 use Rattle.plan_model.specs.Starts.{Reaches}
 use Rattle.plan_model.specs.Valid.{IsValid}
 use Rattle.plan_model.proofs.Entries.{entries_in_order}
-use Rattle.plan_figures.specs.plan_status.proofs.LoadedRows.{known_among, row_found, row_of}
-use Rattle.plan_figures.specs.plan_status.proofs.RowKeys.{key_of_row, row_of_key}
-use Rattle.plan_records.specs.plan_drafts.proofs.Lists.{all_by_members}
+use Rattle.derived_figures.specs.plan_status.proofs.LoadedRows.{known_among, row_found, row_of}
+use Rattle.derived_figures.specs.plan_status.proofs.RowKeys.{key_of_row, row_of_key}
+use Rattle.plan_drafts.proofs.Lists.{all_by_members}
 use Rattle.plan_model.specs.ready_list.specs.Choice.{is_among}
 use Rattle.status_rules.specs.declared.Mark.TheVariants as mark
 use Rattle.status_rules.proofs.Live.{live_mark, mark_live}
@@ -27,7 +27,7 @@ use Rattle.status_rules.specs.declared.Mark.{Mark}
 use Rattle.status_rules.specs.declared.Status.{Status}
 use Rattle.status_rules.specs.declared.Status.TheVariants as status
 use Rattle.plan_model.specs.Status.{UnmarkedStatus}
-use Rattle.plan_records.specs.plan_drafts.specs.Places.{AreStatuses}
+use Rattle.plan_drafts.specs.Places.{AreStatuses}
 use Rattle.plan_checks.specs.Reach.{is_live_status}
 
 -- the keys so far, with one more

@@ -16,8 +16,8 @@ use Rattle.plan_records.specs.declared.What.TheVariants as what
 use Rattle.plan_checks.proofs.Searching.{if_err, if_ok, if_refused}
 use Rattle.plan_checks.specs.Bars.{FailsAt, MeetsAll}
 use Rattle.plan_records.specs.Changes.{operation_of}
-use Rattle.plan_figures.specs.Reports.{IsReported}
-use Rattle.plan_figures.specs.declared.frame.Reported.{Reported}
+use Rattle.derived_figures.specs.Reports.{IsReported}
+use Rattle.derived_figures.specs.declared.frame.Reported.{Reported}
 
 -- ---- one operation's lines
 

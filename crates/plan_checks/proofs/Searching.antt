@@ -11,8 +11,8 @@ use Rattle.plan_basics.specs.declared.Refusal.TheVariants as refusal
 use Rattle.plan_basics.specs.declared.keys.OpKey.{OpKey}
 use Rattle.plan_model.specs.Contents.{Contents, Operation}
 use Rattle.plan_model.specs.Status.{IsUnderWay}
-use Rattle.plan_records.specs.plan_drafts.proofs.RowPlaces.{get_at}
-use Rattle.plan_records.specs.plan_drafts.proofs.Tables.{some_is}
+use Rattle.plan_drafts.proofs.RowPlaces.{get_at}
+use Rattle.plan_drafts.proofs.Tables.{some_is}
 
 -- this is so of no element before an index
 abbrev pub NoneBefore : {X : Type 0} → List X → (X → Type 0) → ℕ → Type 0

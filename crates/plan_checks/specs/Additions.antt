@@ -8,9 +8,9 @@ use Rattle.plan_model.specs.Contents.{Contents, Operation, AddedParts}
 use Rattle.plan_model.specs.declared.Stock.{Stock}
 use Rattle.plan_model.specs.Status.{HasStatus, IsWaitingOrReady}
 use Rattle.plan_records.specs.Acceptance.{IsOld}
-use Rattle.plan_records.specs.plan_drafts.specs.Drafts.{IsOwn}
-use Rattle.plan_figures.specs.Reports.{IsOfStatus}
-use Rattle.plan_model.specs.special_resources.specs.Holders.{Usage}
+use Rattle.plan_drafts.specs.Drafts.{IsOwn}
+use Rattle.derived_figures.specs.Reports.{IsOfStatus}
+use Rattle.special_resources.specs.Holders.{Usage}
 use Rattle.status_rules.specs.declared.Status.{Status}
 use Rattle.status_rules.specs.declared.Status.TheVariants as status
 

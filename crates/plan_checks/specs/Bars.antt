@@ -5,8 +5,8 @@ use Rattle.plan_basics.specs.declared.keys.OpKey.{OpKey}
 use Rattle.plan_basics.specs.Refusals.{IsLeastRefusal, NoneRefuses}
 use Rattle.plan_model.specs.Contents.{Contents}
 use Rattle.plan_records.specs.Acceptance.{MayBeStarted}
-use Rattle.plan_figures.specs.Reports.{IsReported}
-use Rattle.plan_figures.specs.declared.frame.Reported.{Reported}
+use Rattle.derived_figures.specs.Reports.{IsReported}
+use Rattle.derived_figures.specs.declared.frame.Reported.{Reported}
 
 -- what a start at minute m asks of the plan, of an operation that is reported so
 abbrev pub MayBeStartedAt : Reported → ℕ → Contents → OpKey → Refusal → Type 0

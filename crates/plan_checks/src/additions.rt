@@ -5,17 +5,17 @@ ghost use Rattle.plan_basics.specs.Refusals.{from_on, IsLeastRefusal, NoneRefuse
 ghost use Rattle.plan_basics.specs.declared.Refusal.{Refusal};
 ghost use Rattle.plan_model.specs.Valid.{AmountsFit};
 ghost use Rattle.plan_records.specs.Acceptance.{MayBeAdded};
-ghost use Rattle.plan_records.specs.plan_drafts.specs.Contents.{added_of, AreExtensionParts};
-ghost use Rattle.plan_records.specs.plan_drafts.specs.PlanGraphs.{IsGraphFor};
+ghost use Rattle.plan_drafts.specs.Contents.{added_of, AreExtensionParts};
+ghost use Rattle.plan_drafts.specs.PlanGraphs.{IsGraphFor};
 ghost use Rattle.plan_checks.specs.Additions.{HasRoomFor};
 
 use super::ends::ends_of_pairs;
 use super::growth::{grown_keys, grown_pairs, has_room};
 use super::known::{amounts_fit, are_new_occurrences, are_resources_known, are_workstations_known};
+use derived_figures::{Shown, Statuses, statuses_shown};
 use operation_graph::Graph;
 use plan_basics::{OpKey, Refusal};
-use plan_figures::{Shown, Statuses, statuses_shown};
-use plan_records::{ExtensionParts, graph_of};
+use plan_drafts::{ExtensionParts, graph_of};
 use std::alloc::Global;
 
 // Whether the plan has room for so many occurrences more, with operations of these keys and these pairs in all, and as much of each

@@ -6,8 +6,8 @@ ghost use Rattle.plan_checks.specs.Commands.{Extends};
 ghost use Rattle.plan_records.specs.Changes.{operation_of};
 ghost use Rattle.plan_records.specs.Acceptance.{MayBeDone, MayBeEnded, MayBeInterrupted, MayBeUndecided, NeedsPlan};
 ghost use Rattle.plan_checks.specs.Bars.{FailsAt, MayBeStartedAt, MeetsAll};
-ghost use Rattle.plan_figures.specs.Frames.{IsFrameOf};
-ghost use Rattle.plan_figures.specs.Reports.{IsReported};
+ghost use Rattle.derived_figures.specs.Frames.{IsFrameOf};
+ghost use Rattle.derived_figures.specs.Reports.{IsReported};
 ghost use Rattle.plan_checks.specs.Loads.{MayBeLoadedWhere};
 ghost use Rattle.plan_model.specs.Holdings.{takes};
 ghost use Rattle.plan_records.specs.declared.What.{What};
@@ -17,9 +17,10 @@ use super::commands::{
     check_available, check_completed, check_deleted, check_flagged, check_open_by, check_rerun,
 };
 use super::dependencies::check_paired;
+use derived_figures::{Frame, Outline, Reported, Seen, Shown, check_start};
 use plan_basics::{Attr, Moment, OpKey, Refusal};
-use plan_figures::{Frame, Outline, Reported, Seen, Shown, check_start};
-use plan_records::{PlanDraft, What};
+use plan_drafts::PlanDraft;
+use plan_records::What;
 use status_rules::{Mark, Status};
 use std::alloc::Global;
 

@@ -6,12 +6,12 @@ ghost use Rattle.plan_basics.specs.declared.Refusal.{Refusal};
 ghost use Rattle.plan_model.specs.Status.{HasOccurrenceStatus};
 ghost use Rattle.plan_records.specs.Acceptance.{MayBeCompleted, MayBeDeleted, MayBeFlagged, MayBeOpenBy, MayBeRerun, MayBeSetAvailable};
 ghost use Rattle.plan_checks.specs.Bars.{FailsAt, MeetsAll};
-ghost use Rattle.plan_figures.specs.Reports.{IsReported};
+ghost use Rattle.derived_figures.specs.Reports.{IsReported};
 
 use super::reach::reached_keys;
 use super::under_way::{is_another_under_way, is_occurrence_under_way};
+use derived_figures::{Outline, Reported};
 use plan_basics::{Interval, OccKey, OpKey, Refusal, ResName, WsName};
-use plan_figures::{Outline, Reported};
 use status_rules::OccStatus;
 use std::alloc::Global;
 

@@ -8,10 +8,10 @@ ghost use Rattle.status_rules.specs.Classes.{is_waiting_or_ready};
 ghost use Rattle.status_rules.specs.declared.Status.{Status};
 ghost use Rattle.plan_checks.specs.Dependencies.{IsFaultAs};
 
+use derived_figures::Outline;
 use operation_graph::Graph;
 use plan_basics::limits::MOST_PAIRS;
 use plan_basics::{OpKey, Refusal};
-use plan_figures::Outline;
 use status_rules::Status;
 use std::alloc::Global;
 

@@ -4,14 +4,14 @@ ghost use Rattle.plan_basics.specs.declared.Refusal.{Refusal};
 ghost use Rattle.plan_basics.specs.declared.keys.OpKey.{OpKey as OpKeyValue};
 ghost use Rattle.plan_model.specs.Contents.{AddedParts, Contents};
 ghost use Rattle.plan_records.specs.Acceptance.{IsOld, MayBeAdded};
-ghost use Rattle.plan_records.specs.plan_drafts.specs.Contents.{added_of, AreExtensionParts};
-ghost use Rattle.plan_records.specs.plan_drafts.specs.Drafts.{IsOwn};
+ghost use Rattle.plan_drafts.specs.Contents.{added_of, AreExtensionParts};
+ghost use Rattle.plan_drafts.specs.Drafts.{IsOwn};
 ghost use Rattle.plan_checks.specs.Additions.{IsFoundPair, IsOldWith, IsOpenPair, MayPrecede, MaySucceed};
 
 use super::known::is_own;
+use derived_figures::Statuses;
 use plan_basics::OpKey;
-use plan_figures::Statuses;
-use plan_records::ExtensionParts;
+use plan_drafts::ExtensionParts;
 use status_rules::Status;
 
 /// What an operation is that a pair names.

@@ -5,15 +5,15 @@ ghost use Rattle.std.specs.FinSet as set;
 ghost use Rattle.std.specs.List.Sorted.{IsStrictlySortedBy};
 ghost use Rattle.plan_model.specs.Contents.{pair_cmp};
 ghost use Rattle.plan_records.specs.Changes.{with_added};
-ghost use Rattle.plan_figures.specs.plan_changes.specs.Additions.{HasNothingOf, ShareNoMember};
-ghost use Rattle.plan_records.specs.plan_drafts.specs.Contents.{added_of, AreExtensionParts};
+ghost use Rattle.derived_figures.specs.plan_changes.specs.Additions.{HasNothingOf, ShareNoMember};
+ghost use Rattle.plan_drafts.specs.Contents.{added_of, AreExtensionParts};
 ghost use Rattle.plan_checks.specs.Additions.{HasRoomFor};
 
 use super::reach::key_at;
+use derived_figures::Beside;
 use plan_basics::OpKey;
 use plan_basics::limits::{MOST_OCCURRENCES, MOST_OPERATIONS, MOST_PAIRS};
-use plan_figures::Beside;
-use plan_records::{ExtensionParts, keys};
+use plan_drafts::{ExtensionParts, keys};
 use std::alloc::{AllocError, Global};
 
 // The keys of the plan's operations, in order.

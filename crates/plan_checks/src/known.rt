@@ -3,15 +3,16 @@ ghost use Rattle.std.specs.Prelude.{◌≡◌, true, false, Decides};
 ghost use Rattle.std.specs.FinMap.{contains_key};
 ghost use Rattle.plan_basics.specs.declared.Refusal.{Refusal};
 ghost use Rattle.plan_records.specs.Acceptance.{MayBeAdded};
-ghost use Rattle.plan_records.specs.plan_drafts.specs.Contents.{added_of, AreExtensionParts};
-ghost use Rattle.plan_records.specs.plan_drafts.specs.Drafts.{IsOwn};
+ghost use Rattle.plan_drafts.specs.Contents.{added_of, AreExtensionParts};
+ghost use Rattle.plan_drafts.specs.Drafts.{IsOwn};
 ghost use Rattle.plan_model.specs.Valid.{AmountsFit};
 ghost use Rattle.plan_checks.specs.Additions.{HasResources, HasSoMuch, HasWorkstation, NeedsFit};
 
+use derived_figures::{Statuses, is_one_of};
 use plan_basics::{OccKey, OpKey, ResName};
-use plan_figures::{Statuses, is_one_of};
-use plan_model::{Need, OperationRecord};
-use plan_records::ExtensionParts;
+use plan_drafts::ExtensionParts;
+use plan_model::OperationRecord;
+use special_resources::Need;
 
 /// Whether an operation is of an occurrence that is added.
 pub fn is_own(parts: &ExtensionParts, key: &OpKey) -> bool

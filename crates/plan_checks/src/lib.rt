@@ -13,8 +13,10 @@ mod under_way;
 
 pub use additions::check_shown;
 pub use checks::{check_load, check_request};
-pub use plan_figures::{
-    Beside, Choice, Figures, Frame, LoadedPlan, Outline, Parts, Reported, Seen, Shown,
-    SoundContents, chosen_with, satisfy, unsatisfy,
+pub use derived_figures::{
+    Beside, Brief, Choice, Figures, Outline, RecordCopy, Restating, Shown, SoundContents, Standing,
+    chosen_with, entries_at, entries_briefed, is_one_of, mark_all, relist_all, restand, restate,
+    restate_all, retake, satisfy, set_held, set_nop, unsatisfy,
 };
 pub use reach::reached_keys;
+pub use special_resources::Holdings;

@@ -3,14 +3,14 @@ ghost use Rattle.std.specs.Prelude.{◌≡◌, ◌↔◌, ◌<◌, true, All, So
 ghost use Rattle.std.specs.FinMap.{entries, keys as keys_in};
 ghost use Rattle.plan_basics.specs.declared.Refusal.{Refusal};
 ghost use Rattle.plan_basics.specs.declared.keys.OpKey.{OpKey as OpKeyValue};
-ghost use Rattle.plan_records.specs.plan_drafts.specs.PlanGraphs.{StandAt};
+ghost use Rattle.plan_drafts.specs.PlanGraphs.{StandAt};
 ghost use Rattle.plan_model.specs.Contents.{IsInPlan};
 ghost use Rattle.plan_model.specs.Starts.{Reaches};
 ghost use Rattle.plan_model.specs.ready_list.specs.Choice.{is_among};
 ghost use Rattle.plan_checks.specs.Reach.{is_live_status};
 
+use derived_figures::{Beside, Outline};
 use plan_basics::{OpKey, Refusal};
-use plan_figures::{Beside, Outline};
 use status_rules::Status;
 use std::alloc::{AllocError, Global};
 

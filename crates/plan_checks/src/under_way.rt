@@ -5,8 +5,8 @@ ghost use Rattle.plan_basics.specs.declared.keys.OpKey.{OpKey as OpKeyValue};
 ghost use Rattle.plan_model.specs.Contents.{IsInPlan, Operation};
 ghost use Rattle.plan_checks.specs.Commands.{IsItsUnderWay, IsOtherUnderWay};
 
+use derived_figures::Outline;
 use plan_basics::{OccKey, OpKey};
-use plan_figures::Outline;
 
 // Whether this is another operation, and under way.
 fn is_other_under_way(outline: &Outline<'_>, key: &OpKey, other: &OpKey) -> bool

@@ -1,12 +1,12 @@
 -- Answers to requests, one after another.
 use Rattle.std.proofs.Common.{◌≡◌, refl, ap, subst, List, [], ◌∷◌, ◌++◌, map}
-use Rattle.plan_status.specs.plan_laws.proofs.Running.{answered, plan_answers}
-use Rattle.plan_status.specs.plan_laws.proofs.Runs.{accepted_alone}
-use Rattle.plan_outcomes.specs.plan_model.specs.Plan.{Plan}
-use Rattle.plan_outcomes.specs.plan_records.specs.Answer.{Answer, accepted, refused}
-use Rattle.plan_outcomes.specs.plan_records.specs.Run.{Answers, Call, Run, State, Usable, accepted_calls, accepted_replies, plain, usable}
-use Rattle.plan_outcomes.specs.plan_records.specs.Step.{Step}
-use Rattle.plan_outcomes.specs.plan_records.specs.declared.Request.{Request}
+use Rattle.plan_opening.specs.plan_laws.proofs.Running.{answered, plan_answers}
+use Rattle.plan_opening.specs.plan_laws.proofs.Runs.{accepted_alone}
+use Rattle.plan_model.specs.Plan.{Plan}
+use Rattle.plan_records.specs.Answer.{Answer, accepted, refused}
+use Rattle.plan_records.specs.Run.{Answers, Call, Run, State, Usable, accepted_calls, accepted_replies, plain, usable}
+use Rattle.plan_records.specs.Step.{Step}
+use Rattle.plan_records.specs.declared.Request.{Request}
 use Rattle.plan_core.specs.Requested.{IsAnswered}
 use Rattle.plan_core.specs.State.{AcceptedAnswerAll, AnswersAll, accepted_requests}
 

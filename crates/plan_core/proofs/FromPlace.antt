@@ -7,15 +7,15 @@ use Rattle.std.specs.Option.{is_some}
 use Rattle.plan_basics.specs.Keys.{occurrence_cmp, operation_cmp}
 use Rattle.plan_basics.specs.declared.keys.OccKey.{OccKey}
 use Rattle.plan_basics.specs.declared.keys.OpKey.{OpKey}
-use Rattle.plan_outcomes.specs.plan_model.specs.Contents.{Contents, nothing, IsInPlan}
+use Rattle.plan_model.specs.Contents.{Contents, nothing, IsInPlan}
 use Rattle.std.proofs.lemmas.Option.{none-some}
-use Rattle.plan_outcomes.specs.plan_drafts.proofs.Lists.{contains_none}
-use Rattle.plan_outcomes.specs.plan_records.specs.special_resources.proofs.Splits.{none_in_order}
+use Rattle.plan_records.specs.plan_drafts.proofs.Lists.{contains_none}
+use Rattle.plan_model.specs.special_resources.proofs.Splits.{none_in_order}
 use Rattle.plan_core.proofs.OpViews.{size}
-use Rattle.plan_outcomes.specs.plan_steps.specs.plan_rows.proofs.SideBySide.{left_from, length_viewed}
-use Rattle.plan_outcomes.specs.plan_steps.specs.plan_rows.specs.Shown.{IsShown, IsShownIfAny, known_of}
+use Rattle.plan_opening.specs.plan_rows.proofs.SideBySide.{left_from, length_viewed}
+use Rattle.plan_opening.specs.plan_rows.specs.Shown.{IsShown, IsShownIfAny, known_of}
 use Rattle.plan_core.specs.Views.{AreOccViews, AreOpViews, occ_view_of, occ_views, op_view_of, op_views, views_from}
-use Rattle.plan_outcomes.specs.plan_steps.specs.plan_rows.specs.declared.shown.RowSource.{RowSource}
+use Rattle.plan_opening.specs.plan_rows.specs.declared.shown.RowSource.{RowSource}
 
 -- ---- where nothing is loaded
 

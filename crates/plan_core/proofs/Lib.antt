@@ -5,3 +5,4 @@ pub mod OpViews
 pub mod Provided
 pub mod ReadyViews
 pub mod Seen
+mod Naming

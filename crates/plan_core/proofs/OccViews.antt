@@ -6,21 +6,21 @@ use Rattle.std.specs.List.Sorted.{IsStrictlySortedBy}
 use Rattle.std.specs.Map.{keys_of}
 use Rattle.plan_basics.specs.Keys.{occurrence_cmp, occurrence_cmp_total, occurrence_cmp-IsAntisymmetric}
 use Rattle.plan_basics.specs.declared.keys.OccKey.{OccKey}
-use Rattle.plan_status.specs.plan_laws.proofs.Waiting.{one_occurrence_status}
-use Rattle.plan_outcomes.specs.plan_model.specs.Contents.{Contents}
-use Rattle.plan_outcomes.specs.plan_model.specs.Status.{HasOccurrenceStatus}
-use Rattle.plan_outcomes.specs.plan_model.specs.declared.Occurrence.{Occurrence}
-use Rattle.plan_outcomes.specs.plan_model.proofs.Entries.{entries_in_order}
-use Rattle.plan_outcomes.specs.plan_drafts.proofs.RowPlaces.{row_at}
-use Rattle.plan_outcomes.specs.plan_drafts.proofs.Tables.{some_is}
-use Rattle.plan_status.proofs.OfOccurrences.{status_counted}
-use Rattle.plan_status.specs.Standings.{IsTally}
+use Rattle.plan_opening.specs.plan_laws.proofs.Waiting.{one_occurrence_status}
+use Rattle.plan_model.specs.Contents.{Contents}
+use Rattle.plan_model.specs.Status.{HasOccurrenceStatus}
+use Rattle.plan_model.specs.declared.Occurrence.{Occurrence}
+use Rattle.plan_model.proofs.Entries.{entries_in_order}
+use Rattle.plan_records.specs.plan_drafts.proofs.RowPlaces.{row_at}
+use Rattle.plan_records.specs.plan_drafts.proofs.Tables.{some_is}
+use Rattle.plan_opening.specs.plan_status.proofs.OfOccurrences.{status_counted}
+use Rattle.plan_opening.specs.plan_status.specs.Standings.{IsTally}
 use Rattle.status_rules.proofs.CountsTable.{first_by_table}
-use Rattle.plan_outcomes.specs.plan_drafts.proofs.EntryRows.{among_keys, has_key, row_in}
-use Rattle.plan_outcomes.specs.plan_steps.specs.plan_rows.proofs.SideBySide.{from_viewed, keys_viewed, viewed_at}
-use Rattle.plan_outcomes.specs.plan_steps.specs.plan_rows.specs.Shown.{IsShown}
+use Rattle.plan_records.specs.plan_drafts.proofs.EntryRows.{among_keys, has_key, row_in}
+use Rattle.plan_opening.specs.plan_rows.proofs.SideBySide.{from_viewed, keys_viewed, viewed_at}
+use Rattle.plan_opening.specs.plan_rows.specs.Shown.{IsShown}
 use Rattle.plan_core.specs.Views.{AreOccViews, IsOccView, occ_view_of, occ_views}
-use Rattle.plan_outcomes.specs.plan_steps.specs.plan_rows.specs.declared.shown.RowSource.{RowSource}
+use Rattle.plan_opening.specs.plan_rows.specs.declared.shown.RowSource.{RowSource}
 use Rattle.plan_core.specs.declared.views.OccView.{OccView}
 use Rattle.status_rules.specs.Table.{occurrence_by}
 use Rattle.status_rules.specs.declared.Counts.{Counts}

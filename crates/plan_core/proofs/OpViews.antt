@@ -7,18 +7,18 @@ use Rattle.std.specs.List.Sorted.{IsStrictlySortedBy}
 use Rattle.std.specs.Map.{keys_of}
 use Rattle.plan_basics.specs.Keys.{operation_cmp, operation_cmp_total, operation_cmp-IsAntisymmetric}
 use Rattle.plan_basics.specs.declared.keys.OpKey.{OpKey}
-use Rattle.plan_outcomes.specs.plan_model.specs.Contents.{Contents, IsInPlan, Operation}
-use Rattle.plan_outcomes.specs.plan_model.specs.declared.Occurrence.{Occurrence}
-use Rattle.plan_outcomes.specs.plan_model.proofs.Entries.{entries_in_order}
-use Rattle.plan_outcomes.specs.plan_drafts.proofs.RowPlaces.{row_at}
-use Rattle.plan_outcomes.specs.plan_drafts.proofs.Tables.{is_found, some_is}
-use Rattle.plan_status.specs.declared.standings.Standing.{Standing}
+use Rattle.plan_model.specs.Contents.{Contents, IsInPlan, Operation}
+use Rattle.plan_model.specs.declared.Occurrence.{Occurrence}
+use Rattle.plan_model.proofs.Entries.{entries_in_order}
+use Rattle.plan_records.specs.plan_drafts.proofs.RowPlaces.{row_at}
+use Rattle.plan_records.specs.plan_drafts.proofs.Tables.{is_found, some_is}
+use Rattle.plan_opening.specs.plan_status.specs.declared.standings.Standing.{Standing}
 use Rattle.status_rules.specs.declared.Status.{Status}
-use Rattle.plan_outcomes.specs.plan_drafts.proofs.EntryRows.{among_keys, has_key, row_in}
-use Rattle.plan_outcomes.specs.plan_steps.specs.plan_rows.proofs.SideBySide.{from_viewed, from_zipped, keys_viewed, length_zipped, viewed_at, zipped_at}
-use Rattle.plan_outcomes.specs.plan_steps.specs.plan_rows.specs.Shown.{IsShown, Known, known_of}
+use Rattle.plan_records.specs.plan_drafts.proofs.EntryRows.{among_keys, has_key, row_in}
+use Rattle.plan_opening.specs.plan_rows.proofs.SideBySide.{from_viewed, from_zipped, keys_viewed, length_zipped, viewed_at, zipped_at}
+use Rattle.plan_opening.specs.plan_rows.specs.Shown.{IsShown, Known, known_of}
 use Rattle.plan_core.specs.Views.{AreOpViews, IsOpView, op_view_of, op_views, priority_of}
-use Rattle.plan_outcomes.specs.plan_steps.specs.plan_rows.specs.declared.shown.RowSource.{RowSource}
+use Rattle.plan_opening.specs.plan_rows.specs.declared.shown.RowSource.{RowSource}
 use Rattle.plan_core.specs.declared.views.OpView.{OpView}
 
 module _ (s : RowSource) (shown : IsShown s) where

@@ -1,13 +1,13 @@
 -- What holds of the plan that a request leads to, and of what becomes started by it.
 use Rattle.std.proofs.Common.{refl, subst, List, [], ◌∷◌, ◌++◌}
 use Rattle.std.specs.FinMap as finmap
-use Rattle.plan_status.specs.plan_laws.proofs.Every.{every_step_keeps_sound, reached_starts_are_provided_for, run_keeps_sound}
-use Rattle.plan_status.specs.plan_laws.proofs.Starts.{starts_are_provided_for}
-use Rattle.plan_outcomes.specs.plan_model.specs.Plan.{Plan, IsSoundPlan}
-use Rattle.plan_outcomes.specs.plan_records.specs.Answer.{Answer}
-use Rattle.plan_outcomes.specs.plan_records.specs.Run.{State, plain, usable}
-use Rattle.plan_outcomes.specs.plan_records.specs.Step.{Step}
-use Rattle.plan_outcomes.specs.plan_records.specs.declared.Request.{Request}
+use Rattle.plan_opening.specs.plan_laws.proofs.Every.{every_step_keeps_sound, reached_starts_are_provided_for, run_keeps_sound}
+use Rattle.plan_opening.specs.plan_laws.proofs.Starts.{starts_are_provided_for}
+use Rattle.plan_model.specs.Plan.{Plan, IsSoundPlan}
+use Rattle.plan_records.specs.Answer.{Answer}
+use Rattle.plan_records.specs.Run.{State, plain, usable}
+use Rattle.plan_records.specs.Step.{Step}
+use Rattle.plan_records.specs.declared.Request.{Request}
 use Rattle.plan_core.specs.Requested.{IsAnswered}
 use Rattle.plan_core.specs.Provided.{RunStartsAreProvided, StartsAreProvided}
 

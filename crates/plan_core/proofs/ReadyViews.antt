@@ -7,19 +7,19 @@ use Rattle.std.specs.Ordering.{eq_by_cmp}
 use Rattle.std.specs.List.Sorted.{IsStrictlySortedBy}
 use Rattle.plan_basics.specs.Keys.{Name, name_cmp, operation_cmp, operation_cmp_total, operation_cmp-IsAntisymmetric}
 use Rattle.plan_basics.specs.declared.keys.OpKey.{OpKey}
-use Rattle.plan_outcomes.specs.plan_model.specs.Contents.{Contents, Operation}
-use Rattle.plan_outcomes.specs.plan_drafts.proofs.Lists.{contains_cases, contains_head, contains_later, contains_none}
-use Rattle.plan_outcomes.specs.plan_drafts.proofs.RowPlaces.{get_at}
+use Rattle.plan_model.specs.Contents.{Contents, Operation}
+use Rattle.plan_records.specs.plan_drafts.proofs.Lists.{contains_cases, contains_head, contains_later, contains_none}
+use Rattle.plan_records.specs.plan_drafts.proofs.RowPlaces.{get_at}
 use Rattle.ready_list.proofs.Members.{contains_from_filter}
 use Rattle.ready_list.specs.Choice.{operations_of}
 use Rattle.ready_list.specs.Entries.{keys_of as entry_keys, is_on as is_entry_on, on_workstation}
 use Rattle.ready_list.specs.declared.entry.ReadyEntry.{ReadyEntry}
-use Rattle.plan_outcomes.specs.plan_steps.specs.plan_choice.specs.Choices.{AreReadyEntries}
-use Rattle.plan_outcomes.specs.plan_drafts.proofs.EntryRows.{entry_of}
+use Rattle.plan_opening.specs.start_choice.specs.Choices.{AreReadyEntries}
+use Rattle.plan_records.specs.plan_drafts.proofs.EntryRows.{entry_of}
 use Rattle.plan_core.proofs.OpViews.{are_op_views, op_view_is, op_view_there}
-use Rattle.plan_outcomes.specs.plan_steps.specs.plan_rows.specs.Shown.{IsShown}
+use Rattle.plan_opening.specs.plan_rows.specs.Shown.{IsShown}
 use Rattle.plan_core.specs.Views.{AreReadyViews, IsOpView, is_at_workstation, is_on, op_views, ready_views, view_at}
-use Rattle.plan_outcomes.specs.plan_steps.specs.plan_rows.specs.declared.shown.RowSource.{RowSource}
+use Rattle.plan_opening.specs.plan_rows.specs.declared.shown.RowSource.{RowSource}
 use Rattle.plan_core.specs.declared.views.OpView.{OpView}
 
 keyed : List OpView → List (OpKey × OpView)

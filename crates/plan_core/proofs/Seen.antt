@@ -4,18 +4,18 @@ use Rattle.plan_basics.specs.declared.Refusal.{Refusal}
 use Rattle.plan_basics.specs.declared.keys.OpKey.{OpKey}
 use Rattle.plan_core.specs.Prepares.{IsPreparedIn, prepared_by}
 use Rattle.plan_core.specs.State.{PlanState, PreparedState, plan_after}
-use Rattle.plan_outcomes.specs.Anew.{AreLooksAnew, IsAnewOf, IsRemadeBy}
-use Rattle.plan_outcomes.specs.Looked.{AreAllowed, CoverRows}
-use Rattle.plan_outcomes.specs.Next.{contents_next}
-use Rattle.plan_outcomes.specs.Outcomes.{AreLooksTo, IsOutcomeOf}
-use Rattle.plan_outcomes.specs.declared.accepted.Next.TheVariants.{Whole}
-use Rattle.plan_outcomes.specs.declared.accepted.Outcome.{Outcome}
-use Rattle.plan_outcomes.specs.declared.anew.Anew.{Anew}
-use Rattle.plan_outcomes.specs.declared.anew.Remade.{Remade}
-use Rattle.plan_outcomes.specs.plan_records.specs.Work.{IsAllowance}
-use Rattle.plan_outcomes.specs.plan_records.specs.declared.Request.{Request}
-use Rattle.plan_outcomes.specs.plan_model.specs.Contents.{Contents}
-use Rattle.plan_outcomes.specs.plan_model.specs.Plan.{IsSoundPlan, Plan, plan_held}
+use Rattle.request_outcomes.specs.Anew.{AreLooksAnew, IsAnewOf, IsRemadeBy}
+use Rattle.request_outcomes.specs.Looked.{AreAllowed, CoverRows}
+use Rattle.request_outcomes.specs.Next.{contents_next}
+use Rattle.request_outcomes.specs.Outcomes.{AreLooksTo, IsOutcomeOf}
+use Rattle.request_outcomes.specs.declared.accepted.Next.TheVariants.{Whole}
+use Rattle.request_outcomes.specs.declared.accepted.Outcome.{Outcome}
+use Rattle.request_outcomes.specs.declared.anew.Anew.{Anew}
+use Rattle.request_outcomes.specs.declared.anew.Remade.{Remade}
+use Rattle.plan_records.specs.Work.{IsAllowance}
+use Rattle.plan_records.specs.declared.Request.{Request}
+use Rattle.plan_model.specs.Contents.{Contents}
+use Rattle.plan_model.specs.Plan.{IsSoundPlan, Plan, plan_held}
 
 -- the plan that callers see is sound
 pub seen_sound : (clock : ℕ) (x : Option Contents) (s : PlanState) → IsSoundPlan (plan_held clock x) → record { plan = plan_held clock x } ≡ s → IsSoundPlan s.plan

@@ -1,10 +1,10 @@
 -- A request that was prepared, by so many looks.
 use Rattle.std.specs.Prelude.{ℕ}
 use Rattle.plan_core.specs.State.{IsPreparedBy, PreparedState, plan_after}
-use Rattle.plan_outcomes.specs.Looked.{AreLooksFor}
-use Rattle.plan_outcomes.specs.declared.accepted.Outcome.{Outcome}
-use Rattle.plan_outcomes.specs.plan_records.specs.declared.Request.{Request}
-use Rattle.plan_outcomes.specs.plan_model.specs.Plan.{Plan}
+use Rattle.request_outcomes.specs.Looked.{AreLooksFor}
+use Rattle.request_outcomes.specs.declared.accepted.Outcome.{Outcome}
+use Rattle.plan_records.specs.declared.Request.{Request}
+use Rattle.plan_model.specs.Plan.{Plan}
 
 -- what callers see of it at minute m, where so many looks were taken
 abbrev pub prepared_by : ℕ → Outcome → ℕ → PreparedState

@@ -1,10 +1,10 @@
 -- What is promised of all that becomes started.
 use Rattle.std.specs.Prelude.{◌≡◌, List, [], ◌∷◌}
 use Rattle.plan_basics.specs.declared.keys.OpKey.{OpKey}
-use Rattle.plan_outcomes.specs.plan_model.specs.Plan.{Plan, IsSoundPlan}
-use Rattle.plan_outcomes.specs.plan_records.specs.Answer.{Answer}
-use Rattle.plan_outcomes.specs.plan_records.specs.Laws.{BecomesStarted, WasProvidedFor}
-use Rattle.plan_outcomes.specs.plan_records.specs.declared.Request.{Request}
+use Rattle.plan_model.specs.Plan.{Plan, IsSoundPlan}
+use Rattle.plan_records.specs.Answer.{Answer}
+use Rattle.plan_records.specs.Laws.{BecomesStarted, WasProvidedFor}
+use Rattle.plan_records.specs.declared.Request.{Request}
 use Rattle.plan_core.specs.Requested.{IsAnswered}
 
 -- for whatever becomes started between these two plans there was all that it needs, at the moment of the request

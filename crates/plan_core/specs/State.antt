@@ -3,20 +3,20 @@ use Rattle.std.specs.Prelude.{ℕ, List, [], ◌∷◌, Some, map, refl}
 use Rattle.std.specs.Coded.{Coded, code_by, coded×, coded_ℕ, coded_list}
 use Rattle.plan_basics.specs.contracts.keys.OpKey as operation_key
 use Rattle.plan_basics.specs.declared.keys.OpKey.{OpKey}
-use Rattle.plan_outcomes.specs.Next.{IsNextFor, contents_next}
-use Rattle.plan_outcomes.specs.contracts.accepted.Next as next_row
-use Rattle.plan_outcomes.specs.declared.accepted.Next.{Next}
-use Rattle.plan_outcomes.specs.plan_drafts.specs.contracts.RowKey as row_key
-use Rattle.plan_outcomes.specs.plan_drafts.specs.declared.RowKey.{RowKey}
-use Rattle.plan_outcomes.specs.plan_model.specs.Plan.{Plan, plan_held}
-use Rattle.plan_outcomes.specs.plan_model.specs.Code.{plan_code}
-use Rattle.plan_outcomes.specs.plan_records.specs.Answer.{Answer, accepted, refused}
-use Rattle.plan_outcomes.specs.plan_records.specs.Rows.{AreChanges}
-use Rattle.plan_outcomes.specs.plan_records.specs.Run.{Run, accepted_replies, plain, usable}
-use Rattle.plan_outcomes.specs.plan_records.specs.Step.{Step, Receipts}
-use Rattle.plan_outcomes.specs.plan_records.specs.contracts.PlanRow as plan_row
-use Rattle.plan_outcomes.specs.plan_records.specs.declared.PlanRow.{PlanRow}
-use Rattle.plan_outcomes.specs.plan_records.specs.declared.Request.{Request}
+use Rattle.request_outcomes.specs.Next.{IsNextFor, contents_next}
+use Rattle.request_outcomes.specs.contracts.accepted.Next as next_row
+use Rattle.request_outcomes.specs.declared.accepted.Next.{Next}
+use Rattle.plan_records.specs.plan_drafts.specs.contracts.RowKey as row_key
+use Rattle.plan_records.specs.plan_drafts.specs.declared.RowKey.{RowKey}
+use Rattle.plan_model.specs.Plan.{Plan, plan_held}
+use Rattle.plan_model.specs.Code.{plan_code}
+use Rattle.plan_records.specs.Answer.{Answer, accepted, refused}
+use Rattle.plan_records.specs.Rows.{AreChanges}
+use Rattle.plan_records.specs.Run.{Run, accepted_replies, plain, usable}
+use Rattle.plan_records.specs.Step.{Step, Receipts}
+use Rattle.plan_records.specs.contracts.PlanRow as plan_row
+use Rattle.plan_records.specs.declared.PlanRow.{PlanRow}
+use Rattle.plan_records.specs.declared.Request.{Request}
 
 -- the plan that callers see
 pub record PlanState : Type 0 where

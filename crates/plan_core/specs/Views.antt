@@ -10,17 +10,17 @@ use Rattle.plan_basics.specs.declared.keys.OpKey.{OpKey}
 use Rattle.ready_list.specs.Choice.{operations_of}
 use Rattle.ready_list.specs.declared.ReadyKey.{ReadyKey}
 use Rattle.ready_list.specs.declared.entry.ReadyEntry.{ReadyEntry}
-use Rattle.plan_outcomes.specs.plan_model.specs.Contents.{Contents, Operation, IsInPlan}
-use Rattle.plan_outcomes.specs.plan_model.specs.Ready.{IsReadyList}
-use Rattle.plan_outcomes.specs.plan_model.specs.Starts.{IsLatestStart}
-use Rattle.plan_outcomes.specs.plan_model.specs.Status.{HasStatus, HasOccurrenceStatus}
-use Rattle.plan_outcomes.specs.plan_model.specs.declared.Occurrence.{Occurrence}
-use Rattle.plan_outcomes.specs.plan_records.specs.Rows.{IsCount, IsWaitingFor}
+use Rattle.plan_model.specs.Contents.{Contents, Operation, IsInPlan}
+use Rattle.plan_model.specs.Ready.{IsReadyList}
+use Rattle.plan_model.specs.Starts.{IsLatestStart}
+use Rattle.plan_model.specs.Status.{HasStatus, HasOccurrenceStatus}
+use Rattle.plan_model.specs.declared.Occurrence.{Occurrence}
+use Rattle.plan_records.specs.Rows.{IsCount, IsWaitingFor}
 use Rattle.status_rules.specs.Table.{occurrence_by}
 use Rattle.status_rules.specs.declared.Counts.{Counts}
 use Rattle.status_rules.specs.declared.Status.TheVariants.{Complete}
-use Rattle.plan_outcomes.specs.plan_steps.specs.plan_rows.specs.Shown.{IsShown, Known, known_of}
-use Rattle.plan_outcomes.specs.plan_steps.specs.plan_rows.specs.declared.shown.RowSource.{RowSource}
+use Rattle.plan_opening.specs.plan_rows.specs.Shown.{IsShown, Known, known_of}
+use Rattle.plan_opening.specs.plan_rows.specs.declared.shown.RowSource.{RowSource}
 use Rattle.plan_core.specs.declared.views.OccView.{OccView}
 use Rattle.plan_core.specs.declared.views.OpView.{OpView}
 

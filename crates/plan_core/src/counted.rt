@@ -1,22 +1,22 @@
 // A plan that is taken apart while a request is prepared, and put together again.
 ghost use Rattle.std.specs.Prelude.{◌≡◌, ◌⊎◌, ◌≤ℤ◌, pos, None, Some, IfErr, IfOk};
 ghost use Rattle.plan_basics.specs.declared.Refusal.{Refusal};
-ghost use Rattle.plan_outcomes.specs.Anew.{AreLooksAnew, IsAnewOf};
-ghost use Rattle.plan_outcomes.specs.Led.{AreLooksLed, IsLedOf};
+ghost use Rattle.request_outcomes.specs.Anew.{AreLooksAnew, IsAnewOf};
+ghost use Rattle.request_outcomes.specs.Led.{AreLooksLed, IsLedOf};
 ghost use Rattle.plan_core.specs.Prepares.{IsPreparedIn};
-ghost use Rattle.plan_outcomes.specs.plan_records.specs.Answer.{refused};
-ghost use Rattle.plan_outcomes.specs.plan_records.specs.Step.{Step};
-ghost use Rattle.plan_outcomes.specs.plan_records.specs.declared.Request.{Request};
-ghost use Rattle.plan_outcomes.specs.plan_model.specs.Plan.{IsSoundPlan, Plan, plan_held};
+ghost use Rattle.plan_records.specs.Answer.{refused};
+ghost use Rattle.plan_records.specs.Step.{Step};
+ghost use Rattle.plan_records.specs.declared.Request.{Request};
+ghost use Rattle.plan_model.specs.Plan.{IsSoundPlan, Plan, plan_held};
 
 use super::prepared::Prepared;
 use plan_basics::{Moment, Refusal};
-use plan_outcomes::{
-    Anew, Asked, Led, LoadedPlan, Next, Outcome, Parts, Remade, Request, Settled, Shown, What,
-    first_outcome, outcome_of,
-};
-use plan_status::SoundContents;
+use plan_opening::{LoadedPlan, Parts, Shown, SoundContents};
+use plan_records::{Request, What};
 use record_permits::{Permit, granted};
+use request_outcomes::{
+    Anew, Asked, Led, Next, Outcome, Remade, Settled, first_outcome, outcome_of,
+};
 use std::alloc::Global;
 
 // What was prepared with a plan that was made anew, which is put together: its looks count beside those at the plan before. Or what the

@@ -6,7 +6,7 @@ ghost use Rattle.plan_opening.specs.Opening.{AreOfNoPlan, IsPlanOf};
 use super::plan::Plan;
 use plan_basics::Refusal;
 use plan_opening::{OpenedPlan, plan_of_rows};
-use plan_outcomes::PlanRow;
+use plan_records::PlanRow;
 use std::alloc::Global;
 
 impl Plan {

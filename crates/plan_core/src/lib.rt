@@ -1,6 +1,8 @@
-//! The plan in memory: what each request does to it, and what is read off it.
+//! The plan in memory: what each request does to it, and what is read off it; and what an empty one answers to a load, of
+//! which nothing is kept.
 #![tactic(auto)]
 
+mod alone;
 mod counted;
 mod from_rows;
 mod lists;
@@ -11,10 +13,11 @@ mod ready_views;
 mod taking;
 mod views;
 
+pub use alone::answer_alone;
 pub use lists::{Occs, Ops};
 pub use plan::Plan;
-pub use plan_outcomes::{
-    LoadedPlan, Reported, Shown, WorkedOut, check_load, chosen_with, worked_out,
+pub use plan_opening::{
+    Beside, LoadedPlan, Reported, SoundContents, briefs_of, given_out_of, holdings_in,
 };
 pub use prepared::Prepared;
 pub use ready_views::Ready;

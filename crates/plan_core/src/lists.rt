@@ -1,11 +1,11 @@
 // All operations or all occurrences of the plan, one after the other.
 ghost use Rattle.std.specs.Prelude.{◌≡◌};
 ghost use Rattle.std.specs.Iterator.{YieldsFirst, item_count};
-ghost use Rattle.plan_outcomes.specs.plan_steps.specs.plan_rows.specs.Shown.{IsShownIfAny};
+ghost use Rattle.plan_opening.specs.plan_rows.specs.Shown.{IsShownIfAny};
 ghost use Rattle.plan_core.specs.Views.{op_views, occ_views, views_from};
 
 use super::views::{OccView, OpView, occ_view, op_view};
-use plan_outcomes::RowSource;
+use plan_opening::RowSource;
 use std::marker::Model;
 
 /// The operations of the plan from an index on, in key order. Contracts see the list of those that are left.
@@ -19,7 +19,7 @@ impl<'a> Model for Ops<'a> {
     ghost use Rattle.std.specs.Prelude.{List};
     ghost use Rattle.plan_core.specs.declared.views.OpView.{OpView};
     ghost use Rattle.plan_core.specs.Views.{op_views, views_from};
-    ghost use Rattle.plan_outcomes.specs.plan_steps.specs.plan_rows.specs.Shown.{IsShownIfAny};
+    ghost use Rattle.plan_opening.specs.plan_rows.specs.Shown.{IsShownIfAny};
 
     ghost Value = { List OpView };
 
@@ -67,7 +67,7 @@ impl<'a> Model for Occs<'a> {
     ghost use Rattle.std.specs.Prelude.{List};
     ghost use Rattle.plan_core.specs.declared.views.OccView.{OccView};
     ghost use Rattle.plan_core.specs.Views.{occ_views, views_from};
-    ghost use Rattle.plan_outcomes.specs.plan_steps.specs.plan_rows.specs.Shown.{IsShownIfAny};
+    ghost use Rattle.plan_opening.specs.plan_rows.specs.Shown.{IsShownIfAny};
 
     ghost Value = { List OccView };
 

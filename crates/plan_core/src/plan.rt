@@ -1,12 +1,12 @@
 // The plan in memory, and the steps that requests take in it.
 ghost use Rattle.std.specs.Prelude.{◌≡◌, ◌⊎◌, ◌≤ℤ◌, pos, map, IfOk, IfErr, OnOk};
 ghost use Rattle.plan_basics.specs.declared.Refusal.{Refusal};
-ghost use Rattle.plan_outcomes.specs.plan_model.specs.Plan.{no_plan, IsSoundPlan};
-ghost use Rattle.plan_outcomes.specs.plan_records.specs.declared.Request.{Request};
-ghost use Rattle.plan_outcomes.specs.plan_records.specs.Answer.{accepted, refused, answer_of};
-ghost use Rattle.plan_outcomes.specs.plan_records.specs.Rows.{AreChanges};
-ghost use Rattle.plan_outcomes.specs.plan_records.specs.Step.{Step};
-ghost use Rattle.plan_outcomes.specs.Looked.{AreAllowed, CoverRows};
+ghost use Rattle.plan_model.specs.Plan.{no_plan, IsSoundPlan};
+ghost use Rattle.plan_records.specs.declared.Request.{Request};
+ghost use Rattle.plan_records.specs.Answer.{accepted, refused, answer_of};
+ghost use Rattle.plan_records.specs.Rows.{AreChanges};
+ghost use Rattle.plan_records.specs.Step.{Step};
+ghost use Rattle.request_outcomes.specs.Looked.{AreAllowed, CoverRows};
 ghost use Rattle.plan_core.specs.Provided.{RunStartsAreProvided, StartsAreProvided};
 ghost use Rattle.plan_core.specs.Requested.{IsAnswered};
 ghost use Rattle.plan_core.specs.State.{IsPreparedFor, plan_after, AcceptedAnswerAll, AnswersAll};
@@ -15,7 +15,8 @@ use super::counted::prepare_in;
 use super::prepared::Prepared;
 use super::taking::put;
 use plan_basics::{Moment, OpKey, Refusal};
-use plan_outcomes::{LoadedPlan, Reply, Request};
+use plan_opening::LoadedPlan;
+use plan_records::{Reply, Request};
 use std::alloc::Global;
 use std::marker::Model;
 
@@ -29,8 +30,8 @@ pub struct Plan {
 
 impl Model for Plan {
     ghost use Rattle.plan_core.specs.State.{PlanState, state_code};
-    ghost use Rattle.plan_outcomes.specs.plan_model.specs.Plan.{IsSoundPlan};
-    ghost use Rattle.plan_outcomes.specs.plan_model.specs.Plan.{plan_held};
+    ghost use Rattle.plan_model.specs.Plan.{IsSoundPlan};
+    ghost use Rattle.plan_model.specs.Plan.{plan_held};
 
     ghost Value = { PlanState };
 

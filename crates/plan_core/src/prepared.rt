@@ -3,7 +3,8 @@ ghost use Rattle.std.specs.Prelude.{◌≡◌};
 ghost use Rattle.plan_core.specs.Prepares.{prepared_by};
 
 use plan_basics::{Moment, OpKey};
-use plan_outcomes::{Changes, Next, Outcome};
+use plan_records::Changes;
+use request_outcomes::{Next, Outcome};
 use std::marker::Model;
 
 /// A request that is accepted, with all that it takes: its moment, what it makes of the plan that it was prepared for, the

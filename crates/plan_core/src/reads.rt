@@ -1,8 +1,8 @@
 // What is read off the plan.
 ghost use Rattle.std.specs.Prelude.{◌≡◌, ◌↔◌, true, IfSome, IsNone, IsSome};
 ghost use Rattle.std.specs.FinMap.{contains_key};
-ghost use Rattle.plan_outcomes.specs.plan_model.specs.Contents.{nothing, IsInPlan};
-ghost use Rattle.plan_outcomes.specs.plan_steps.specs.plan_rows.specs.Shown.{plan_shown, IsShown};
+ghost use Rattle.plan_model.specs.Contents.{nothing, IsInPlan};
+ghost use Rattle.plan_opening.specs.plan_rows.specs.Shown.{plan_shown, IsShown};
 ghost use Rattle.plan_core.specs.Views.{AreReadyViews, IsOpView, IsOccView, AreOpViews, AreOccViews};
 
 use super::lists::{Occs, Ops};
@@ -10,7 +10,7 @@ use super::plan::Plan;
 use super::ready_views::Ready;
 use super::views::{OccView, OpView, occ_view, op_view};
 use plan_basics::{OccKey, OpKey, WsName};
-use plan_outcomes::{LoadedPlan, RowSource};
+use plan_opening::{LoadedPlan, RowSource};
 
 impl Plan {
     /// Whether a plan is loaded.

@@ -4,7 +4,7 @@ ghost use Rattle.std.specs.Iterator.{YieldsFirst, item_count};
 ghost use Rattle.plan_core.specs.Views.{ready_views, AreEntriesOf};
 
 use super::views::{OpView, op_view};
-use plan_outcomes::RowSource;
+use plan_opening::RowSource;
 use ready_list::OnWorkstation;
 use std::marker::Model;
 

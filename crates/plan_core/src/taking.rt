@@ -1,11 +1,12 @@
 // A loaded plan into which is written what was prepared.
 ghost use Rattle.std.specs.Prelude.{◌≡◌, ℕ, Some};
-ghost use Rattle.plan_outcomes.specs.Next.{IsNextFor, IsWritingFor, contents_next, rewritten};
-ghost use Rattle.plan_outcomes.specs.plan_model.specs.Plan.{plan_held};
-ghost use Rattle.plan_outcomes.specs.plan_model.specs.Ready.{named as named_in};
+ghost use Rattle.request_outcomes.specs.Next.{IsNextFor, IsWritingFor, contents_next, rewritten};
+ghost use Rattle.plan_model.specs.Plan.{plan_held};
+ghost use Rattle.plan_model.specs.Ready.{named as named_in};
 
 use plan_basics::OpKey;
-use plan_outcomes::{LoadedPlan, Next, Parts, Writing, shifted, stepped};
+use plan_opening::{LoadedPlan, Parts};
+use request_outcomes::{Next, Writing, shifted, stepped};
 
 // The plan once this is written into it, and these are named in it. It takes no memory.
 fn with_writing(plan: LoadedPlan, writing: Writing, named: &[OpKey]) -> LoadedPlan

@@ -1,12 +1,11 @@
 // What is read off the plan for one operation or one occurrence.
 ghost use Rattle.std.specs.Prelude.{◌≡◌, ◌<◌, Some, length, slice_get};
 ghost use Rattle.std.specs.FinMap.{entries};
-ghost use Rattle.plan_outcomes.specs.plan_steps.specs.plan_rows.specs.Shown.{IsShown};
+ghost use Rattle.plan_opening.specs.plan_rows.specs.Shown.{IsShown};
 ghost use Rattle.plan_core.specs.Views.{op_views, occ_views};
 
 use plan_basics::{Moment, OccKey, OpKey, WsName};
-use plan_outcomes::RowSource;
-use plan_status::occurrence_status_with;
+use plan_opening::{RowSource, occurrence_status_with};
 use status_rules::{Mark, OccStatus, Status};
 
 /// An operation of the plan, with what is read off the plan for it.

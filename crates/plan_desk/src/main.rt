@@ -1,7 +1,8 @@
 //! The program plandesk: a current plan at the command line.
 #![tactic(auto)]
 
-use desk_runs::{Fault, desk_run, tell_fault};
+use command_answers::Fault;
+use desk_runs::{desk_run, tell_fault};
 use plan_basics::Watched;
 use std::env;
 use std::process::ExitCode;

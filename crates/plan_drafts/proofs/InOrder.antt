@@ -13,8 +13,8 @@ use Rattle.plan_basics.specs.declared.limits.TheConstants.{MOST_OPERATIONS, MOST
 use Rattle.plan_basics.specs.declared.keys.OccKey.{OccKey}
 use Rattle.plan_basics.specs.declared.keys.OpKey.{OpKey}
 use Rattle.plan_basics.specs.Keys.{Name, occurrence_cmp, operation_cmp, operation_cmp_total, operation_cmp-IsAntisymmetric}
-use Rattle.plan_model.specs.special_resources.specs.declared.Need.{Need}
-use Rattle.plan_model.specs.special_resources.specs.Needs.{Usages, usages_of}
+use Rattle.plan_items.specs.special_resources.specs.declared.Need.{Need}
+use Rattle.plan_items.specs.special_resources.specs.Needs.{Usages, usages_of}
 use Rattle.plan_model.specs.status_rules.specs.declared.Mark.TheVariants.{Unmarked}
 use Rattle.plan_model.specs.Contents.{Contents, Operation, IsPairOf, pair_cmp}
 use Rattle.plan_model.proofs.Entries.{entries_are, keys_of-entries, rows_in_order}

@@ -8,8 +8,8 @@ use Rattle.plan_basics.specs.declared.limits.TheConstants.{MOST_NEEDS}
 use Rattle.plan_basics.specs.declared.keys.OccKey.{OccKey}
 use Rattle.plan_basics.specs.declared.keys.OpKey.{OpKey}
 use Rattle.plan_basics.specs.Keys.{occurrence_cmp_total, occurrence_cmp-IsAntisymmetric, operation_cmp_total, operation_cmp-IsAntisymmetric}
-use Rattle.plan_model.specs.special_resources.specs.declared.Need.{Need}
-use Rattle.plan_model.specs.special_resources.specs.Holdings.{usage_of}
+use Rattle.plan_items.specs.special_resources.specs.declared.Need.{Need}
+use Rattle.plan_items.specs.special_resources.specs.Holdings.{usage_of}
 use Rattle.plan_model.specs.Contents.{Contents, Operation, AddedParts, IsPairOf}
 use Rattle.plan_model.specs.Valid.{AreOccurrences, AreUntouched}
 use Rattle.plan_model.specs.declared.Occurrence.{Occurrence}

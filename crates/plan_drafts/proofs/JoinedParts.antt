@@ -7,7 +7,7 @@ use Rattle.std.proofs.lemmas.List.Sorted.{All-permutation, IsPermutation-sym}
 use Rattle.plan_basics.specs.declared.keys.OccKey.{OccKey}
 use Rattle.plan_basics.specs.declared.keys.OpKey.{OpKey}
 use Rattle.plan_basics.specs.Keys.{occurrence_cmp}
-use Rattle.plan_model.specs.special_resources.specs.declared.Need.{Need}
+use Rattle.plan_items.specs.special_resources.specs.declared.Need.{Need}
 use Rattle.plan_model.specs.Contents.{Operation}
 use Rattle.plan_model.specs.declared.Occurrence.{Occurrence}
 use Rattle.plan_items.specs.declared.Item.{Item}

@@ -14,8 +14,8 @@ use Rattle.plan_basics.specs.Intervals.{OpenInterval}
 use Rattle.plan_basics.specs.Names.{IsName, IsResourceName}
 use Rattle.plan_model.specs.workstations.specs.Timetables.{NamedWorkstation}
 use Rattle.plan_model.specs.workstations.specs.Workstations.{Workstation, IsWorkstation}
-use Rattle.plan_model.specs.special_resources.specs.Holders.{Usage}
-use Rattle.plan_model.specs.special_resources.specs.Needs.{usages_of}
+use Rattle.plan_items.specs.special_resources.specs.Holders.{Usage}
+use Rattle.plan_items.specs.special_resources.specs.Needs.{usages_of}
 use Rattle.plan_model.specs.Contents.{Contents, IsPairOf}
 use Rattle.plan_model.specs.Valid.{IsValid, IsAcyclic, IsWithinLimits}
 use Rattle.plan_model.specs.declared.Occurrence.{Occurrence}

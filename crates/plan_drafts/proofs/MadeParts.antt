@@ -13,10 +13,10 @@ use Rattle.plan_basics.specs.declared.keys.OccKey.{OccKey}
 use Rattle.plan_basics.specs.declared.keys.OpKey.{OpKey}
 use Rattle.plan_basics.specs.Keys.{Name, operation_cmp, operation_cmp_total, operation_cmp-IsAntisymmetric}
 use Rattle.plan_basics.specs.Names.{IsResourceName}
-use Rattle.plan_model.specs.special_resources.specs.declared.Need.{Need}
-use Rattle.plan_model.specs.special_resources.specs.Holders.{Usage, IsAmount}
-use Rattle.plan_model.specs.special_resources.specs.Holdings.{usage_of}
-use Rattle.plan_model.specs.special_resources.specs.Needs.{usages_of}
+use Rattle.plan_items.specs.special_resources.specs.declared.Need.{Need}
+use Rattle.plan_items.specs.special_resources.specs.Holders.{Usage, IsAmount}
+use Rattle.plan_items.specs.special_resources.specs.Holdings.{usage_of}
+use Rattle.plan_items.specs.special_resources.specs.Needs.{usages_of}
 use Rattle.plan_model.specs.Contents.{Operation, Occurrences, AddedParts, IsPairOf}
 use Rattle.plan_model.specs.Valid.{IsOccurrence, IsOperation, AreOccurrences, AreUntouched, IsUntouched}
 use Rattle.plan_model.specs.declared.Occurrence.{Occurrence}

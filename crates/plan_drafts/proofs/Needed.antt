@@ -11,7 +11,7 @@ use Rattle.plan_basics.specs.declared.keys.OpKey.{OpKey}
 use Rattle.plan_basics.specs.Keys.{Name, name_cmp_total, name_cmp-IsAntisymmetric}
 use Rattle.plan_basics.specs.Intervals.{OpenInterval}
 use Rattle.plan_model.specs.workstations.specs.Workstations.{Workstation, IsWorkstation}
-use Rattle.plan_model.specs.special_resources.specs.Holdings.{usage_of}
+use Rattle.plan_items.specs.special_resources.specs.Holdings.{usage_of}
 use Rattle.plan_model.specs.Contents.{Contents, IsPairOf, pair_cmp}
 use Rattle.plan_model.specs.Valid.{IsAcyclic}
 use Rattle.plan_model.specs.declared.Occurrence.{Occurrence}

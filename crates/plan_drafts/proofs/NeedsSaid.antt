@@ -11,10 +11,10 @@ use Rattle.plan_basics.specs.declared.keys.OpKey.{OpKey}
 use Rattle.plan_basics.specs.Keys.{Name, name_cmp_total, name_cmp-IsAntisymmetric, operation_cmp_total, operation_cmp-IsAntisymmetric}
 use Rattle.plan_basics.specs.Minutes.{IsMoment}
 use Rattle.plan_basics.specs.Names.{IsResourceName}
-use Rattle.plan_model.specs.special_resources.specs.declared.Need.{Need}
-use Rattle.plan_model.specs.special_resources.specs.Holders.{Usage, IsAmount}
-use Rattle.plan_model.specs.special_resources.specs.Holdings.{usage_of}
-use Rattle.plan_model.specs.special_resources.specs.Needs.{entry_of, usages_of}
+use Rattle.plan_items.specs.special_resources.specs.declared.Need.{Need}
+use Rattle.plan_items.specs.special_resources.specs.Holders.{Usage, IsAmount}
+use Rattle.plan_items.specs.special_resources.specs.Holdings.{usage_of}
+use Rattle.plan_items.specs.special_resources.specs.Needs.{entry_of, usages_of}
 use Rattle.plan_model.specs.Contents.{Operation, Operations}
 use Rattle.plan_model.specs.declared.Occurrence.{Occurrence}
 use Rattle.plan_items.specs.declared.OperationItem.{OperationItem}

@@ -15,13 +15,13 @@ use Rattle.plan_basics.specs.declared.keys.OpKey.{OpKey}
 use Rattle.plan_basics.specs.Keys.{Name, name_cmp, name_cmp_total, name_cmp-IsAntisymmetric, operation_cmp, operation_cmp_total, operation_cmp-IsAntisymmetric}
 use Rattle.plan_basics.proofs.Members.{less_told}
 use Rattle.plan_basics.proofs.PairOrders.{by_two_total, by_two-IsAntisymmetric}
-use Rattle.plan_model.specs.special_resources.specs.declared.Need.{Need}
-use Rattle.plan_model.specs.special_resources.specs.Holdings.{usage_of}
-use Rattle.plan_model.specs.special_resources.specs.NeedCells.{len-usages_of}
-use Rattle.plan_model.specs.special_resources.specs.Needs.{AreInNameOrder, ComeBefore, usages_of}
-use Rattle.plan_model.specs.special_resources.proofs.Keyed.{sorted_before, sorted_left}
-use Rattle.plan_model.specs.special_resources.proofs.MoreNeeds.{need_by_usage, pushed_usages}
-use Rattle.plan_model.specs.special_resources.proofs.Splits.{before_point, from_point}
+use Rattle.plan_items.specs.special_resources.specs.declared.Need.{Need}
+use Rattle.plan_items.specs.special_resources.specs.Holdings.{usage_of}
+use Rattle.plan_items.specs.special_resources.specs.NeedCells.{len-usages_of}
+use Rattle.plan_items.specs.special_resources.specs.Needs.{AreInNameOrder, ComeBefore, usages_of}
+use Rattle.plan_items.specs.special_resources.proofs.Keyed.{sorted_before, sorted_left}
+use Rattle.plan_items.specs.special_resources.proofs.MoreNeeds.{need_by_usage, pushed_usages}
+use Rattle.plan_items.specs.special_resources.proofs.Splits.{before_point, from_point}
 use Rattle.plan_model.specs.ready_list.proofs.Ordered.{partitioned_by}
 use Rattle.plan_drafts.specs.PlanItems.{need_key, need_cmp, own_need, needs_of}
 use Rattle.plan_drafts.proofs.Lists.{at_member, in_map, length_map}

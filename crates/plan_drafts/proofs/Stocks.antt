@@ -6,7 +6,7 @@ use Rattle.std.specs.Map.{keys_of}
 use Rattle.std.proofs.lemmas.Option.{same_Some, none-some}
 use Rattle.plan_basics.specs.declared.keys.OpKey.{OpKey}
 use Rattle.plan_basics.specs.Keys.{Name, name_cmp, name_cmp_total, name_cmp-IsAntisymmetric}
-use Rattle.plan_model.specs.special_resources.specs.declared.Need.{Need}
+use Rattle.plan_items.specs.special_resources.specs.declared.Need.{Need}
 use Rattle.plan_model.specs.declared.Stock.{Stock}
 use Rattle.plan_drafts.specs.PlanItems.{IsWithinStock}
 use Rattle.plan_drafts.proofs.Tables.{rows_apart, get_row, row_found}

@@ -9,7 +9,7 @@ use Rattle.plan_basics.specs.declared.keys.OpKey.{OpKey}
 use Rattle.plan_basics.specs.Keys.{Name, name_cmp_total, name_cmp-IsAntisymmetric, occurrence_cmp_total, occurrence_cmp-IsAntisymmetric, operation_cmp_total, operation_cmp-IsAntisymmetric}
 use Rattle.plan_basics.specs.Intervals.{OpenInterval}
 use Rattle.plan_model.specs.workstations.specs.Workstations.{Workstation}
-use Rattle.plan_model.specs.special_resources.specs.Holders.{Usage}
+use Rattle.plan_items.specs.special_resources.specs.Holders.{Usage}
 use Rattle.plan_model.specs.Contents.{Contents, Operation, AddedParts}
 use Rattle.plan_model.specs.declared.Occurrence.{Occurrence}
 use Rattle.plan_model.specs.declared.Stock.{Stock}

@@ -1,9 +1,7 @@
-pub use Rattle.plan_model.specs.latest_start
-pub use Rattle.plan_model.specs.operation_graph
 pub use Rattle.plan_items
 pub use Rattle.plan_model
 pub use Rattle.plan_model.specs.ready_list
-pub use Rattle.plan_model.specs.special_resources
+pub use Rattle.plan_items.specs.special_resources
 pub use Rattle.plan_model.specs.status_rules
 pub use Rattle.plan_model.specs.workstations
 pub mod Drafts

@@ -3,8 +3,8 @@ use Rattle.std.specs.Prelude.{◌≡◌, ◌≢◌, ◌≤◌, List, length, map
 use Rattle.std.specs.List.{AllPairs, filter_map}
 use Rattle.std.specs.declared.cmp.Ordering.{Ordering}
 use Rattle.std.specs.FinSet.{from_list}
-use Rattle.plan_model.specs.special_resources.specs.declared.Need.{Need}
-use Rattle.plan_model.specs.special_resources.specs.Needs.{usages_of}
+use Rattle.plan_items.specs.special_resources.specs.declared.Need.{Need}
+use Rattle.plan_items.specs.special_resources.specs.Needs.{usages_of}
 use Rattle.plan_model.specs.Valid.{IsAcyclic}
 use Rattle.std.specs.FinMap as fin
 use Rattle.std.specs.Ordering.{eq_by_cmp, ordering_then}

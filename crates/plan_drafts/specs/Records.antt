@@ -4,7 +4,7 @@ use Rattle.std.specs.List.{AllPairs, AllZip}
 use Rattle.std.specs.FinMap.{get, len, contains_key}
 use Rattle.std.specs.declared.alloc.Global.{Global}
 use Rattle.plan_model.specs.workstations.specs.Workstations.{Workstation}
-use Rattle.plan_model.specs.special_resources.specs.Holdings.{usage_of}
+use Rattle.plan_items.specs.special_resources.specs.Holdings.{usage_of}
 use Rattle.plan_model.specs.Contents.{Contents, Operation, AddedParts, HasAttribute, IsPairOf}
 use Rattle.plan_model.specs.declared.Occurrence.{Occurrence}
 use Rattle.plan_items.specs.declared.Item.{Item}

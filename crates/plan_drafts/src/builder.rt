@@ -13,8 +13,8 @@ use super::intervals::workstations_in_order;
 use super::key_order::keys;
 use super::needs::{amounts_fit, are_needs_in, needs_in_order, resources_in_order};
 use plan_basics::{Attr, Interval, OccKey, OpKey, ResName, WsName};
-use plan_items::{Item, OperationItem, read_item};
-use plan_model::{Graph, Need, Occurrence, Stock};
+use plan_items::{Item, Need, OperationItem, read_item};
+use plan_model::{Graph, Occurrence, Stock};
 use std::alloc::{AllocError, Global};
 
 /// The ten fields of one record of a plan's text.

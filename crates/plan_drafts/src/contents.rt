@@ -8,7 +8,7 @@ ghost use Rattle.plan_basics.specs.Keys.{name_cmp, occurrence_cmp, operation_cmp
 ghost use Rattle.plan_model.specs.Contents.{pair_cmp, with_availability, Operation};
 ghost use Rattle.plan_model.specs.Revise.{revise};
 ghost use Rattle.plan_model.specs.Ready.{with_mark};
-ghost use Rattle.plan_moves.specs.Markings.{with_marking};
+ghost use Rattle.plan_model.specs.Markings.{with_marking};
 ghost use Rattle.plan_model.specs.declared.Occurrence.{Occurrence as OccurrenceValue};
 ghost use Rattle.plan_model.specs.workstations.specs.Workstations.{Workstation as WorkstationValue};
 
@@ -18,8 +18,7 @@ use super::places::{
     row_place, row_place_lately, row_place_near, workstation_place, workstation_place_near,
 };
 use plan_basics::{OccKey, OpKey, ResName, WsName};
-use plan_model::{Mark, Occurrence, OperationRecord, Stock, Workstation};
-use plan_moves::Marking;
+use plan_model::{Mark, Marking, Occurrence, OperationRecord, Stock, Workstation};
 use std::alloc::{AllocError, Global};
 use std::marker::Model;
 

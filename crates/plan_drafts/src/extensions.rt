@@ -12,8 +12,8 @@ use super::key_order::{in_key_order, keys};
 use super::needs::needs_in_order;
 use super::places::row_place;
 use plan_basics::{OccKey, OpKey};
-use plan_items::Item;
-use plan_model::{Need, Occurrence};
+use plan_items::{Item, Need};
+use plan_model::Occurrence;
 use std::alloc::{AllocError, Global};
 
 // Whether an item is of an occurrence, an operation, a pair or a need.

@@ -18,8 +18,8 @@ use super::needs::own_needs;
 use super::places::row_place;
 use plan_basics::limits::{MOST_OCCURRENCES, MOST_OPERATIONS, MOST_PAIRS};
 use plan_basics::{OccKey, OpKey};
-use plan_items::OperationItem;
-use plan_model::{Graph, Mark, Need, Occurrence, OperationRecord, Workstation};
+use plan_items::{Need, OperationItem};
+use plan_model::{Graph, Mark, Occurrence, OperationRecord, Workstation};
 use std::alloc::{AllocError, Global};
 
 // The occurrences in key order, where there are no more than a plan may hold, and none is repeated.

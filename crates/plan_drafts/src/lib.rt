@@ -26,7 +26,8 @@ pub use graphs::{graph_among, graph_of, is_acyclic};
 pub use key_order::{ExactKey, in_key_order, keys};
 pub use places::row_place;
 use plan_basics::{Moment, OccKey, OpKey, ResName, WsName};
-pub use plan_model::{Mark, Mode, Need, OccStatus, Occurrence, OperationRecord, Status, Stock};
+pub use plan_items::{Mode, Need};
+pub use plan_model::{Mark, Marking, OccStatus, Occurrence, OperationRecord, Status};
 use std::cmp::Ordering;
 
 /// A row's key columns. Ordered by table, in the order of the variants, then by the columns.

@@ -6,7 +6,7 @@ ghost use Rattle.std.specs.List.Sorted.{IsStrictlySortedBy};
 ghost use Rattle.std.specs.Map.{keys_of};
 ghost use Rattle.plan_basics.specs.declared.limits.TheConstants.{MOST_NEEDS};
 ghost use Rattle.plan_basics.specs.Keys.{name_cmp, operation_cmp};
-ghost use Rattle.plan_model.specs.special_resources.specs.Needs.{AreInNameOrder, usages_of};
+ghost use Rattle.plan_items.specs.special_resources.specs.Needs.{AreInNameOrder, usages_of};
 ghost use Rattle.plan_drafts.specs.PlanItems.{AreResources, AreResourcesInOrder, AreNeedsInOrder, IsNeedIn, IsWithinStock, need_cmp, need_key, needs_of};
 
 use super::in_order::is_among;
@@ -14,7 +14,8 @@ use super::key_order::in_key_order;
 use super::places::row_place;
 use plan_basics::limits::MOST_RESOURCES;
 use plan_basics::{OpKey, ResName};
-use plan_model::{Need, Needs, Stock};
+use plan_items::{Need, Needs};
+use plan_model::Stock;
 use std::alloc::AllocError;
 
 // The special resources by name, where they are no more than a plan may hold, and none is repeated.

@@ -2,7 +2,7 @@
 use Rattle.std.proofs.Common.{◌≡◌, ◌∙◌, sym, ap, ap₂, arith, ℕ, ◌+◌, ◌<◌, List, [], ◌∷◌, ◌++◌, length, get_or, set, take, Vec, vec_items}
 use Rattle.std.specs.declared.alloc.Global.{Global}
 use Rattle.std.proofs.lemmas.List.{length-map, map-set, take_more, take_more_set}
-use Rattle.plan_records.specs.plan_items.specs.Items.{fields_of}
+use Rattle.plan_items.specs.Items.{fields_of}
 
 -- with one more of them, as many fields as before and one are those of the row
 pub put_more :

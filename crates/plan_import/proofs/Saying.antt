@@ -8,8 +8,8 @@ use Rattle.csv.specs.declared.parser.State.{State}
 use Rattle.csv.specs.declared.parser.State.TheVariants as st
 use Rattle.csv.proofs.ReadFacts.{reached-more}
 use Rattle.plan_records.specs.plan_drafts.specs.Records.{Denotes, DenotesAddition, DenotesExtension}
-use Rattle.plan_records.specs.plan_items.specs.Items.{Fields, IsItem, Says}
-use Rattle.plan_records.specs.plan_items.specs.declared.Item.{Item}
+use Rattle.plan_items.specs.Items.{Fields, IsItem, Says}
+use Rattle.plan_items.specs.declared.Item.{Item}
 use Rattle.plan_records.specs.plan_model.specs.Contents.{AddedParts, Contents}
 use Rattle.plan_import.proofs.Rows.{all-more, one_reading, other-none}
 use Rattle.plan_import.specs.Records.{IsSaidIn, IsTen, SaysSome}

@@ -1,5 +1,6 @@
-pub use Rattle.plan_records.specs.plan_drafts
-pub use Rattle.plan_records.specs.plan_items
-pub use Rattle.plan_records.specs.plan_model
 pub mod Records
 pub mod Texts
+pub mod TextRecords
+pub mod Denoting
+pub mod Lines
+pub mod Places

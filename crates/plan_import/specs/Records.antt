@@ -6,8 +6,8 @@ use Rattle.csv.specs.Reading.{AreRecords, Ready, default_config, source_of, read
 use Rattle.csv.specs.declared.reader.Reader.{Reader}
 use Rattle.csv.specs.declared.reader.Trim.TheVariants as trim
 use Rattle.csv.specs.declared.parser.State.TheVariants as st
-use Rattle.plan_records.specs.plan_items.specs.Items.{Fields, Says}
-use Rattle.plan_records.specs.plan_items.specs.declared.Item.{Item}
+use Rattle.plan_items.specs.Items.{Fields, Says}
+use Rattle.plan_items.specs.declared.Item.{Item}
 use Rattle.plan_import.specs.declared.Said.{Said}
 use Rattle.plan_import.specs.declared.Said.TheVariants as said
 

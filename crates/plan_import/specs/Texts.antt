@@ -2,7 +2,7 @@
 use Rattle.std.specs.Prelude.{ℕ, List}
 use Rattle.csv.specs.Reading.{strip_bom}
 use Rattle.plan_records.specs.plan_model.specs.Contents.{Contents, AddedParts}
-use Rattle.plan_records.specs.plan_items.specs.Items.{Fields}
+use Rattle.plan_items.specs.Items.{Fields}
 use Rattle.plan_records.specs.plan_drafts.specs.Records.{Denotes, DenotesAddition, DenotesExtension}
 use Rattle.plan_import.specs.Records.{AreOfTen}
 

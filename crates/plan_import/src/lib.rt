@@ -1,17 +1,21 @@
-//! Plans, occurrences to be added and extensions, from texts of comma-separated fields, over any reader of bytes.
+//! Plans, occurrences to be added and extensions, from texts of comma-separated fields, over any reader of bytes; and the
+//! records of such a text, each with the line where it begins.
 #![tactic(auto)]
+
+mod lines;
 
 ghost use Rattle.std.specs.Prelude.{◌≡◌, ◌↔◌, All, IfOk, IfSome, OnOk, length, MatchOption, Err, true, false, option_map};
 ghost use Rattle.csv.specs.Records.{fields_of as row_fields};
 ghost use Rattle.csv.specs.Reading.{strip_bom, source_of, reader_state, stops_reader, error_kind};
 ghost use Rattle.csv.specs.declared.parser.State.TheVariants as st;
 ghost use Rattle.plan_records.specs.plan_model.specs.Contents.{Contents, AddedParts};
-ghost use Rattle.plan_records.specs.plan_items.specs.Items.{IsItem, Says, fields_of};
+ghost use Rattle.plan_items.specs.Items.{IsItem, Says, fields_of};
 ghost use Rattle.plan_import.specs.Records.{IsPlain, IsSaidIn, IsTen, SaysNext, SaysSome};
 ghost use Rattle.plan_import.specs.Texts.{TextDenotes, TextDenotesAddition, TextDenotesExtension};
 ghost use Rattle.plan_basics.specs.Watched.{inner_of, failed_of};
 
 use csv::{ByteRecord, ErrorKind, Reader, ReaderBuilder};
+pub use lines::{TextRecords, records_of_text};
 use plan_basics::Watched;
 use plan_items::{Item, read_item};
 use plan_records::{Addition, Extension, PlanDraft};

@@ -1,3 +1,4 @@
+pub use Rattle.special_resources
 pub mod Numerals
 pub mod Parts
 pub mod Items

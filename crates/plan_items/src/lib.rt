@@ -35,7 +35,7 @@ use kinds::{
     read_resource, read_workstation,
 };
 use plan_basics::{Attr, Interval, Moment, OccKey, OpKey, ResName, WsName};
-use special_resources::Need;
+pub use special_resources::{Mode, Need, Needs};
 
 /// What one record of a plan's text says.
 #[derive(Clone, Copy, Debug, PartialEq, Eq)]

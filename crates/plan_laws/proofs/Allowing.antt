@@ -9,31 +9,31 @@ use Rattle.plan_basics.specs.declared.Refusal.TheVariants as refusal
 use Rattle.plan_basics.specs.declared.keys.OpKey.{OpKey}
 use Rattle.plan_basics.specs.Intervals.{IsOpenAt, OpenInterval}
 use Rattle.plan_basics.specs.Keys.{Name, name_cmp-IsAntisymmetric, name_cmp_total, operation_cmp, operation_cmp-IsAntisymmetric, operation_cmp_total}
-use Rattle.plan_records.specs.special_resources.proofs.Amounts.{AreAllHolders, all_holders, some_of_all}
-use Rattle.plan_records.specs.special_resources.specs.Holders.{FitsBeside, LeavesEnough, OtherHolds, SharesWithHolders, Usage, amount_held}
-use Rattle.plan_records.specs.special_resources.specs.declared.Mode.{Mode}
-use Rattle.plan_records.specs.special_resources.specs.declared.Mode.TheVariants as mode
-use Rattle.plan_records.specs.status_rules.specs.Table.{marked_status}
-use Rattle.plan_records.specs.status_rules.specs.declared.Status.TheVariants as status
-use Rattle.plan_records.specs.workstations.specs.Workstations.{HasCapacity, HasRoom, Workstation, capacity_of}
-use Rattle.plan_records.specs.workstations.specs.declared.Capacity.{Capacity}
+use Rattle.special_resources.proofs.Amounts.{AreAllHolders, all_holders, some_of_all}
+use Rattle.special_resources.specs.Holders.{FitsBeside, LeavesEnough, OtherHolds, SharesWithHolders, Usage, amount_held}
+use Rattle.special_resources.specs.declared.Mode.{Mode}
+use Rattle.special_resources.specs.declared.Mode.TheVariants as mode
+use Rattle.status_rules.specs.Table.{marked_status}
+use Rattle.status_rules.specs.declared.Status.TheVariants as status
+use Rattle.plan_model.specs.workstations.specs.Workstations.{HasCapacity, HasRoom, Workstation, capacity_of}
+use Rattle.plan_model.specs.workstations.specs.declared.Capacity.{Capacity}
 use Rattle.plan_laws.proofs.Entries.{same_operation, told_at, told_each_at, told_entries, told_entry, told_has, told_operations}
 use Rattle.std.proofs.lemmas.Option.{same_Some}
 use Rattle.plan_laws.proofs.Numbers.{told_refusals}
 use Rattle.plan_laws.proofs.Readying.{ready_told}
 use Rattle.plan_laws.proofs.Standing.{status_told}
 use Rattle.plan_laws.proofs.Decide.{told_attribute}
-use Rattle.plan_records.specs.operation_graph.proofs.Telling.{Told, told_alike, told_and, told_if_then, told_none, told_or, told_true}
+use Rattle.operation_graph.proofs.Telling.{Told, told_alike, told_and, told_if_then, told_none, told_or, told_true}
 use Rattle.plan_records.specs.plan_drafts.proofs.Lists.{pairs_from_differ}
 use Rattle.plan_records.specs.plan_drafts.proofs.Tables.{sorted_apart}
-use Rattle.plan_records.specs.plan_model.proofs.Entries.{entries_in_order}
-use Rattle.plan_records.specs.plan_model.proofs.Members.{in_keys}
-use Rattle.plan_records.specs.plan_model.specs.declared.Stock.{Stock}
-use Rattle.plan_records.specs.plan_model.specs.Holdings.{Holds, given_out, holds_resource, takes}
-use Rattle.plan_records.specs.plan_model.specs.Contents.{Contents, HasAttribute, Operation, attribute_at}
-use Rattle.plan_records.specs.plan_model.specs.Starts.{FitsAt, IsAllowedToStart, MayStart}
-use Rattle.plan_records.specs.plan_model.specs.Status.{HasStatus, IsReady}
-use Rattle.plan_records.specs.plan_model.specs.Valid.{IsAcyclic}
+use Rattle.plan_model.proofs.Entries.{entries_in_order}
+use Rattle.plan_model.proofs.Members.{in_keys}
+use Rattle.plan_model.specs.declared.Stock.{Stock}
+use Rattle.plan_model.specs.Holdings.{Holds, given_out, holds_resource, takes}
+use Rattle.plan_model.specs.Contents.{Contents, HasAttribute, Operation, attribute_at}
+use Rattle.plan_model.specs.Starts.{FitsAt, IsAllowedToStart, MayStart}
+use Rattle.plan_model.specs.Status.{HasStatus, IsReady}
+use Rattle.plan_model.specs.Valid.{IsAcyclic}
 
 pub told_le : (a b : ℕ) → Told (a ≤ b)
 told_le a b = elim (cases_lt b a) [ inl less ↦ inr (λ h. omega (arith, less, h)) | inr le ↦ inl le ]

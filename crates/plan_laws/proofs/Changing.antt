@@ -5,7 +5,7 @@ use Rattle.std.specs.FinMap.{get, contains_key}
 use Rattle.std.proofs.lemmas.Bool.{cond_both}
 use Rattle.plan_basics.specs.declared.limits.TheConstants.{MOST_QUANTITY, MOST_RESOURCES, MOST_WORKSTATIONS}
 use Rattle.plan_basics.specs.declared.Refusal.TheVariants as refusal
-use Rattle.plan_records.specs.status_rules.specs.declared.Mark.TheVariants as mark
+use Rattle.status_rules.specs.declared.Mark.TheVariants as mark
 use Rattle.plan_records.specs.declared.What.TheVariants as what
 use Rattle.plan_basics.specs.declared.moments.Interval.{Interval}
 use Rattle.std.proofs.Common.{Vec, Global}
@@ -13,24 +13,24 @@ use Rattle.plan_basics.specs.Intervals.{OpenInterval}
 use Rattle.plan_basics.specs.Keys.{Name, name_cmp, name_cmp-IsAntisymmetric}
 use Rattle.plan_basics.specs.Names.{IsName, IsResourceName}
 use Rattle.plan_laws.proofs.Entries.{same_operation}
-use Rattle.plan_records.specs.special_resources.proofs.Amounts.{no_more, none_held}
+use Rattle.special_resources.proofs.Amounts.{no_more, none_held}
 use Rattle.plan_basics.specs.declared.keys.OpKey.{OpKey}
 use Rattle.plan_records.specs.plan_drafts.proofs.Tables.{is_found}
 use Rattle.plan_records.specs.plan_drafts.proofs.Needed.{mapped}
 use Rattle.std.proofs.lemmas.Option.{same_Some}
-use Rattle.plan_records.specs.plan_model.specs.Holdings.{Holds, holds_resource, takes}
-use Rattle.plan_records.specs.plan_model.specs.Contents.{Contents, Operation, attribute_at, with_availability}
-use Rattle.plan_records.specs.plan_model.specs.declared.Stock.{Stock}
-use Rattle.plan_records.specs.plan_model.specs.Revise.{get-revise, len-revise, revise}
-use Rattle.plan_records.specs.plan_model.specs.Status.{IsSatisfied, NeedsNoReport}
-use Rattle.plan_records.specs.plan_model.specs.Valid.{IsSound, MayBear}
+use Rattle.plan_model.specs.Holdings.{Holds, holds_resource, takes}
+use Rattle.plan_model.specs.Contents.{Contents, Operation, attribute_at, with_availability}
+use Rattle.plan_model.specs.declared.Stock.{Stock}
+use Rattle.plan_model.specs.Revise.{get-revise, len-revise, revise}
+use Rattle.plan_model.specs.Status.{IsSatisfied, NeedsNoReport}
+use Rattle.plan_model.specs.Valid.{IsSound, MayBear}
 use Rattle.plan_records.specs.plan_drafts.specs.Drafts.{IsDraft}
 use Rattle.plan_records.specs.Laws.{ChangeKeepsSound}
-use Rattle.plan_records.specs.special_resources.specs.Holders.{HoldNoMoreThan, Usage}
-use Rattle.plan_records.specs.status_rules.specs.LeastSet.{LeastSet, by_all_before, by_given}
-use Rattle.plan_records.specs.status_rules.specs.Table.{marked_status}
-use Rattle.plan_records.specs.workstations.proofs.Lookups.{opened_is}
-use Rattle.plan_records.specs.workstations.specs.Workstations.{IsWorkstation, Workstation, with_intervals}
+use Rattle.special_resources.specs.Holders.{HoldNoMoreThan, Usage}
+use Rattle.status_rules.specs.LeastSet.{LeastSet, by_all_before, by_given}
+use Rattle.status_rules.specs.Table.{marked_status}
+use Rattle.plan_model.specs.workstations.proofs.Lookups.{opened_is}
+use Rattle.plan_model.specs.workstations.specs.Workstations.{IsWorkstation, Workstation, with_intervals}
 
 -- ---- a load
 

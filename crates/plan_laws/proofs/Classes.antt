@@ -2,15 +2,15 @@
 use Rattle.std.proofs.Common.{◌≡◌, ◌⊎◌, inl, inr, refl, sym, ap, subst, ◌∙◌, true, true≢false, Bool, Decides, MatchOption, Some}
 use Rattle.std.specs.FinMap.{get}
 use Rattle.plan_basics.specs.declared.keys.OpKey.{OpKey}
-use Rattle.plan_records.specs.status_rules.specs.Classes.{is_ready, is_satisfied, is_under_way, is_waiting_or_ready}
-use Rattle.plan_records.specs.status_rules.specs.LeastSet.{by_given}
-use Rattle.plan_records.specs.status_rules.specs.Table.{marked_status}
-use Rattle.plan_records.specs.status_rules.specs.declared.Mark.{Mark}
-use Rattle.plan_records.specs.status_rules.specs.declared.Mark.TheVariants as mark
-use Rattle.plan_records.specs.status_rules.specs.declared.Status.{Status}
-use Rattle.plan_records.specs.status_rules.specs.declared.Status.TheVariants as status
-use Rattle.plan_records.specs.plan_model.specs.Contents.{Contents, Operation}
-use Rattle.plan_records.specs.plan_model.specs.Status.{HasStatus, IsReady, IsSatisfied, IsUnderWay, IsWaitingOrReady, UnmarkedStatus}
+use Rattle.status_rules.specs.Classes.{is_ready, is_satisfied, is_under_way, is_waiting_or_ready}
+use Rattle.status_rules.specs.LeastSet.{by_given}
+use Rattle.status_rules.specs.Table.{marked_status}
+use Rattle.status_rules.specs.declared.Mark.{Mark}
+use Rattle.status_rules.specs.declared.Mark.TheVariants as mark
+use Rattle.status_rules.specs.declared.Status.{Status}
+use Rattle.status_rules.specs.declared.Status.TheVariants as status
+use Rattle.plan_model.specs.Contents.{Contents, Operation}
+use Rattle.plan_model.specs.Status.{HasStatus, IsReady, IsSatisfied, IsUnderWay, IsWaitingOrReady, UnmarkedStatus}
 use Rattle.plan_laws.proofs.Decide.{invert}
 use Rattle.std.proofs.lemmas.Option.{same_Some}
 use Rattle.plan_laws.proofs.Standing.{one_status}

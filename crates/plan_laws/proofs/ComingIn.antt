@@ -6,7 +6,7 @@ use Rattle.std.specs.Cmp.{IsTotalOrder}
 use Rattle.std.specs.FinMap.{FinMap, get, contains_key}
 use Rattle.std.specs.FinSet as set
 use Rattle.plan_basics.specs.declared.Refusal.TheVariants as refusal
-use Rattle.plan_records.specs.status_rules.specs.declared.Mark.TheVariants as mark
+use Rattle.status_rules.specs.declared.Mark.TheVariants as mark
 use Rattle.plan_records.specs.declared.What.TheVariants as what
 use Rattle.std.specs.declared.cmp.Ordering.{Ordering}
 use Rattle.plan_basics.specs.Keys.{Name, occurrence_cmp_total, operation_cmp_total}
@@ -18,19 +18,19 @@ use Rattle.plan_laws.proofs.Pairs.{pair_cmp_total, pair_same}
 use Rattle.plan_laws.proofs.Flags.{waiting_not_satisfied, waiting_unmarked}
 use Rattle.plan_records.specs.plan_drafts.proofs.Tables.{is_found}
 use Rattle.std.proofs.lemmas.Option.{same_Some}
-use Rattle.plan_records.specs.plan_model.specs.Holdings.{Holds, holds_resource}
-use Rattle.plan_records.specs.plan_model.specs.Contents.{Contents, IsInPlan, IsLive, IsPairOf, LivePredecessor, Occurrences, Operation, Operations, Pairs, AddedParts, pair_cmp}
-use Rattle.plan_records.specs.plan_model.specs.Revise.{get-joined, joined, or_else}
-use Rattle.plan_records.specs.plan_model.specs.Status.{AllPredecessorsSatisfied, IsSatisfied, IsWaitingOrReady}
-use Rattle.plan_records.specs.plan_model.specs.Valid.{AreOccurrences, IsSound, IsUntouched, IsValid, MayBear}
+use Rattle.plan_model.specs.Holdings.{Holds, holds_resource}
+use Rattle.plan_model.specs.Contents.{Contents, IsInPlan, IsLive, IsPairOf, LivePredecessor, Occurrences, Operation, Operations, Pairs, AddedParts, pair_cmp}
+use Rattle.plan_model.specs.Revise.{get-joined, joined, or_else}
+use Rattle.plan_model.specs.Status.{AllPredecessorsSatisfied, IsSatisfied, IsWaitingOrReady}
+use Rattle.plan_model.specs.Valid.{AreOccurrences, IsSound, IsUntouched, IsValid, MayBear}
 use Rattle.plan_records.specs.Acceptance.{IsNew, IsOld, MayBeAdded}
 use Rattle.plan_records.specs.Changes.{with_added}
 use Rattle.plan_records.specs.plan_drafts.specs.Drafts.{IsExtension, IsOwn}
 use Rattle.plan_records.specs.Laws.{ChangeKeepsSound}
-use Rattle.plan_records.specs.special_resources.proofs.Amounts.{no_more}
-use Rattle.plan_records.specs.special_resources.specs.Holders.{Usage}
-use Rattle.plan_records.specs.status_rules.specs.LeastSet.{by_all_before, by_given}
-use Rattle.plan_records.specs.status_rules.specs.Table.{marked_status}
+use Rattle.special_resources.proofs.Amounts.{no_more}
+use Rattle.special_resources.specs.Holders.{Usage}
+use Rattle.status_rules.specs.LeastSet.{by_all_before, by_given}
+use Rattle.status_rules.specs.Table.{marked_status}
 
 module _ (P : Contents) (sound : IsSound P) (occurrences : Occurrences) (operations : Operations) (pairs : Pairs) where
   abbrev grown : Contents

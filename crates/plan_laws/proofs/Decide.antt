@@ -2,19 +2,19 @@
 use Rattle.std.proofs.Common.{◌≡◌, ◌⊎◌, inl, inr, refl, sym, ◌∙◌, ap, subst, arith, ℕ, zero, suc, ◌<◌, true, false, Option, Some, None}
 use Rattle.std.specs.FinMap.{get}
 use Rattle.std.specs.FinSet as set
-use Rattle.plan_records.specs.operation_graph.specs.Paths.{IsRankBy}
+use Rattle.operation_graph.specs.Paths.{IsRankBy}
 use Rattle.plan_basics.specs.Keys.{Name}
 use Rattle.plan_basics.specs.declared.Attr.{Attr}
 use Rattle.plan_basics.specs.declared.Attr.TheVariants as attribute
 use Rattle.plan_basics.specs.declared.keys.OpKey.{OpKey}
-use Rattle.plan_records.specs.status_rules.specs.LeastSet.{by_all_before, by_given}
-use Rattle.plan_records.specs.status_rules.specs.declared.Mark.{Mark}
-use Rattle.plan_records.specs.status_rules.specs.declared.Mark.TheVariants as mark
+use Rattle.status_rules.specs.LeastSet.{by_all_before, by_given}
+use Rattle.status_rules.specs.declared.Mark.{Mark}
+use Rattle.status_rules.specs.declared.Mark.TheVariants as mark
 use Rattle.plan_laws.proofs.Entries.{told_has, told_operations}
 use Rattle.std.proofs.lemmas.Option.{none-some, same_Some}
-use Rattle.plan_records.specs.operation_graph.proofs.Telling.{Told, if_told, is_told, told_alike, told_and, told_if, told_if_then, told_none, told_or, told_true}
-use Rattle.plan_records.specs.plan_model.specs.Contents.{Contents, Has, HasAttribute, IsLive, LivePredecessor, Operation, Precedes, attribute_at}
-use Rattle.plan_records.specs.plan_model.specs.Status.{AllPredecessorsSatisfied, IsInEachClosedSet, IsSatisfied, NeedsNoReport}
+use Rattle.operation_graph.proofs.Telling.{Told, if_told, is_told, told_alike, told_and, told_if, told_if_then, told_none, told_or, told_true}
+use Rattle.plan_model.specs.Contents.{Contents, Has, HasAttribute, IsLive, LivePredecessor, Operation, Precedes, attribute_at}
+use Rattle.plan_model.specs.Status.{AllPredecessorsSatisfied, IsInEachClosedSet, IsSatisfied, NeedsNoReport}
 pub use Rattle.plan_laws.proofs.Pairs.{pair_cmp_total, pair_same}
 
 -- why it is satisfied

@@ -14,9 +14,9 @@ use Rattle.plan_basics.specs.declared.Refusal.TheVariants as refusal
 use Rattle.plan_basics.specs.Intervals.{AreApart, OpenInterval}
 use Rattle.plan_basics.specs.Keys.{Name, name_cmp-IsAntisymmetric, name_cmp_total, occurrence_cmp-IsAntisymmetric, occurrence_cmp_total, operation_cmp-IsAntisymmetric, operation_cmp_total}
 use Rattle.plan_basics.specs.Minutes.{IsMoment}
-use Rattle.plan_records.specs.status_rules.specs.declared.Mark.{Mark}
-use Rattle.plan_records.specs.status_rules.specs.declared.Mark.TheVariants as mark
-use Rattle.plan_records.specs.status_rules.specs.declared.Status.TheVariants as status
+use Rattle.status_rules.specs.declared.Mark.{Mark}
+use Rattle.status_rules.specs.declared.Mark.TheVariants as mark
+use Rattle.status_rules.specs.declared.Status.TheVariants as status
 use Rattle.plan_laws.proofs.Allowing.{may_start_told, told_le}
 use Rattle.plan_laws.proofs.Elements.{told_pairs_of}
 use Rattle.plan_laws.proofs.Entries.{told_each_at, told_entries}
@@ -27,12 +27,12 @@ use Rattle.plan_laws.proofs.Readying.{ready_told}
 use Rattle.plan_laws.proofs.Standing.{status_told}
 use Rattle.plan_laws.proofs.Waiting.{some_left}
 use Rattle.plan_laws.proofs.Decide.{told_attribute}
-use Rattle.plan_records.specs.operation_graph.proofs.Telling.{Told, told_alike, told_and, told_if_then, told_none, told_or, told_true}
-use Rattle.plan_records.specs.plan_model.specs.Plan.{Plan}
-use Rattle.plan_records.specs.plan_model.specs.Contents.{Contents, Operation, AddedParts, attribute_at}
-use Rattle.plan_records.specs.plan_model.specs.Valid.{AmountsFit, HaveResources, HaveWorkstations, IsAcyclic}
-use Rattle.plan_records.specs.plan_model.specs.declared.Stock.{Stock}
-use Rattle.plan_records.specs.special_resources.specs.Holders.{Usage}
+use Rattle.operation_graph.proofs.Telling.{Told, told_alike, told_and, told_if_then, told_none, told_or, told_true}
+use Rattle.plan_model.specs.Plan.{Plan}
+use Rattle.plan_model.specs.Contents.{Contents, Operation, AddedParts, attribute_at}
+use Rattle.plan_model.specs.Valid.{AmountsFit, HaveResources, HaveWorkstations, IsAcyclic}
+use Rattle.plan_model.specs.declared.Stock.{Stock}
+use Rattle.special_resources.specs.Holders.{Usage}
 use Rattle.plan_records.specs.Acceptance.{IsBadText, IsLoad, IsNew, IsOld, MayBeAccepted, MayBeAdded, MayBeCompleted, MayBeDeleted, MayBeDone, MayBeEnded, MayBeFlagged, MayBeInterrupted, MayBeLoaded, MayBeOpenBy, MayBePaired, MayBeRerun, MayBeSetAvailable, MayBeStarted, MayBeUndecided, NeedsPlan, OfOperation, minute_of}
 use Rattle.plan_records.specs.Changes.{LeavesOver, with_pair, with_added}
 use Rattle.plan_records.specs.declared.Request.{Request}

@@ -1,7 +1,7 @@
 -- What holds of each of a list's elements, by their indices, and of each two.
 use Rattle.std.proofs.Common.{arith, zero, suc, List, [], ◌∷◌, inl}
 use Rattle.std.specs.Prelude.{All, AllPairs}
-use Rattle.plan_records.specs.operation_graph.proofs.Telling.{Told, told_alike, told_and}
+use Rattle.operation_graph.proofs.Telling.{Told, told_alike, told_and}
 
 pub first_of_all : {A : Type 0} (Q : A → Type 0) (x : A) (xs : List A) → All Q (x ∷ xs) → Q x
 first_of_all Q x xs h = h 0 x (omega arith)

@@ -2,10 +2,10 @@
 use Rattle.std.proofs.Common.{◌≡◌, ◌⊎◌, inl, inr, refl, sym, ◌∙◌, ap, subst, true≢false, arith, true, List, [], ◌∷◌, Option, Some, None, is_some}
 use Rattle.std.specs.FinMap.{get, len-empty, get-empty}
 use Rattle.std.specs.FinSet as set
-use Rattle.plan_records.specs.status_rules.specs.declared.Status.TheVariants as status
+use Rattle.status_rules.specs.declared.Status.TheVariants as status
 use Rattle.plan_records.specs.declared.What.TheVariants as what
 use Rattle.plan_records.specs.Answer.{accepted, refused}
-use Rattle.plan_records.specs.operation_graph.specs.Paths.{LeadsBy, by_edge, by_more}
+use Rattle.operation_graph.specs.Paths.{LeadsBy, by_edge, by_more}
 use Rattle.plan_basics.specs.Keys.{name_cmp, occurrence_cmp, operation_cmp}
 use Rattle.plan_basics.specs.declared.keys.OpKey.{OpKey}
 use Rattle.plan_laws.proofs.Changing.{availability_keeps_sound, intervals_keep_sound, load_keeps_sound}
@@ -18,18 +18,18 @@ use Rattle.plan_laws.proofs.Reports.{complete_keeps_sound, end_keeps_sound, erro
 use Rattle.plan_laws.proofs.Rerun.{rerun_keeps_sound}
 use Rattle.plan_laws.proofs.Runs.{accepted_call, refused_changes_nothing}
 use Rattle.plan_laws.proofs.Starts.{starts_are_provided_for}
-use Rattle.plan_records.specs.plan_model.specs.Plan.{Plan, no_plan, IsSoundPlan}
-use Rattle.plan_records.specs.plan_model.specs.Contents.{nothing, IsPairOf, Operation, pair_cmp}
-use Rattle.plan_records.specs.plan_model.specs.declared.Occurrence.{Occurrence}
-use Rattle.plan_records.specs.plan_model.specs.declared.Stock.{Stock}
-use Rattle.plan_records.specs.plan_model.specs.Status.{HasStatus}
-use Rattle.plan_records.specs.plan_model.specs.Valid.{IsSound}
+use Rattle.plan_model.specs.Plan.{Plan, no_plan, IsSoundPlan}
+use Rattle.plan_model.specs.Contents.{nothing, IsPairOf, Operation, pair_cmp}
+use Rattle.plan_model.specs.declared.Occurrence.{Occurrence}
+use Rattle.plan_model.specs.declared.Stock.{Stock}
+use Rattle.plan_model.specs.Status.{HasStatus}
+use Rattle.plan_model.specs.Valid.{IsSound}
 use Rattle.plan_records.specs.Laws.{BecomesStarted, ChangeKeepsSound, ReachedStartsAreProvidedFor, RunKeepsSound, StepKeepsSound, request_of}
 use Rattle.plan_records.specs.Run.{Answers, Call, CallStep, Run, State, Usable, numbered, plain, usable}
 use Rattle.plan_records.specs.Step.{Numbered, NumberedMayBeAccepted, Receipts, Step, StepBy}
 use Rattle.plan_records.specs.Answer.{Answer}
 use Rattle.plan_records.specs.declared.What.{What}
-use Rattle.plan_records.specs.workstations.specs.Workstations.{Workstation}
+use Rattle.plan_model.specs.workstations.specs.Workstations.{Workstation}
 
 pub every_change_keeps_sound : (w : What) → ChangeKeepsSound w
 every_change_keeps_sound (what.Load None) = λ P Q at sound may request c. absurd (none-some Q c)

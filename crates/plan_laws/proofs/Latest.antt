@@ -3,20 +3,20 @@ use Rattle.std.proofs.Common.{◌≡◌, ◌⊎◌, inl, inr, refl, sym, subst, 
 use Rattle.std.specs.Prelude.{◌≤ℤ◌}
 use Rattle.std.specs.FinSet as set
 use Rattle.std.proofs.lemmas.Int.{by_lt_z, ints}
-use Rattle.plan_records.specs.latest_start.specs.LeastStart.{IsLeastStart, start_by}
-use Rattle.plan_records.specs.operation_graph.specs.Paths.{IsPathBy, IsRankBy}
+use Rattle.plan_model.specs.latest_start.specs.LeastStart.{IsLeastStart, start_by}
+use Rattle.operation_graph.specs.Paths.{IsPathBy, IsRankBy}
 use Rattle.plan_basics.specs.declared.keys.OpKey.{OpKey}
 use Rattle.plan_laws.proofs.Listed.{Listed, alike_listed, either_listed, images_listed, one_listed, union_listed, where_told}
 use Rattle.plan_laws.proofs.Ordered.{pairs_are_edges, pairs_have_rank}
-use Rattle.plan_records.specs.operation_graph.proofs.Ranks.{AreEdges}
+use Rattle.operation_graph.proofs.Ranks.{AreEdges}
 use Rattle.plan_laws.proofs.Sorted.{contains_head, contains_later, contains_cases, contains_none}
 use Rattle.plan_laws.proofs.Decide.{told_live}
 use Rattle.plan_laws.proofs.Entries.{same_operation}
-use Rattle.plan_records.specs.operation_graph.proofs.Telling.{Told, told_and}
+use Rattle.operation_graph.proofs.Telling.{Told, told_and}
 use Rattle.plan_laws.specs.Derived.{EachHasOneLatestStart}
-use Rattle.plan_records.specs.plan_model.specs.Contents.{Contents, IsLive, Precedes}
-use Rattle.plan_records.specs.plan_model.specs.Starts.{IsLatestStart}
-use Rattle.plan_records.specs.plan_model.specs.Valid.{IsAcyclic}
+use Rattle.plan_model.specs.Contents.{Contents, IsLive, Precedes}
+use Rattle.plan_model.specs.Starts.{IsLatestStart}
+use Rattle.plan_model.specs.Valid.{IsAcyclic}
 
 -- ---- the least of finitely many
 

@@ -49,3 +49,6 @@ pub mod Tabling
 pub mod Waiting
 pub mod Work
 pub mod SomeOfEach
+pub mod Acts
+pub mod Schedules
+pub mod Stored

@@ -1,7 +1,7 @@
 -- Lists of all things of which something is so.
 use Rattle.std.proofs.Common.{◌≡◌, ◌⊎◌, ◌↔◌, inl, inr, sym, subst, List, [], ◌∷◌, ◌++◌, Contains}
 use Rattle.plan_laws.proofs.Sorted.{contains_head, contains_later, contains_cases, contains_none}
-use Rattle.plan_records.specs.operation_graph.proofs.Telling.{Told}
+use Rattle.operation_graph.proofs.Telling.{Told}
 
 abbrev pub Listed : {A : Type 0} → (A → Type 0) → Type 0
 Listed S = (xs : List _) × ((x : _) → Contains xs x ↔ S x)

@@ -4,26 +4,26 @@ use Rattle.std.proofs.lemmas.Bool.{cond-false, false_from_ne_true}
 use Rattle.std.specs.Ordering.{is_eq}
 use Rattle.std.specs.Cmp.{tied_itself}
 use Rattle.std.specs.FinMap.{get}
-use Rattle.plan_records.specs.status_rules.specs.declared.Mark.TheVariants as mark
+use Rattle.status_rules.specs.declared.Mark.TheVariants as mark
 use Rattle.plan_basics.specs.Keys.{Name, operation_cmp_total}
 use Rattle.plan_basics.specs.Names.{IsName}
 use Rattle.plan_basics.specs.declared.Attr.{Attr}
 use Rattle.plan_basics.specs.declared.keys.OpKey.{OpKey}
 use Rattle.plan_laws.proofs.Entries.{same_operation}
-use Rattle.plan_records.specs.plan_model.proofs.Looks.{same_key}
+use Rattle.plan_model.proofs.Looks.{same_key}
 use Rattle.std.proofs.lemmas.Option.{same_Some}
 use Rattle.plan_laws.proofs.Revising.{now_at, now_elsewhere, valid_revised, was, with_state}
-use Rattle.plan_records.specs.plan_model.specs.Holdings.{Holds}
-use Rattle.plan_records.specs.plan_model.specs.Contents.{Contents, Has, HasAttribute, IsLive, LivePredecessor, Operation, attribute_at}
-use Rattle.plan_records.specs.plan_model.specs.declared.Stock.{Stock}
-use Rattle.plan_records.specs.plan_model.specs.Ready.{with_mark}
-use Rattle.plan_records.specs.plan_model.specs.Status.{AllPredecessorsSatisfied, IsSatisfied}
-use Rattle.plan_records.specs.plan_model.specs.Valid.{IsOperation, IsSound, IsValid, MayBear}
+use Rattle.plan_model.specs.Holdings.{Holds}
+use Rattle.plan_model.specs.Contents.{Contents, Has, HasAttribute, IsLive, LivePredecessor, Operation, attribute_at}
+use Rattle.plan_model.specs.declared.Stock.{Stock}
+use Rattle.plan_model.specs.Ready.{with_mark}
+use Rattle.plan_model.specs.Status.{AllPredecessorsSatisfied, IsSatisfied}
+use Rattle.plan_model.specs.Valid.{IsOperation, IsSound, IsValid, MayBear}
 use Rattle.plan_records.specs.Changes.{is_at, marked, revised}
-use Rattle.plan_records.specs.special_resources.proofs.Amounts.{one_more}
-use Rattle.plan_records.specs.special_resources.specs.Holders.{FitsBeside, LeavesEnough, Usage}
-use Rattle.plan_records.specs.status_rules.specs.LeastSet.{by_all_before, by_given}
-use Rattle.plan_records.specs.status_rules.specs.declared.Mark.{Mark}
+use Rattle.special_resources.proofs.Amounts.{one_more}
+use Rattle.special_resources.specs.Holders.{FitsBeside, LeavesEnough, Usage}
+use Rattle.status_rules.specs.LeastSet.{by_all_before, by_given}
+use Rattle.status_rules.specs.declared.Mark.{Mark}
 
 -- of r there is what o uses, beside all others that hold it
 abbrev pub IsThereFor : Contents → OpKey → Name → Usage → Type 0

@@ -1,6 +1,6 @@
 -- A refusal is known by its number.
 use Rattle.std.proofs.Common.{◌≡◌, refl, sym, ◌∙◌, ap, arith, ℕ, zero, suc, List, [], ◌∷◌, Contains}
-use Rattle.plan_records.specs.operation_graph.proofs.Telling.{Told, told_alike, told_each}
+use Rattle.operation_graph.proofs.Telling.{Told, told_alike, told_each}
 use Rattle.plan_basics.specs.declared.Refusal.{Refusal}
 use Rattle.plan_basics.specs.declared.Refusal.TheVariants.{Past, MomentRange, NotLoaded, Loaded, UnknownOperation, UnknownOccurrence, UnknownWorkstation, UnknownResource, WrongStatus, WrongWorkstation, Held, TooEarly, Closed, NoServer, NoFixed, ResourceBusy, Running, Duplicate, Cycle, Limit, BadPlan, Old, Gap, Reused, Memory, Store, Reopen, Damaged}
 use Rattle.plan_basics.specs.Refusals.{number_of}

@@ -5,12 +5,12 @@ use Rattle.std.specs.Cmp.{IsTotalOrder}
 use Rattle.std.specs.FinMap.{FinMap, IsAntisymmetric, contains_key, get, len}
 use Rattle.std.specs.FinSet as set
 use Rattle.plan_basics.specs.declared.limits.TheConstants.{MOST_OCCURRENCES, MOST_OPERATIONS, MOST_PAIRS, MOST_RESOURCES, MOST_WORKSTATIONS}
-use Rattle.plan_records.specs.operation_graph.specs.Paths.{end_of}
+use Rattle.operation_graph.specs.Paths.{end_of}
 use Rattle.plan_basics.specs.declared.keys.OccKey.{OccKey}
 use Rattle.plan_basics.specs.Keys.{occurrence_cmp-IsAntisymmetric, occurrence_cmp_total}
 use Rattle.plan_basics.specs.declared.keys.OpKey.{OpKey}
-use Rattle.plan_records.specs.status_rules.specs.declared.Status.{Status}
-use Rattle.plan_records.specs.status_rules.specs.declared.Status.TheVariants as status
+use Rattle.status_rules.specs.declared.Status.{Status}
+use Rattle.status_rules.specs.declared.Status.TheVariants as status
 use Rattle.plan_laws.proofs.Allowing.{told_le}
 use Rattle.plan_laws.proofs.Entries.{same_operation, told_entries, told_has, told_operations}
 use Rattle.plan_laws.proofs.Latest.{plan_paths}
@@ -18,11 +18,11 @@ use Rattle.plan_records.specs.plan_drafts.proofs.Tables.{is_found}
 use Rattle.plan_laws.proofs.Ordered.{pairs_are_edges}
 use Rattle.plan_laws.proofs.Readying.{ready_told}
 use Rattle.plan_laws.proofs.Standing.{status_told}
-use Rattle.plan_records.specs.operation_graph.proofs.Telling.{Told, told_alike, told_and, told_each, told_equal, told_if_then, told_none, told_or, told_some, told_three}
-use Rattle.plan_records.specs.plan_model.specs.Contents.{Contents, IsInPlan, IsPairOf, Pairs}
-use Rattle.plan_records.specs.plan_model.specs.Starts.{Reaches}
-use Rattle.plan_records.specs.plan_model.specs.Status.{EachOperation, HasStatus, IsUnderWay, IsWaitingOrReady}
-use Rattle.plan_records.specs.plan_model.specs.Valid.{IsAcyclic, IsWithinLimits}
+use Rattle.operation_graph.proofs.Telling.{Told, told_alike, told_and, told_each, told_equal, told_if_then, told_none, told_or, told_some, told_three}
+use Rattle.plan_model.specs.Contents.{Contents, IsInPlan, IsPairOf, Pairs}
+use Rattle.plan_model.specs.Starts.{Reaches}
+use Rattle.plan_model.specs.Status.{EachOperation, HasStatus, IsUnderWay, IsWaitingOrReady}
+use Rattle.plan_model.specs.Valid.{IsAcyclic, IsWithinLimits}
 
 -- ---- pairs, keys and limits
 

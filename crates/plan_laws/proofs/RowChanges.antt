@@ -10,7 +10,7 @@ use Rattle.plan_laws.proofs.RowsListed.{one_of_key, rows_listed}
 use Rattle.plan_laws.proofs.RowsTold.{row_told}
 use Rattle.plan_laws.proofs.Sorted.{contains_cases, contains_head, contains_later, contains_none, not_itself}
 use Rattle.plan_laws.proofs.Sorting.{ascending}
-use Rattle.plan_records.specs.operation_graph.proofs.Telling.{Told, told_alike, told_and, told_contains, told_equal, told_none}
+use Rattle.operation_graph.proofs.Telling.{Told, told_alike, told_and, told_contains, told_equal, told_none}
 use Rattle.plan_laws.proofs.Waiting.{told_listed}
 use Rattle.plan_laws.specs.Tables.{SomeChanges, SomeRows}
 use Rattle.plan_records.specs.Rows.{HasKey, IsRow, key_of, row_cmp}

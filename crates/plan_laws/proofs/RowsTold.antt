@@ -8,27 +8,27 @@ use Rattle.plan_basics.specs.Intervals.{OpenInterval}
 use Rattle.plan_basics.specs.Keys.{Name, name_cmp-IsAntisymmetric, name_cmp_total}
 use Rattle.plan_basics.specs.declared.keys.OccKey.{OccKey}
 use Rattle.plan_basics.specs.declared.keys.OpKey.{OpKey}
-use Rattle.plan_records.specs.special_resources.specs.Holders.{Usage}
-use Rattle.plan_records.specs.special_resources.specs.declared.Claim.{Claim}
-use Rattle.plan_records.specs.special_resources.specs.declared.Mode.{Mode}
-use Rattle.plan_records.specs.special_resources.specs.declared.Mode.TheVariants as mode
-use Rattle.plan_records.specs.status_rules.specs.declared.Mark.{Mark}
-use Rattle.plan_records.specs.status_rules.specs.declared.Mark.TheVariants as mark
-use Rattle.plan_records.specs.status_rules.specs.declared.OccStatus.{OccStatus}
-use Rattle.plan_records.specs.status_rules.specs.Table.{occurrence_status_place}
+use Rattle.special_resources.specs.Holders.{Usage}
+use Rattle.special_resources.specs.declared.Claim.{Claim}
+use Rattle.special_resources.specs.declared.Mode.{Mode}
+use Rattle.special_resources.specs.declared.Mode.TheVariants as mode
+use Rattle.status_rules.specs.declared.Mark.{Mark}
+use Rattle.status_rules.specs.declared.Mark.TheVariants as mark
+use Rattle.status_rules.specs.declared.OccStatus.{OccStatus}
+use Rattle.status_rules.specs.Table.{occurrence_status_place}
 use Rattle.plan_laws.proofs.Decide.{told_attribute}
 use Rattle.plan_laws.proofs.Entries.{told_at, told_has}
 use Rattle.plan_laws.proofs.Latest.{one_latest_start, some_latest_start}
 use Rattle.std.proofs.lemmas.Option.{none-some, same_Some}
 use Rattle.plan_laws.proofs.Standing.{status_told}
-use Rattle.plan_records.specs.operation_graph.proofs.Telling.{Told, told_alike, told_and, told_equal, told_none, told_three, told_true}
+use Rattle.operation_graph.proofs.Telling.{Told, told_alike, told_and, told_equal, told_none, told_three, told_true}
 use Rattle.plan_laws.proofs.Waiting.{one_count, one_occurrence_status, same_precedence, some_occurrence_status, some_waiting}
-use Rattle.plan_records.specs.plan_model.specs.Plan.{Plan}
-use Rattle.plan_records.specs.plan_model.specs.Contents.{Contents, LivePredecessor, Operation}
-use Rattle.plan_records.specs.plan_model.specs.Starts.{IsLatestStart}
-use Rattle.plan_records.specs.plan_model.specs.Status.{HasOccurrenceStatus, HasStatus, IsSatisfied}
-use Rattle.plan_records.specs.plan_model.specs.Valid.{IsAcyclic}
-use Rattle.plan_records.specs.plan_model.specs.declared.Occurrence.{Occurrence}
+use Rattle.plan_model.specs.Plan.{Plan}
+use Rattle.plan_model.specs.Contents.{Contents, LivePredecessor, Operation}
+use Rattle.plan_model.specs.Starts.{IsLatestStart}
+use Rattle.plan_model.specs.Status.{HasOccurrenceStatus, HasStatus, IsSatisfied}
+use Rattle.plan_model.specs.Valid.{IsAcyclic}
+use Rattle.plan_model.specs.declared.Occurrence.{Occurrence}
 use Rattle.plan_records.specs.Rows.{IsOperationRow, IsRow, IsWaitingFor}
 use Rattle.plan_records.specs.declared.OperationRow.{OperationRow}
 use Rattle.plan_records.specs.declared.PlanRow.{PlanRow}

@@ -3,21 +3,21 @@ use Rattle.std.proofs.Common.{◌≡◌, inl, inr, refl, sym, ◌∙◌, subst, 
 use Rattle.std.specs.FinMap.{get}
 use Rattle.plan_basics.specs.declared.Attr.TheVariants as attribute
 use Rattle.plan_basics.specs.declared.keys.OpKey.{OpKey}
-use Rattle.plan_records.specs.status_rules.specs.Table.{marked_status}
-use Rattle.plan_records.specs.status_rules.specs.declared.Preds.{Preds}
-use Rattle.plan_records.specs.status_rules.specs.declared.Status.{Status}
-use Rattle.plan_records.specs.status_rules.specs.declared.Status.TheVariants as status
+use Rattle.status_rules.specs.Table.{marked_status}
+use Rattle.status_rules.specs.declared.Preds.{Preds}
+use Rattle.status_rules.specs.declared.Status.{Status}
+use Rattle.status_rules.specs.declared.Status.TheVariants as status
 use Rattle.plan_laws.proofs.Decide.{told_attribute, told_live_predecessor, told_satisfied}
 use Rattle.plan_laws.proofs.Entries.{told_has, told_operation, told_operations}
 use Rattle.plan_records.specs.plan_drafts.proofs.Tables.{is_found}
 use Rattle.std.proofs.lemmas.Option.{same_Some}
 use Rattle.plan_laws.proofs.Ordered.{pairs_have_rank}
 use Rattle.plan_laws.proofs.Tables.{status_is}
-use Rattle.plan_records.specs.operation_graph.proofs.Telling.{Told, if_told, is_told, told_alike, told_and, told_four, told_if, told_if_then, told_none, told_not, told_three}
+use Rattle.operation_graph.proofs.Telling.{Told, if_told, is_told, told_alike, told_and, told_four, told_if, told_if_then, told_none, told_not, told_three}
 use Rattle.plan_laws.specs.Derived.{EachHasOneStatus, SatisfiedIsTold}
-use Rattle.plan_records.specs.plan_model.specs.Contents.{Contents, Has, HasAttribute, IsInPlan, LivePredecessor}
-use Rattle.plan_records.specs.plan_model.specs.Status.{AllPredecessorsSatisfied, ArePreds, FollowsNonreporting, HasStatus, IsSatisfied, UnmarkedStatus}
-use Rattle.plan_records.specs.plan_model.specs.Valid.{IsAcyclic, IsValid}
+use Rattle.plan_model.specs.Contents.{Contents, Has, HasAttribute, IsInPlan, LivePredecessor}
+use Rattle.plan_model.specs.Status.{AllPredecessorsSatisfied, ArePreds, FollowsNonreporting, HasStatus, IsSatisfied, UnmarkedStatus}
+use Rattle.plan_model.specs.Valid.{IsAcyclic, IsValid}
 
 same_status : (s t : Status) → Told (s ≡ t)
 same_status status.Started status.Started = inl refl

@@ -1,25 +1,28 @@
-//! Laws of the definitions.
+//! Laws of the definitions, as contracts of functions with empty bodies; and that of schedules: what calls, stops and
+//! openings of a desk leave, one after another.
 #![tactic(auto)]
 
-ghost use Rattle.plan_records.specs.plan_model.specs.Ready.{OneChoice};
+mod scheduling;
+
+ghost use Rattle.plan_model.specs.Ready.{OneChoice};
 ghost use Rattle.plan_records.specs.Run.{AcceptedAlone};
 ghost use Rattle.plan_records.specs.Run.{State, Usable, Call, Answers};
 ghost use Rattle.plan_records.specs.Laws.{StartsAreProvidedFor, ReachedStartsAreProvidedFor, ChoiceKeepsSound, ChangeKeepsSound, StepKeepsSound, RunKeepsSound};
-ghost use Rattle.plan_records.specs.plan_model.specs.Valid.{IsAcyclic};
+ghost use Rattle.plan_model.specs.Valid.{IsAcyclic};
 ghost use Rattle.plan_records.specs.declared.What.{What};
 ghost use Rattle.plan_records.specs.Answer.{refused};
 ghost use Rattle.plan_basics.specs.declared.Refusal.{Refusal};
 ghost use Rattle.plan_basics.specs.declared.keys.OpKey.{OpKey};
-ghost use Rattle.plan_records.specs.plan_model.specs.Plan.{no_plan, IsSoundPlan};
-ghost use Rattle.plan_records.specs.plan_model.specs.Contents.{Contents, Operation, Pairs, IsPairOf, Precedes};
+ghost use Rattle.plan_model.specs.Plan.{no_plan, IsSoundPlan};
+ghost use Rattle.plan_model.specs.Contents.{Contents, Operation, Pairs, IsPairOf, Precedes};
 ghost use Rattle.std.specs.FinSet as set;
-ghost use Rattle.plan_records.specs.workstations.specs.Workstations.{Workstation};
-ghost use Rattle.plan_records.specs.status_rules.specs.declared.Preds.{Preds};
-ghost use Rattle.plan_records.specs.status_rules.specs.Table.{status_by};
-ghost use Rattle.plan_records.specs.operation_graph.specs.Paths.{IsRankBy, LeadsBy};
+ghost use Rattle.plan_model.specs.workstations.specs.Workstations.{Workstation};
+ghost use Rattle.status_rules.specs.declared.Preds.{Preds};
+ghost use Rattle.status_rules.specs.Table.{status_by};
+ghost use Rattle.operation_graph.specs.Paths.{IsRankBy, LeadsBy};
 ghost use Rattle.plan_records.specs.Rows.{IsWaitingFor};
 ghost use Rattle.std.specs.FinMap.{get};
-ghost use Rattle.plan_records.specs.plan_model.specs.Status.{IsSatisfied, HasStatus, AllPredecessorsSatisfied, ArePreds, IsInEachClosedSet};
+ghost use Rattle.plan_model.specs.Status.{IsSatisfied, HasStatus, AllPredecessorsSatisfied, ArePreds, IsInEachClosedSet};
 ghost use Rattle.plan_laws.specs.Steps.{OneStep, OneNumberedStep, OneRun, SomeStep, SomeNumberedStep, SomeRun, PlanAnswers};
 ghost use Rattle.plan_laws.specs.Derived.{SatisfiedIsTold, SatisfiedByStatus, ClassesOfStatus, EachHasOneStatus, EachHasOneLatestStart, SomeReadyList, OneReadyList, SomeChoice, EachHasOneOccurrenceStatus, EachLeavesOneSoundPlan};
 ghost use Rattle.plan_laws.specs.Denoting.{OrderDoesNotMatter, OrderDoesNotMatterToAdditions, OrderDoesNotMatterToExtensions};
@@ -28,10 +31,9 @@ ghost use Rattle.plan_laws.specs.Work.{OneAllowance, SomeAllowance};
 ghost use Rattle.plan_laws.specs.Ranks.{ValidHasRank, PathsAreTold, CyclesAreTold};
 ghost use Rattle.std.specs.Prelude.{◌≡◌, ◌≢◌, ◌⊎◌, ◌↔◌, ℕ};
 
-pub use plan_records::{
-    Changes, Occurrence, OperationRecord, OperationRow, PlanContents, PlanRow, RowKey, Stock,
-    graph_of, keys, row_place,
-};
+pub use operation_graph::Graph;
+pub use plan_records::{OperationRow, PlanContents, PlanRow, RowKey, graph_of, keys};
+pub use scheduling::{every_schedule, faults_leave_as_stops};
 
 /// The accepted requests of a run, taken alone in their order, are a run with the same accepted replies,
 /// last plan and last receipts.

@@ -1,10 +1,14 @@
-//! What a plan holds: its occurrences and its operation records. Everything that is read off a plan, as a status or
-//! a latest start, is defined in `specs/`, over finite maps in which nothing is derived.
+//! What a plan holds: its occurrences and its operation records; and a change of marks and flags alone, by which all else
+//! stays. Everything that is read off a plan, as a status or a latest start, is defined in `specs/`, over finite maps in
+//! which nothing is derived.
 #![tactic(auto)]
 
-pub use latest_start::{EdgeFault, Graph};
+mod moves;
+
+pub use latest_start::{EdgeFault, Graph, Item, Latest};
+pub use moves::Marking;
 use plan_basics::{Moment, WsName};
-pub use special_resources::{Mode, Need, Needs};
+pub use special_resources::Needs;
 pub use status_rules::{Mark, OccStatus, Status};
 use std::marker::Model;
 pub use workstations::Workstation;

@@ -4,10 +4,10 @@ use Rattle.std.specs.Cmp.{unsigned_Decides}
 use Rattle.std.specs.FinMap.{get, get-empty}
 use Rattle.std.specs.FinSet as set
 use Rattle.plan_basics.specs.Keys.{name_cmp, occurrence_cmp, operation_cmp}
-use Rattle.plan_rows.specs.plan_drafts.proofs.Lists.{contains_cases, contains_head, contains_later, contains_none}
+use Rattle.plan_drafts.proofs.Lists.{contains_cases, contains_head, contains_later, contains_none}
 use Rattle.plan_rows.specs.plan_laws.proofs.Every.{nothing_at}
-use Rattle.plan_rows.specs.plan_model.specs.Contents.{nothing, pair_cmp}
-use Rattle.plan_rows.specs.plan_model.specs.Plan.{no_plan}
+use Rattle.plan_model.specs.Contents.{nothing, pair_cmp}
+use Rattle.plan_model.specs.Plan.{no_plan}
 use Rattle.plan_opening.specs.Opening.{first_row}
 use Rattle.plan_records.specs.Rows.{AreRows, IsRow}
 use Rattle.plan_records.specs.declared.PlanRow.{PlanRow}

@@ -3,13 +3,13 @@ use Rattle.std.proofs.Common.{◌≡◌, sym, ap, subst, ◌∙◌, ℕ, Bool, t
 use Rattle.std.specs.Prelude.{IfOk, MatchOption}
 use Rattle.std.proofs.lemmas.Option.{same_Some}
 use Rattle.plan_rows.specs.plan_laws.proofs.Every.{no_plan_is_sound}
-use Rattle.plan_rows.specs.plan_model.specs.Contents.{Contents}
-use Rattle.plan_rows.specs.plan_model.specs.Plan.{Plan, no_plan, plan_held}
-use Rattle.plan_rows.specs.plan_model.specs.Valid.{IsSound}
+use Rattle.plan_model.specs.Contents.{Contents}
+use Rattle.plan_model.specs.Plan.{Plan, no_plan, plan_held}
+use Rattle.plan_model.specs.Valid.{IsSound}
 use Rattle.plan_opening.specs.Opening.{AreContentsOf, AreOfNoPlan, IsPlanOf}
 use Rattle.plan_records.specs.Rows.{AreRows}
 use Rattle.plan_records.specs.declared.PlanRow.{PlanRow}
-use Rattle.row_lists.specs.These.{AreThese}
+use Rattle.plan_opening.specs.These.{AreThese}
 
 module _ (P : Plan) (rows all : List PlanRow) (are : AreRows P all) where
   -- where they are these, they are all rows of the plan too

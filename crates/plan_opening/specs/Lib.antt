@@ -1,1 +1,11 @@
+pub use Rattle.plan_rows.specs.counted_records
+pub use Rattle.plan_rows.specs.derived_figures
+pub use Rattle.plan_rows.specs.plan_changes
+pub use Rattle.plan_rows.specs.plan_laws
+pub use Rattle.plan_rows
+pub use Rattle.plan_rows.specs.plan_status
+pub use Rattle.plan_rows.specs.start_choice
 pub mod Opening
+pub mod Laws
+pub mod Restoring
+pub mod These

@@ -1,8 +1,8 @@
 -- The plan whose rows these are.
 use Rattle.std.specs.Prelude.{ℕ, false, List, Some}
-use Rattle.plan_rows.specs.plan_model.specs.Contents.{Contents}
-use Rattle.plan_rows.specs.plan_model.specs.Plan.{Plan, IsSoundPlan, plan_held}
-use Rattle.plan_rows.specs.plan_model.specs.Valid.{IsSound}
+use Rattle.plan_model.specs.Contents.{Contents}
+use Rattle.plan_model.specs.Plan.{Plan, IsSoundPlan, plan_held}
+use Rattle.plan_model.specs.Valid.{IsSound}
 use Rattle.plan_records.specs.Rows.{AreRows}
 use Rattle.plan_records.specs.declared.PlanRow.{PlanRow}
 use Rattle.plan_records.specs.declared.PlanRow.TheVariants as row

@@ -1,6 +1,6 @@
 // The rows of the plan before one is loaded.
 ghost use Rattle.std.specs.Prelude.{◌≡◌, ◌↔◌, IsTrue};
-ghost use Rattle.plan_rows.specs.plan_model.specs.Plan.{no_plan};
+ghost use Rattle.plan_model.specs.Plan.{no_plan};
 ghost use Rattle.plan_opening.specs.Opening.{first_row};
 ghost use Rattle.plan_records.specs.Rows.{AreRows};
 

@@ -1,8 +1,19 @@
-//! The plan of the rows of its tables: from rows, in any order, to the sound plan in memory whose rows they are. Every
-//! column is compared, those that follow from the others too.
+//! The plan of the rows of its tables: from rows, in any order, to the sound plan in memory whose rows they are, or to none.
+//! Every column is compared, those that follow from the others too.
 #![tactic(auto)]
 
 mod first;
+mod lists;
 mod opening;
+mod restoring;
+mod soundness;
 
+pub use lists::are_these;
 pub use opening::{OpenedPlan, plan_of_rows};
+pub use plan_drafts::DraftParts;
+pub use plan_rows::{
+    Beside, LoadedPlan, Parts, Reported, RowSource, Shown, SoundContents, WorkedOut, briefs_of,
+    chosen_with, given_out_of, holdings_in, occurrence_status_with, worked_out,
+};
+pub use restoring::{contents_of_rows, meta_of_rows};
+pub use soundness::judged;

@@ -2,27 +2,27 @@
 ghost use Rattle.std.specs.Prelude.{◌≡◌, Some, ◌↔◌, IfErr, IfOk, IfSome, IsTrue, MatchOption};
 ghost use Rattle.plan_basics.specs.Minutes.{IsMoment};
 ghost use Rattle.plan_basics.specs.declared.Refusal.{Refusal};
-ghost use Rattle.plan_rows.specs.plan_model.specs.Contents.{Contents};
-ghost use Rattle.plan_rows.specs.plan_model.specs.Plan.{Plan, plan_held};
-ghost use Rattle.plan_rows.specs.plan_model.specs.Valid.{IsSound};
-ghost use Rattle.plan_rows.specs.plan_drafts.specs.PlanGraphs.{IsGraphFor};
-ghost use Rattle.plan_rows.specs.plan_figures.specs.Frames.{IsFrameOf};
+ghost use Rattle.plan_model.specs.Contents.{Contents};
+ghost use Rattle.plan_model.specs.Plan.{Plan, plan_held};
+ghost use Rattle.plan_model.specs.Valid.{IsSound};
+ghost use Rattle.plan_drafts.specs.PlanGraphs.{IsGraphFor};
+ghost use Rattle.plan_rows.specs.derived_figures.specs.Frames.{IsFrameOf};
 ghost use Rattle.plan_opening.specs.Opening.{AreContentsOf, AreOfNoPlan, IsPlanOf};
-ghost use Rattle.plan_rows.specs.plan_figures.specs.Afresh.{IsWorkedOut};
+ghost use Rattle.plan_rows.specs.derived_figures.specs.Afresh.{IsWorkedOut};
 ghost use Rattle.plan_records.specs.Rows.{AreRows};
 
 use super::first::are_first;
-use operation_graph::Graph;
+use crate::lists::are_these;
+use crate::restoring::{contents_of_rows, meta_of_rows};
+use crate::soundness::judged;
 use plan_basics::{Moment, Refusal};
+use plan_model::Graph;
 use plan_records::PlanRow;
-use plan_restore::{contents_of_rows, meta_of_rows};
 use plan_rows::{
     Frame, LoadedPlan, Shown, SoundContents, ValidContents, WorkedOut, columns_of, graph_for,
     rows_of, worked_out,
 };
-use plan_soundness::judged;
 use record_permits::granted;
-use row_lists::are_these;
 use std::alloc::Global;
 
 /// A plan in memory: its clock, and what it holds, if one is loaded.

@@ -7,7 +7,7 @@ use Rattle.std.proofs.lemmas.Bool.{cases_lt}
 use Rattle.std.proofs.lemmas.List.Elements.{All-append, Contains-append_cases, Contains-append_left, Contains-append_right}
 use Rattle.std.proofs.lemmas.Option.{none-some, same_Some}
 use Rattle.plan_basics.specs.declared.keys.OpKey.{OpKey}
-use Rattle.plan_core.specs.plan_drafts.proofs.Lists.{Differ, all_by_members, contains_cases, contains_head, contains_later, contains_none, differ_from_pairs, pairs_from_differ}
+use Rattle.plan_drafts.proofs.Lists.{Differ, all_by_members, contains_cases, contains_head, contains_later, contains_none, differ_from_pairs, pairs_from_differ}
 use Rattle.plan_model.specs.Contents.{Contents, Operation}
 use Rattle.plan_reasons.specs.Order.{ComesBefore, reason_place}
 use Rattle.plan_reasons.specs.Parts.{AreBefore, AreOfKind, IsOfKind}

@@ -21,9 +21,9 @@ use Rattle.status_rules.specs.declared.Mark.TheVariants as mark
 use Rattle.status_rules.specs.declared.Status.{Status}
 use Rattle.status_rules.specs.declared.Status.TheVariants as status
 use Rattle.plan_basics.proofs.Members.{place_of}
-use Rattle.plan_core.specs.plan_drafts.proofs.EntryRows.{row_in}
-use Rattle.plan_core.specs.plan_drafts.proofs.Lists.{contains_none, no_members}
-use Rattle.plan_core.specs.plan_drafts.proofs.Tables.{is_found}
+use Rattle.plan_drafts.proofs.EntryRows.{row_in}
+use Rattle.plan_drafts.proofs.Lists.{contains_none, no_members}
+use Rattle.plan_drafts.proofs.Tables.{is_found}
 use Rattle.plan_core.specs.plan_laws.proofs.Allowing.{may_start_told, others}
 use Rattle.plan_core.specs.plan_laws.proofs.Entries.{same_operation}
 use Rattle.plan_core.specs.plan_laws.proofs.Classes.{ready_told, satisfied_decides}

@@ -10,11 +10,11 @@ use Rattle.std.proofs.lemmas.Map.Keys.{Less-from_sorted}
 use Rattle.std.proofs.lemmas.Option.{get_or_from_slice_get, same_Some, slice_get_within}
 use Rattle.plan_basics.specs.Keys.{operation_cmp}
 use Rattle.plan_basics.specs.declared.keys.OpKey.{OpKey}
-use Rattle.plan_core.specs.plan_drafts.proofs.Lists.{Differ, differ_from_pairs, differ_map, differ_unmap, differ_weaken, from_map, in_map, pairs_from_differ}
+use Rattle.plan_drafts.proofs.Lists.{Differ, differ_from_pairs, differ_map, differ_unmap, differ_weaken, from_map, in_map, pairs_from_differ}
 use Rattle.plan_model.proofs.Entries.{entries_in_order}
 use Rattle.plan_model.specs.Contents.{Contents}
 use Rattle.plan_model.specs.Status.{HasStatus}
-use Rattle.plan_status.proofs.RowKeys.{key_of_row}
+use Rattle.plan_core.specs.plan_status.proofs.RowKeys.{key_of_row}
 use Rattle.plan_reasons.specs.Places.{AreAt, IsAt}
 use Rattle.plan_reasons.specs.declared.reasons.Unsatisfied.{Unsatisfied}
 

@@ -16,7 +16,7 @@ use Rattle.special_resources.specs.Holdings.{usage_of}
 use Rattle.special_resources.specs.Needs.{AreInNameOrder, Usages, usages_of}
 use Rattle.special_resources.specs.declared.Need.{Need}
 use Rattle.special_resources.proofs.MoreNeeds.{need_by_usage, usage_by_need}
-use Rattle.plan_core.specs.plan_drafts.proofs.Lists.{Differ, contains_cases, contains_head, contains_none, differ_filter, differ_unmap, from_filter, in_filter, pairs_from_differ}
+use Rattle.plan_drafts.proofs.Lists.{Differ, contains_cases, contains_head, contains_none, differ_filter, differ_unmap, from_filter, in_filter, pairs_from_differ}
 use Rattle.plan_model.specs.Contents.{Contents, Operation}
 use Rattle.plan_model.specs.declared.Stock.{Stock}
 use Rattle.plan_reasons.specs.Order.{ComesBefore, reason_place}

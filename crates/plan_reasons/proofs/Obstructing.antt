@@ -17,8 +17,8 @@ use Rattle.special_resources.specs.declared.Mode.TheVariants as mode
 use Rattle.special_resources.specs.declared.Need.{Need}
 use Rattle.special_resources.specs.declared.holders.Holder.{Holder}
 use Rattle.special_resources.proofs.MoreNeeds.{need_by_usage, usage_by_need}
-use Rattle.plan_choice.specs.Choices.{AreHeldIn}
-use Rattle.plan_core.specs.plan_drafts.proofs.Lists.{contains_none, differ_filter, differ_unmap, from_filter, in_filter, pairs_from_differ}
+use Rattle.plan_core.specs.start_choice.specs.Choices.{AreHeldIn}
+use Rattle.plan_drafts.proofs.Lists.{contains_none, differ_filter, differ_unmap, from_filter, in_filter, pairs_from_differ}
 use Rattle.plan_model.specs.Contents.{Contents, Operation}
 use Rattle.plan_reasons.specs.Order.{ComesBefore, reason_place}
 use Rattle.plan_reasons.specs.Parts.{AreOfKind}

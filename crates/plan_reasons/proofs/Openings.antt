@@ -11,7 +11,7 @@ use Rattle.std.proofs.lemmas.Map.Keys.{non_decreasing_from_sorted}
 use Rattle.std.proofs.lemmas.Option.{slice_get-get_or, slice_get-map}
 use Rattle.plan_basics.proofs.Members.{row_found}
 use Rattle.plan_basics.specs.Intervals.{OpenInterval}
-use Rattle.plan_core.specs.plan_drafts.proofs.RowPlaces.{get_at}
+use Rattle.plan_drafts.proofs.RowPlaces.{get_at}
 use Rattle.workstations.specs.Workstations.{Workstation}
 use Rattle.plan_reasons.specs.Reasons.{BeginsAt, IsNextOpening}
 

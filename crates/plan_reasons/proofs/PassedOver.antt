@@ -11,9 +11,9 @@ use Rattle.plan_basics.specs.Keys.{Name, name_cmp, operation_cmp, operation_cmp-
 use Rattle.plan_basics.specs.declared.Refusal.{Refusal}
 use Rattle.plan_basics.specs.declared.Refusal.TheVariants as refusal
 use Rattle.plan_basics.specs.declared.keys.OpKey.{OpKey}
-use Rattle.plan_core.specs.ready_list.proofs.Members.{contains_from_filter}
-use Rattle.plan_core.specs.ready_list.specs.Choice.{among, is_among, operations_of}
-use Rattle.plan_core.specs.ready_list.specs.declared.ReadyKey.{ReadyKey}
+use Rattle.ready_list.proofs.Members.{contains_from_filter}
+use Rattle.ready_list.specs.Choice.{among, is_among, operations_of}
+use Rattle.ready_list.specs.declared.ReadyKey.{ReadyKey}
 use Rattle.special_resources.proofs.Amounts.{leaves_alike, same_operation}
 use Rattle.special_resources.specs.Holders.{Usage}
 use Rattle.status_rules.specs.Table.{marked_status}
@@ -28,15 +28,15 @@ use Rattle.plan_model.specs.Ready.{IsChosen, IsOnAutomatic, named, with_mark}
 use Rattle.plan_model.specs.Starts.{IsAllowedToStart, MayStart}
 use Rattle.plan_model.specs.Status.{AllPredecessorsSatisfied, FollowsNonreporting, HasStatus, IsReady, UnmarkedStatus}
 use Rattle.plan_model.specs.Valid.{IsValid}
-use Rattle.plan_core.specs.plan_drafts.proofs.Lists.{from_map, in_map}
-use Rattle.plan_core.specs.plan_drafts.proofs.MadeEntries.{each_made, entries-revise}
-use Rattle.plan_core.specs.plan_drafts.proofs.Tables.{is_found}
+use Rattle.plan_drafts.proofs.Lists.{from_map, in_map}
+use Rattle.plan_drafts.proofs.MadeEntries.{each_made, entries-revise}
+use Rattle.plan_drafts.proofs.Tables.{is_found}
 use Rattle.plan_core.specs.plan_laws.proofs.Kept.{ready_unmarked}
 use Rattle.plan_core.specs.plan_laws.proofs.Latest.{some_latest_start}
 use Rattle.plan_core.specs.plan_laws.proofs.Starts.{by_unmarked, never_arriving, never_ready, never_star}
-use Rattle.plan_status.proofs.Naming.{live_after, live_before, named_if, nonreporting_after, nonreporting_before, row_after, row_before, same_row, stays_satisfied, was_satisfied}
-use Rattle.plan_choice.proofs.GivenSums.{sum_by-map}
-use Rattle.plan_choice.proofs.Naming.{ready_still, still}
+use Rattle.plan_core.specs.plan_status.proofs.Naming.{live_after, live_before, named_if, nonreporting_after, nonreporting_before, row_after, row_before, same_row, stays_satisfied, was_satisfied}
+use Rattle.plan_core.specs.start_choice.proofs.GivenSums.{sum_by-map}
+use Rattle.plan_core.specs.start_choice.proofs.Naming.{ready_still, still}
 
 -- ---- what is ready once some are named was ready before
 

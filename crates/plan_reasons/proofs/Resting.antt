@@ -12,8 +12,8 @@ use Rattle.plan_core.specs.plan_laws.proofs.Classes.{ready_by, ready_told}
 use Rattle.plan_model.specs.Contents.{Contents, HasAttribute, Operation}
 use Rattle.plan_model.specs.Starts.{MayStart}
 use Rattle.plan_model.specs.Status.{HasStatus}
-use Rattle.plan_core.specs.plan_figures.specs.Reports.{IsReported}
-use Rattle.plan_core.specs.plan_figures.specs.declared.frame.Reported.{Reported}
+use Rattle.plan_core.specs.derived_figures.specs.Reports.{IsReported}
+use Rattle.plan_core.specs.derived_figures.specs.declared.frame.Reported.{Reported}
 use Rattle.plan_reasons.specs.Parts.{IsOfKind}
 use Rattle.plan_reasons.specs.Places.{goes_on_from}
 use Rattle.plan_reasons.specs.Reasons.{IsReasonOf, needs_start}

@@ -2,25 +2,25 @@
 use Rattle.std.proofs.Common.{◌≡◌, inr, refl, sym, ap, subst, ◌∙◌, arith, ℕ, Bool, true, false, true≢false, not, List, [], ◌∷◌, get_or, slice_get, Some, option_map}
 use Rattle.std.specs.FinMap.{entries, keys}
 use Rattle.std.proofs.lemmas.Option.{get_or_from_slice_get, slice_get-map, slice_get_within}
-use Rattle.plan_core.specs.operation_graph.specs.Graphs.{Digraph, HasEdge, IsSet}
-use Rattle.plan_core.specs.operation_graph.specs.Paths.{IsPathBy, end_of}
+use Rattle.operation_graph.specs.Graphs.{Digraph, HasEdge, IsSet}
+use Rattle.operation_graph.specs.Paths.{IsPathBy, end_of}
 use Rattle.plan_basics.proofs.Members.{place_of}
 use Rattle.plan_basics.specs.declared.keys.OpKey.{OpKey}
-use Rattle.plan_core.specs.plan_drafts.proofs.PairEdges.{same_key}
-use Rattle.plan_core.specs.plan_drafts.proofs.RowPlaces.{row_at}
-use Rattle.plan_core.specs.plan_drafts.specs.Places.{AreStatuses}
-use Rattle.plan_core.specs.plan_drafts.specs.PlanGraphs.{IsGraphFor}
+use Rattle.plan_drafts.proofs.PairEdges.{same_key}
+use Rattle.plan_drafts.proofs.RowPlaces.{row_at}
+use Rattle.plan_drafts.specs.Places.{AreStatuses}
+use Rattle.plan_drafts.specs.PlanGraphs.{IsGraphFor}
 use Rattle.plan_core.specs.plan_laws.proofs.Classes.{satisfied_decides}
 use Rattle.plan_model.specs.Contents.{Contents, Precedes}
 use Rattle.plan_model.specs.Status.{HasStatus, IsSatisfied}
 use Rattle.plan_model.specs.Valid.{IsValid}
-use Rattle.plan_status.proofs.LoadedRows.{known_among, row_found}
-use Rattle.plan_status.proofs.RowKeys.{row_of_key}
+use Rattle.plan_core.specs.plan_status.proofs.LoadedRows.{known_among, row_found}
+use Rattle.plan_core.specs.plan_status.proofs.RowKeys.{row_of_key}
 use Rattle.status_rules.specs.Classes.{is_satisfied}
 use Rattle.status_rules.specs.LeastSet.{by_given}
 use Rattle.status_rules.specs.declared.Status.{Status}
-use Rattle.upstream.specs.Upstream.{IsFed, IsSource, LeadsBack}
-use Rattle.upstream.specs.Upstream as upstream
+use Rattle.graph_paths.specs.Upstream.{IsFed, IsSource, LeadsBack}
+use Rattle.graph_paths.specs.Upstream as upstream
 use Rattle.plan_reasons.specs.Places.{unsatisfied_flags}
 use Rattle.plan_reasons.specs.Reasons.{Follows, IsUnsatisfied}
 use Rattle.plan_reasons.specs.Roots.{IsAfter, IsUpstream}

@@ -17,7 +17,7 @@ use Rattle.special_resources.specs.declared.Need.{Need}
 use Rattle.special_resources.specs.declared.holders.Holder.{Holder}
 use Rattle.special_resources.proofs.Amounts.{AreAllHolders, all_others, amount_others, holding_apart, others, others_once, same_operation, some_of_all, taken_from}
 use Rattle.special_resources.proofs.MoreNeeds.{need_by_usage, usage_by_need}
-use Rattle.plan_choice.specs.Choices.{AreHeldIn}
+use Rattle.plan_core.specs.start_choice.specs.Choices.{AreHeldIn}
 use Rattle.plan_model.specs.Contents.{Contents, Operation, Resources}
 use Rattle.plan_model.specs.Holdings.{Holds}
 use Rattle.plan_model.specs.declared.Stock.{Stock}

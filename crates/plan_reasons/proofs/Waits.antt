@@ -2,20 +2,20 @@
 use Rattle.std.proofs.Common.{◌≡◌, ◌≢◌, ◌↔◌, refl, sym, subst, arith, ℕ, ◌<◌, List, [], map, Contains, Some, slice_get}
 use Rattle.std.specs.FinMap.{keys}
 use Rattle.std.specs.List.{AllPairs}
-use Rattle.plan_core.specs.operation_graph.specs.Graphs.{Digraph, HasEdge, IsSet}
+use Rattle.operation_graph.specs.Graphs.{Digraph, HasEdge, IsSet}
 use Rattle.std.specs.declared.cmp.Ordering.TheVariants.{Less}
 use Rattle.plan_basics.specs.Keys.{operation_cmp}
 use Rattle.plan_basics.specs.declared.keys.OpKey.{OpKey}
-use Rattle.plan_core.specs.plan_drafts.proofs.Lists.{contains_none, differ_from_pairs, differ_map, from_map, in_map, pairs_from_differ}
-use Rattle.plan_core.specs.plan_drafts.specs.Places.{AreStatuses}
-use Rattle.plan_core.specs.plan_drafts.specs.PlanGraphs.{IsGraphFor}
+use Rattle.plan_drafts.proofs.Lists.{contains_none, differ_from_pairs, differ_map, from_map, in_map, pairs_from_differ}
+use Rattle.plan_drafts.specs.Places.{AreStatuses}
+use Rattle.plan_drafts.specs.PlanGraphs.{IsGraphFor}
 use Rattle.plan_core.specs.plan_laws.proofs.Standing.{one_status}
 use Rattle.plan_model.specs.Contents.{Contents, Operation}
 use Rattle.plan_model.specs.Status.{HasStatus}
 use Rattle.plan_model.specs.Valid.{IsValid}
 use Rattle.status_rules.specs.declared.Status.{Status}
 use Rattle.status_rules.specs.declared.Status.TheVariants.{Waiting}
-use Rattle.upstream.specs.Upstream.{IsSource}
+use Rattle.graph_paths.specs.Upstream.{IsSource}
 use Rattle.plan_reasons.specs.Order.{ComesBefore, reason_place}
 use Rattle.plan_reasons.specs.Parts.{AreOfKind}
 use Rattle.plan_reasons.specs.Places.{AreAt, unsatisfied_flags}

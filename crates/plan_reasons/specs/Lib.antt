@@ -1,3 +1,4 @@
+pub use Rattle.plan_drafts
 pub mod Reasons
 pub mod Order
 pub mod Roots
@@ -5,3 +6,4 @@ pub mod Whys
 pub mod Parts
 pub mod Places
 pub mod Laws
+pub mod Texts

@@ -1,6 +1,6 @@
 -- The roots of a chain: what holds an operation that waits.
 use Rattle.plan_basics.specs.declared.keys.OpKey.{OpKey}
-use Rattle.plan_core.specs.operation_graph.specs.Paths.{ReachesBy}
+use Rattle.operation_graph.specs.Paths.{ReachesBy}
 use Rattle.status_rules.specs.declared.Status.TheVariants.{Waiting}
 use Rattle.plan_model.specs.Contents.{Contents, Precedes}
 use Rattle.plan_model.specs.Status.{HasStatus}

@@ -8,7 +8,7 @@ ghost use Rattle.plan_model.specs.Holdings.{given_out};
 ghost use Rattle.plan_reasons.specs.Parts.{GoesOn};
 ghost use Rattle.plan_reasons.specs.Places.{IsAt};
 ghost use Rattle.plan_reasons.specs.Whys.{AreReasons, IsWhy};
-ghost use Rattle.plan_core.specs.plan_figures.specs.Reports.{IsReported};
+ghost use Rattle.plan_core.specs.derived_figures.specs.Reports.{IsReported};
 
 use super::busy::{all_held, all_unavailable};
 use super::lacking::{closed, lacks};
@@ -18,10 +18,10 @@ use super::reasons::{Reason, Supply, Unsatisfied};
 use super::scarce::all_scarce;
 use super::single::{at_rest, held, needs_start, too_early};
 use plan_basics::{Moment, OpKey, Refusal};
-use plan_choice::{Beside, briefs_of, given_out_of, holdings_in};
-use plan_core::{LoadedPlan, Reported};
+use plan_core::{
+    Beside, LoadedPlan, Reported, SoundContents, briefs_of, given_out_of, holdings_in,
+};
 use plan_model::OperationRecord;
-use plan_status::SoundContents;
 use status_rules::Status;
 use std::alloc::{AllocError, Global};
 use workstations::{Capacity, Workstation};

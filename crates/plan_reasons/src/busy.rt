@@ -2,7 +2,7 @@
 ghost use Rattle.std.specs.Prelude.{◌≡◌, ◌++◌, ℕ, true, OnOk, IfOk};
 ghost use Rattle.std.specs.List.{filter_map};
 ghost use Rattle.plan_basics.specs.declared.keys.OpKey.{OpKey};
-ghost use Rattle.plan_choice.specs.Choices.{AreHeldIn};
+ghost use Rattle.plan_core.specs.start_choice.specs.Choices.{AreHeldIn};
 ghost use Rattle.plan_model.specs.Contents.{Contents};
 ghost use Rattle.plan_reasons.specs.Parts.{AreOfKind};
 ghost use Rattle.plan_reasons.specs.Places.{is_available, is_in_way, is_shared, obstacle_of, unavailable_of};
@@ -11,8 +11,8 @@ ghost use Rattle.plan_reasons.specs.Reasons.{needs_start};
 use super::lists::note;
 use super::reasons::{Obstacle, Reason};
 use plan_basics::OpKey;
+use plan_core::SoundContents;
 use plan_model::{OperationRecord, Stock};
-use plan_status::SoundContents;
 use special_resources::{Holder, Holdings, Mode, Need};
 use std::alloc::{AllocError, Global};
 

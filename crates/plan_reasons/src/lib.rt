@@ -1,4 +1,5 @@
-//! Why an operation doesn't start at a moment: every reason, and what holds the chain that it waits for.
+//! Why an operation doesn't start at a moment: every reason, and what holds the chain that it waits for; and the lines in
+//! which that is told.
 #![tactic(auto)]
 
 ghost use Rattle.plan_reasons.specs.Laws.{EmptyWhereItMayStart, NoneIsLeftToStart, ReadyHasReason};
@@ -12,10 +13,12 @@ mod predecessors;
 mod reasons;
 mod scarce;
 mod single;
+mod telling;
 
 pub use answer::{Why, explain};
 pub use plan::why;
 pub use reasons::{Closing, Obstacle, Reason, Scarcity, Shortage, Supply, Unsatisfied};
+pub use telling::why_text;
 
 /// The law that of an operation on a workstation of attribute A or S no reason is listed exactly where it is allowed to
 /// start. It does nothing.

@@ -11,11 +11,11 @@ ghost use Rattle.plan_reasons.specs.Places.{AreAt, IsAt, unsatisfied_flags};
 ghost use Rattle.plan_reasons.specs.Whys.{AreRoots};
 
 use super::reasons::{Reason, Unsatisfied};
+use graph_paths::{flagged_preds, sources};
 use plan_basics::Refusal;
 use plan_core::LoadedPlan;
 use status_rules::Status;
 use std::alloc::{AllocError, Global};
-use upstream::{flagged_preds, sources};
 
 /// Which operations aren't satisfied, by their statuses.
 pub fn unsatisfied_flags(alloc: Global, statuses: &[Status]) -> Result<Vec<bool>, AllocError>

@@ -1,6 +1,6 @@
 // Special resources of which others leave too little.
 ghost use Rattle.std.specs.Prelude.{◌≡◌, ◌-◌, ℕ, true, IfOk, MatchOption, sum_by};
-ghost use Rattle.plan_choice.specs.Choices.{AreHeldIn};
+ghost use Rattle.plan_core.specs.start_choice.specs.Choices.{AreHeldIn};
 ghost use Rattle.plan_reasons.specs.Parts.{AreOfKind, IsShort};
 ghost use Rattle.plan_reasons.specs.Reasons.{needs_start};
 ghost use Rattle.plan_reasons.specs.declared.reasons.Scarcity.{Scarcity as ScarcityValue};
@@ -9,8 +9,8 @@ ghost use Rattle.special_resources.specs.Holdings.{amount_beside};
 use super::lists::note;
 use super::reasons::{Reason, Scarcity};
 use plan_basics::OpKey;
+use plan_core::SoundContents;
 use plan_model::OperationRecord;
-use plan_status::SoundContents;
 use special_resources::{Holder, Holdings, Need};
 use std::alloc::{AllocError, Global};
 

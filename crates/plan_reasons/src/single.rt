@@ -7,7 +7,7 @@ ghost use Rattle.plan_model.specs.Valid.{IsValid};
 ghost use Rattle.plan_reasons.specs.Parts.{IsOfKind};
 ghost use Rattle.plan_reasons.specs.Places.{goes_on_from};
 ghost use Rattle.plan_reasons.specs.Reasons.{needs_start};
-ghost use Rattle.plan_core.specs.plan_figures.specs.Reports.{IsReported};
+ghost use Rattle.plan_core.specs.derived_figures.specs.Reports.{IsReported};
 ghost use Rattle.status_rules.specs.Table.{marked_status};
 
 use super::reasons::Reason;

@@ -1,10 +1,6 @@
-pub use Rattle.plan_drafts.specs.latest_start
-pub use Rattle.plan_drafts.specs.operation_graph
 pub use Rattle.plan_drafts
 pub use Rattle.plan_drafts.specs.plan_items
 pub use Rattle.plan_drafts.specs.plan_model
-pub use Rattle.plan_drafts.specs.ready_list
-pub use Rattle.plan_drafts.specs.special_resources
 pub use Rattle.plan_drafts.specs.status_rules
 pub use Rattle.plan_drafts.specs.workstations
 pub mod Answer

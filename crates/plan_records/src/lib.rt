@@ -6,12 +6,11 @@ ghost use Rattle.plan_records.specs.Changes.{operation_of};
 ghost use Rattle.plan_records.specs.Rows.{key_of};
 
 use plan_basics::{Attr, ErrCode, Interval, Moment, OccKey, OpKey, Refusal, ResName, WsName};
+use plan_drafts::{Mode, OccStatus, Status};
 pub use plan_drafts::{
-    Addition, ExactKey, Extension, ExtensionParts, Occurrence, OperationRecord, PlanContents,
-    PlanDraft, Record, RowKey, Stock, copies_of, graph_of, is_acyclic, keys, one_denotation,
-    row_place,
+    Addition, Extension, ExtensionParts, Mark, Marking, Occurrence, OperationRecord, PlanContents,
+    PlanDraft, RowKey, copies_of, graph_of, keys, row_place,
 };
-use plan_drafts::{Mark, Mode, OccStatus, Status};
 
 /// What is asked: a report of a tracker, a command of an operator, or a tick.
 #[derive(Drop)]

@@ -11,16 +11,16 @@ use Rattle.std.specs.List.Sorted.{IsPermutation, IsSortedByKey}
 use Rattle.std.specs.Ordering.{int_cmp}
 use Rattle.plan_basics.specs.Keys.{operation_cmp, operation_cmp_total, operation_cmp-IsAntisymmetric, then_IsAntisymmetric}
 use Rattle.plan_basics.specs.declared.keys.OpKey.{OpKey}
-use Rattle.plan_tables.specs.plan_core.specs.Views.{AreOpViews, IsOpView}
-use Rattle.plan_tables.specs.plan_core.specs.declared.views.OpView.{OpView}
-use Rattle.plan_tables.specs.plan_drafts.proofs.Keyed.{ascend_by}
-use Rattle.plan_tables.specs.plan_drafts.proofs.Lists.{Differ, all_by_members, contains_cases, contains_head, contains_later, contains_none, differ_unmap, differ_weaken, from_map, in_map, pairs_from_differ}
-use Rattle.plan_tables.specs.plan_drafts.proofs.Tables.{sorted_apart}
-use Rattle.plan_tables.specs.plan_laws.proofs.Classes.{classes_of_status}
-use Rattle.plan_tables.specs.plan_laws.proofs.Latest.{each_has_one_latest_start}
-use Rattle.plan_tables.specs.plan_model.specs.Contents.{Contents, IsInPlan}
-use Rattle.plan_tables.specs.plan_model.specs.Status.{IsWaitingOrReady}
-use Rattle.plan_tables.specs.plan_model.specs.Plan.{Plan, IsSoundPlan}
+use Rattle.desk_tables.specs.plan_core.specs.Views.{AreOpViews, IsOpView}
+use Rattle.desk_tables.specs.plan_core.specs.declared.views.OpView.{OpView}
+use Rattle.plan_reasons.specs.plan_drafts.proofs.Keyed.{ascend_by}
+use Rattle.plan_reasons.specs.plan_drafts.proofs.Lists.{Differ, all_by_members, contains_cases, contains_head, contains_later, contains_none, differ_unmap, differ_weaken, from_map, in_map, pairs_from_differ}
+use Rattle.plan_reasons.specs.plan_drafts.proofs.Tables.{sorted_apart}
+use Rattle.desk_tables.specs.plan_laws.proofs.Classes.{classes_of_status}
+use Rattle.desk_tables.specs.plan_laws.proofs.Latest.{each_has_one_latest_start}
+use Rattle.plan_model.specs.Contents.{Contents, IsInPlan}
+use Rattle.plan_model.specs.Status.{IsWaitingOrReady}
+use Rattle.plan_model.specs.Plan.{Plan, IsSoundPlan}
 use Rattle.plan_reports.specs.Late.{AreLateViews, IsLate, due, due_cmp, is_late}
 
 -- ---- what passes a filter

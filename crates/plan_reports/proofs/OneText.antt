@@ -7,25 +7,25 @@ use Rattle.std.specs.FinMap.{get}
 use Rattle.std.specs.List.Sorted.{IsStrictlySortedBy}
 use Rattle.plan_basics.specs.Keys.{Name, occurrence_cmp_total, operation_cmp_total}
 use Rattle.plan_basics.specs.declared.keys.OpKey.{OpKey}
-use Rattle.plan_tables.specs.plan_core.specs.Views.{AreOccViews, AreReadyViews, IsOccView, IsOpView}
-use Rattle.plan_tables.specs.plan_core.specs.declared.views.OccView.{OccView}
-use Rattle.plan_tables.specs.plan_core.specs.declared.views.OpView.{OpView}
-use Rattle.plan_tables.specs.plan_drafts.proofs.Lists.{contains_head, contains_later, from_map, in_map}
-use Rattle.plan_tables.specs.plan_laws.proofs.Choice.{one_ready_list}
-use Rattle.plan_tables.specs.plan_laws.proofs.Sorted.{sorted_unique}
-use Rattle.plan_tables.specs.plan_laws.proofs.Tabling.{one_row}
-use Rattle.plan_tables.specs.plan_laws.proofs.Waiting.{one_count, one_occurrence_status}
-use Rattle.plan_tables.specs.plan_model.specs.Contents.{Contents, IsInPlan}
-use Rattle.plan_tables.specs.plan_model.specs.Plan.{Plan}
-use Rattle.plan_tables.specs.plan_model.specs.Status.{HasOccurrenceStatus, HasStatus}
-use Rattle.plan_tables.specs.plan_model.specs.Valid.{IsValid}
-use Rattle.plan_tables.specs.plan_model.specs.declared.Occurrence.{Occurrence}
-use Rattle.plan_tables.specs.plan_records.specs.Rows.{IsCount, IsOperationRow}
-use Rattle.plan_tables.specs.plan_records.specs.declared.OperationRow.{OperationRow}
-use Rattle.plan_tables.specs.Errors.{AreErrorRows, IsErrorRow}
-use Rattle.plan_tables.specs.declared.errors.ErrorRow.{ErrorRow}
-use Rattle.plan_tables.specs.status_rules.specs.declared.Mark.TheVariants as mark
-use Rattle.plan_tables.specs.status_rules.specs.declared.Status.TheVariants.{Complete}
+use Rattle.desk_tables.specs.plan_core.specs.Views.{AreOccViews, AreReadyViews, IsOccView, IsOpView}
+use Rattle.desk_tables.specs.plan_core.specs.declared.views.OccView.{OccView}
+use Rattle.desk_tables.specs.plan_core.specs.declared.views.OpView.{OpView}
+use Rattle.plan_reasons.specs.plan_drafts.proofs.Lists.{contains_head, contains_later, from_map, in_map}
+use Rattle.desk_tables.specs.plan_laws.proofs.Choice.{one_ready_list}
+use Rattle.desk_tables.specs.plan_laws.proofs.Sorted.{sorted_unique}
+use Rattle.desk_tables.specs.plan_laws.proofs.Tabling.{one_row}
+use Rattle.desk_tables.specs.plan_laws.proofs.Waiting.{one_count, one_occurrence_status}
+use Rattle.plan_model.specs.Contents.{Contents, IsInPlan}
+use Rattle.plan_model.specs.Plan.{Plan}
+use Rattle.plan_model.specs.Status.{HasOccurrenceStatus, HasStatus}
+use Rattle.plan_model.specs.Valid.{IsValid}
+use Rattle.plan_model.specs.declared.Occurrence.{Occurrence}
+use Rattle.desk_tables.specs.plan_records.specs.Rows.{IsCount, IsOperationRow}
+use Rattle.desk_tables.specs.plan_records.specs.declared.OperationRow.{OperationRow}
+use Rattle.desk_tables.specs.Errors.{AreErrorRows, IsErrorRow}
+use Rattle.desk_tables.specs.declared.errors.ErrorRow.{ErrorRow}
+use Rattle.status_rules.specs.declared.Mark.TheVariants as mark
+use Rattle.status_rules.specs.declared.Status.TheVariants.{Complete}
 use Rattle.plan_reports.specs.Late.{AreLateViews, due}
 use Rattle.plan_reports.proofs.LateLists.{due_total}
 

@@ -6,8 +6,8 @@ use Rattle.plan_basics.specs.Watched.{AppendsBeginning}
 use Rattle.plan_basics.specs.declared.Refusal.{Refusal}
 use Rattle.plan_basics.specs.declared.Refusal.TheVariants as refusal
 use Rattle.plan_basics.specs.declared.keys.OpKey.{OpKey}
-use Rattle.plan_tables.specs.plan_model.specs.Contents.{IsInPlan, Operation}
-use Rattle.plan_tables.specs.plan_model.specs.Plan.{Plan}
+use Rattle.plan_model.specs.Contents.{IsInPlan, Operation}
+use Rattle.plan_model.specs.Plan.{Plan}
 use Rattle.plan_reports.specs.Reports.{IsBegun, IsWritten, refusal_of, why_refusal_of}
 use Rattle.plan_reports.specs.declared.reports.ReportFault.{ReportFault}
 use Rattle.plan_reports.specs.declared.reports.ReportFault.TheVariants as fault

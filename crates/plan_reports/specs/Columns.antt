@@ -1,10 +1,10 @@
 -- The columns of each report: texts stand at the left of a column, numbers at the right, of these widths.
 use Rattle.std.specs.Prelude.{ℕ, ℤ, pos, negsuc, Bool, true, false, List, [], ◌∷◌, replicate, codes, cond, nat_lt}
 use Rattle.plan_basics.specs.MomentTexts.{moment_text}
-use Rattle.plan_tables.specs.status_rules.specs.Texts.{occurrence_letter, status_letter}
-use Rattle.plan_tables.specs.plan_core.specs.declared.views.OccView.{OccView}
-use Rattle.plan_tables.specs.plan_core.specs.declared.views.OpView.{OpView}
-use Rattle.plan_tables.specs.declared.errors.ErrorRow.{ErrorRow}
+use Rattle.status_rules.specs.Texts.{occurrence_letter, status_letter}
+use Rattle.desk_tables.specs.plan_core.specs.declared.views.OccView.{OccView}
+use Rattle.desk_tables.specs.plan_core.specs.declared.views.OpView.{OpView}
+use Rattle.desk_tables.specs.declared.errors.ErrorRow.{ErrorRow}
 use Rattle.plan_reports.specs.Lines.{left, right}
 
 -- a latest start: the text of its moment, or sixteen hyphens where it is none

@@ -5,12 +5,12 @@ use Rattle.std.specs.Ordering.{int_cmp, ordering_then}
 use Rattle.std.specs.declared.cmp.Ordering.{Ordering}
 use Rattle.plan_basics.specs.Keys.{operation_cmp}
 use Rattle.plan_basics.specs.declared.keys.OpKey.{OpKey}
-use Rattle.plan_tables.specs.plan_core.specs.Views.{IsOpView}
-use Rattle.plan_tables.specs.plan_core.specs.declared.views.OpView.{OpView}
-use Rattle.plan_tables.specs.plan_model.specs.Plan.{Plan}
-use Rattle.plan_tables.specs.plan_model.specs.Starts.{IsLatestStart}
-use Rattle.plan_tables.specs.plan_model.specs.Status.{IsWaitingOrReady}
-use Rattle.plan_tables.specs.status_rules.specs.Classes.{is_waiting_or_ready}
+use Rattle.desk_tables.specs.plan_core.specs.Views.{IsOpView}
+use Rattle.desk_tables.specs.plan_core.specs.declared.views.OpView.{OpView}
+use Rattle.plan_model.specs.Plan.{Plan}
+use Rattle.plan_model.specs.Starts.{IsLatestStart}
+use Rattle.plan_model.specs.Status.{IsWaitingOrReady}
+use Rattle.status_rules.specs.Classes.{is_waiting_or_ready}
 
 -- o waits, is arriving or ready, and its latest start is before the clock
 abbrev pub IsLate : Plan → OpKey → Type 0

@@ -1,3 +1,6 @@
+pub use Rattle.desk_tables
+pub use Rattle.desk_tables.specs.plan_core
+pub use Rattle.desk_tables.specs.store_reads
 pub mod Lines
 pub mod Columns
 pub mod Texts

@@ -7,15 +7,15 @@ use Rattle.plan_basics.specs.Watched.{AppendsBeginning}
 use Rattle.plan_basics.specs.declared.Refusal.{Refusal}
 use Rattle.plan_basics.specs.declared.Refusal.TheVariants as refusal
 use Rattle.plan_basics.specs.declared.keys.OpKey.{OpKey}
-use Rattle.plan_tables.specs.plan_core.specs.Views.{AreOccViews, AreReadyViews}
-use Rattle.plan_tables.specs.plan_core.specs.declared.views.OccView.{OccView}
-use Rattle.plan_tables.specs.plan_core.specs.declared.views.OpView.{OpView}
-use Rattle.plan_tables.specs.plan_model.specs.Plan.{Plan}
-use Rattle.plan_tables.specs.Errors.{AreErrorRows}
-use Rattle.plan_tables.specs.declared.errors.ErrorRow.{ErrorRow}
-use Rattle.reason_texts.specs.plan_reasons.specs.Whys.{IsWhy}
-use Rattle.reason_texts.specs.plan_reasons.specs.declared.answer.Why.{Why}
-use Rattle.reason_texts.specs.Texts.{why_text}
+use Rattle.desk_tables.specs.plan_core.specs.Views.{AreOccViews, AreReadyViews}
+use Rattle.desk_tables.specs.plan_core.specs.declared.views.OccView.{OccView}
+use Rattle.desk_tables.specs.plan_core.specs.declared.views.OpView.{OpView}
+use Rattle.plan_model.specs.Plan.{Plan}
+use Rattle.desk_tables.specs.Errors.{AreErrorRows}
+use Rattle.desk_tables.specs.declared.errors.ErrorRow.{ErrorRow}
+use Rattle.plan_reasons.specs.Whys.{IsWhy}
+use Rattle.plan_reasons.specs.declared.answer.Why.{Why}
+use Rattle.plan_reasons.specs.Texts.{why_text}
 use Rattle.plan_reports.specs.Late.{AreLateViews}
 use Rattle.plan_reports.specs.Texts.{errors_text, late_text, occurrences_text, ready_text}
 

@@ -2,9 +2,9 @@
 use Rattle.std.specs.Prelude.{ℕ, List, [], ◌∷◌, map, codes}
 use Rattle.plan_basics.specs.Keys.{Name}
 use Rattle.plan_basics.specs.MomentTexts.{moment_text}
-use Rattle.plan_tables.specs.plan_core.specs.declared.views.OccView.{OccView}
-use Rattle.plan_tables.specs.plan_core.specs.declared.views.OpView.{OpView}
-use Rattle.plan_tables.specs.declared.errors.ErrorRow.{ErrorRow}
+use Rattle.desk_tables.specs.plan_core.specs.declared.views.OccView.{OccView}
+use Rattle.desk_tables.specs.plan_core.specs.declared.views.OpView.{OpView}
+use Rattle.desk_tables.specs.declared.errors.ErrorRow.{ErrorRow}
 use Rattle.plan_reports.specs.Columns.{error_columns, late_columns, occurrence_columns, ready_columns}
 use Rattle.plan_reports.specs.Lines.{report}
 

@@ -2,8 +2,8 @@
 ghost use Rattle.std.specs.Prelude.{◌≡◌, IfOk, filter};
 ghost use Rattle.plan_reports.specs.Late.{AreLateViews, is_late};
 
+use desk_tables::{OpView, Ops, Plan};
 use plan_basics::Moment;
-use plan_tables::{OpView, Ops, Plan};
 use std::alloc::{AllocError, Global};
 
 // Whether an operation waits, is arriving or ready, and its latest start is before the clock.

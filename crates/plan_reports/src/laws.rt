@@ -1,6 +1,6 @@
 // What is so of reports, as the contract of a function that does nothing.
 ghost use Rattle.plan_basics.specs.Keys.{Name};
-ghost use Rattle.plan_tables.specs.plan_model.specs.Plan.{Plan, IsSoundPlan};
+ghost use Rattle.plan_model.specs.Plan.{Plan, IsSoundPlan};
 ghost use Rattle.plan_reports.specs.Laws.{IsOneText};
 ghost use Rattle.plan_reports.specs.Reports.{IsErrorReport, IsLateReport, IsOccurrenceReport, IsReadyReport};
 

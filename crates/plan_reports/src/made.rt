@@ -1,16 +1,16 @@
 // The text of each report of a desk, or why there is none.
 ghost use Rattle.std.specs.Prelude.{◌≡◌, IfErr, IfOk, None, Some};
 ghost use Rattle.plan_basics.specs.declared.Refusal.{Refusal};
-ghost use Rattle.plan_tables.specs.Errors.{AreErrorRows};
+ghost use Rattle.desk_tables.specs.Errors.{AreErrorRows};
 ghost use Rattle.plan_reports.specs.Reports.{IsErrorReport, IsLateReport, IsOccurrenceReport, IsOwed, IsReadyReport, IsWhyReport, ready_refusal_of, refusal_of, why_refusal_of};
 
 use super::late::late_views;
 use super::lines::Field;
 use super::rows::{ErrorRows, LateRows, OccurrenceRows, ReadyRows, moment_text};
 use super::texts::report;
+use desk_tables::{Desk, ErrorRow, OccView, OpView, Plan};
 use plan_basics::{Moment, OpKey, Refusal, WsName};
-use plan_tables::{Desk, ErrorRow, OccView, OpView, Plan};
-use reason_texts::{why, why_text};
+use plan_reasons::{why, why_text};
 use sqlite::Alter;
 use std::alloc::Global;
 

@@ -7,8 +7,8 @@ ghost use Rattle.plan_reports.specs.Reports.{IsBegun, IsErrorReport, IsLateRepor
 ghost use Rattle.plan_reports.specs.declared.reports.ReportFault.{ReportFault};
 
 use super::made::{errors_made, late_made, occurrences_made, ready_made, why_made};
+use desk_tables::Desk;
 use plan_basics::{Moment, OpKey, Refusal, Watched, WsName};
-use plan_tables::Desk;
 use sqlite::Alter;
 use std::alloc::Global;
 use std::io::Write;

@@ -5,8 +5,8 @@ ghost use Rattle.plan_reports.specs.Columns.{error_columns, held_text, late_colu
 ghost use Rattle.plan_reports.specs.Lines.{line};
 
 use super::lines::{Field, put_line, right};
+use desk_tables::{ErrorRow, OccView, OpView};
 use plan_basics::{Moment, OccKey, minute_text};
-use plan_tables::{ErrorRow, OccView, OpView};
 use std::alloc::AllocError;
 
 /// The text of a moment.

@@ -5,14 +5,14 @@ use Rattle.std.specs.FinMap.{get, get-empty}
 use Rattle.std.specs.FinSet as set
 use Rattle.plan_basics.proofs.Members.{contains_none}
 use Rattle.plan_basics.specs.Keys.{Name, name_cmp, occurrence_cmp, operation_cmp}
-use Rattle.plan_figures.specs.plan_drafts.specs.declared.RowKey.{RowKey}
-use Rattle.plan_figures.specs.plan_laws.proofs.Every.{nothing_at}
-use Rattle.plan_figures.specs.plan_laws.proofs.RowChanges.{each_once}
+use Rattle.plan_records.specs.plan_drafts.specs.declared.RowKey.{RowKey}
+use Rattle.derived_figures.specs.plan_laws.proofs.Every.{nothing_at}
+use Rattle.derived_figures.specs.plan_laws.proofs.RowChanges.{each_once}
 use Rattle.plan_model.specs.Contents.{nothing, pair_cmp}
 use Rattle.plan_model.specs.Plan.{Plan}
-use Rattle.plan_figures.specs.plan_records.specs.Rows.{AreChanges, AreRows, IsRow, key_of, row_cmp, table_of}
-use Rattle.plan_figures.specs.plan_records.specs.declared.PlanRow.{PlanRow}
-use Rattle.plan_figures.specs.plan_records.specs.declared.PlanRow.TheVariants as row
+use Rattle.plan_records.specs.Rows.{AreChanges, AreRows, IsRow, key_of, row_cmp, table_of}
+use Rattle.plan_records.specs.declared.PlanRow.{PlanRow}
+use Rattle.plan_records.specs.declared.PlanRow.TheVariants as row
 use Rattle.plan_rows.proofs.NoRows.{none_ascend}
 use Rattle.plan_rows.specs.Shown.{IsShownIfAny, plan_shown}
 use Rattle.plan_rows.specs.Tables.{IsRowBelow}

@@ -6,7 +6,7 @@ use Rattle.std.specs.Cmp.{booleans_Decides}
 use Rattle.std.specs.Map.{keys_of}
 use Rattle.plan_basics.specs.Keys.{Name}
 use Rattle.plan_model.specs.declared.Stock.{Stock}
-use Rattle.plan_figures.specs.plan_records.specs.declared.PlanRow.TheVariants as row
+use Rattle.plan_records.specs.declared.PlanRow.TheVariants as row
 use Rattle.plan_rows.specs.Rows.{resource_row}
 use Rattle.row_differences.proofs.Picked.{made_from}
 use Rattle.row_differences.specs.Differences.{HaveOneKey}

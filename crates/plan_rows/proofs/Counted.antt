@@ -3,10 +3,10 @@ use Rattle.std.proofs.Common.{◌≡◌, ◌⊎◌, inl, inr, refl, sym, ap, ari
 use Rattle.std.proofs.lemmas.List.Sums.{count_by-le-length, sum_by-append}
 use Rattle.plan_basics.proofs.Members.{contains_head, contains_later}
 use Rattle.plan_model.specs.Plan.{Plan}
-use Rattle.plan_figures.specs.plan_records.specs.Rows.{key_of, table_of}
-use Rattle.plan_figures.specs.plan_records.specs.declared.Changes.{Changes}
-use Rattle.plan_figures.specs.plan_records.specs.declared.PlanRow.{PlanRow}
-use Rattle.plan_figures.specs.plan_records.specs.declared.PlanRow.TheVariants as row
+use Rattle.plan_records.specs.Rows.{key_of, table_of}
+use Rattle.plan_records.specs.declared.Changes.{Changes}
+use Rattle.plan_records.specs.declared.PlanRow.{PlanRow}
+use Rattle.plan_records.specs.declared.PlanRow.TheVariants as row
 use Rattle.plan_rows.proofs.PairedLists.{paired_length}
 use Rattle.plan_rows.specs.Notes.{AreNotes, IsNotedAt, is_operation, operations_noted}
 use Rattle.plan_rows.specs.Rows.{keyed_operations, rows_of}
@@ -14,7 +14,7 @@ use Rattle.plan_rows.specs.Tables.{AreChangesBelow}
 use Rattle.plan_rows.specs.declared.notes.ChangeBeside.{ChangeBeside}
 use Rattle.plan_rows.specs.declared.notes.Notes.{Notes}
 use Rattle.plan_rows.specs.declared.shown.RowSource.{RowSource}
-use Rattle.plan_figures.specs.shown_records.specs.States.{ShownState}
+use Rattle.derived_figures.specs.counted_records.specs.States.{ShownState}
 
 -- one more counts once at most
 pub counted_pushed : {X : Type 0} (p : X → Bool) (xs : List X) (x : X) → count_by p (xs ++ x ∷ []) ≤ count_by p xs + 1

@@ -10,14 +10,14 @@ use Rattle.std.proofs.lemmas.List.{append-nil, append_assoc, take_all, take_more
 use Rattle.std.proofs.lemmas.List.Elements.{Contains-append_left, Contains-push, Contains-push_cases}
 use Rattle.std.proofs.lemmas.Option.{slice_get-get_or}
 use Rattle.plan_basics.proofs.Members.{contains_cases, contains_head, contains_later, contains_none, place_of}
-use Rattle.plan_figures.specs.plan_drafts.proofs.KeyPlaces.{one_place}
+use Rattle.plan_records.specs.plan_drafts.proofs.KeyPlaces.{one_place}
 use Rattle.row_differences.proofs.Joined.{map_joined}
 use Rattle.row_differences.proofs.Merging.{key_within, lower}
 use Rattle.row_differences.specs.Changes.{AreAt}
 use Rattle.row_differences.specs.Differences.{AreDifferences, HaveOneKey}
 use Rattle.plan_rows.proofs.NoRows.{none_ascend}
 use Rattle.plan_rows.specs.Touched.{AreDifferentAmong}
-use Rattle.plan_figures.specs.plan_status.proofs.Ascending.{sorted_pushed}
+use Rattle.derived_figures.specs.plan_status.proofs.Ascending.{sorted_pushed}
 
 -- a number is among these, or it isn't
 pub among_or_not : (xs : List ℕ) (i : ℕ) → Contains xs i ⊎ ¬ Contains xs i

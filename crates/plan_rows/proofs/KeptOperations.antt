@@ -5,12 +5,12 @@ use Rattle.std.specs.FinMap.{entries, get}
 use Rattle.std.specs.Map.{keys_of}
 use Rattle.plan_basics.specs.Keys.{operation_cmp-IsAntisymmetric, operation_cmp_total}
 use Rattle.plan_basics.specs.declared.keys.OpKey.{OpKey}
-use Rattle.plan_figures.specs.plan_drafts.proofs.EntryRows.{row_in}
-use Rattle.plan_figures.specs.plan_drafts.proofs.RowPlaces.{row_at}
-use Rattle.plan_figures.specs.plan_records.specs.declared.OperationRow.{OperationRow}
-use Rattle.plan_figures.specs.plan_records.specs.declared.PlanRow.TheVariants as row
-use Rattle.plan_figures.specs.plan_status.proofs.RowKeys.{row_of_key}
-use Rattle.plan_figures.specs.plan_status.specs.declared.standings.Standing.{Standing}
+use Rattle.plan_records.specs.plan_drafts.proofs.EntryRows.{row_in}
+use Rattle.plan_records.specs.plan_drafts.proofs.RowPlaces.{row_at}
+use Rattle.plan_records.specs.declared.OperationRow.{OperationRow}
+use Rattle.plan_records.specs.declared.PlanRow.TheVariants as row
+use Rattle.derived_figures.specs.plan_status.proofs.RowKeys.{row_of_key}
+use Rattle.derived_figures.specs.plan_status.specs.declared.standings.Standing.{Standing}
 use Rattle.plan_model.specs.Contents.{Contents, Operation}
 use Rattle.plan_model.specs.Ready.{with_mark}
 use Rattle.plan_model.specs.Status.{HasStatus, UnmarkedStatus}

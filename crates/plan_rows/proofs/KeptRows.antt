@@ -4,10 +4,10 @@ use Rattle.std.specs.Cmp.{IsTotalOrder}
 use Rattle.std.specs.FinMap.{FinMap, IsAntisymmetric, entries, get}
 use Rattle.std.specs.Map.{keys_of}
 use Rattle.plan_basics.proofs.Members.{at_place, contains_head, contains_later, contains_mapped, mapped_contains, place_of}
-use Rattle.plan_figures.specs.plan_drafts.proofs.EntryRows.{entry_of, row_in}
-use Rattle.plan_figures.specs.plan_drafts.specs.declared.RowKey.{RowKey}
-use Rattle.plan_figures.specs.plan_records.specs.Rows.{key_of}
-use Rattle.plan_figures.specs.plan_records.specs.declared.PlanRow.{PlanRow}
+use Rattle.plan_records.specs.plan_drafts.proofs.EntryRows.{entry_of, row_in}
+use Rattle.plan_records.specs.plan_drafts.specs.declared.RowKey.{RowKey}
+use Rattle.plan_records.specs.Rows.{key_of}
+use Rattle.plan_records.specs.declared.PlanRow.{PlanRow}
 
 module _ {K X : Type 0} {R : K → K → Ordering} (o : IsTotalOrder R) (exact : IsAntisymmetric R) (m : FinMap R X) where
   -- an entry is what the map has, and what it has is an entry

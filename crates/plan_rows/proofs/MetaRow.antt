@@ -4,9 +4,9 @@ use Rattle.std.specs.List.Sorted.{IsStrictlySortedBy}
 use Rattle.std.specs.Option.{is_some}
 use Rattle.plan_basics.proofs.Members.{contains_cases, contains_head, contains_none}
 use Rattle.plan_model.specs.Plan.{Plan}
-use Rattle.plan_figures.specs.plan_records.specs.Rows.{key_of, row_cmp}
-use Rattle.plan_figures.specs.plan_records.specs.declared.PlanRow.{PlanRow}
-use Rattle.plan_figures.specs.plan_records.specs.declared.PlanRow.TheVariants as row
+use Rattle.plan_records.specs.Rows.{key_of, row_cmp}
+use Rattle.plan_records.specs.declared.PlanRow.{PlanRow}
+use Rattle.plan_records.specs.declared.PlanRow.TheVariants as row
 use Rattle.plan_rows.proofs.NoRows.{none_ascend}
 use Rattle.plan_rows.specs.Shown.{plan_shown}
 use Rattle.plan_rows.specs.Tables.{IsRowOf}

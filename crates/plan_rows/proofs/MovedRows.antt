@@ -6,10 +6,10 @@ use Rattle.std.specs.Map.{keys_of}
 use Rattle.std.proofs.lemmas.Option.{same_Some, slice_get-map, slice_get_cases, slice_get_past, slice_get_within}
 use Rattle.plan_basics.specs.Keys.{occurrence_cmp, operation_cmp-IsAntisymmetric, operation_cmp_total}
 use Rattle.plan_basics.specs.declared.keys.OpKey.{OpKey}
-use Rattle.plan_figures.specs.plan_drafts.proofs.EntryRows.{entry_of, row_in}
+use Rattle.plan_records.specs.plan_drafts.proofs.EntryRows.{entry_of, row_in}
 use Rattle.plan_model.specs.Contents.{Contents, Operation}
 use Rattle.plan_model.specs.declared.Occurrence.{Occurrence}
-use Rattle.plan_figures.specs.plan_moves.specs.Moves.{IsRemarkedAt}
+use Rattle.plan_model.specs.Moves.{IsRemarkedAt}
 use Rattle.row_differences.proofs.Merging.{key_within}
 use Rattle.plan_rows.specs.Touched.{AreMovedAmong, AreOccurrencesOf, BelongsAt}
 

@@ -8,17 +8,17 @@ use Rattle.std.specs.List.Sorted.{IsStrictlySortedBy}
 use Rattle.plan_basics.proofs.Members.{contains_none}
 use Rattle.plan_basics.specs.Keys.{Name}
 use Rattle.plan_basics.specs.declared.keys.OpKey.{OpKey}
-use Rattle.plan_figures.specs.plan_drafts.specs.PlanItems.{need_cmp, need_key}
-use Rattle.plan_figures.specs.plan_drafts.specs.declared.RowKey.{RowKey}
-use Rattle.plan_figures.specs.plan_drafts.specs.declared.RowKey.TheVariants as key
-use Rattle.plan_figures.specs.plan_records.specs.Rows.{key_of, row_cmp}
-use Rattle.plan_figures.specs.plan_records.specs.declared.PlanRow.{PlanRow}
-use Rattle.plan_figures.specs.plan_records.specs.declared.PlanRow.TheVariants as row
+use Rattle.plan_records.specs.plan_drafts.specs.PlanItems.{need_cmp, need_key}
+use Rattle.plan_records.specs.plan_drafts.specs.declared.RowKey.{RowKey}
+use Rattle.plan_records.specs.plan_drafts.specs.declared.RowKey.TheVariants as key
+use Rattle.plan_records.specs.Rows.{key_of, row_cmp}
+use Rattle.plan_records.specs.declared.PlanRow.{PlanRow}
+use Rattle.plan_records.specs.declared.PlanRow.TheVariants as row
 use Rattle.plan_model.specs.Contents.{Has, Operation}
 use Rattle.plan_model.specs.Plan.{Plan}
 use Rattle.plan_model.specs.Ready.{with_mark}
 use Rattle.plan_rows.proofs.NoRows.{none_ascend}
-use Rattle.plan_figures.specs.plan_laws.proofs.SomeOfEach.{is_made, made_of_each, made_of_one, some_ascend}
+use Rattle.derived_figures.specs.plan_laws.proofs.SomeOfEach.{is_made, made_of_each, made_of_one, some_ascend}
 use Rattle.plan_rows.specs.Kept.{AreNewNeeds, KeepsRecords}
 use Rattle.plan_rows.specs.Rows.{amount_by, amount_row, need_row}
 use Rattle.plan_rows.specs.Tables.{IsRowOf}

@@ -8,9 +8,9 @@ use Rattle.std.specs.Map.{keys_of}
 use Rattle.plan_basics.proofs.Members.{at_place, contains_head, contains_later, contains_mapped, mapped_contains}
 use Rattle.plan_basics.specs.Keys.{Name, name_cmp-IsAntisymmetric, name_cmp_total, operation_cmp, operation_cmp-IsAntisymmetric, operation_cmp_total}
 use Rattle.plan_basics.specs.declared.keys.OpKey.{OpKey}
-use Rattle.plan_figures.specs.plan_drafts.proofs.EntryRows.{entry_of}
-use Rattle.plan_figures.specs.plan_drafts.specs.PlanItems.{need_cmp, need_key}
-use Rattle.plan_figures.specs.plan_status.proofs.RowKeys.{key_of_row}
+use Rattle.plan_records.specs.plan_drafts.proofs.EntryRows.{entry_of}
+use Rattle.plan_records.specs.plan_drafts.specs.PlanItems.{need_cmp, need_key}
+use Rattle.derived_figures.specs.plan_status.proofs.RowKeys.{key_of_row}
 use Rattle.plan_model.proofs.Entries.{entries_in_order, keys_of-entries}
 use Rattle.plan_model.specs.Contents.{Contents, Has, Operation}
 use Rattle.plan_rows.proofs.BothKeys.{from_one, in_all}

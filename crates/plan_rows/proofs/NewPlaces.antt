@@ -13,11 +13,11 @@ use Rattle.std.specs.Map.{keys_of}
 use Rattle.plan_basics.proofs.Members.{at_place, contains_head, contains_later, place_of}
 use Rattle.plan_basics.specs.Keys.{operation_cmp, operation_cmp-IsAntisymmetric, operation_cmp_total}
 use Rattle.plan_basics.specs.declared.keys.OpKey.{OpKey}
-use Rattle.plan_figures.specs.plan_drafts.proofs.EntryRows.{entry_of, row_in}
-use Rattle.plan_figures.specs.plan_drafts.proofs.Lists.{length_map}
-use Rattle.plan_figures.specs.plan_drafts.proofs.RowPlaces.{row_at}
-use Rattle.plan_figures.specs.plan_status.proofs.RowKeys.{key_of_row, row_of_key}
-use Rattle.plan_figures.specs.ready_list.proofs.Members.{contains_filter}
+use Rattle.plan_records.specs.plan_drafts.proofs.EntryRows.{entry_of, row_in}
+use Rattle.plan_records.specs.plan_drafts.proofs.Lists.{length_map}
+use Rattle.plan_records.specs.plan_drafts.proofs.RowPlaces.{row_at}
+use Rattle.derived_figures.specs.plan_status.proofs.RowKeys.{key_of_row, row_of_key}
+use Rattle.plan_model.specs.ready_list.proofs.Members.{contains_filter}
 use Rattle.plan_model.proofs.Entries.{entries_in_order, keys_of-entries}
 use Rattle.plan_model.proofs.Members.{if_member, in_keys, member_if}
 use Rattle.plan_model.specs.Contents.{Contents, Operation, nothing}

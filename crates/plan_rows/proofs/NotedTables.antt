@@ -9,11 +9,11 @@ use Rattle.std.proofs.lemmas.List.{append-nil}
 use Rattle.plan_basics.proofs.Members.{contains_cases, contains_head, contains_later, contains_none}
 use Rattle.plan_model.specs.Contents.{Contents, Resources}
 use Rattle.plan_model.specs.Plan.{Plan}
-use Rattle.plan_figures.specs.plan_drafts.specs.declared.RowKey.{RowKey}
-use Rattle.plan_figures.specs.plan_records.specs.Rows.{row_cmp}
-use Rattle.plan_figures.specs.plan_records.specs.contracts.PlanRowPartialEq.TheImpl as equality
-use Rattle.plan_figures.specs.plan_records.specs.declared.Changes.{Changes}
-use Rattle.plan_figures.specs.plan_records.specs.declared.PlanRow.{PlanRow}
+use Rattle.plan_records.specs.plan_drafts.specs.declared.RowKey.{RowKey}
+use Rattle.plan_records.specs.Rows.{row_cmp}
+use Rattle.plan_records.specs.contracts.PlanRowPartialEq.TheImpl as equality
+use Rattle.plan_records.specs.declared.Changes.{Changes}
+use Rattle.plan_records.specs.declared.PlanRow.{PlanRow}
 use Rattle.plan_rows.proofs.DifferentRows.{IsToldTo, all_differences, told_different, told_same}
 use Rattle.plan_rows.proofs.OneMore.{one_more_table, table_changes}
 use Rattle.plan_rows.proofs.PairedLists.{paired_at, paired_length}

@@ -18,7 +18,7 @@ use Rattle.plan_basics.proofs.Members.{contains_cases, contains_head, contains_l
 use Rattle.plan_basics.specs.Keys.{occurrence_cmp, occurrence_cmp_total, operation_cmp}
 use Rattle.plan_basics.specs.declared.keys.OccKey.{OccKey}
 use Rattle.plan_basics.specs.declared.keys.OpKey.{OpKey}
-use Rattle.plan_figures.specs.plan_drafts.proofs.KeyPlaces.{one_place}
+use Rattle.plan_records.specs.plan_drafts.proofs.KeyPlaces.{one_place}
 use Rattle.plan_model.proofs.Entries.{entries_in_order}
 use Rattle.plan_model.specs.Contents.{Contents, Operation}
 use Rattle.plan_model.specs.declared.Occurrence.{Occurrence}

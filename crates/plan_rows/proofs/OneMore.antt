@@ -9,12 +9,12 @@ use Rattle.std.specs.declared.cmp.Ordering.TheVariants.{Less}
 use Rattle.std.proofs.lemmas.Bool.{cases_lt}
 use Rattle.std.proofs.lemmas.Cmp.{tied_itself}
 use Rattle.std.proofs.lemmas.Option.{slice_get-map}
-use Rattle.plan_figures.specs.plan_drafts.specs.declared.RowKey.{RowKey}
-use Rattle.plan_figures.specs.plan_drafts.specs.RowKeys.{row_cmp_total}
+use Rattle.plan_records.specs.plan_drafts.specs.declared.RowKey.{RowKey}
+use Rattle.plan_records.specs.plan_drafts.specs.RowKeys.{row_cmp_total}
 use Rattle.plan_model.specs.Plan.{Plan}
-use Rattle.plan_figures.specs.plan_records.specs.Rows.{key_cmp, key_of, row_cmp, table_of}
-use Rattle.plan_figures.specs.plan_records.specs.declared.Changes.{Changes}
-use Rattle.plan_figures.specs.plan_records.specs.declared.PlanRow.{PlanRow}
+use Rattle.plan_records.specs.Rows.{key_cmp, key_of, row_cmp, table_of}
+use Rattle.plan_records.specs.declared.Changes.{Changes}
+use Rattle.plan_records.specs.declared.PlanRow.{PlanRow}
 use Rattle.plan_rows.specs.Tables.{AreChangesBelow, AreRowsOf, IsRowBelow, IsRowOf}
 use Rattle.row_differences.proofs.Joined.{described, joined}
 use Rattle.row_differences.proofs.Merging.{key_within}

@@ -9,13 +9,13 @@ use Rattle.std.specs.Map.{keys_of}
 use Rattle.plan_basics.proofs.Members.{contains_mapped, mapped_contains}
 use Rattle.plan_basics.specs.Keys.{Name, name_cmp, name_cmp-IsAntisymmetric, name_cmp_total}
 use Rattle.plan_basics.specs.declared.limits.TheConstants.{MOST_QUANTITY}
-use Rattle.plan_figures.specs.plan_drafts.specs.declared.RowKey.TheVariants as key
-use Rattle.plan_figures.specs.plan_records.specs.declared.PlanRow.{PlanRow}
-use Rattle.plan_figures.specs.plan_records.specs.declared.PlanRow.TheVariants as row
+use Rattle.plan_records.specs.plan_drafts.specs.declared.RowKey.TheVariants as key
+use Rattle.plan_records.specs.declared.PlanRow.{PlanRow}
+use Rattle.plan_records.specs.declared.PlanRow.TheVariants as row
 use Rattle.plan_model.specs.Plan.{Plan}
 use Rattle.plan_model.specs.declared.Stock.{Stock}
 use Rattle.plan_rows.proofs.KeptRows.{kept_has, kept_is, keyed_by}
-use Rattle.plan_figures.specs.plan_laws.proofs.SomeOfEach.{is_made, made_of_one, some_ascend}
+use Rattle.derived_figures.specs.plan_laws.proofs.SomeOfEach.{is_made, made_of_one, some_ascend}
 use Rattle.plan_rows.specs.Rows.{quantity_row, quantity_written}
 use Rattle.plan_rows.specs.Tables.{AreRowsOf, IsRowOf}
 

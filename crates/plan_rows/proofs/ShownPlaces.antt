@@ -3,9 +3,9 @@ use Rattle.std.proofs.Common.{◌≡◌, ◌≢◌, ◌↔◌, inl, inr, refl, s
 use Rattle.std.specs.Prelude.{IsTrue}
 use Rattle.std.proofs.lemmas.Bool.{cases_Bool}
 use Rattle.std.proofs.lemmas.Option.{same_Some, slice_get-map}
-use Rattle.plan_figures.specs.plan_records.proofs.RowEquality.{equal_rows}
-use Rattle.plan_figures.specs.plan_records.specs.contracts.PlanRowPartialEq.TheImpl as equality
-use Rattle.plan_figures.specs.plan_records.specs.declared.PlanRow.{PlanRow}
+use Rattle.plan_records.proofs.RowEquality.{equal_rows}
+use Rattle.plan_records.specs.contracts.PlanRowPartialEq.TheImpl as equality
+use Rattle.plan_records.specs.declared.PlanRow.{PlanRow}
 use Rattle.plan_rows.specs.Rows.{rows_of}
 
 -- a row stands where it stands under its key

@@ -10,29 +10,29 @@ use Rattle.plan_basics.proofs.Members.{at_place, contains_mapped, contains_none,
 use Rattle.plan_basics.specs.Keys.{occurrence_cmp, occurrence_cmp-IsAntisymmetric, occurrence_cmp_total, operation_cmp, operation_cmp-IsAntisymmetric, operation_cmp_total}
 use Rattle.plan_basics.specs.declared.keys.OccKey.{OccKey}
 use Rattle.plan_basics.specs.declared.keys.OpKey.{OpKey}
-use Rattle.plan_figures.specs.plan_drafts.proofs.EntryRows.{entry_of, row_in}
-use Rattle.plan_figures.specs.plan_drafts.proofs.RowPlaces.{row_at}
-use Rattle.plan_figures.specs.plan_drafts.specs.declared.RowKey.{RowKey}
-use Rattle.plan_figures.specs.plan_drafts.specs.declared.RowKey.TheVariants as key
-use Rattle.plan_figures.specs.plan_laws.proofs.Tabling.{one_row}
-use Rattle.plan_figures.specs.plan_laws.proofs.Waiting.{one_occurrence_status}
+use Rattle.plan_records.specs.plan_drafts.proofs.EntryRows.{entry_of, row_in}
+use Rattle.plan_records.specs.plan_drafts.proofs.RowPlaces.{row_at}
+use Rattle.plan_records.specs.plan_drafts.specs.declared.RowKey.{RowKey}
+use Rattle.plan_records.specs.plan_drafts.specs.declared.RowKey.TheVariants as key
+use Rattle.derived_figures.specs.plan_laws.proofs.Tabling.{one_row}
+use Rattle.derived_figures.specs.plan_laws.proofs.Waiting.{one_occurrence_status}
 use Rattle.plan_model.proofs.Entries.{entries_in_order}
 use Rattle.plan_model.specs.Contents.{Contents, Operation}
 use Rattle.plan_model.specs.Plan.{Plan}
 use Rattle.plan_model.specs.Status.{HasOccurrenceStatus}
 use Rattle.plan_model.specs.declared.Occurrence.{Occurrence}
-use Rattle.plan_figures.specs.plan_records.specs.Rows.{IsOperationRow, key_of}
-use Rattle.plan_figures.specs.plan_records.specs.declared.PlanRow.{PlanRow}
-use Rattle.plan_figures.specs.plan_records.specs.declared.PlanRow.TheVariants as row
+use Rattle.plan_records.specs.Rows.{IsOperationRow, key_of}
+use Rattle.plan_records.specs.declared.PlanRow.{PlanRow}
+use Rattle.plan_records.specs.declared.PlanRow.TheVariants as row
 use Rattle.plan_rows.proofs.NoRows.{none_ascend, none_kept}
 use Rattle.plan_rows.proofs.SideBySide.{from_viewed, from_zipped, keys_viewed, length_zipped, viewed_at, zipped_at}
 use Rattle.plan_rows.specs.Rows.{if_shown, keyed_occurrence, keyed_occurrences, keyed_operation, keyed_operations, operation_row_of, rows_of}
 use Rattle.plan_rows.specs.Shown.{contents_shown, IsShown, IsShownIfAny, Known, known_of, plan_shown}
 use Rattle.plan_rows.specs.Tables.{AreRowsOf, IsRowOf}
 use Rattle.plan_rows.specs.declared.shown.RowSource.{RowSource}
-use Rattle.plan_figures.specs.plan_status.proofs.OfOccurrences.{status_counted}
-use Rattle.plan_figures.specs.plan_status.specs.Standings.{IsTally}
-use Rattle.plan_figures.specs.plan_status.specs.declared.standings.Standing.{Standing}
+use Rattle.derived_figures.specs.plan_status.proofs.OfOccurrences.{status_counted}
+use Rattle.derived_figures.specs.plan_status.specs.Standings.{IsTally}
+use Rattle.derived_figures.specs.plan_status.specs.declared.standings.Standing.{Standing}
 use Rattle.status_rules.proofs.CountsTable.{first_by_table}
 use Rattle.status_rules.specs.Table.{occurrence_by}
 use Rattle.status_rules.specs.declared.Counts.{Counts}

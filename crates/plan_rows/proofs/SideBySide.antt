@@ -2,7 +2,7 @@
 use Rattle.std.proofs.Common.{◌≡◌, refl, ap, arith, ℕ, zero, suc, List, [], ◌∷◌, map, drop, length, slice_get, Contains, Some, inl, inr}
 use Rattle.std.specs.List.{zip}
 use Rattle.std.specs.Map.{keys_of}
-use Rattle.plan_figures.specs.plan_drafts.proofs.Lists.{contains_cases, contains_none}
+use Rattle.plan_records.specs.plan_drafts.proofs.Lists.{contains_cases, contains_none}
 
 module _ {X : Type 0} where
   -- what is left from an index on begins with what is there

@@ -4,7 +4,7 @@ use Rattle.std.specs.FinMap.{get-empty}
 use Rattle.std.specs.Map.{keys_of}
 use Rattle.std.proofs.lemmas.Option.{none-some}
 use Rattle.plan_basics.specs.Keys.{operation_cmp}
-use Rattle.plan_figures.specs.plan_records.specs.declared.PlanRow.{PlanRow}
+use Rattle.plan_records.specs.declared.PlanRow.{PlanRow}
 use Rattle.plan_model.specs.Contents.{Contents, nothing}
 use Rattle.plan_rows.specs.Kept.{KeepsRecords}
 use Rattle.plan_rows.specs.Rows.{if_shown}

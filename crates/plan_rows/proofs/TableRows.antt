@@ -7,14 +7,14 @@ use Rattle.plan_basics.proofs.Members.{contains_mapped, mapped_contains}
 use Rattle.plan_basics.specs.Keys.{Name, name_cmp-IsAntisymmetric, name_cmp_total}
 use Rattle.plan_basics.specs.declared.Attr.{Attr}
 use Rattle.plan_basics.specs.declared.keys.OpKey.{OpKey}
-use Rattle.plan_figures.specs.plan_drafts.proofs.Tables.{from_set, in_set}
-use Rattle.plan_figures.specs.plan_drafts.specs.declared.RowKey.TheVariants as key
-use Rattle.plan_figures.specs.plan_laws.proofs.Pairs.{pair_cmp-IsAntisymmetric, pair_cmp_total}
+use Rattle.plan_records.specs.plan_drafts.proofs.Tables.{from_set, in_set}
+use Rattle.plan_records.specs.plan_drafts.specs.declared.RowKey.TheVariants as key
+use Rattle.derived_figures.specs.plan_laws.proofs.Pairs.{pair_cmp-IsAntisymmetric, pair_cmp_total}
 use Rattle.plan_model.specs.Plan.{Plan}
 use Rattle.plan_model.specs.declared.Stock.{Stock}
-use Rattle.plan_figures.specs.plan_records.specs.Rows.{key_of}
-use Rattle.plan_figures.specs.plan_records.specs.declared.PlanRow.{PlanRow}
-use Rattle.plan_figures.specs.plan_records.specs.declared.PlanRow.TheVariants as row
+use Rattle.plan_records.specs.Rows.{key_of}
+use Rattle.plan_records.specs.declared.PlanRow.{PlanRow}
+use Rattle.plan_records.specs.declared.PlanRow.TheVariants as row
 use Rattle.plan_rows.proofs.KeptRows.{kept_from, kept_there, keyed_by}
 use Rattle.plan_rows.specs.Rows.{dependency_row, resource_row, workstation_row}
 use Rattle.plan_rows.specs.Tables.{AreRowsOf, IsRowOf}

@@ -8,11 +8,11 @@ use Rattle.std.proofs.lemmas.Option.{slice_get_within}
 use Rattle.plan_basics.specs.Keys.{occurrence_cmp, occurrence_cmp-IsAntisymmetric, occurrence_cmp_total, operation_cmp, operation_cmp_total}
 use Rattle.plan_basics.specs.declared.keys.OccKey.{OccKey}
 use Rattle.plan_basics.specs.declared.keys.OpKey.{OpKey}
-use Rattle.plan_figures.specs.plan_laws.proofs.Every.{nothing_at}
+use Rattle.derived_figures.specs.plan_laws.proofs.Every.{nothing_at}
 use Rattle.plan_model.proofs.Entries.{entries_are}
 use Rattle.plan_model.specs.Contents.{Operation, nothing}
 use Rattle.plan_model.specs.declared.Occurrence.{Occurrence}
-use Rattle.plan_figures.specs.plan_records.specs.declared.PlanRow.{PlanRow}
+use Rattle.plan_records.specs.declared.PlanRow.{PlanRow}
 use Rattle.plan_rows.proofs.MovedRows.{mapped_alike, same_elsewhere, same_keys, zipped_alike}
 use Rattle.plan_rows.proofs.NoRows.{none_kept}
 use Rattle.plan_rows.proofs.ShownRows.{occurrence_keys_kept, operation_keys_kept}

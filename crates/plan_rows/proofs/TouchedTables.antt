@@ -7,15 +7,15 @@ use Rattle.std.proofs.lemmas.Option.{none-some, same_Some}
 use Rattle.plan_basics.proofs.Members.{contains_none}
 use Rattle.plan_basics.specs.Keys.{Name}
 use Rattle.plan_basics.specs.declared.Attr.{Attr}
-use Rattle.plan_figures.specs.plan_drafts.specs.declared.RowKey.{RowKey}
+use Rattle.plan_records.specs.plan_drafts.specs.declared.RowKey.{RowKey}
 use Rattle.plan_model.specs.Contents.{Pairs, Workstations}
 use Rattle.plan_model.specs.Plan.{Plan}
 use Rattle.plan_model.specs.declared.Stock.{Stock}
-use Rattle.plan_figures.specs.plan_moves.specs.Moves.{reporting}
-use Rattle.plan_figures.specs.plan_records.specs.Rows.{key_of, row_cmp}
-use Rattle.plan_figures.specs.plan_records.specs.declared.Changes.{Changes}
-use Rattle.plan_figures.specs.plan_records.specs.declared.PlanRow.{PlanRow}
-use Rattle.plan_figures.specs.plan_records.specs.declared.PlanRow.TheVariants as row
+use Rattle.plan_model.specs.Moves.{reporting}
+use Rattle.plan_records.specs.Rows.{key_of, row_cmp}
+use Rattle.plan_records.specs.declared.Changes.{Changes}
+use Rattle.plan_records.specs.declared.PlanRow.{PlanRow}
+use Rattle.plan_records.specs.declared.PlanRow.TheVariants as row
 use Rattle.plan_rows.proofs.MovedRows.{needs_are, needs_were}
 use Rattle.plan_rows.proofs.NoRows.{contents_of_plan, none_ascend}
 use Rattle.plan_rows.proofs.OneMore.{one_more_table}

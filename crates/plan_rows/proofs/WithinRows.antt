@@ -9,12 +9,12 @@ use Rattle.plan_basics.proofs.Members.{contains_mapped, mapped_contains}
 use Rattle.plan_basics.specs.Intervals.{OpenInterval}
 use Rattle.plan_basics.specs.Keys.{Name, name_cmp, name_cmp-IsAntisymmetric, name_cmp_total, operation_cmp, operation_cmp_total}
 use Rattle.plan_basics.specs.declared.keys.OpKey.{OpKey}
-use Rattle.plan_figures.specs.plan_drafts.specs.declared.RowKey.TheVariants as key
+use Rattle.plan_records.specs.plan_drafts.specs.declared.RowKey.TheVariants as key
 use Rattle.plan_model.proofs.Entries.{entries_in_order, rows_in_order}
 use Rattle.plan_model.specs.Contents.{Operation}
 use Rattle.plan_model.specs.Plan.{Plan}
-use Rattle.plan_figures.specs.plan_records.specs.declared.PlanRow.{PlanRow}
-use Rattle.plan_figures.specs.plan_records.specs.declared.PlanRow.TheVariants as row
+use Rattle.plan_records.specs.declared.PlanRow.{PlanRow}
+use Rattle.plan_records.specs.declared.PlanRow.TheVariants as row
 use Rattle.plan_rows.proofs.BothKeys.{all_ascend, from_one, in_all, keys_made, under_made}
 use Rattle.plan_rows.proofs.KeptRows.{kept_has, kept_is, keyed_members}
 use Rattle.plan_rows.specs.Rows.{all_intervals, all_needs, interval_row, intervals_within, needs_within, under_both}

@@ -4,7 +4,7 @@ use Rattle.std.proofs.lemmas.List.{append-nil, append_assoc, take_all}
 use Rattle.std.proofs.lemmas.List.Elements.{Contains-get_or}
 use Rattle.std.specs.List.{filter_map}
 use Rattle.std.specs.Option.{option_to_list}
-use Rattle.plan_figures.specs.plan_laws.proofs.SomeOfEach.{some_more}
+use Rattle.derived_figures.specs.plan_laws.proofs.SomeOfEach.{some_more}
 
 -- after what is in old, new has what is written of the first k of these
 abbrev pub IsWrittenOf : {X Row : Type 0} → (X → Option Row → Type 0) → List X → ℕ → List Row → List Row → Type 0

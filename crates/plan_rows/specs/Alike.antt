@@ -12,9 +12,9 @@ use Rattle.plan_basics.specs.Intervals.{OpenInterval}
 use Rattle.plan_basics.specs.Keys.{Name, name_cmp, name_cmp-IsAntisymmetric, operation_cmp-IsAntisymmetric}
 use Rattle.plan_basics.specs.contracts.moments.IntervalPartialEq.TheImpl as intervals
 use Rattle.plan_model.specs.Contents.{pair_cmp}
-use Rattle.plan_figures.specs.plan_records.proofs.RowEquality.{equal_rows}
-use Rattle.plan_figures.specs.plan_records.specs.declared.PlanRow.{PlanRow}
-use Rattle.plan_figures.specs.plan_records.specs.declared.PlanRow.TheVariants as row
+use Rattle.plan_records.proofs.RowEquality.{equal_rows}
+use Rattle.plan_records.specs.declared.PlanRow.{PlanRow}
+use Rattle.plan_records.specs.declared.PlanRow.TheVariants as row
 use Rattle.plan_rows.specs.Rows.{interval_row, quantity_row}
 use Rattle.row_differences.proofs.Picked.{made_from}
 use Rattle.row_differences.specs.Differences.{HaveOneKey}

@@ -6,7 +6,7 @@ use Rattle.std.specs.Ordering.{nat_cmp}
 use Rattle.plan_basics.specs.declared.keys.OpKey.{OpKey}
 use Rattle.status_rules.specs.declared.Mark.{Mark}
 use Rattle.status_rules.specs.declared.Mark.TheVariants as mark
-use Rattle.plan_figures.specs.plan_drafts.specs.PlanItems.{need_cmp, need_key}
+use Rattle.plan_records.specs.plan_drafts.specs.PlanItems.{need_cmp, need_key}
 use Rattle.plan_model.specs.Contents.{Contents, Has, Operation}
 use Rattle.plan_model.specs.Ready.{with_mark}
 use Rattle.plan_rows.specs.declared.columns.SourceColumns.{SourceColumns}

@@ -1,9 +1,9 @@
-pub use Rattle.plan_figures.specs.plan_choice
-pub use Rattle.plan_figures.specs.plan_drafts
-pub use Rattle.plan_figures.specs.plan_laws
-pub use Rattle.plan_model
-pub use Rattle.plan_figures
-pub use Rattle.plan_figures.specs.plan_status
+pub use Rattle.derived_figures.specs.counted_records
+pub use Rattle.derived_figures
+pub use Rattle.derived_figures.specs.plan_changes
+pub use Rattle.derived_figures.specs.plan_laws
+pub use Rattle.derived_figures.specs.plan_status
+pub use Rattle.derived_figures.specs.start_choice
 pub mod Shown
 pub mod Kept
 pub mod Rows

@@ -3,9 +3,9 @@ use Rattle.std.specs.Prelude.{◌≡◌, ◌<◌, ℕ, Bool, true, false, List, 
 use Rattle.std.specs.FinMap.{entries}
 use Rattle.std.specs.List.{AllZip}
 use Rattle.plan_model.specs.Contents.{Contents}
-use Rattle.plan_figures.specs.plan_records.specs.declared.Changes.{Changes}
-use Rattle.plan_figures.specs.plan_records.specs.declared.PlanRow.{PlanRow}
-use Rattle.plan_figures.specs.plan_records.specs.declared.PlanRow.TheVariants as row
+use Rattle.plan_records.specs.declared.Changes.{Changes}
+use Rattle.plan_records.specs.declared.PlanRow.{PlanRow}
+use Rattle.plan_records.specs.declared.PlanRow.TheVariants as row
 use Rattle.plan_rows.specs.Rows.{all_intervals, keyed_occurrences, keyed_operations, rows_of}
 use Rattle.plan_rows.specs.Shown.{IsShown, contents_shown}
 use Rattle.plan_rows.specs.Tables.{AddsChanges}

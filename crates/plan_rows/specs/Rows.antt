@@ -10,9 +10,9 @@ use Rattle.plan_basics.specs.declared.keys.OpKey.{OpKey}
 use Rattle.plan_model.specs.Contents.{Operation}
 use Rattle.plan_model.specs.declared.Occurrence.{Occurrence}
 use Rattle.plan_model.specs.declared.Stock.{Stock}
-use Rattle.plan_figures.specs.plan_records.specs.declared.OperationRow.{OperationRow}
-use Rattle.plan_figures.specs.plan_records.specs.declared.PlanRow.{PlanRow}
-use Rattle.plan_figures.specs.plan_records.specs.declared.PlanRow.TheVariants as row
+use Rattle.plan_records.specs.declared.OperationRow.{OperationRow}
+use Rattle.plan_records.specs.declared.PlanRow.{PlanRow}
+use Rattle.plan_records.specs.declared.PlanRow.TheVariants as row
 use Rattle.plan_rows.specs.Shown.{Known, known_of}
 use Rattle.plan_rows.specs.declared.shown.RowSource.{RowSource}
 use Rattle.special_resources.specs.Needs.{need_of}

@@ -1,13 +1,13 @@
 -- What is kept of a loaded plan, for its views.
 use Rattle.std.specs.Prelude.{ℕ, ℤ, List, Option, Some, None, option_map}
 use Rattle.std.specs.List.{zip}
-use Rattle.plan_figures.specs.plan_choice.specs.Choices.{AreLatestStarts}
-use Rattle.plan_figures.specs.plan_drafts.specs.Places.{AreStatuses}
+use Rattle.derived_figures.specs.start_choice.specs.Choices.{AreLatestStarts}
+use Rattle.plan_records.specs.plan_drafts.specs.Places.{AreStatuses}
 use Rattle.plan_model.specs.Contents.{Contents, nothing}
 use Rattle.plan_model.specs.Plan.{Plan, plan_held}
 use Rattle.plan_model.specs.Valid.{IsSound}
-use Rattle.plan_figures.specs.plan_status.specs.Standings.{AreStandings, AreTallies}
-use Rattle.plan_figures.specs.plan_status.specs.declared.standings.Standing.{Standing}
+use Rattle.derived_figures.specs.plan_status.specs.Standings.{AreStandings, AreTallies}
+use Rattle.derived_figures.specs.plan_status.specs.declared.standings.Standing.{Standing}
 use Rattle.status_rules.specs.declared.Status.{Status}
 use Rattle.plan_rows.specs.declared.columns.SourceColumns.{SourceColumns}
 use Rattle.plan_rows.specs.declared.shown.RowSource.{RowSource}

@@ -1,10 +1,10 @@
 -- The tables one after the other, and what changes in them.
 use Rattle.std.specs.Prelude.{◌≡◌, ◌↔◌, ◌<◌, ℕ, List, map, Contains, Option, Result, OnOk}
-use Rattle.plan_figures.specs.plan_drafts.specs.declared.RowKey.{RowKey}
+use Rattle.plan_records.specs.plan_drafts.specs.declared.RowKey.{RowKey}
 use Rattle.plan_model.specs.Plan.{Plan}
-use Rattle.plan_figures.specs.plan_records.specs.Rows.{IsRow, key_of, row_cmp, table_of}
-use Rattle.plan_figures.specs.plan_records.specs.declared.Changes.{Changes}
-use Rattle.plan_figures.specs.plan_records.specs.declared.PlanRow.{PlanRow}
+use Rattle.plan_records.specs.Rows.{IsRow, key_of, row_cmp, table_of}
+use Rattle.plan_records.specs.declared.Changes.{Changes}
+use Rattle.plan_records.specs.declared.PlanRow.{PlanRow}
 use Rattle.plan_rows.specs.Shown.{plan_shown}
 use Rattle.plan_rows.specs.declared.shown.RowSource.{RowSource}
 use Rattle.row_differences.specs.Changes.{AreRowChanges}

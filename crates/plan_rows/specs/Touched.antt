@@ -7,7 +7,7 @@ use Rattle.plan_basics.specs.Keys.{Name}
 use Rattle.plan_basics.specs.declared.keys.OpKey.{OpKey}
 use Rattle.plan_model.specs.Contents.{Contents, Operation}
 use Rattle.plan_model.specs.declared.Occurrence.{Occurrence}
-use Rattle.plan_figures.specs.plan_moves.specs.Moves.{IsRemarkedAt}
+use Rattle.plan_model.specs.Moves.{IsRemarkedAt}
 use Rattle.plan_rows.specs.Shown.{contents_shown, Known, known_of}
 use Rattle.plan_rows.specs.declared.shown.RowSource.{RowSource}
 use Rattle.plan_rows.specs.declared.notes.ChangeBeside.{ChangeBeside}

@@ -1,10 +1,10 @@
 // What changes from all rows of a plan to all rows of another, whatever they hold.
 ghost use Rattle.std.specs.Prelude.{◌≡◌, ◌<◌, Some, IfOk, length, map, slice_get};
 ghost use Rattle.std.specs.List.Sorted.{IsStrictlySortedBy};
-ghost use Rattle.plan_figures.specs.plan_records.specs.Rows.{AreChanges, AreRows, key_of, row_cmp};
+ghost use Rattle.plan_records.specs.Rows.{AreChanges, AreRows, key_of, row_cmp};
 ghost use Rattle.plan_model.specs.Plan.{Plan};
 
-use plan_figures::{Changes, PlanRow, RowKey};
+use plan_records::{Changes, PlanRow, RowKey};
 use row_differences::{TwoTables, differences, push_made};
 use std::alloc::{AllocError, Global};
 use std::cmp::Ordering;

@@ -2,7 +2,7 @@
 ghost use Rattle.std.specs.Prelude.{◌≡◌, ◌+◌, ◌*◌, ◌≤◌, Some, IfOk, length, map};
 ghost use Rattle.std.specs.FinMap.{entries};
 ghost use Rattle.std.specs.List.Sorted.{IsStrictlySortedBy};
-ghost use Rattle.plan_figures.specs.plan_records.specs.Rows.{AreChanges, AreRows, key_of, row_cmp};
+ghost use Rattle.plan_records.specs.Rows.{AreChanges, AreRows, key_of, row_cmp};
 ghost use Rattle.plan_model.specs.Plan.{plan_held};
 ghost use Rattle.plan_rows.specs.Kept.{AreNewNeeds, KeepsRecords};
 ghost use Rattle.plan_rows.specs.Shown.{IsShown, IsShownIfAny, contents_shown, plan_shown, shown_with, source_if_any, source_of};
@@ -19,8 +19,9 @@ use super::operations::push_operations;
 use super::quantities::push_quantities;
 use super::shown::{PlanBefore, TableSource};
 use super::workplaces::push_workstations;
+use derived_figures::Shown;
 use plan_basics::{Moment, OpKey};
-use plan_figures::{Changes, PlanRow, Shown};
+use plan_records::{Changes, PlanRow};
 use special_resources::Need;
 use std::alloc::{AllocError, Global};
 

@@ -1,11 +1,11 @@
 // What is read off a plan's contents.
 ghost use Rattle.plan_model.specs.Contents.{Contents};
 ghost use Rattle.plan_model.specs.Valid.{IsSound};
-ghost use Rattle.plan_figures.specs.Frames.{IsFrameOf};
+ghost use Rattle.derived_figures.specs.Frames.{IsFrameOf};
 ghost use Rattle.plan_rows.specs.Shown.{IsShown, shown_with};
 
-use latest_start::Latest;
-use plan_figures::{Frame, Standing};
+use derived_figures::{Frame, Standing};
+use plan_model::Latest;
 use status_rules::{Counts, Status};
 
 /// What is known of each operation and of each occurrence of a plan, in key order, lent beside what the plan holds.

@@ -1,6 +1,6 @@
 // The table of dependencies.
 ghost use Rattle.std.specs.Prelude.{◌≡◌, ◌↔◌, ◌<◌, List, Some, length, map, refl, slice_get};
-ghost use Rattle.plan_figures.specs.plan_drafts.specs.declared.RowKey.TheVariants as key;
+ghost use Rattle.plan_records.specs.plan_drafts.specs.declared.RowKey.TheVariants as key;
 ghost use Rattle.plan_rows.specs.Alike.{pair_exact};
 ghost use Rattle.plan_rows.specs.Rows.{dependency_row};
 ghost use Rattle.plan_rows.specs.Shown.{source_if_any};
@@ -10,7 +10,7 @@ use super::kept::pairs_of;
 use super::shown::TableSource;
 use super::tables::{PlanTable, push_changes};
 use plan_basics::OpKey;
-use plan_figures::{Changes, PlanRow, RowKey};
+use plan_records::{Changes, PlanRow, RowKey};
 use row_differences::TwoTables;
 use std::alloc::{AllocError, Global};
 use std::cmp::Ordering;

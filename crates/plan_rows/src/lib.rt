@@ -27,16 +27,17 @@ pub use all_rows::changed_rows;
 pub use changing::{changes_between, rows_of};
 pub use columns::{SourceColumns, columns_of};
 pub use dependencies::push_dependencies;
+pub use derived_figures::{
+    Beside, Frame, LoadedPlan, Parts, Reported, Shown, SoundContents, Standing, ValidContents,
+    WorkedOut, attribute_of, briefs_of, chosen_with, given_out_of, graph_for, holdings_in,
+    occurrence_status_with, standings_of, worked_out,
+};
 pub use intervals::push_intervals;
 pub use keyed::push_resources;
 pub use needs::{new_needs, push_amounts, push_needs};
 pub use notes::{ChangeBeside, Notes, noted_changes, notes_of};
 pub use occurrences::push_occurrences;
 pub use operations::push_operations;
-pub use plan_figures::{
-    Brief, Figures, Frame, LoadedPlan, Shown, SoundContents, Standing, ValidContents, WorkedOut,
-    graph_for, worked_out,
-};
 pub use quantities::push_quantities;
 pub use shown::{PlanBefore, RowSource, TableSource};
 pub use workplaces::push_workstations;

@@ -1,14 +1,14 @@
 // The table that tells whether a plan is loaded, and its clock: one row.
 ghost use Rattle.std.specs.Prelude.{◌≡◌, ◌↔◌, ◌++◌, ◌∷◌, [], IsTrue, IfOk, OnOk, Some, is_some};
 ghost use Rattle.plan_model.specs.Plan.{Plan};
-ghost use Rattle.plan_figures.specs.plan_records.specs.declared.PlanRow.TheVariants as row;
+ghost use Rattle.plan_records.specs.declared.PlanRow.TheVariants as row;
 ghost use Rattle.plan_rows.specs.Shown.{plan_shown, source_if_any};
 ghost use Rattle.plan_rows.specs.Tables.{AreChangesBelow};
 ghost use Rattle.plan_rows.specs.declared.shown.RowSource.{RowSource};
 
 use super::shown::{PlanBefore, TableSource};
 use plan_basics::Moment;
-use plan_figures::{Changes, PlanRow};
+use plan_records::{Changes, PlanRow};
 use row_differences::push_made;
 use std::alloc::{AllocError, Global};
 

@@ -12,9 +12,10 @@ ghost use Rattle.plan_rows.specs.Tables.{AreChangesBelow};
 use super::new_places::new_places;
 use super::shown::TableSource;
 use super::written::push_written;
+use derived_figures::Shown;
 use plan_basics::OpKey;
-use plan_figures::{Changes, PlanRow, Shown};
 use plan_model::OperationRecord;
+use plan_records::{Changes, PlanRow};
 use special_resources::{Mode, Need};
 use std::alloc::{AllocError, Global};
 

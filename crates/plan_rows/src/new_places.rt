@@ -5,8 +5,8 @@ ghost use Rattle.plan_rows.specs.Kept.{AreNewPlaces, KeepsRecords};
 ghost use Rattle.plan_rows.specs.Shown.{contents_shown, source_if_any};
 
 use super::shown::TableSource;
+use derived_figures::Beside;
 use plan_basics::OpKey;
-use plan_figures::Beside;
 use row_differences::{TwoTables, differences};
 use std::alloc::{AllocError, Global};
 use std::cmp::Ordering;

@@ -3,7 +3,7 @@ ghost use Rattle.std.specs.Prelude.{◌≡◌, ◌⊎◌, ◌+◌, ◌*◌, ◌<
 ghost use Rattle.std.specs.List.Sorted.{IsStrictlySortedBy};
 ghost use Rattle.std.specs.Map.{keys_of};
 ghost use Rattle.std.specs.Ordering.{nat_cmp};
-ghost use Rattle.plan_figures.specs.plan_records.specs.declared.PlanRow.{PlanRow as PlanRowValue};
+ghost use Rattle.plan_records.specs.declared.PlanRow.{PlanRow as PlanRowValue};
 ghost use Rattle.plan_rows.specs.Notes.{AreNotedAt, AreWithin};
 ghost use Rattle.plan_rows.specs.Rows.{rows_of};
 ghost use Rattle.plan_rows.specs.Shown.{IsShown, shown_with};
@@ -12,7 +12,8 @@ ghost use Rattle.row_differences.specs.Changes.{AreAt};
 
 use super::columns::SourceColumns;
 use super::shown_tables::Tabled;
-use plan_figures::{PlanRow, Shown};
+use derived_figures::Shown;
+use plan_records::PlanRow;
 use std::alloc::{AllocError, Global};
 
 /// A row of a table, and its place there.

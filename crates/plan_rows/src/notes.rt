@@ -5,7 +5,7 @@ ghost use Rattle.std.specs.List.Sorted.{IsStrictlySortedBy};
 ghost use Rattle.std.specs.Ordering.{nat_cmp};
 ghost use Rattle.plan_model.specs.Contents.{Contents};
 ghost use Rattle.plan_model.specs.Plan.{plan_held};
-ghost use Rattle.plan_figures.specs.plan_records.specs.Rows.{AreChanges};
+ghost use Rattle.plan_records.specs.Rows.{AreChanges};
 ghost use Rattle.plan_rows.specs.Notes.{AreNotes, IsNotedBeside, IsNotedStep, NotesBeside, is_operation, operations_noted};
 ghost use Rattle.plan_rows.specs.Shown.{IsShown, shown_with};
 ghost use Rattle.plan_rows.specs.Tables.{AddsChanges};
@@ -18,9 +18,10 @@ use super::meta::push_meta;
 use super::noted_rows::NotedRow;
 use super::occurrences::{note_occurrences, push_noted_occurrences};
 use super::operations::{note_operations, push_noted_operations};
+use derived_figures::Shown;
 use plan_basics::{Interval, Moment, ResName, WsName};
-use plan_figures::{Changes, Shown};
 use plan_model::Stock;
+use plan_records::Changes;
 use std::alloc::{AllocError, Global};
 
 /// What may differ beside operations.

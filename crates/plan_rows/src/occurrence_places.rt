@@ -5,7 +5,7 @@ ghost use Rattle.std.specs.List.Sorted.{IsStrictlySortedBy};
 ghost use Rattle.std.specs.Ordering.{nat_cmp};
 ghost use Rattle.plan_rows.specs.Touched.{AreOccurrencesOf, BelongsAt};
 
-use plan_figures::Shown;
+use derived_figures::Shown;
 use std::alloc::{AllocError, Global};
 
 // The index of the occurrence to which the operation at an index belongs.

@@ -3,7 +3,7 @@ ghost use Rattle.std.specs.Prelude.{◌≡◌, ◌⊎◌, ◌↔◌, ◌+◌, �
 ghost use Rattle.std.specs.FinMap.{entries};
 ghost use Rattle.plan_basics.specs.Keys.{operation_cmp-IsAntisymmetric};
 ghost use Rattle.plan_model.specs.Contents.{Contents};
-ghost use Rattle.plan_figures.specs.plan_drafts.specs.declared.RowKey.TheVariants as key;
+ghost use Rattle.plan_records.specs.plan_drafts.specs.declared.RowKey.TheVariants as key;
 ghost use Rattle.plan_rows.specs.Kept.{AreKnownAlike, KeepsRecords};
 ghost use Rattle.plan_rows.specs.Notes.{AddsNotedOperations, AreNotedAt, AreWithin, is_operation};
 ghost use Rattle.plan_rows.specs.Rows.{keyed_operations, rows_of};
@@ -14,10 +14,10 @@ use super::columns::SourceColumns;
 use super::noted_rows::{Noted, NotedRow, note_rows, push_noted};
 use super::shown::TableSource;
 use super::shown_tables::{Tabled, push_shown};
-use latest_start::Latest;
+use derived_figures::{Shown, Standing};
 use plan_basics::OpKey;
-use plan_figures::{Changes, OperationRow, PlanRow, RowKey, Shown, Standing};
-use plan_model::OperationRecord;
+use plan_model::{Latest, OperationRecord};
+use plan_records::{Changes, OperationRow, PlanRow, RowKey};
 use status_rules::Status;
 use std::alloc::{AllocError, Global};
 

@@ -3,7 +3,7 @@ ghost use Rattle.std.specs.Prelude.{◌≡◌, ◌↔◌, ◌<◌, List, Some, I
 ghost use Rattle.std.specs.List.{filter_map};
 ghost use Rattle.std.specs.Map.{keys_of};
 ghost use Rattle.plan_basics.specs.Keys.{name_cmp-IsAntisymmetric};
-ghost use Rattle.plan_figures.specs.plan_drafts.specs.declared.RowKey.TheVariants as key;
+ghost use Rattle.plan_records.specs.plan_drafts.specs.declared.RowKey.TheVariants as key;
 ghost use Rattle.plan_rows.specs.Alike.{quantity_alike};
 ghost use Rattle.plan_rows.specs.Rows.{quantity_row, quantity_written};
 ghost use Rattle.plan_rows.specs.Shown.{source_if_any};
@@ -15,8 +15,8 @@ use super::tables::{PlanTable, push_changes};
 use super::written::push_written;
 use plan_basics::ResName;
 use plan_basics::limits::MOST_QUANTITY;
-use plan_figures::{Changes, PlanRow, RowKey};
 use plan_model::Stock;
+use plan_records::{Changes, PlanRow, RowKey};
 use row_differences::KeyedRows;
 use std::alloc::{AllocError, Global};
 

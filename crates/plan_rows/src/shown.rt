@@ -3,9 +3,10 @@ ghost use Rattle.std.specs.Prelude.{◌≡◌};
 ghost use Rattle.plan_rows.specs.Shown.{IsShown};
 
 use super::columns::SourceColumns;
-use latest_start::Latest;
+use derived_figures::{Beside, LoadedPlan, Standing};
 use plan_basics::Moment;
-use plan_figures::{Beside, LoadedPlan, PlanContents, Standing};
+use plan_model::Latest;
+use plan_records::PlanContents;
 use status_rules::{Counts, Status};
 
 /// The rows of a loaded plan, with what is known of each of them.

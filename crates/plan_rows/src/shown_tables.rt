@@ -3,9 +3,9 @@ ghost use Rattle.std.specs.Prelude.{◌≡◌, ◌↔◌, ◌+◌, ◌*◌, ◌<
 ghost use Rattle.std.specs.FinMap.{IsAntisymmetric};
 ghost use Rattle.std.specs.List.Sorted.{IsStrictlySortedBy};
 ghost use Rattle.std.specs.Map.{keys_of};
-ghost use Rattle.plan_figures.specs.plan_drafts.specs.declared.RowKey.{RowKey as RowKeyValue};
-ghost use Rattle.plan_figures.specs.plan_records.specs.Rows.{row_cmp};
-ghost use Rattle.plan_figures.specs.plan_records.specs.declared.PlanRow.{PlanRow as PlanRowValue};
+ghost use Rattle.plan_records.specs.plan_drafts.specs.declared.RowKey.{RowKey as RowKeyValue};
+ghost use Rattle.plan_records.specs.Rows.{row_cmp};
+ghost use Rattle.plan_records.specs.declared.PlanRow.{PlanRow as PlanRowValue};
 ghost use Rattle.plan_rows.specs.Kept.{KeepsRecords};
 ghost use Rattle.plan_rows.specs.Rows.{if_shown, rows_of};
 ghost use Rattle.plan_rows.specs.Shown.{IsShown, IsShownIfAny, contents_shown, plan_shown, shown_with, source_if_any, source_of};
@@ -17,7 +17,8 @@ ghost use Rattle.row_differences.specs.Differences.{HaveOneKey};
 use super::columns::SourceColumns;
 use super::noted_rows::Noted;
 use super::shown::TableSource;
-use plan_figures::{Changes, PlanRow, RowKey, Shown};
+use derived_figures::Shown;
+use plan_records::{Changes, PlanRow, RowKey};
 use row_differences::{TwoTables, differences};
 use std::alloc::{AllocError, Global};
 use std::cmp::Ordering;
@@ -93,7 +94,7 @@ pub struct ShownTables<'a, 'b, T: Tabled> {
 
 impl<'a, 'b, T: Tabled> Model for ShownTables<'a, 'b, T> {
     ghost use Rattle.std.specs.Prelude.{List};
-    ghost use Rattle.plan_figures.specs.plan_records.specs.declared.PlanRow.{PlanRow};
+    ghost use Rattle.plan_records.specs.declared.PlanRow.{PlanRow};
     ghost use Rattle.plan_rows.specs.Kept.{KeepsRecords};
     ghost use Rattle.plan_rows.specs.Rows.{if_shown};
     ghost use Rattle.plan_rows.specs.Shown.{IsShown, IsShownIfAny, contents_shown, source_if_any, source_of};

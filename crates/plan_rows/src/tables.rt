@@ -2,14 +2,14 @@
 ghost use Rattle.std.specs.Prelude.{◌≡◌, ◌↔◌, ◌<◌, ◌+◌, ℕ, List, Some, OnOk, length, slice_get};
 ghost use Rattle.std.specs.FinMap.{IsAntisymmetric};
 ghost use Rattle.std.specs.List.Sorted.{IsStrictlySortedBy};
-ghost use Rattle.plan_figures.specs.plan_drafts.specs.declared.RowKey.{RowKey as RowKeyValue};
+ghost use Rattle.plan_records.specs.plan_drafts.specs.declared.RowKey.{RowKey as RowKeyValue};
 ghost use Rattle.plan_model.specs.Plan.{Plan};
-ghost use Rattle.plan_figures.specs.plan_records.specs.Rows.{row_cmp};
-ghost use Rattle.plan_figures.specs.plan_records.specs.declared.PlanRow.{PlanRow as PlanRowValue};
+ghost use Rattle.plan_records.specs.Rows.{row_cmp};
+ghost use Rattle.plan_records.specs.declared.PlanRow.{PlanRow as PlanRowValue};
 ghost use Rattle.plan_rows.specs.Tables.{AreChangesBelow, AreRowsOf};
 ghost use Rattle.row_differences.specs.Differences.{HaveOneKey};
 
-use plan_figures::{Changes, PlanRow, RowKey};
+use plan_records::{Changes, PlanRow, RowKey};
 use row_differences::{TwoTables, differences, push_made};
 use std::alloc::{AllocError, Global};
 

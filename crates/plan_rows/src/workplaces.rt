@@ -2,7 +2,7 @@
 ghost use Rattle.std.specs.Prelude.{◌≡◌, ◌↔◌, ◌<◌, List, Some, length, map, refl, slice_get};
 ghost use Rattle.std.specs.Map.{keys_of};
 ghost use Rattle.plan_basics.specs.Keys.{Name, name_cmp-IsAntisymmetric};
-ghost use Rattle.plan_figures.specs.plan_drafts.specs.declared.RowKey.TheVariants as key;
+ghost use Rattle.plan_records.specs.plan_drafts.specs.declared.RowKey.TheVariants as key;
 ghost use Rattle.plan_rows.specs.Rows.{workstation_row};
 ghost use Rattle.plan_rows.specs.Shown.{source_if_any};
 ghost use Rattle.plan_rows.specs.Tables.{AddsChanges};
@@ -11,7 +11,7 @@ use super::kept::workstations_of;
 use super::shown::TableSource;
 use super::tables::{PlanTable, push_changes};
 use plan_basics::WsName;
-use plan_figures::{Changes, PlanRow, RowKey};
+use plan_records::{Changes, PlanRow, RowKey};
 use row_differences::TwoTables;
 use std::alloc::{AllocError, Global};
 use std::cmp::Ordering;

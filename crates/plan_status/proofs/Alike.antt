@@ -4,8 +4,8 @@ use Rattle.std.specs.FinMap.{get}
 use Rattle.plan_basics.specs.declared.Attr.{Attr}
 use Rattle.plan_basics.specs.declared.Attr.TheVariants.{Nonreporting}
 use Rattle.plan_basics.specs.declared.keys.OpKey.{OpKey}
-use Rattle.plan_laws.specs.plan_model.specs.Contents.{Contents, Operation, Has, HasAttribute, LivePredecessor}
-use Rattle.plan_laws.specs.plan_model.specs.Status.{IsSatisfied}
+use Rattle.plan_model.specs.Contents.{Contents, Operation, Has, HasAttribute, LivePredecessor}
+use Rattle.plan_model.specs.Status.{IsSatisfied}
 use Rattle.plan_laws.specs.plan_records.specs.Rows.{IsCount}
 use Rattle.std.proofs.lemmas.Option.{same_Some}
 use Rattle.plan_status.specs.Standings.{IsStanding}

@@ -3,8 +3,8 @@ use Rattle.std.proofs.Common.{◌≡◌, sym, subst, ◌∙◌, arith, ℕ, List
 use Rattle.std.proofs.lemmas.Option.{same_Some, slice_get_within}
 use Rattle.std.specs.FinMap.{entries, get}
 use Rattle.plan_basics.specs.declared.keys.OpKey.{OpKey}
-use Rattle.plan_laws.specs.plan_model.specs.Contents.{Contents, Operation}
-use Rattle.plan_laws.specs.plan_model.specs.Status.{ArePreds, HasStatus}
+use Rattle.plan_model.specs.Contents.{Contents, Operation}
+use Rattle.plan_model.specs.Status.{ArePreds, HasStatus}
 use Rattle.plan_status.specs.Briefs.{AreBriefs, HasBrief, IsBriefOf}
 use Rattle.plan_status.specs.Incoming.{with_pairs}
 use Rattle.plan_status.specs.declared.briefs.Brief.{Brief}

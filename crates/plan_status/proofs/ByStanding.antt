@@ -5,8 +5,8 @@ use Rattle.plan_basics.specs.declared.Attr.{Attr}
 use Rattle.plan_basics.specs.declared.keys.OpKey.{OpKey}
 use Rattle.plan_laws.specs.plan_drafts.proofs.Needed.{mapped}
 use Rattle.plan_laws.proofs.Tables.{status_is}
-use Rattle.plan_laws.specs.plan_model.specs.Contents.{Contents, HasAttribute, Operation}
-use Rattle.plan_laws.specs.plan_model.specs.Status.{ArePreds, HasStatus}
+use Rattle.plan_model.specs.Contents.{Contents, HasAttribute, Operation}
+use Rattle.plan_model.specs.Status.{ArePreds, HasStatus}
 use Rattle.status_rules.specs.Table.{status_by}
 use Rattle.status_rules.specs.declared.Preds.{Preds}
 

@@ -6,17 +6,17 @@ use Rattle.std.specs.FinSet.{from_list, same_set}
 use Rattle.std.proofs.lemmas.List.{map-append, take_all, take_more}
 use Rattle.std.proofs.lemmas.Option.{slice_get-get_or, slice_get_within, get_or_from_slice_get}
 use Rattle.plan_basics.specs.declared.limits.TheConstants.{MOST_PAIRS}
-use Rattle.operation_graph.specs.Graphs.{AreDifferent, AreInTurn, Digraph, HasEdge}
+use Rattle.plan_laws.specs.operation_graph.specs.Graphs.{AreDifferent, AreInTurn, Digraph, HasEdge}
 use Rattle.plan_basics.proofs.Members.{contains_cases, contains_none}
 use Rattle.plan_basics.specs.Keys.{operation_cmp, operation_cmp_total, operation_cmp-IsAntisymmetric}
 use Rattle.plan_basics.specs.declared.keys.OpKey.{OpKey}
 use Rattle.plan_laws.specs.plan_drafts.proofs.KeyPlaces.{listed_in, in_listed, pair_cmp_total, pair_cmp-IsAntisymmetric}
-use Rattle.plan_laws.specs.plan_model.specs.Contents.{Contents, IsPairOf, Operation, pair_cmp}
+use Rattle.plan_model.specs.Contents.{Contents, IsPairOf, Operation, pair_cmp}
 use Rattle.plan_laws.specs.plan_drafts.proofs.Pairs.{pair_cases, pair_pushed}
 use Rattle.plan_laws.specs.plan_drafts.proofs.Lists.{from_map, in_map}
 use Rattle.plan_laws.specs.plan_drafts.specs.PlanGraphs.{IsGraphFor}
-use Rattle.plan_laws.specs.plan_model.specs.Valid.{IsValid}
-use Rattle.plan_laws.specs.plan_model.proofs.Entries.{entries_are, entries_in_order}
+use Rattle.plan_model.specs.Valid.{IsValid}
+use Rattle.plan_model.proofs.Entries.{entries_are, entries_in_order}
 use Rattle.plan_laws.specs.plan_drafts.proofs.Tables.{is_found}
 use Rattle.std.proofs.lemmas.Bool.{false_from_ne_true}
 use Rattle.plan_laws.proofs.Single.{same_bool}

@@ -2,8 +2,8 @@
 use Rattle.std.proofs.Common.{◌≡◌, ◌≢◌, ◌⊎◌, ◌↔◌, inl, inr, refl, sym, ◌∙◌, subst, true≢false, Bool, true, false, ◌&&◌, ◌||◌, ◌+◌, cond, List, ◌∷◌, Decides}
 use Rattle.plan_basics.specs.declared.keys.OpKey.{OpKey}
 use Rattle.status_rules.specs.LeastSet.{by_all_before, by_given}
-use Rattle.plan_laws.specs.plan_model.specs.Contents.{Contents, IsLive, LivePredecessor, Precedes}
-use Rattle.plan_laws.specs.plan_model.specs.Status.{AllPredecessorsSatisfied, FollowsNonreporting, IsSatisfied}
+use Rattle.plan_model.specs.Contents.{Contents, IsLive, LivePredecessor, Precedes}
+use Rattle.plan_model.specs.Status.{AllPredecessorsSatisfied, FollowsNonreporting, IsSatisfied}
 use Rattle.plan_laws.specs.plan_records.specs.Rows.{IsWaitingFor}
 use Rattle.plan_laws.specs.plan_drafts.proofs.Pairs.{pair_added, pair_cases, pair_kept}
 use Rattle.plan_status.specs.Incoming.{ComesAfter, with_pairs}

@@ -4,8 +4,8 @@ use Rattle.std.specs.FinMap.{contains_key, entries, get, keys, len-entries}
 use Rattle.plan_basics.specs.declared.limits.TheConstants.{MOST_OPERATIONS}
 use Rattle.plan_basics.specs.Keys.{operation_cmp-IsAntisymmetric, operation_cmp_total}
 use Rattle.plan_basics.specs.declared.keys.OpKey.{OpKey}
-use Rattle.plan_laws.specs.plan_model.specs.Contents.{Contents, Operation}
-use Rattle.plan_laws.specs.plan_model.specs.Valid.{IsValid}
+use Rattle.plan_model.specs.Contents.{Contents, Operation}
+use Rattle.plan_model.specs.Valid.{IsValid}
 use Rattle.plan_laws.specs.plan_drafts.proofs.EntryRows.{among_keys, entry_of, row_in}
 
 module _ (P : Contents) where

@@ -5,12 +5,12 @@ use Rattle.plan_basics.specs.declared.Attr.TheVariants.{Nonreporting}
 use Rattle.plan_basics.specs.declared.keys.OpKey.{OpKey}
 use Rattle.status_rules.specs.LeastSet.{by_all_before, by_given}
 use Rattle.status_rules.specs.declared.Mark.TheVariants as mark
-use Rattle.plan_laws.specs.ready_list.specs.Choice.{is_among}
-use Rattle.plan_laws.specs.plan_model.specs.Contents.{Contents, Operation, HasAttribute, IsLive}
-use Rattle.plan_laws.specs.plan_model.specs.Ready.{named, with_mark}
-use Rattle.plan_laws.specs.plan_model.specs.Status.{IsReady, IsSatisfied}
+use Rattle.plan_model.specs.ready_list.specs.Choice.{is_among}
+use Rattle.plan_model.specs.Contents.{Contents, Operation, HasAttribute, IsLive}
+use Rattle.plan_model.specs.Ready.{named, with_mark}
+use Rattle.plan_model.specs.Status.{IsReady, IsSatisfied}
 use Rattle.plan_laws.proofs.Kept.{ready_not_satisfied, ready_unmarked}
-use Rattle.plan_laws.specs.plan_model.proofs.Looks.{get-named, same_workstation}
+use Rattle.plan_model.proofs.Looks.{get-named, same_workstation}
 use Rattle.plan_laws.specs.plan_drafts.proofs.Needed.{mapped}
 use Rattle.std.proofs.lemmas.Bool.{false_from_ne_true}
 use Rattle.plan_status.specs.Standings.{NamingKeepsStandings}

@@ -2,8 +2,8 @@
 use Rattle.std.proofs.Common.{◌≡◌, ◌⊎◌, ◌↔◌, inl, inr, ℕ, ◌<◌}
 use Rattle.plan_basics.specs.declared.keys.OccKey.{OccKey}
 use Rattle.plan_basics.specs.declared.keys.OpKey.{OpKey}
-use Rattle.plan_laws.specs.plan_model.specs.Contents.{Contents, IsInPlan}
-use Rattle.plan_laws.specs.plan_model.specs.Status.{EachOperation, HasOccurrenceStatus, OccurrenceCase, SomeOperation}
+use Rattle.plan_model.specs.Contents.{Contents, IsInPlan}
+use Rattle.plan_model.specs.Status.{EachOperation, HasOccurrenceStatus, OccurrenceCase, SomeOperation}
 use Rattle.plan_laws.specs.plan_records.specs.Rows.{IsCount}
 use Rattle.plan_status.proofs.Counting.{each_counted, some_counted}
 use Rattle.plan_status.specs.Standings.{BelongsWithStatus, IsTally}

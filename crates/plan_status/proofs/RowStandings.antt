@@ -7,8 +7,8 @@ use Rattle.std.proofs.lemmas.List.{length-replicate, length-set}
 use Rattle.std.proofs.lemmas.Option.{get_or_from_slice_get, slice_get-get_or, slice_get_within, same_Some}
 use Rattle.plan_basics.specs.Keys.{operation_cmp, operation_cmp_total}
 use Rattle.plan_basics.specs.declared.keys.OpKey.{OpKey}
-use Rattle.plan_laws.specs.plan_model.specs.Contents.{Contents, Operation, pair_cmp}
-use Rattle.plan_laws.specs.plan_model.proofs.Entries.{entries_in_order}
+use Rattle.plan_model.specs.Contents.{Contents, Operation, pair_cmp}
+use Rattle.plan_model.proofs.Entries.{entries_in_order}
 use Rattle.plan_laws.specs.plan_drafts.proofs.Pairs.{no_pair, pair_pushed}
 use Rattle.plan_basics.proofs.Members.{contains_none}
 use Rattle.plan_status.specs.Incoming.{ComesAfter, with_pairs}

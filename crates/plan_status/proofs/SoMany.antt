@@ -9,7 +9,7 @@ use Rattle.std.specs.Map.{keys_of}
 use Rattle.plan_basics.specs.Keys.{operation_cmp, operation_cmp-IsAntisymmetric, operation_cmp_total}
 use Rattle.plan_basics.specs.declared.keys.OpKey.{OpKey}
 use Rattle.plan_basics.proofs.Members.{contains_none}
-use Rattle.plan_laws.specs.plan_model.specs.Contents.{Operation}
+use Rattle.plan_model.specs.Contents.{Operation}
 use Rattle.plan_laws.specs.plan_drafts.proofs.RowPlaces.{place_of_found}
 use Rattle.plan_laws.specs.plan_records.specs.Rows.{IsCount}
 use Rattle.plan_status.proofs.Ascending.{keys_ascend, pushed_earlier, pushed_is, pushed_last, sorted_pushed}

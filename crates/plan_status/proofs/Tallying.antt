@@ -10,11 +10,11 @@ use Rattle.plan_basics.specs.Keys.{occurrence_cmp, occurrence_cmp_total, operati
 use Rattle.plan_basics.specs.declared.keys.OccKey.{OccKey}
 use Rattle.plan_basics.specs.declared.keys.OpKey.{OpKey}
 use Rattle.plan_laws.proofs.Standing.{one_status}
-use Rattle.plan_laws.specs.plan_model.specs.Contents.{Contents, Operation}
-use Rattle.plan_laws.specs.plan_model.proofs.Entries.{entries_are}
-use Rattle.plan_laws.specs.plan_model.specs.Status.{HasStatus}
-use Rattle.plan_laws.specs.plan_model.specs.Valid.{IsAcyclic}
-use Rattle.plan_laws.specs.plan_model.specs.declared.Occurrence.{Occurrence}
+use Rattle.plan_model.specs.Contents.{Contents, Operation}
+use Rattle.plan_model.proofs.Entries.{entries_are}
+use Rattle.plan_model.specs.Status.{HasStatus}
+use Rattle.plan_model.specs.Valid.{IsAcyclic}
+use Rattle.plan_model.specs.declared.Occurrence.{Occurrence}
 use Rattle.plan_laws.specs.plan_drafts.specs.Places.{AreByPlace}
 use Rattle.plan_status.proofs.Ascending.{all_alike, one_place, set_cases}
 use Rattle.plan_status.proofs.OfOccurrences.{IsOfIts, IsStarted}

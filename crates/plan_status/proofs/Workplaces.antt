@@ -4,9 +4,9 @@ use Rattle.std.specs.Prelude.{IsSome, IsNone}
 use Rattle.std.specs.FinMap.{contains_key, get}
 use Rattle.plan_basics.specs.Keys.{Name}
 use Rattle.plan_basics.specs.declared.keys.OpKey.{OpKey}
-use Rattle.plan_laws.specs.plan_model.specs.Contents.{Contents, Operation}
-use Rattle.plan_laws.specs.plan_model.specs.Valid.{IsValid}
-use Rattle.workstations.specs.Workstations.{Workstation}
+use Rattle.plan_model.specs.Contents.{Contents, Operation}
+use Rattle.plan_model.specs.Valid.{IsValid}
+use Rattle.plan_model.specs.workstations.specs.Workstations.{Workstation}
 
 -- what is found where there is one
 pub there : {A X : Type 0} (found : Option A) (x : Option X) → (IsNone found → x ≡ None) → is_some x ≡ true → IsSome found

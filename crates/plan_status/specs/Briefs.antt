@@ -1,10 +1,10 @@
 -- Briefs: what the figures of a whole plan go by of its operations, each read off its record once.
 use Rattle.std.specs.Prelude.{◌≡◌, List, Some, slice_get}
 use Rattle.std.specs.FinMap.{entries, keys}
-use Rattle.operation_graph.specs.Graphs.{Digraph}
+use Rattle.plan_laws.specs.operation_graph.specs.Graphs.{Digraph}
 use Rattle.plan_basics.specs.declared.keys.OpKey.{OpKey}
-use Rattle.plan_laws.specs.plan_model.specs.Contents.{Contents, Operation, Has, HasAttribute}
-use Rattle.plan_laws.specs.plan_model.specs.Valid.{IsValid}
+use Rattle.plan_model.specs.Contents.{Contents, Operation, Has, HasAttribute}
+use Rattle.plan_model.specs.Valid.{IsValid}
 use Rattle.plan_laws.specs.plan_drafts.specs.Places.{AreByPlace}
 use Rattle.plan_laws.specs.plan_drafts.specs.PlanGraphs.{IsGraphFor}
 use Rattle.plan_status.specs.declared.briefs.Brief.{Brief}

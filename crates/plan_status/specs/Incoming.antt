@@ -2,7 +2,7 @@
 use Rattle.std.specs.Prelude.{List, ◌∷◌}
 use Rattle.std.specs.FinSet.{from_list}
 use Rattle.plan_basics.specs.declared.keys.OpKey.{OpKey}
-use Rattle.plan_laws.specs.plan_model.specs.Contents.{Contents, IsPairOf}
+use Rattle.plan_model.specs.Contents.{Contents, IsPairOf}
 use Rattle.plan_status.specs.Standings.{IsStanding}
 use Rattle.plan_status.specs.declared.standings.Standing.{Standing}
 

@@ -1,8 +1,7 @@
-pub use Rattle.plan_laws.specs.plan_drafts
 pub use Rattle.plan_laws
-pub use Rattle.plan_laws.specs.plan_model
-pub use Rattle.plan_laws.specs.plan_records
-pub use Rattle.plan_laws.specs.ready_list
+pub use Rattle.plan_model
+pub use Rattle.status_rules
+pub use Rattle.plan_model.specs.workstations
 pub mod Standings
 pub mod Incoming
 pub mod OneMore

@@ -6,10 +6,10 @@ use Rattle.plan_basics.specs.declared.keys.OpKey.{OpKey}
 use Rattle.status_rules.specs.declared.Counts.{Counts}
 use Rattle.status_rules.specs.declared.Status.{Status}
 use Rattle.status_rules.specs.declared.Status.TheVariants as status
-use Rattle.plan_laws.specs.ready_list.specs.Choice.{is_among}
-use Rattle.plan_laws.specs.plan_model.specs.Contents.{Contents, IsInPlan}
-use Rattle.plan_laws.specs.plan_model.specs.Ready.{named}
-use Rattle.plan_laws.specs.plan_model.specs.Status.{ArePreds, HasStatus, IsReady}
+use Rattle.plan_model.specs.ready_list.specs.Choice.{is_among}
+use Rattle.plan_model.specs.Contents.{Contents, IsInPlan}
+use Rattle.plan_model.specs.Ready.{named}
+use Rattle.plan_model.specs.Status.{ArePreds, HasStatus, IsReady}
 use Rattle.plan_laws.specs.plan_drafts.specs.Places.{AreByPlace}
 use Rattle.plan_laws.specs.plan_records.specs.Rows.{IsCount, IsWaitingFor}
 use Rattle.plan_status.specs.declared.standings.Standing.{Standing}

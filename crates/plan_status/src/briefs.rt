@@ -2,16 +2,16 @@
 ghost use Rattle.std.specs.Prelude.{◌≡◌, IfOk, Some};
 ghost use Rattle.std.specs.FinMap.{get};
 ghost use Rattle.plan_basics.specs.declared.keys.OpKey.{OpKey};
-ghost use Rattle.plan_laws.specs.plan_model.specs.Contents.{Contents};
-ghost use Rattle.plan_laws.specs.plan_model.specs.Holdings.{takes};
-ghost use Rattle.plan_laws.specs.plan_model.specs.Status.{HasStatus};
+ghost use Rattle.plan_model.specs.Contents.{Contents};
+ghost use Rattle.plan_model.specs.Holdings.{takes};
+ghost use Rattle.plan_model.specs.Status.{HasStatus};
 ghost use Rattle.plan_status.specs.Briefs.{AreBriefs, HasBrief, IsBriefOf};
 ghost use Rattle.plan_status.specs.Standings.{IsStanding};
 
 use super::standings::Standing;
 use super::valid::ValidContents;
 use plan_basics::{Attr, Moment};
-use plan_laws::OperationRecord;
+use plan_model::OperationRecord;
 use status_rules::{Mark, Status, status_of};
 use std::alloc::{AllocError, Global};
 

@@ -3,8 +3,7 @@ ghost use Rattle.std.specs.Prelude.{IfOk};
 ghost use Rattle.plan_laws.specs.plan_drafts.specs.PlanGraphs.{IsGraphFor};
 
 use super::valid::ValidContents;
-use operation_graph::Graph;
-use plan_laws::{graph_of, keys};
+use plan_laws::{Graph, graph_of, keys};
 use std::alloc::{AllocError, Global};
 
 /// The graph of the operations and pairs of a plan: a node is the index of an operation.

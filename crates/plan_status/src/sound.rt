@@ -6,16 +6,16 @@ ghost use Rattle.std.specs.List.Sorted.{IsStrictlySortedBy};
 ghost use Rattle.std.specs.Map.{keys_of};
 ghost use Rattle.plan_basics.specs.Keys.{name_cmp, occurrence_cmp, operation_cmp};
 ghost use Rattle.plan_basics.specs.declared.keys.OpKey.{OpKey as OpKeyValue};
-ghost use Rattle.plan_laws.specs.plan_model.specs.Contents.{pair_cmp, Operation};
-ghost use Rattle.plan_laws.specs.plan_model.specs.declared.Occurrence.{Occurrence as OccurrenceValue};
-ghost use Rattle.workstations.specs.Workstations.{Workstation as WorkstationValue};
-ghost use Rattle.plan_laws.specs.plan_model.specs.Valid.{IsSound};
+ghost use Rattle.plan_model.specs.Contents.{pair_cmp, Operation};
+ghost use Rattle.plan_model.specs.declared.Occurrence.{Occurrence as OccurrenceValue};
+ghost use Rattle.plan_model.specs.workstations.specs.Workstations.{Workstation as WorkstationValue};
+ghost use Rattle.plan_model.specs.Valid.{IsSound};
 
 use super::valid::ValidContents;
 use plan_basics::{OccKey, OpKey, ResName, WsName};
-use plan_laws::{Occurrence, OperationRecord, PlanContents, Stock};
+use plan_laws::PlanContents;
+use plan_model::{Occurrence, OperationRecord, Stock, Workstation};
 use std::marker::Model;
-use workstations::Workstation;
 
 /// What a loaded plan holds: all that it names is there and in range, no path of pairs returns to its start, the limits
 /// hold, and its marks and flags fit together. Contracts see it as what it holds.
@@ -25,14 +25,14 @@ pub struct SoundContents {
 }
 
 impl Model for SoundContents {
-    ghost use Rattle.plan_laws.specs.plan_model.specs.Contents.{Contents};
-    ghost use Rattle.plan_laws.specs.plan_model.specs.Code.{contents_code};
+    ghost use Rattle.plan_model.specs.Contents.{Contents};
+    ghost use Rattle.plan_model.specs.Code.{contents_code};
 
     ghost Value = { Contents };
 
     ghost coded = { contents_code };
 
-    ghost use Rattle.plan_laws.specs.plan_model.specs.Valid.{IsSound};
+    ghost use Rattle.plan_model.specs.Valid.{IsSound};
 
     ghost view = { λ c. c.contents };
 

@@ -3,17 +3,17 @@ ghost use Rattle.std.specs.Prelude.{◌≡◌, ◌+◌, ◌<◌, ◌≤◌, ◌&
 ghost use Rattle.std.specs.FinMap.{get};
 ghost use Rattle.plan_basics.specs.declared.Refusal.{Refusal};
 ghost use Rattle.plan_basics.specs.declared.keys.OpKey.{OpKey};
-ghost use Rattle.plan_laws.specs.plan_model.specs.Contents.{Contents, HasAttribute};
-ghost use Rattle.plan_laws.specs.plan_model.specs.Status.{IsSatisfied};
+ghost use Rattle.plan_model.specs.Contents.{Contents, HasAttribute};
+ghost use Rattle.plan_model.specs.Status.{IsSatisfied};
 ghost use Rattle.plan_status.specs.Briefs.{HasBrief, IsBriefedBy};
 ghost use Rattle.plan_status.specs.Incoming.{IsNextStanding};
 ghost use Rattle.plan_status.specs.Standings.{IsStanding, AreStandings};
 
 use super::briefs::Brief;
 use super::valid::ValidContents;
-use operation_graph::Graph;
 use plan_basics::{Attr, Refusal};
-use plan_laws::OperationRecord;
+use plan_laws::Graph;
+use plan_model::OperationRecord;
 use status_rules::Preds;
 use std::alloc::Global;
 

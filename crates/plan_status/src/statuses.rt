@@ -2,8 +2,8 @@
 ghost use Rattle.std.specs.Prelude.{◌≡◌, IfOk, Some, length};
 ghost use Rattle.std.specs.FinMap.{get};
 ghost use Rattle.plan_basics.specs.declared.keys.OpKey.{OpKey};
-ghost use Rattle.plan_laws.specs.plan_model.specs.Contents.{Contents, HasAttribute};
-ghost use Rattle.plan_laws.specs.plan_model.specs.Status.{HasStatus};
+ghost use Rattle.plan_model.specs.Contents.{Contents, HasAttribute};
+ghost use Rattle.plan_model.specs.Status.{HasStatus};
 ghost use Rattle.plan_laws.specs.plan_drafts.specs.Places.{AreStatuses};
 ghost use Rattle.plan_status.specs.Briefs.{AreBriefs};
 ghost use Rattle.plan_status.specs.Standings.{IsStanding, AreStandings};
@@ -11,7 +11,7 @@ ghost use Rattle.plan_status.specs.Standings.{IsStanding, AreStandings};
 use super::briefs::Brief;
 use super::standings::Standing;
 use plan_basics::Attr;
-use plan_laws::OperationRecord;
+use plan_model::OperationRecord;
 use status_rules::{Status, status_of};
 use std::alloc::{AllocError, Global};
 

@@ -1,8 +1,8 @@
 // Numbers of an occurrence's operations by status.
 ghost use Rattle.plan_basics.specs.declared.keys.OccKey.{OccKey};
 ghost use Rattle.plan_basics.specs.declared.limits.TheConstants.{MOST_OPERATIONS};
-ghost use Rattle.plan_laws.specs.plan_model.specs.Contents.{Contents};
-ghost use Rattle.plan_laws.specs.plan_model.specs.Status.{HasOccurrenceStatus};
+ghost use Rattle.plan_model.specs.Contents.{Contents};
+ghost use Rattle.plan_model.specs.Status.{HasOccurrenceStatus};
 ghost use Rattle.plan_status.specs.OneMore.{AreAtMost, CountsOneMore};
 ghost use Rattle.plan_status.specs.Standings.{IsTally};
 

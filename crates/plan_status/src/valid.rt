@@ -5,13 +5,13 @@ ghost use Rattle.std.specs.FinSet as set;
 ghost use Rattle.std.specs.List.Sorted.{IsStrictlySortedBy};
 ghost use Rattle.std.specs.Map.{keys_of};
 ghost use Rattle.plan_basics.specs.Keys.{name_cmp, operation_cmp};
-ghost use Rattle.plan_laws.specs.plan_model.specs.Contents.{pair_cmp};
-ghost use Rattle.plan_laws.specs.plan_model.specs.Valid.{IsValid};
+ghost use Rattle.plan_model.specs.Contents.{pair_cmp};
+ghost use Rattle.plan_model.specs.Valid.{IsValid};
 
 use plan_basics::{OpKey, ResName, WsName};
-use plan_laws::{OperationRecord, PlanContents, Stock};
+use plan_laws::PlanContents;
+use plan_model::{OperationRecord, Stock, Workstation};
 use std::marker::Model;
-use workstations::Workstation;
 
 /// What a plan holds of which all that it names is there and in range, no path of pairs returns to its start, and the
 /// limits hold. Its marks and flags need not fit together. Contracts see it as what it holds.
@@ -21,14 +21,14 @@ pub struct ValidContents {
 }
 
 impl Model for ValidContents {
-    ghost use Rattle.plan_laws.specs.plan_model.specs.Contents.{Contents};
-    ghost use Rattle.plan_laws.specs.plan_model.specs.Code.{contents_code};
+    ghost use Rattle.plan_model.specs.Contents.{Contents};
+    ghost use Rattle.plan_model.specs.Code.{contents_code};
 
     ghost Value = { Contents };
 
     ghost coded = { contents_code };
 
-    ghost use Rattle.plan_laws.specs.plan_model.specs.Valid.{IsValid};
+    ghost use Rattle.plan_model.specs.Valid.{IsValid};
 
     ghost view = { λ c. c.contents };
 

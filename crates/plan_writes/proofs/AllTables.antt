@@ -2,20 +2,20 @@
 use Rattle.std.proofs.Common.{[], ◌∷◌, refl}
 use Rattle.sqlite_resolve.specs.Compile.{first}
 use Rattle.sqlite_tied.specs.Compute.{everything}
-use Rattle.table_rows.specs.Tables.{no_schema}
-use Rattle.plan_schema.specs.Schema.{meta, workstation, interval, resource, occurrence, operation, dependency, need, receipt, quantity, amount, schema_1, schema_2, schema_3, schema_4, schema_5, schema_6, schema_7, schema_8, first_schema, schema_10, desk_schema}
-use Rattle.plan_schema.specs.declared.TheConstants.{CREATE_META, CREATE_WORKSTATION, CREATE_INTERVAL, CREATE_RESOURCE, CREATE_OCCURRENCE, CREATE_OPERATION, CREATE_DEPENDENCY, CREATE_NEED, CREATE_RECEIPT, CREATE_QUANTITY, CREATE_AMOUNT}
-use Rattle.plan_schema.proofs.MetaTexts as of_meta
-use Rattle.plan_schema.proofs.WorkstationTexts as of_workstation
-use Rattle.plan_schema.proofs.IntervalTexts as of_interval
-use Rattle.plan_schema.proofs.ResourceTexts as of_resource
-use Rattle.plan_schema.proofs.OccurrenceTexts as of_occurrence
-use Rattle.plan_schema.proofs.OperationTexts as of_operation
-use Rattle.plan_schema.proofs.DependencyTexts as of_dependency
-use Rattle.plan_schema.proofs.NeedTexts as of_need
-use Rattle.plan_schema.proofs.ReceiptTexts as of_receipt
-use Rattle.plan_schema.proofs.QuantityTexts as of_quantity
-use Rattle.plan_schema.proofs.AmountTexts as of_amount
+use Rattle.store_schema.specs.Tables.{no_schema}
+use Rattle.store_schema.specs.Schema.{meta, workstation, interval, resource, occurrence, operation, dependency, need, receipt, quantity, amount, schema_1, schema_2, schema_3, schema_4, schema_5, schema_6, schema_7, schema_8, first_schema, schema_10, desk_schema}
+use Rattle.store_schema.specs.declared.texts.TheConstants.{CREATE_META, CREATE_WORKSTATION, CREATE_INTERVAL, CREATE_RESOURCE, CREATE_OCCURRENCE, CREATE_OPERATION, CREATE_DEPENDENCY, CREATE_NEED, CREATE_RECEIPT, CREATE_QUANTITY, CREATE_AMOUNT}
+use Rattle.store_schema.proofs.MetaTexts as of_meta
+use Rattle.store_schema.proofs.WorkstationTexts as of_workstation
+use Rattle.store_schema.proofs.IntervalTexts as of_interval
+use Rattle.store_schema.proofs.ResourceTexts as of_resource
+use Rattle.store_schema.proofs.OccurrenceTexts as of_occurrence
+use Rattle.store_schema.proofs.OperationTexts as of_operation
+use Rattle.store_schema.proofs.DependencyTexts as of_dependency
+use Rattle.store_schema.proofs.NeedTexts as of_need
+use Rattle.store_schema.proofs.ReceiptTexts as of_receipt
+use Rattle.store_schema.proofs.QuantityTexts as of_quantity
+use Rattle.store_schema.proofs.AmountTexts as of_amount
 use Rattle.plan_writes.proofs.Making.{LeadOn, Makes}
 
 meta_is_made : Makes no_schema meta CREATE_META.now

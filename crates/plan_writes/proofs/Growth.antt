@@ -3,7 +3,7 @@ use Rattle.std.proofs.Common.{◌≡◌, ℕ, List, [], ◌∷◌, ◌++◌, ◌
 use Rattle.std.proofs.lemmas.Bool.{cases_Bool, true≢false, false≢true}
 use Rattle.std.specs.Option.{option_or}
 use Rattle.sqlite_schema.specs.Names.{table_named, index_named, view_named}
-use Rattle.table_rows.proofs.Writes.{not_is, same_value, went}
+use Rattle.store_schema.proofs.Writes.{not_is, same_value, went}
 use Rattle.sqlite.specs.Clock.{timed as at_times}
 use Rattle.sqlite.specs.Does.{Tally, AtPlace, OnRows, lacks_sequence, MakesSequence}
 use Rattle.sqlite.specs.State.{State, HasCleanDisk, Survives, Executes, ExecutesIn, IsStatement, Runs, text_of, shows_rows, mode_of}
@@ -16,8 +16,8 @@ use Rattle.plan_writes.specs.Within.{Grows, IsRun, Rewrites, RunsWithin}
 use Rattle.plan_writes.proofs.Within.{executed}
 use Rattle.sqlite.proofs.Callers.{IsPlain, command_of, statement_of}
 use Rattle.sqlite.specs.Compile.{table_defined_by}
-use Rattle.table_rows.proofs.Creation.{created_empty}
-use Rattle.plan_schema.specs.Stored.{Held, Turns}
+use Rattle.store_schema.proofs.Creation.{created_empty}
+use Rattle.store_schema.specs.StoredPlans.{Held, Turns}
 use Rattle.sqlite_ast.specs.declared.Expr.{Expr}
 use Rattle.sqlite_resolve.specs.Write.{deleted}
 use Rattle.sqlite_resolve.specs.Program.{program}

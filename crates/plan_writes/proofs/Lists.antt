@@ -5,7 +5,7 @@ use Rattle.std.proofs.lemmas.List.{drop_all}
 use Rattle.sqlite.specs.Effect.{Database}
 use Rattle.sqlite.specs.State.{State}
 use Rattle.sqlite.specs.declared.error.Error.{Error}
-use Rattle.plan_schema.specs.Stored.{Held, Stores}
+use Rattle.store_schema.specs.StoredPlans.{Held, Stores}
 use Rattle.plan_writes.specs.Within.{Rewrites, RunsWithin}
 use Rattle.plan_writes.proofs.Within.{nothing_done, then_runs, then_refused}
 

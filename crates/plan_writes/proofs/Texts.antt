@@ -2,7 +2,7 @@
 use Rattle.std.proofs.Common.{◌≡◌, true, refl}
 use Rattle.sqlite_resolve.specs.Compile.{first}
 use Rattle.sqlite_tied.specs.Compute.{everything}
-use Rattle.plan_schema.specs.declared.TheConstants.{PUT_META, PUT_RESOURCE, PUT_NEED, PUT_WORKSTATION, PUT_INTERVAL, PUT_OCCURRENCE, PUT_OPERATION, PUT_DEPENDENCY, PUT_RECEIPT, PUT_QUANTITY, PUT_AMOUNT, DROP_INTERVAL, DROP_OCCURRENCE, DROP_OPERATION, DROP_DEPENDENCY, DROP_NEED, DROP_AMOUNT}
+use Rattle.store_schema.specs.declared.texts.TheConstants.{PUT_META, PUT_RESOURCE, PUT_NEED, PUT_WORKSTATION, PUT_INTERVAL, PUT_OCCURRENCE, PUT_OPERATION, PUT_DEPENDENCY, PUT_RECEIPT, PUT_QUANTITY, PUT_AMOUNT, DROP_INTERVAL, DROP_OCCURRENCE, DROP_OPERATION, DROP_DEPENDENCY, DROP_NEED, DROP_AMOUNT}
 use Rattle.plan_writes.proofs.Growth.{reads_as, writes_rows}
 
 pub writes_meta : reads_as writes_rows (first PUT_META.now) ≡ true

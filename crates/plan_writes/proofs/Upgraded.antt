@@ -7,12 +7,12 @@ use Rattle.sqlite.specs.Schema.{Schema}
 use Rattle.sqlite.specs.State.{State, HasCleanDisk, Survives}
 use Rattle.sqlite.specs.Table.{Table}
 use Rattle.sqlite.specs.declared.error.Error.{Error}
-use Rattle.table_rows.specs.Stored.{Holds, HoldsByRowid}
-use Rattle.table_rows.proofs.Creation.{creates}
-use Rattle.plan_schema.specs.Schema.{amount, quantity, first_schema, schema_10}
-use Rattle.plan_schema.specs.Stored.{Held, Stores, StoresFirst, with_meta, quantity_row, amount_row}
-use Rattle.plan_schema.proofs.Empty.{none}
-use Rattle.plan_columns.specs.Columns.{meta_columns}
+use Rattle.store_schema.specs.Stored.{Holds, HoldsByRowid}
+use Rattle.store_schema.proofs.Creation.{creates}
+use Rattle.store_schema.specs.Schema.{amount, quantity, first_schema, schema_10}
+use Rattle.store_schema.specs.StoredPlans.{Held, Stores, StoresFirst, with_meta, quantity_row, amount_row}
+use Rattle.store_schema.proofs.Empty.{none}
+use Rattle.store_schema.specs.Columns.{meta_columns}
 use Rattle.plan_writes.specs.Upgrading.{Adds, Upgrades}
 use Rattle.plan_writes.specs.Faults.{FindsFree, IsOfNames}
 use Rattle.plan_writes.specs.Within.{IsRun, Rewrites, RunsWithin}

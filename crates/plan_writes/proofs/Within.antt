@@ -7,7 +7,7 @@ use Rattle.sqlite.specs.Tree.{Trees}
 use Rattle.sqlite.specs.State.{State, HasCleanDisk, KeepsCommit, Survives, ExecutesInside}
 use Rattle.sqlite.specs.declared.error.Error.{Error}
 use Rattle.sqlite.proofs.StateLemmas.{survives_then}
-use Rattle.table_rows.proofs.Inside.{kept_inside}
+use Rattle.store_schema.proofs.Inside.{kept_inside}
 use Rattle.sqlite.specs.Schema.{Schema}
 use Rattle.plan_writes.specs.Within.{Grows, IsRun, RunsWithin}
 

@@ -5,10 +5,10 @@ use Rattle.sqlite.specs.Effect.{Database, IsDatabase}
 use Rattle.sqlite.specs.Schema.{Schema}
 use Rattle.sqlite.specs.Table.{Table}
 use Rattle.sqlite_catalog.specs.Change.{KeepsRows}
-use Rattle.plan_records.specs.declared.PlanRow.TheVariants as row
-use Rattle.plan_schema.specs.Schema.{first_schema, desk_schema}
-use Rattle.plan_schema.specs.Stored.{Held, Stores, StoresFirst}
-use Rattle.plan_columns.specs.Tables.{with_row}
+use Rattle.store_schema.specs.plan_records.specs.declared.PlanRow.TheVariants as row
+use Rattle.store_schema.specs.Schema.{first_schema, desk_schema}
+use Rattle.store_schema.specs.StoredPlans.{Held, Stores, StoresFirst}
+use Rattle.store_schema.specs.WrittenTables.{with_row}
 
 -- one table more, which has no row, and the others keep theirs; and what comes to have it besides these had these
 pub record Adds (from : Schema) (table : Table) (before after : Database) : Type 0 where

@@ -6,12 +6,12 @@ use Rattle.sqlite.specs.State.{State, ExecutesInside, HasCleanDisk, KeepsCommit,
 use Rattle.sqlite.specs.Tree.{Trees}
 use Rattle.sqlite.specs.Schema.{Schema}
 use Rattle.sqlite.specs.declared.error.Error.{Error}
-use Rattle.table_rows.specs.Rows.{IsEmpty}
-use Rattle.table_rows.specs.Tables.{no_schema}
-use Rattle.plan_records.specs.declared.PlanRow.TheVariants as row
-use Rattle.plan_schema.specs.Schema.{desk_schema}
-use Rattle.plan_schema.specs.Stored.{Held, Stores, Turns, none_held}
-use Rattle.plan_columns.specs.Tables.{with_row}
+use Rattle.store_schema.specs.Rows.{IsEmpty}
+use Rattle.store_schema.specs.Tables.{no_schema}
+use Rattle.store_schema.specs.plan_records.specs.declared.PlanRow.TheVariants as row
+use Rattle.store_schema.specs.Schema.{desk_schema}
+use Rattle.store_schema.specs.StoredPlans.{Held, Stores, Turns, none_held}
+use Rattle.store_schema.specs.WrittenTables.{with_row}
 
 -- a text is run with these values within a transaction, or refused; how many rows it changed isn't said
 abbrev pub IsRun : List ℕ → Row → State → State → Result (Unit {0}) Error → Type 0

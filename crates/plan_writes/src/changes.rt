@@ -2,12 +2,12 @@
 ghost use Rattle.std.specs.Prelude.{◌≡◌, false, IsTrue, OnErr, OnOk};
 ghost use Rattle.sqlite.specs.Held.{state};
 ghost use Rattle.sqlite.specs.State.{HasCleanDisk, Survives};
-ghost use Rattle.plan_columns.specs.Tables.{written};
+ghost use Rattle.store_schema.specs.WrittenTables.{written};
 ghost use Rattle.plan_writes.specs.Within.{IsCommitted, IsUndone, LeavesMade, Rewrites};
 
 use crate::rows::write_and_drop;
-use plan_records::{PlanRow, RowKey};
 use sqlite::{Alter, Connection, Error};
+use store_schema::{PlanRow, RowKey};
 
 /// Writes the rows that changed, and takes out those that are gone, in one transaction: wholly or not at all.
 pub fn write_changes<S: Alter>(

@@ -2,8 +2,8 @@
 ghost use Rattle.std.specs.Prelude.{◌≡◌, pos};
 ghost use Rattle.sqlite.specs.declared.types.Value.TheVariants.{Int, Text};
 ghost use Rattle.sqlite_value.specs.Value.{owned};
-ghost use Rattle.plan_columns.specs.plan_items.specs.Parts.{mode_letter, keep_letter};
-ghost use Rattle.plan_columns.specs.Columns.{flag};
+ghost use Rattle.store_schema.specs.plan_items.specs.Parts.{mode_letter, keep_letter};
+ghost use Rattle.store_schema.specs.Columns.{flag};
 
 use plan_basics::Moment;
 use special_resources::Mode;

@@ -2,19 +2,19 @@
 ghost use Rattle.std.specs.Prelude.{◌≡◌, ◌≢◌, false, IfErr, IsTrue, OnErr, OnOk};
 ghost use Rattle.sqlite.specs.Held.{state};
 ghost use Rattle.sqlite.specs.State.{HasCleanDisk, Survives};
-ghost use Rattle.table_rows.specs.Tables.{no_schema};
-ghost use Rattle.plan_schema.specs.Schema.{desk_schema};
+ghost use Rattle.store_schema.specs.Tables.{no_schema};
+ghost use Rattle.store_schema.specs.Schema.{desk_schema};
 ghost use Rattle.plan_writes.specs.Faults.{FindsNamesFree, IsOfNames};
 ghost use Rattle.plan_writes.specs.Within.{Begins, Grows, IsCommitted, IsUndone, LeavesMade, RunsWithin};
 
 use crate::resource_rows::{VERSION, put_meta};
 use crate::runs::run_text;
 use plan_basics::Moment;
-use plan_schema::{
+use sqlite::{Alter, Connection, Error, Transaction};
+use store_schema::{
     CREATE_AMOUNT, CREATE_DEPENDENCY, CREATE_INTERVAL, CREATE_META, CREATE_NEED, CREATE_OCCURRENCE,
     CREATE_OPERATION, CREATE_QUANTITY, CREATE_RECEIPT, CREATE_RESOURCE, CREATE_WORKSTATION,
 };
-use sqlite::{Alter, Connection, Error, Transaction};
 
 // The texts that make the tables, in the order in which the tables are made.
 const CREATIONS: [&str; 11] = [

@@ -2,14 +2,13 @@
 ghost use Rattle.std.specs.Prelude.{◌≡◌, false, IsTrue, OnErr, OnOk};
 ghost use Rattle.sqlite.specs.Held.{state};
 ghost use Rattle.sqlite.specs.State.{HasCleanDisk, Survives};
-ghost use Rattle.plan_columns.specs.Receipts.{written_numbered};
+ghost use Rattle.store_schema.specs.Receipts.{written_numbered};
 ghost use Rattle.plan_writes.specs.Within.{IsCommitted, IsUndone, LeavesMade, Rewrites, RunsWithin};
 
 use crate::receipt_rows::put_receipt;
 use crate::rows::write_and_drop;
-use plan_records::{PlanRow, RowKey};
 use sqlite::{Alter, Connection, Error, Transaction};
-use tracker_receipts::ReceiptRow;
+use store_schema::{PlanRow, ReceiptRow, RowKey};
 
 // Writes the rows that changed, takes out those that are gone, and puts the tracker's receipt in.
 fn write_with_receipt<S: Alter>(

@@ -1,22 +1,20 @@
 // The tables `occurrence`, `operation` and `dependency`.
 ghost use Rattle.std.specs.Prelude.{◌≡◌};
 ghost use Rattle.sqlite.specs.Held.{state};
-ghost use Rattle.plan_schema.specs.Stored.{with_occurrence, with_operation, with_dependency};
-ghost use Rattle.plan_columns.specs.Columns.{occurrence_columns, operation_columns, dependency_columns};
-ghost use Rattle.plan_columns.specs.Tables.{without_row};
-ghost use Rattle.plan_columns.specs.plan_drafts.specs.declared.RowKey.{RowKey};
+ghost use Rattle.store_schema.specs.StoredPlans.{with_occurrence, with_operation, with_dependency};
+ghost use Rattle.store_schema.specs.Columns.{occurrence_columns, operation_columns, dependency_columns};
+ghost use Rattle.store_schema.specs.WrittenTables.{without_row};
+ghost use Rattle.store_schema.specs.plan_drafts.specs.declared.RowKey.{RowKey};
 ghost use Rattle.plan_writes.specs.Within.{Rewrites, RunsWithin};
 
 use crate::columns::{flag, minute, number};
 use crate::runs::run_text;
 use plan_basics::{Moment, OccKey, OpKey};
-use plan_records::OperationRow;
-use plan_schema::{
-    DROP_DEPENDENCY, DROP_OCCURRENCE, DROP_OPERATION, PUT_DEPENDENCY, PUT_OCCURRENCE, PUT_OPERATION,
-};
 use sqlite::{Alter, Error, Transaction};
-use status_rules::OccStatus;
-use table_rows::{int, letters, text};
+use store_schema::{
+    DROP_DEPENDENCY, DROP_OCCURRENCE, DROP_OPERATION, OccStatus, OperationRow, PUT_DEPENDENCY,
+    PUT_OCCURRENCE, PUT_OPERATION, int, letters, text,
+};
 
 /// Puts an occurrence in, in place of the one with its key.
 pub fn put_occurrence<S: Alter>(

@@ -1,18 +1,17 @@
 // The tables `quantity` and `amount`.
 ghost use Rattle.std.specs.Prelude.{◌≡◌};
 ghost use Rattle.sqlite.specs.Held.{state};
-ghost use Rattle.plan_schema.specs.Stored.{with_quantity, with_amount};
-ghost use Rattle.plan_columns.specs.Columns.{quantity_columns, amount_columns};
-ghost use Rattle.plan_columns.specs.Tables.{without_row};
-ghost use Rattle.plan_columns.specs.plan_drafts.specs.declared.RowKey.{RowKey};
+ghost use Rattle.store_schema.specs.StoredPlans.{with_quantity, with_amount};
+ghost use Rattle.store_schema.specs.Columns.{quantity_columns, amount_columns};
+ghost use Rattle.store_schema.specs.WrittenTables.{without_row};
+ghost use Rattle.store_schema.specs.plan_drafts.specs.declared.RowKey.{RowKey};
 ghost use Rattle.plan_writes.specs.Within.{Rewrites, RunsWithin};
 
 use crate::columns::{minute, number};
 use crate::runs::run_text;
 use plan_basics::{OpKey, ResName};
-use plan_schema::{DROP_AMOUNT, PUT_AMOUNT, PUT_QUANTITY};
 use sqlite::{Alter, Error, Transaction};
-use table_rows::letters;
+use store_schema::{DROP_AMOUNT, PUT_AMOUNT, PUT_QUANTITY, letters};
 
 /// Puts the quantity of a special resource in, in place of the one that it has.
 pub fn put_quantity<S: Alter>(

@@ -1,15 +1,13 @@
 // The table `receipt`.
 ghost use Rattle.std.specs.Prelude.{◌≡◌};
 ghost use Rattle.sqlite.specs.Held.{state};
-ghost use Rattle.plan_schema.specs.Stored.{with_receipt};
-ghost use Rattle.plan_columns.specs.Receipts.{stored_receipt};
+ghost use Rattle.store_schema.specs.StoredPlans.{with_receipt};
+ghost use Rattle.store_schema.specs.Receipts.{stored_receipt};
 ghost use Rattle.plan_writes.specs.Within.{Rewrites, RunsWithin};
 
 use crate::runs::run_text;
-use plan_schema::PUT_RECEIPT;
 use sqlite::{Alter, Error, Transaction};
-use table_rows::{blob, int, letters};
-use tracker_receipts::ReceiptRow;
+use store_schema::{PUT_RECEIPT, ReceiptRow, blob, int, letters};
 
 /// Puts a tracker's receipt in, in place of its last.
 pub fn put_receipt<S: Alter>(tx: &mut Transaction<'_, S>, receipt: &ReceiptRow) -> Result<(), Error>

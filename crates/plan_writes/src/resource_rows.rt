@@ -1,21 +1,20 @@
 // The tables `meta`, `resource` and `need`.
 ghost use Rattle.std.specs.Prelude.{◌≡◌};
 ghost use Rattle.sqlite.specs.Held.{state};
-ghost use Rattle.plan_schema.specs.Schema.{desk_schema};
-ghost use Rattle.plan_schema.specs.Stored.{with_meta, with_resource, with_need};
-ghost use Rattle.plan_columns.specs.Columns.{meta_columns, resource_columns, need_columns};
-ghost use Rattle.plan_columns.specs.Tables.{without_row};
-ghost use Rattle.plan_columns.specs.plan_drafts.specs.declared.RowKey.{RowKey};
+ghost use Rattle.store_schema.specs.Schema.{desk_schema};
+ghost use Rattle.store_schema.specs.StoredPlans.{with_meta, with_resource, with_need};
+ghost use Rattle.store_schema.specs.Columns.{meta_columns, resource_columns, need_columns};
+ghost use Rattle.store_schema.specs.WrittenTables.{without_row};
+ghost use Rattle.store_schema.specs.plan_drafts.specs.declared.RowKey.{RowKey};
 ghost use Rattle.plan_writes.specs.Faults.{FindsFree};
 ghost use Rattle.plan_writes.specs.Within.{Rewrites, RunsWithin};
 
 use crate::columns::{flag, keeping, minute, mode_text, number};
 use crate::runs::run_text;
 use plan_basics::{Moment, OpKey, ResName};
-use plan_schema::{DROP_NEED, PUT_META, PUT_NEED, PUT_RESOURCE};
 use special_resources::Mode;
 use sqlite::{Alter, Error, Transaction};
-use table_rows::letters;
+use store_schema::{DROP_NEED, PUT_META, PUT_NEED, PUT_RESOURCE, letters};
 
 /// The version of the tables that are made here.
 pub const VERSION: u32 = 2;

@@ -1,7 +1,7 @@
 // Rows of any table, and lists of them.
 ghost use Rattle.std.specs.Prelude.{◌≡◌};
 ghost use Rattle.sqlite.specs.Held.{state};
-ghost use Rattle.plan_columns.specs.Tables.{with_row, without_row, with_rows, without_rows, written};
+ghost use Rattle.store_schema.specs.WrittenTables.{with_row, without_row, with_rows, without_rows, written};
 ghost use Rattle.plan_writes.specs.Within.{Rewrites, RunsWithin};
 
 use crate::operation_rows::{
@@ -10,8 +10,8 @@ use crate::operation_rows::{
 use crate::quantity_rows::{drop_amount, put_amount, put_quantity};
 use crate::resource_rows::{drop_need, put_meta, put_need, put_resource};
 use crate::workstation_rows::{drop_interval, put_interval, put_workstation};
-use plan_records::{PlanRow, RowKey};
 use sqlite::{Alter, Error, Transaction};
+use store_schema::{PlanRow, RowKey};
 
 /// Puts a row into its table, in place of the one with its key.
 pub fn write_row<S: Alter>(tx: &mut Transaction<'_, S>, row: &PlanRow) -> Result<(), Error>

@@ -2,7 +2,7 @@
 ghost use Rattle.std.specs.Prelude.{◌≡◌, ◌≢◌, false, IfErr, IsTrue, OnErr, OnOk};
 ghost use Rattle.sqlite.specs.Held.{state};
 ghost use Rattle.sqlite.specs.State.{HasCleanDisk, Survives};
-ghost use Rattle.plan_schema.specs.Schema.{amount, quantity, first_schema, schema_10};
+ghost use Rattle.store_schema.specs.Schema.{amount, quantity, first_schema, schema_10};
 ghost use Rattle.plan_writes.specs.Faults.{FindsFree, IsOfNames};
 ghost use Rattle.plan_writes.specs.Upgrading.{Adds, Upgrades};
 ghost use Rattle.plan_writes.specs.Within.{IsCommitted, IsUndone, LeavesMade, RunsWithin};
@@ -10,8 +10,8 @@ ghost use Rattle.plan_writes.specs.Within.{IsCommitted, IsUndone, LeavesMade, Ru
 use crate::resource_rows::{VERSION, put_meta};
 use crate::runs::run_text;
 use plan_basics::Moment;
-use plan_schema::{CREATE_AMOUNT, CREATE_QUANTITY};
 use sqlite::{Alter, Connection, Error, Transaction};
+use store_schema::{CREATE_AMOUNT, CREATE_QUANTITY};
 
 // The table `quantity` is made, in which there is no row.
 fn add_quantity<S: Alter>(tx: &mut Transaction<'_, S>) -> Result<(), Error>

@@ -1,18 +1,17 @@
 // The tables `workstation` and `interval`.
 ghost use Rattle.std.specs.Prelude.{◌≡◌};
 ghost use Rattle.sqlite.specs.Held.{state};
-ghost use Rattle.plan_schema.specs.Stored.{with_workstation, with_interval};
-ghost use Rattle.plan_columns.specs.Columns.{workstation_columns, interval_columns};
-ghost use Rattle.plan_columns.specs.Tables.{without_row};
-ghost use Rattle.plan_columns.specs.plan_drafts.specs.declared.RowKey.{RowKey};
+ghost use Rattle.store_schema.specs.StoredPlans.{with_workstation, with_interval};
+ghost use Rattle.store_schema.specs.Columns.{workstation_columns, interval_columns};
+ghost use Rattle.store_schema.specs.WrittenTables.{without_row};
+ghost use Rattle.store_schema.specs.plan_drafts.specs.declared.RowKey.{RowKey};
 ghost use Rattle.plan_writes.specs.Within.{Rewrites, RunsWithin};
 
 use crate::columns::{minute, number};
 use crate::runs::run_text;
 use plan_basics::{Attr, Interval, Moment, WsName};
-use plan_schema::{DROP_INTERVAL, PUT_INTERVAL, PUT_WORKSTATION};
 use sqlite::{Alter, Error, Transaction};
-use table_rows::letters;
+use store_schema::{DROP_INTERVAL, PUT_INTERVAL, PUT_WORKSTATION, letters};
 
 /// Puts a workstation in, in place of the one with its name.
 pub fn put_workstation<S: Alter>(

@@ -10,7 +10,7 @@ use Rattle.plan_basics.proofs.Members.{contains_mapped}
 use Rattle.plan_basics.specs.Keys.{occurrence_cmp_total, operation_cmp}
 use Rattle.plan_basics.specs.declared.keys.OccKey.{OccKey}
 use Rattle.plan_basics.specs.declared.keys.OpKey.{OpKey}
-use Rattle.plan_drafts.specs.plan_model.specs.Contents.{pair_cmp}
+use Rattle.plan_model.specs.Contents.{pair_cmp}
 use Rattle.plays_layers.specs.Numbered.{numbered, numbered_pair}
 use Rattle.plan_drafts.specs.PlanGraphs.{AreAmong}
 

@@ -4,7 +4,7 @@ ghost use Rattle.std.specs.Map.{keys_of};
 ghost use Rattle.std.specs.Ordering.{nat_cmp};
 
 use super::graphs::are_joined;
-use returning_paths::{Return, returning_path};
+use graph_paths::{Return, returning_path};
 use row_differences::{KeyedRows, differences, push_made};
 use std::alloc::Global;
 

@@ -1,5 +1,5 @@
 //! Requests in pieces and cut short, each test of their form, and replies.
-use exchange_heads::{Asked, ExchangeFault, Method, Status, read_exchange, reply_bytes};
+use http_messages::{Asked, ExchangeFault, Method, Status, read_exchange, reply_bytes};
 use plan_basics::Watched;
 use std::alloc::Global;
 use std::io;

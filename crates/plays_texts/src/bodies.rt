@@ -1,6 +1,6 @@
 // Bodies of JSON, and what they are read as.
 use plan_basics::OpKey;
-use request_texts::{read_operator, read_report};
+use request_json::{read_operator, read_report};
 use std::alloc::{AllocError, Global};
 
 /// What stands around the members that a row tells, in place of the tilde: an object with `at`.

@@ -1,7 +1,7 @@
 // The lines on which the records of a text begin.
 use super::tables::{bytes_of, part};
+use plan_import::{TextRecords, records_of_text};
 use std::alloc::{AllocError, Global};
-use text_records::{TextRecords, records_of_text};
 
 // Numbers, with a blank before each.
 fn numbers_text(alloc: Global, numbers: &[u64]) -> Result<String, AllocError> {

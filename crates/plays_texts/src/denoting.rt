@@ -2,8 +2,8 @@
 use super::tables::part;
 use super::writing::{addition_text, capacity_text, extension_text, plan_text};
 use plan_basics::{Moment, Watched, WsName};
+use plan_drafts::{Addition, Extension, PlanContents, PlanDraft, Record};
 use plan_import::{read_extension, read_occurrence, read_plan};
-use plan_records::{Addition, Extension, PlanContents, PlanDraft, Record};
 use std::alloc::{AllocError, Global};
 use std::array;
 use std::io::Read;

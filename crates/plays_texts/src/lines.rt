@@ -1,8 +1,8 @@
 // The lines of records, counted by hand, and fields of records of other lengths.
 use super::claims::{Claim, each};
 use super::tables::so;
+use plan_import::{TextRecords, records_of_text};
 use std::alloc::Global;
-use text_records::{TextRecords, records_of_text};
 
 // What is shown, a text, and the lines on which its records begin.
 const LINES: &str = "no text;;

@@ -3,7 +3,7 @@ use super::bodies::{OBJECT, WHOLE, asks, is_named, is_request, nested};
 use super::claims::{Claim, each};
 use super::tables::so;
 use plan_records::{Request, What};
-use request_texts::read_operator;
+use request_json::read_operator;
 use std::alloc::{AllocError, Global};
 
 // The members beside `at`, once for each `do`.

@@ -2,9 +2,7 @@
 use super::tables::so;
 use plan_basics::{Moment, OpKey, Refusal};
 use plan_records::Reply;
-use request_texts::{
-    OccurrenceRow, ReadyRow, fault_text, occurrences_text, ready_text, reply_text,
-};
+use request_json::{OccurrenceRow, ReadyRow, fault_text, occurrences_text, ready_text, reply_text};
 use status_rules::{OccStatus, Status};
 use std::alloc::{AllocError, Global};
 

@@ -3,7 +3,7 @@ use super::bodies::is_named;
 use super::claims::{Claim, each};
 use super::tables::so;
 use plan_records::What;
-use request_texts::{NumberedRequest, read_report};
+use request_json::{NumberedRequest, read_report};
 use std::alloc::Global;
 
 // What stands around the members of a first report.

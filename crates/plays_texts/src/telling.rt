@@ -1,7 +1,9 @@
 // What is told of the faults of texts, with a bar behind each.
-use addition_faults::{AddedText, AddedTextFaults, added_fault_text, faults_of_added_text};
 use std::alloc::{AllocError, Global};
-use text_faults::{TextFaults, fault_text, faults_of_text};
+use text_faults::{
+    AddedText, AddedTextFaults, TextFaults, added_fault_text, fault_text, faults_of_added_text,
+    faults_of_text,
+};
 
 fn plan_faults_text(alloc: Global, told: &TextFaults) -> Result<String, AllocError> {
     let mut lines = String::new(alloc);

@@ -1,6 +1,7 @@
 // Plans, additions and extensions, written down: a line for each row, in the order of the tables, with a comma behind each field.
 use plan_basics::{Interval, OccKey, OpKey, ResName, WsName};
-use plan_records::{ExtensionParts, Occurrence, OperationRecord, PlanContents, Stock};
+use plan_drafts::{ExtensionParts, PlanContents};
+use plan_model::{Occurrence, OperationRecord, Stock};
 use special_resources::{Mode, Need};
 use status_rules::Mark;
 use std::alloc::{AllocError, Global};

@@ -6,8 +6,8 @@ use Rattle.std.proofs.lemmas.List.{length-map}
 use Rattle.std.proofs.lemmas.Option.{get_or_from_slice_get, none-some, same_Some, slice_get-get_or, slice_get_within}
 use Rattle.plan_basics.specs.Keys.{Name}
 use Rattle.plan_basics.specs.declared.keys.OpKey.{OpKey}
-use Rattle.plan_drafts.specs.special_resources.specs.declared.Need.{Need}
-use Rattle.plan_drafts.specs.plan_model.specs.declared.Stock.{Stock}
+use Rattle.special_resources.specs.declared.Need.{Need}
+use Rattle.plan_model.specs.declared.Stock.{Stock}
 use Rattle.plan_drafts.specs.Records.{key_of}
 use Rattle.plan_items.specs.declared.Item.{Item}
 use Rattle.plan_drafts.specs.declared.RowKey.{RowKey}

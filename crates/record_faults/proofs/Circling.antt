@@ -5,14 +5,14 @@ use Rattle.std.specs.BTreeMap.{BTreeMap}
 use Rattle.std.proofs.lemmas.Bool.{cases_lt}
 use Rattle.std.proofs.lemmas.Option.{none-some, same_Some, slice_get_within}
 use Rattle.std.proofs.lemmas.List.Elements.{All-contains, All-nil, All-cons, Contains-append_left, Contains-append_right, Contains-append_cases}
-use Rattle.returning_paths.specs.operation_graph.specs.Paths.{LeadsBy, by_edge, by_more}
-use Rattle.returning_paths.specs.operation_graph.specs.Graphs.{IsEdgeOf, edges_of}
-use Rattle.returning_paths.specs.operation_graph.proofs.EdgeSets.{listed_edge}
+use Rattle.operation_graph.specs.Paths.{LeadsBy, by_edge, by_more}
+use Rattle.operation_graph.specs.Graphs.{IsEdgeOf, edges_of}
+use Rattle.operation_graph.proofs.EdgeSets.{listed_edge}
 use Rattle.plan_basics.proofs.Members.{all_by_members, contains_head, contains_cases, contains_none, at_place}
 use Rattle.plan_basics.specs.declared.keys.OpKey.{OpKey}
 use Rattle.plan_drafts.specs.declared.RowKey.{RowKey}
 use Rattle.plan_drafts.specs.declared.RowKey.TheVariants as key
-use Rattle.returning_paths.specs.Returns.{NoneReturns, IsReturn, LeadsBackTo}
+use Rattle.graph_paths.specs.Returns.{NoneReturns, IsReturn, LeadsBackTo}
 use Rattle.record_faults.specs.Sayings.{PlacedKeys, IsGiven, IsFirst, IsNowhere, IsIndex, place_in}
 use Rattle.record_faults.specs.Circles.{StandsAt, HasPair, JoinsGiven, IsEdgeOfKeys, IsEdgeAt, IsDependencyOf, AreEdgesBelow, NoCircle, IsClosing, IsCircle}
 use Rattle.record_faults.proofs.Indexes.{one_given}

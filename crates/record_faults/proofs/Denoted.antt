@@ -11,14 +11,14 @@ use Rattle.plan_basics.specs.Keys.{Name, name_cmp_total, name_cmp-IsAntisymmetri
 use Rattle.plan_basics.specs.declared.limits.TheConstants.{MOST_NEEDS}
 use Rattle.plan_basics.specs.declared.keys.OccKey.{OccKey}
 use Rattle.std.specs.FinMap.{get, len}
-use Rattle.plan_drafts.specs.workstations.specs.Workstations.{Workstation}
+use Rattle.workstations.specs.Workstations.{Workstation}
 use Rattle.plan_basics.specs.declared.keys.OpKey.{OpKey}
 use Rattle.plan_items.specs.declared.Item.{Item}
 use Rattle.plan_items.specs.declared.Item.TheVariants as item
 use Rattle.plan_items.specs.declared.OperationItem.{OperationItem}
 use Rattle.plan_items.specs.Items.{Fields, Says}
 use Rattle.plan_items.proofs.ItemLaws.{one_item}
-use Rattle.plan_drafts.specs.plan_model.specs.Contents.{Contents}
+use Rattle.plan_model.specs.Contents.{Contents}
 use Rattle.plan_drafts.specs.declared.RowKey.{RowKey}
 use Rattle.plan_drafts.specs.declared.RowKey.TheVariants as key
 use Rattle.plan_drafts.specs.Records.{key_of, StandsIn, AreItemsOf}

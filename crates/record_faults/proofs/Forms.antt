@@ -16,9 +16,9 @@ use Rattle.plan_basics.specs.declared.keys.OccKey.{OccKey}
 use Rattle.plan_basics.specs.declared.keys.OpKey.{OpKey}
 use Rattle.plan_basics.specs.declared.limits.TheConstants.{MOST_QUANTITY, MOST_SERVERS, SHORTEST_DURATION, LONGEST_DURATION, LOWEST_PRIORITY, HIGHEST_PRIORITY, LEAST_NUMBER, GREATEST_NUMBER}
 use Rattle.std.proofs.lemmas.Bool.{cases_lt}
-use Rattle.plan_drafts.specs.special_resources.specs.declared.Need.{Need}
-use Rattle.plan_drafts.specs.special_resources.specs.declared.Mode.{Mode}
-use Rattle.plan_drafts.specs.special_resources.specs.declared.Mode.TheVariants.{Shared, Exclusive}
+use Rattle.special_resources.specs.declared.Need.{Need}
+use Rattle.special_resources.specs.declared.Mode.{Mode}
+use Rattle.special_resources.specs.declared.Mode.TheVariants.{Shared, Exclusive}
 use Rattle.plan_items.proofs.PartLaws.{empty_number}
 use Rattle.plan_items.proofs.KindLaws.{made_interval, made_resource, made_occurrence, made_operation, made_dependency, made_need, whole}
 use Rattle.record_faults.specs.declared.kinds.Kind.{Kind}

@@ -6,10 +6,10 @@ use Rattle.plan_basics.specs.declared.Attr.{Attr}
 use Rattle.plan_basics.specs.declared.keys.OccKey.{OccKey}
 use Rattle.plan_basics.specs.declared.keys.OpKey.{OpKey}
 use Rattle.plan_basics.specs.Keys.{Name, name_cmp, name_cmp_total, name_cmp-IsAntisymmetric, occurrence_cmp, occurrence_cmp_total, occurrence_cmp-IsAntisymmetric, operation_cmp, operation_cmp_total, operation_cmp-IsAntisymmetric}
-use Rattle.plan_drafts.specs.workstations.specs.Timetables.{NamedWorkstation}
-use Rattle.plan_drafts.specs.plan_model.specs.declared.Occurrence.{Occurrence}
-use Rattle.plan_drafts.specs.plan_model.specs.declared.Stock.{Stock}
-use Rattle.plan_drafts.specs.plan_model.specs.Contents.{Contents, Operation, pair_cmp}
+use Rattle.workstations.specs.Timetables.{NamedWorkstation}
+use Rattle.plan_model.specs.declared.Occurrence.{Occurrence}
+use Rattle.plan_model.specs.declared.Stock.{Stock}
+use Rattle.plan_model.specs.Contents.{Contents, Operation, pair_cmp}
 use Rattle.plan_items.specs.declared.Item.{Item}
 use Rattle.plan_items.specs.declared.OperationItem.{OperationItem}
 use Rattle.plan_items.specs.Items.{IsItem}

@@ -14,10 +14,10 @@ use Rattle.plan_basics.specs.Intervals.{OpenInterval, AreApart}
 use Rattle.plan_basics.specs.Keys.{Name, name_cmp_total, name_cmp-IsAntisymmetric}
 use Rattle.plan_basics.specs.declared.keys.OccKey.{OccKey}
 use Rattle.plan_basics.specs.declared.keys.OpKey.{OpKey}
-use Rattle.returning_paths.specs.operation_graph.specs.Paths.{LeadsBy, by_edge, by_more}
-use Rattle.plan_drafts.specs.plan_model.specs.Contents.{pair_cmp, IsPairOf}
-use Rattle.plan_drafts.specs.plan_model.specs.Valid.{IsAcyclic}
-use Rattle.plan_drafts.specs.plan_model.specs.declared.Occurrence.{Occurrence}
+use Rattle.operation_graph.specs.Paths.{LeadsBy, by_edge, by_more}
+use Rattle.plan_model.specs.Contents.{pair_cmp, IsPairOf}
+use Rattle.plan_model.specs.Valid.{IsAcyclic}
+use Rattle.plan_model.specs.declared.Occurrence.{Occurrence}
 use Rattle.plan_items.specs.declared.Item.{Item}
 use Rattle.plan_items.specs.declared.Item.TheVariants as item
 use Rattle.plan_items.specs.declared.OperationItem.{OperationItem}

@@ -1,10 +1,10 @@
 -- Paths of dependencies that return, by the keys that records give.
 use Rattle.std.specs.Prelude.{◌≡◌, ℕ, ◌<◌, List, All, Contains, Option, Some, IfSome}
-use Rattle.returning_paths.specs.operation_graph.specs.Paths.{IsAcyclicBy}
+use Rattle.operation_graph.specs.Paths.{IsAcyclicBy}
 use Rattle.plan_basics.specs.declared.keys.OpKey.{OpKey}
 use Rattle.plan_drafts.specs.declared.RowKey.{RowKey}
 use Rattle.plan_drafts.specs.declared.RowKey.TheVariants as key
-use Rattle.returning_paths.specs.Returns.{LeadsBackTo}
+use Rattle.graph_paths.specs.Returns.{LeadsBackTo}
 use Rattle.record_faults.specs.Sayings.{PlacedKeys, IsGiven, IsFirst}
 
 -- the place is the first that gives the operation's key

@@ -5,14 +5,14 @@ use Rattle.std.specs.Option.{option_and_then}
 use Rattle.plan_basics.specs.Intervals.{OpenInterval, AreApart}
 use Rattle.plan_basics.specs.Keys.{Name}
 use Rattle.plan_drafts.specs.PlanItems.{as_interval, as_need, as_resource}
-use Rattle.plan_drafts.specs.special_resources.specs.declared.Need.{Need}
-use Rattle.plan_drafts.specs.plan_model.specs.declared.Stock.{Stock}
+use Rattle.special_resources.specs.declared.Need.{Need}
+use Rattle.plan_model.specs.declared.Stock.{Stock}
 use Rattle.plan_basics.specs.declared.keys.OccKey.{OccKey}
 use Rattle.plan_basics.specs.declared.keys.OpKey.{OpKey}
 use Rattle.plan_items.specs.declared.Item.{Item}
 use Rattle.plan_items.specs.declared.Item.TheVariants as item
 use Rattle.plan_items.specs.Items.{Fields}
-use Rattle.plan_drafts.specs.plan_model.specs.Contents.{Contents}
+use Rattle.plan_model.specs.Contents.{Contents}
 use Rattle.plan_drafts.specs.declared.RowKey.{RowKey}
 use Rattle.plan_drafts.specs.declared.RowKey.TheVariants as key
 use Rattle.plan_drafts.specs.Records.{Denotes}

@@ -1,4 +1,3 @@
-pub use Rattle.plan_drafts.specs.special_resources
 pub mod Shapes
 pub mod Sayings
 pub mod Groups

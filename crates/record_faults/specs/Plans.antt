@@ -2,7 +2,7 @@
 use Rattle.std.specs.Prelude.{◌≡◌, ◌<◌, List, map, Some}
 use Rattle.std.specs.FinMap.{len}
 use Rattle.plan_items.specs.declared.Item.{Item}
-use Rattle.plan_drafts.specs.plan_model.specs.Contents.{Contents}
+use Rattle.plan_model.specs.Contents.{Contents}
 use Rattle.plan_drafts.specs.Records.{AreItemsOf}
 use Rattle.record_faults.specs.Sayings.{Sayings}
 

@@ -7,7 +7,7 @@ use Rattle.plan_basics.specs.Names.{IsName, IsResourceName}
 use Rattle.plan_basics.specs.Minutes.{IsMomentText}
 use Rattle.plan_items.specs.Items.{Fields}
 use Rattle.plan_items.specs.Parts.{IsNumberText, mode_letter}
-use Rattle.plan_drafts.specs.special_resources.specs.declared.Mode.TheVariants.{Exclusive}
+use Rattle.special_resources.specs.declared.Mode.TheVariants.{Exclusive}
 use Rattle.record_faults.specs.declared.kinds.Kind.{Kind}
 use Rattle.record_faults.specs.declared.kinds.Kind.TheVariants as kind
 use Rattle.record_faults.specs.declared.kinds.Form.{Form}

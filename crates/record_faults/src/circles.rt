@@ -6,9 +6,9 @@ ghost use Rattle.record_faults.specs.Circles.{AreEdgesBelow, IsEdgeAt, IsEdgeOfK
 ghost use Rattle.record_faults.specs.Sayings.{PlacedKeys, IsIndex};
 
 use super::index::{Index, first_place};
+use graph_paths::returning_path;
 use plan_basics::OpKey;
 use plan_drafts::RowKey;
-use returning_paths::returning_path;
 use std::alloc::{AllocError, Global};
 
 // From the place of an operation to that of another that comes after it, where a key says so and both have a place.

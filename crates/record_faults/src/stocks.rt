@@ -6,8 +6,10 @@ ghost use Rattle.record_faults.specs.Sayings.{given, IsIndex};
 use super::faults::Fault;
 use super::index::{Index, first_place};
 use plan_basics::{OpKey, ResName};
-use plan_drafts::{Need, RowKey, Stock};
+use plan_drafts::RowKey;
 use plan_items::Item;
+use plan_model::Stock;
+use special_resources::Need;
 
 // The need that is said, if one is, with its operation.
 fn need_of(said: &Option<Item>) -> Option<(OpKey, Need)>

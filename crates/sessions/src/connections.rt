@@ -1,9 +1,8 @@
 // Connections to a desk in memory, over the loopback, in one thread: each client writes before it is served, and reads
 // after it.
 use super::files::DAY;
-use desk_runs::{Desk, serve_listener};
+use desk_runs::{Desk, read_plan, serve_listener};
 use plan_basics::{Watched, minute_of_text};
-use plan_import::read_plan;
 use plan_records::{Request, What};
 use sqlite::{Connection, MemStore};
 use std::alloc::Global;

@@ -12,7 +12,7 @@ mod plan_plays;
 #[cfg(test)]
 mod session_plays;
 #[cfg(test)]
-mod stop_plays;
+mod stopped_desks;
 #[cfg(test)]
 mod text_plays;
 #[cfg(test)]

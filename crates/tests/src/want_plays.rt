@@ -42,27 +42,27 @@ fn nights_in_want_of_memory(rt: HostRuntime) -> Result<(), &'static str> {
 
 #[test]
 fn a_failed_run_is_run_again(rt: HostRuntime) -> Result<(), &'static str> {
-    wants::a_failed_run_is_run_again(rt.alloc())
+    memory_plays::a_failed_run_is_run_again(rt.alloc())
 }
 
 #[test]
 fn a_night_to_its_end(rt: HostRuntime) -> Result<(), &'static str> {
-    wants::a_night_to_its_end(rt.alloc())
+    memory_plays::a_night_to_its_end(rt.alloc())
 }
 
 #[test]
 fn a_night_is_deleted(rt: HostRuntime) -> Result<(), &'static str> {
-    wants::a_night_is_deleted(rt.alloc())
+    memory_plays::a_night_is_deleted(rt.alloc())
 }
 
 #[test]
 fn reports_of_a_tracker(rt: HostRuntime) -> Result<(), &'static str> {
-    wants::reports_of_a_tracker(rt.alloc())
+    memory_plays::reports_of_a_tracker(rt.alloc())
 }
 
 #[test]
 fn tables_of_the_first_version_are_opened(rt: HostRuntime) -> Result<(), &'static str> {
-    wants::tables_of_the_first_version_are_opened(rt.alloc())
+    memory_plays::tables_of_the_first_version_are_opened(rt.alloc())
 }
 
 #[test]

@@ -1,12 +1,12 @@
 -- From the records of a text to what it denotes.
 use Rattle.std.proofs.Common.{◌≡◌, ◌↔◌, refl, ℕ, List, [], All, Contains, Option, Some, None, MatchOption, IsSome}
-use Rattle.text_records.specs.plan_items.specs.Items.{Fields}
+use Rattle.plan_items.specs.Items.{Fields}
 use Rattle.record_faults.specs.Faults.{DenoteSome, IsFault, IsCircleOf, NoCircleIn}
 use Rattle.record_faults.specs.declared.circles.Circle.{Circle}
 use Rattle.record_faults.specs.declared.faults.Fault.TheVariants as fault
 use Rattle.record_faults.specs.declared.faults.RecordFault.{RecordFault}
 use Rattle.record_faults.proofs.Returning.{circle_there}
-use Rattle.text_records.specs.Denoting.{DenotesPlansOf}
+use Rattle.plan_import.specs.Denoting.{DenotesPlansOf}
 use Rattle.text_faults.specs.TextFaults.{TextDenotesSome}
 
 -- a text denotes some plan exactly where its records do

@@ -1,3 +1,3 @@
-pub use Rattle.text_records.specs.plan_import
-pub use Rattle.text_records.specs.plan_model
 pub mod TextFaults
+pub mod AddedFaults
+pub mod AddedTexts

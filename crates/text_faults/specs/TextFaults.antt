@@ -1,12 +1,12 @@
 -- The faults of a text: those of its records.
 use Rattle.std.specs.Prelude.{ℕ, ◌-◌, List, length, All, Contains, slice_get, unwrap_or}
 use Rattle.plan_basics.specs.declared.keys.OpKey.{OpKey}
-use Rattle.text_records.specs.plan_model.specs.Contents.{Contents}
-use Rattle.text_records.specs.plan_items.specs.Items.{Fields}
-use Rattle.text_records.specs.plan_import.specs.Texts.{TextDenotes}
+use Rattle.plan_drafts.specs.plan_model.specs.Contents.{Contents}
+use Rattle.plan_items.specs.Items.{Fields}
+use Rattle.plan_import.specs.Texts.{TextDenotes}
 use Rattle.record_faults.specs.Faults.{IsFault, IsFaultOfRecord, IsCircleOf}
 use Rattle.record_faults.specs.declared.faults.RecordFault.{RecordFault}
-use Rattle.text_records.specs.Records.{AreRecordsOf}
+use Rattle.plan_import.specs.TextRecords.{AreRecordsOf}
 
 -- the text denotes some plan
 abbrev pub TextDenotesSome : List ℕ → Type 0

@@ -5,12 +5,12 @@ ghost use Rattle.record_faults.specs.Sayings.{texts_of};
 ghost use Rattle.record_faults.specs.declared.faults.Fault.TheVariants as variant;
 ghost use Rattle.record_faults.specs.declared.faults.RecordFault.{RecordFault};
 ghost use Rattle.std.specs.List.{AllPairs};
-ghost use Rattle.text_records.specs.Lines.{BeginOn};
+ghost use Rattle.plan_import.specs.Lines.{BeginOn};
 ghost use Rattle.text_faults.specs.TextFaults.{AreFaultsOfText, ReturnsIn, TextDenotesSome};
 
+use plan_import::{TextRecords, records_of_text};
 use record_faults::{Circle, Fault, Fields, RecordFault, circle_of_records, faults_of};
 use std::alloc::{AllocError, Global};
-use text_records::{TextRecords, records_of_text};
 
 /// The faults of a text.
 #[derive(Drop)]

@@ -1,8 +1,15 @@
-//! What is wrong with a plan's text, told by the lines of its records.
+//! What is wrong with a text, told by the lines of its records: with that of a plan, or with that of an addition or an
+//! extension, as far as it can be judged without the plan.
 #![tactic(auto)]
 
+mod additions;
 mod faults;
 mod texts;
 
+pub use additions::{
+    AddedFault, AddedText, AddedTextFaults, PlacedFault, added_fault_text, faults_of_added,
+    faults_of_added_text,
+};
 pub use faults::{TextFaults, faults_of_text};
+pub use plan_import::{read_extension, read_occurrence, read_plan};
 pub use texts::fault_text;

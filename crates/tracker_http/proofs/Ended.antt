@@ -1,12 +1,12 @@
 -- How an exchange ends, once it is known what is told.
 use Rattle.std.proofs.Common.{◌≡◌, refl, inr, ℕ, List, Option, Some, None, Result, Ok, Err, IfSome, IfErr, OnOk}
 use Rattle.std.specs.Io.KnownBytes.{Keeps, Appends}
-use Rattle.exchange_heads.specs.Tests.{Answers}
-use Rattle.exchange_heads.specs.declared.asking.Asked.{Asked}
-use Rattle.exchange_heads.specs.declared.asking.Rejection.{Rejection}
+use Rattle.http_messages.specs.Tests.{Answers}
+use Rattle.http_messages.specs.declared.asking.Asked.{Asked}
+use Rattle.http_messages.specs.declared.asking.Rejection.{Rejection}
 use Rattle.plan_basics.specs.Watched.{AppendsBeginning}
-use Rattle.request_texts.specs.declared.WireFault.{WireFault}
-use Rattle.request_texts.specs.declared.WireFault.TheVariants as fault
+use Rattle.request_json.specs.declared.WireFault.{WireFault}
+use Rattle.request_json.specs.declared.WireFault.TheVariants as fault
 use Rattle.tracker_http.specs.Exchange.{Seen, Replies, Exchanges, Ends}
 use Rattle.tracker_http.specs.Told.{reply_of}
 use Rattle.tracker_http.specs.declared.told.Told.{Told}

@@ -2,23 +2,23 @@
 use Rattle.std.specs.Prelude.{◌≡◌, ◌⊎◌, ℕ, Bool, false, List, Option, IfSome, IsTrue, Result, Ok, Err}
 use Rattle.std.specs.Io.KnownBytes.{Keeps, Appends}
 use Rattle.sqlite.specs.State.{State as StoreState, HasCleanDisk}
-use Rattle.exchange_heads.specs.Tests.{status_of as status_of_test}
-use Rattle.exchange_heads.specs.Tests as head
-use Rattle.exchange_heads.specs.declared.asking.Asked.{Asked}
-use Rattle.exchange_heads.specs.declared.asking.Asked.TheVariants as asked
-use Rattle.exchange_heads.specs.declared.asking.Rejection.{Rejection}
-use Rattle.exchange_heads.specs.declared.statuses.Status.TheVariants as status
+use Rattle.http_messages.specs.Tests.{status_of as status_of_test}
+use Rattle.http_messages.specs.Tests as head
+use Rattle.http_messages.specs.declared.asking.Asked.{Asked}
+use Rattle.http_messages.specs.declared.asking.Asked.TheVariants as asked
+use Rattle.http_messages.specs.declared.asking.Rejection.{Rejection}
+use Rattle.http_messages.specs.declared.statuses.Status.TheVariants as status
 use Rattle.plan_basics.specs.Watched.{AppendsBeginning}
 use Rattle.plan_records.specs.Answer.{answer_of}
 use Rattle.plan_records.specs.Run.{State, Call, plain, numbered, Usable}
 use Rattle.plan_records.specs.Run as run
 use Rattle.plan_records.specs.declared.Request.{Request}
-use Rattle.plan_tables.specs.Desk.{DeskState, state_of, usability}
-use Rattle.plan_tables.specs.Shut.{may_have_shut}
-use Rattle.request_texts.specs.Requests.{ReadsAsRequest, ReadsAsReport}
-use Rattle.request_texts.specs.declared.NumberedRequest.{NumberedRequest}
-use Rattle.request_texts.specs.declared.WireFault.TheVariants as fault
-use Rattle.request_texts.specs.declared.WireFault.{WireFault}
+use Rattle.desk_tables.specs.Desk.{DeskState, state_of, usability}
+use Rattle.desk_tables.specs.Shut.{may_have_shut}
+use Rattle.request_json.specs.Requests.{ReadsAsRequest, ReadsAsReport}
+use Rattle.request_json.specs.declared.NumberedRequest.{NumberedRequest}
+use Rattle.request_json.specs.declared.WireFault.TheVariants as fault
+use Rattle.request_json.specs.declared.WireFault.{WireFault}
 use Rattle.tracker_http.specs.Lists.{TellsReady, TellsOccurrences, TellsList}
 use Rattle.tracker_http.specs.Told.{reply_of}
 use Rattle.tracker_http.specs.declared.told.Told.{Told}

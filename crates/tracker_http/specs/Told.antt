@@ -1,13 +1,13 @@
 -- What a reply tells, its status and its bytes.
 use Rattle.std.specs.Prelude.{ℕ, nat_lt, if◌then◌else◌, List, map}
-use Rattle.exchange_heads.specs.Replies.{reply}
-use Rattle.exchange_heads.specs.Statuses.{code_of}
-use Rattle.exchange_heads.specs.declared.statuses.Status.{Status}
-use Rattle.exchange_heads.specs.declared.statuses.Status.TheVariants as status
+use Rattle.http_messages.specs.Replies.{reply}
+use Rattle.http_messages.specs.Statuses.{code_of}
+use Rattle.http_messages.specs.declared.statuses.Status.{Status}
+use Rattle.http_messages.specs.declared.statuses.Status.TheVariants as status
 use Rattle.plan_basics.specs.Refusals.{number_of}
 use Rattle.plan_basics.specs.declared.Refusal.{Refusal}
 use Rattle.plan_records.specs.Answer.{Answer, accepted, refused, answer_of}
-use Rattle.request_texts.specs.Replies.{answer_data, fault_data, ready_data, occurrence_data}
+use Rattle.request_json.specs.Replies.{answer_data, fault_data, ready_data, occurrence_data}
 use Rattle.serde_json.specs.Data.{Data, array}
 use Rattle.serde_json.specs.View.{items_of}
 use Rattle.serde_json.specs.Written.{compact_text}

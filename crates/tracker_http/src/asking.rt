@@ -2,14 +2,14 @@
 ghost use Rattle.std.specs.Prelude.{◌≡◌, IfOk, IfErr, OnErr, ⊤};
 ghost use Rattle.sqlite.specs.Held.{state};
 ghost use Rattle.sqlite.specs.State.{Survives};
-ghost use Rattle.plan_tables.specs.Desk.{state_of, HoldsState, IsClean};
+ghost use Rattle.desk_tables.specs.Desk.{state_of, HoldsState, IsClean};
 ghost use Rattle.tracker_http.specs.Exchange.{seen, StaysOpen, TellsReport, TellsOperator, Tells};
 
 use super::lists::{tell_occurrences, tell_ready};
 use super::told::Told;
-use exchange_heads::{Asked, Status};
-use plan_tables::Desk;
-use request_texts::{WireFault, read_operator, read_report};
+use desk_tables::Desk;
+use http_messages::{Asked, Status};
+use request_json::{WireFault, read_operator, read_report};
 use sqlite::Alter;
 use std::alloc::Global;
 

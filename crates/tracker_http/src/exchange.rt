@@ -2,20 +2,20 @@
 ghost use Rattle.std.specs.Prelude.{◌≡◌, ◌↔◌, ◌⊎◌, Err, true, false, IfOk, IfErr, OnOk, OnErr, IfSome, Result, ⊤};
 ghost use Rattle.sqlite.specs.Held.{state};
 ghost use Rattle.sqlite.specs.State.{Survives};
-ghost use Rattle.plan_tables.specs.Desk.{state_of, HoldsState, IsClean};
+ghost use Rattle.desk_tables.specs.Desk.{state_of, HoldsState, IsClean};
 ghost use Rattle.std.specs.Io.KnownBytes.{Appends};
-ghost use Rattle.exchange_heads.specs.Tests.{Answers};
-ghost use Rattle.exchange_heads.specs.declared.asking.Asked.{Asked};
-ghost use Rattle.exchange_heads.specs.declared.asking.Rejection.{Rejection};
+ghost use Rattle.http_messages.specs.Tests.{Answers};
+ghost use Rattle.http_messages.specs.declared.asking.Asked.{Asked};
+ghost use Rattle.http_messages.specs.declared.asking.Rejection.{Rejection};
 ghost use Rattle.plan_basics.specs.Watched.{inner_of, failed_of, AppendsBeginning};
 ghost use Rattle.tracker_http.specs.Exchange.{seen, Replies, Ends, StaysOpen};
 
 use super::asking::tell;
 use super::told::Told;
-use exchange_heads::{ExchangeFault, read_exchange};
+use desk_tables::Desk;
+use http_messages::{ExchangeFault, read_exchange};
 use plan_basics::Watched;
-use plan_tables::Desk;
-use request_texts::WireFault;
+use request_json::WireFault;
 use sqlite::Alter;
 use std::alloc::Global;
 use std::io::{Read, Write};

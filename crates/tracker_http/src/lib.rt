@@ -8,7 +8,7 @@
 //! | `GET /ready/WS` | the ready list of a workstation, in ready order |
 //! | `GET /occurrences` | the occurrences of the plan, in key order |
 //!
-//! Bodies are JSON (`request_texts`), heads HTTP (`exchange_heads`); which status an answer has is this project's own.
+//! Bodies are JSON (`request_json`), heads HTTP (`http_messages`); which status an answer has is this project's own.
 //! What an exchange is, from the bytes of a connection to those of the reply, is one relation (`specs/Exchange.antt`).
 #![tactic(auto)]
 
@@ -17,7 +17,7 @@ mod exchange;
 mod lists;
 mod told;
 
+pub use desk_tables::Desk;
 pub use exchange::serve_one;
-pub use plan_basics::Refusal;
-pub use plan_tables::Desk;
-pub use request_texts::{WireFault, read_operator};
+pub use plan_records::Reply;
+pub use request_json::{WireFault, read_operator};

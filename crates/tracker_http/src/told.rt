@@ -3,12 +3,10 @@ ghost use Rattle.std.specs.Prelude.{◌≡◌, IfOk};
 ghost use Rattle.serde_json.specs.Written.{compact_text};
 ghost use Rattle.tracker_http.specs.Told.{status_of_refusal, status_of, body_of, reply_of};
 
-use exchange_heads::{Status, reply_bytes};
+use http_messages::{Status, reply_bytes};
 use plan_basics::Refusal;
 use plan_records::Reply;
-use request_texts::{
-    OccurrenceRow, ReadyRow, fault_text, occurrences_text, ready_text, reply_text,
-};
+use request_json::{OccurrenceRow, ReadyRow, fault_text, occurrences_text, ready_text, reply_text};
 use std::alloc::{AllocError, Global};
 
 /// What a reply tells.

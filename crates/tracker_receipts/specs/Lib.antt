@@ -4,7 +4,6 @@ pub use Rattle.plan_laws
 pub use Rattle.plan_laws.specs.plan_model
 pub use Rattle.plan_laws.specs.plan_records
 pub use Rattle.plan_laws.specs.special_resources
-pub use Rattle.plan_laws.specs.status_rules
 pub mod Codes
 pub mod Judging
 pub mod Kept

@@ -9,5 +9,6 @@ mod stored;
 
 pub use judging::Judged;
 pub use kept::{Receipt, Receipts};
+pub use plan_laws::{OperationRow, PlanRow, RowKey};
 pub use replies::{keys_of_text, reply_text};
 pub use stored::{ReceiptRow, receipts_of};

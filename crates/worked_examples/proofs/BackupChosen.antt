@@ -6,18 +6,18 @@ use Rattle.plan_basics.specs.declared.Attr.TheVariants.{Automatic}
 use Rattle.plan_basics.specs.declared.keys.OpKey.{OpKey}
 use Rattle.plan_basics.specs.Intervals.{interval_by}
 use Rattle.plan_basics.specs.Keys.{occurrence_cmp_total, operation_cmp_total, operation_cmp-IsAntisymmetric}
-use Rattle.plan_laws.specs.status_rules.specs.declared.Mark.TheVariants as mark
-use Rattle.plan_laws.specs.status_rules.specs.declared.Status.TheVariants as status
-use Rattle.plan_laws.specs.ready_list.specs.declared.ReadyKey.{ReadyKey}
-use Rattle.plan_laws.specs.ready_list.specs.Choice.{is_among}
-use Rattle.plan_laws.specs.plan_model.specs.Holdings.{given_out}
-use Rattle.plan_laws.specs.plan_model.specs.Contents.{Contents, Operation, Precedes}
-use Rattle.plan_laws.specs.plan_model.specs.Ready.{IsChosen, IsEntry, named, with_mark}
-use Rattle.plan_laws.specs.plan_model.specs.Starts.{IsAllowedToStart, IsLatestStart}
-use Rattle.plan_laws.specs.plan_model.specs.Status.{HasStatus, IsReady}
+use Rattle.status_rules.specs.declared.Mark.TheVariants as mark
+use Rattle.status_rules.specs.declared.Status.TheVariants as status
+use Rattle.ready_list.specs.declared.ReadyKey.{ReadyKey}
+use Rattle.ready_list.specs.Choice.{is_among}
+use Rattle.plan_model.specs.Holdings.{given_out}
+use Rattle.plan_model.specs.Contents.{Contents, Operation, Precedes}
+use Rattle.plan_model.specs.Ready.{IsChosen, IsEntry, named, with_mark}
+use Rattle.plan_model.specs.Starts.{IsAllowedToStart, IsLatestStart}
+use Rattle.plan_model.specs.Status.{HasStatus, IsReady}
 use Rattle.plan_laws.proofs.Decide.{pair_cmp_total}
 use Rattle.plan_laws.proofs.Kept.{named_none}
-use Rattle.plan_laws.specs.plan_model.proofs.Looks.{get-named}
+use Rattle.plan_model.proofs.Looks.{get-named}
 use Rattle.worked_examples.specs.Backup.{backup_addition, backup_key, three_operations, two_occurrences, two_pairs, with_backup}
 use Rattle.worked_examples.specs.Day.{always_open, cpu1, daily, evening, first, lasting, occurrence, second}
 use Rattle.worked_examples.specs.Statements.{BackupAdded}

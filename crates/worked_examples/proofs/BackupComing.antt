@@ -7,17 +7,17 @@ use Rattle.plan_basics.specs.declared.keys.OpKey.{OpKey}
 use Rattle.plan_basics.specs.declared.Refusal.{Refusal}
 use Rattle.plan_basics.specs.declared.Refusal.TheVariants as refusal
 use Rattle.plan_basics.specs.Keys.{IsOccurrenceKey, IsOperationKey, Name, name_cmp, name_cmp_total, occurrence_cmp_total, occurrence_cmp-IsAntisymmetric, operation_cmp_total, operation_cmp-IsAntisymmetric}
-use Rattle.plan_laws.specs.special_resources.specs.Holders.{Usage}
-use Rattle.plan_laws.specs.status_rules.specs.declared.Status.TheVariants as status
-use Rattle.plan_laws.specs.plan_model.specs.Contents.{IsPairOf, Operation}
-use Rattle.plan_laws.specs.plan_model.specs.declared.Stock.{Stock}
-use Rattle.plan_laws.specs.plan_model.specs.Status.{HasStatus, IsWaitingOrReady}
-use Rattle.plan_laws.specs.plan_model.specs.Valid.{IsAcyclic, IsOccurrence, IsOperation, IsUntouched, IsWithinLimits}
-use Rattle.plan_laws.specs.plan_records.specs.declared.Request.{Request}
-use Rattle.plan_laws.specs.plan_records.specs.declared.What.TheVariants as what
-use Rattle.plan_laws.specs.plan_records.specs.Acceptance.{IsNew, IsOld, MayBeAccepted}
-use Rattle.plan_laws.specs.plan_records.specs.Changes.{with_added}
-use Rattle.plan_laws.specs.plan_drafts.specs.Drafts.{IsAddition, IsEnd, IsOwn}
+use Rattle.special_resources.specs.Holders.{Usage}
+use Rattle.status_rules.specs.declared.Status.TheVariants as status
+use Rattle.plan_model.specs.Contents.{IsPairOf, Operation}
+use Rattle.plan_model.specs.declared.Stock.{Stock}
+use Rattle.plan_model.specs.Status.{HasStatus, IsWaitingOrReady}
+use Rattle.plan_model.specs.Valid.{IsAcyclic, IsOccurrence, IsOperation, IsUntouched, IsWithinLimits}
+use Rattle.plan_records.specs.declared.Request.{Request}
+use Rattle.plan_records.specs.declared.What.TheVariants as what
+use Rattle.plan_records.specs.Acceptance.{IsNew, IsOld, MayBeAccepted}
+use Rattle.plan_records.specs.Changes.{with_added}
+use Rattle.plan_drafts.specs.Drafts.{IsAddition, IsEnd, IsOwn}
 use Rattle.std.proofs.lemmas.Option.{none-some}
 use Rattle.plan_laws.proofs.Pairs.{pair_cmp_total, pair_cmp-IsAntisymmetric}
 use Rattle.worked_examples.specs.Backup.{backup, backup_addition, backup_key, three_operations, two_occurrences, two_pairs, with_backup}

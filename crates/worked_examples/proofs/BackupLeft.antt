@@ -8,17 +8,17 @@ use Rattle.std.specs.Ordering.{eq_by_cmp, is_eq}
 use Rattle.plan_basics.specs.declared.keys.OccKey.{OccKey}
 use Rattle.plan_basics.specs.declared.keys.OpKey.{OpKey}
 use Rattle.plan_basics.specs.Keys.{occurrence_cmp, occurrence_cmp_total, occurrence_cmp-IsAntisymmetric, operation_cmp, operation_cmp_total, operation_cmp-IsAntisymmetric}
-use Rattle.plan_laws.specs.status_rules.specs.Table.{marked_status, occurrence_status_place}
-use Rattle.plan_laws.specs.status_rules.specs.declared.Mark.TheVariants as mark
-use Rattle.plan_laws.specs.status_rules.specs.declared.OccStatus.{OccStatus}
-use Rattle.plan_laws.specs.status_rules.specs.declared.OccStatus.TheVariants as occurrence
-use Rattle.plan_laws.specs.status_rules.specs.declared.Status.{Status}
-use Rattle.plan_laws.specs.status_rules.specs.declared.Status.TheVariants as status
-use Rattle.plan_laws.specs.plan_model.specs.Contents.{Operation}
-use Rattle.plan_laws.specs.plan_model.specs.Ready.{with_mark}
-use Rattle.plan_laws.specs.plan_model.specs.Revise.{revise}
-use Rattle.plan_laws.specs.plan_model.specs.Status.{HasStatus, OccurrenceCase, UnmarkedStatus}
-use Rattle.plan_laws.specs.plan_records.specs.Changes.{IsOver, LeavesOver, is_at, with_added, with_only}
+use Rattle.status_rules.specs.Table.{marked_status, occurrence_status_place}
+use Rattle.status_rules.specs.declared.Mark.TheVariants as mark
+use Rattle.status_rules.specs.declared.OccStatus.{OccStatus}
+use Rattle.status_rules.specs.declared.OccStatus.TheVariants as occurrence
+use Rattle.status_rules.specs.declared.Status.{Status}
+use Rattle.status_rules.specs.declared.Status.TheVariants as status
+use Rattle.plan_model.specs.Contents.{Operation}
+use Rattle.plan_model.specs.Ready.{with_mark}
+use Rattle.plan_model.specs.Revise.{revise}
+use Rattle.plan_model.specs.Status.{HasStatus, OccurrenceCase, UnmarkedStatus}
+use Rattle.plan_records.specs.Changes.{IsOver, LeavesOver, is_at, with_added, with_only}
 use Rattle.plan_laws.proofs.Pairs.{pair_cmp_total, pair_cmp-IsAntisymmetric}
 use Rattle.worked_examples.specs.Backup.{backup, backup_alone, backup_key, day_over, nothing_added, three_operations, two_occurrences, two_pairs, with_backup}
 use Rattle.worked_examples.specs.Billing.{eleven}

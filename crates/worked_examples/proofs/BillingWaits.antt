@@ -8,16 +8,16 @@ use Rattle.plan_basics.specs.declared.Refusal.{Refusal}
 use Rattle.plan_basics.specs.declared.Refusal.TheVariants as refusal
 use Rattle.plan_basics.specs.Intervals.{interval_by}
 use Rattle.plan_basics.specs.Keys.{name_cmp_total, operation_cmp, operation_cmp_total, operation_cmp-IsAntisymmetric}
-use Rattle.plan_laws.specs.special_resources.specs.declared.Mode.TheVariants.{Exclusive, Shared}
-use Rattle.plan_laws.specs.status_rules.specs.declared.Mark.TheVariants as mark
-use Rattle.plan_laws.specs.status_rules.specs.declared.Status.TheVariants as status
-use Rattle.plan_laws.specs.plan_model.specs.Holdings.{Holds, given_out, takes}
-use Rattle.plan_laws.specs.plan_model.specs.Contents.{Operation, Precedes, pair_cmp}
-use Rattle.plan_laws.specs.plan_model.specs.Ready.{with_mark}
-use Rattle.plan_laws.specs.plan_model.specs.Revise.{get-joined, joined, or_else, revise}
-use Rattle.plan_laws.specs.plan_model.specs.Starts.{MayStart}
-use Rattle.plan_laws.specs.plan_model.specs.Status.{HasStatus}
-use Rattle.plan_laws.specs.plan_records.specs.Changes.{is_at}
+use Rattle.special_resources.specs.declared.Mode.TheVariants.{Exclusive, Shared}
+use Rattle.status_rules.specs.declared.Mark.TheVariants as mark
+use Rattle.status_rules.specs.declared.Status.TheVariants as status
+use Rattle.plan_model.specs.Holdings.{Holds, given_out, takes}
+use Rattle.plan_model.specs.Contents.{Operation, Precedes, pair_cmp}
+use Rattle.plan_model.specs.Ready.{with_mark}
+use Rattle.plan_model.specs.Revise.{get-joined, joined, or_else, revise}
+use Rattle.plan_model.specs.Starts.{MayStart}
+use Rattle.plan_model.specs.Status.{HasStatus}
+use Rattle.plan_records.specs.Changes.{is_at}
 use Rattle.plan_laws.proofs.Decide.{pair_cmp_total}
 use Rattle.worked_examples.specs.Day.{cpu1, evening}
 use Rattle.worked_examples.specs.Night.{alone, cpu1_station, custfile, done, end_of_night, night, night_operations, night_pairs, payroll_at}

@@ -12,16 +12,16 @@ use Rattle.plan_basics.specs.declared.keys.OpKey.{OpKey}
 use Rattle.plan_basics.specs.Intervals.{interval_by}
 use Rattle.plan_basics.specs.Keys.{IsOperationKey, name_cmp, name_cmp_total, name_cmp-IsAntisymmetric, occurrence_cmp_total, occurrence_cmp-IsAntisymmetric}
 use Rattle.plan_basics.specs.Minutes.{IsMomentText}
-use Rattle.plan_laws.specs.plan_items.specs.declared.Item.{Item}
-use Rattle.plan_laws.specs.plan_items.specs.declared.Item.TheVariants as item
-use Rattle.plan_laws.specs.plan_items.specs.declared.OperationItem.{OperationItem}
-use Rattle.plan_laws.specs.plan_items.specs.Items.{Fields, IsOperationItem, Says}
-use Rattle.plan_laws.specs.workstations.specs.Workstations.{Workstation}
-use Rattle.plan_laws.specs.plan_model.specs.Contents.{Operation}
-use Rattle.plan_laws.specs.plan_drafts.specs.declared.RowKey.{RowKey}
-use Rattle.plan_laws.specs.plan_drafts.specs.declared.RowKey.TheVariants as key
-use Rattle.plan_laws.specs.plan_drafts.specs.Records.{Denotes, IsItemOfPlan, StandsIn, key_of}
-use Rattle.plan_laws.specs.plan_drafts.proofs.Tables.{is_found}
+use Rattle.plan_items.specs.declared.Item.{Item}
+use Rattle.plan_items.specs.declared.Item.TheVariants as item
+use Rattle.plan_items.specs.declared.OperationItem.{OperationItem}
+use Rattle.plan_items.specs.Items.{Fields, IsOperationItem, Says}
+use Rattle.workstations.specs.Workstations.{Workstation}
+use Rattle.plan_model.specs.Contents.{Operation}
+use Rattle.plan_drafts.specs.declared.RowKey.{RowKey}
+use Rattle.plan_drafts.specs.declared.RowKey.TheVariants as key
+use Rattle.plan_drafts.specs.Records.{Denotes, IsItemOfPlan, StandsIn, key_of}
+use Rattle.plan_drafts.proofs.Tables.{is_found}
 use Rattle.worked_examples.specs.Day.{always_open, cpu1, daily, day, evening, first, lasting, morning, occurrence, second}
 use Rattle.worked_examples.specs.DayText.{arrival_text, day_records, deadline_text, first_minute, last_minute}
 use Rattle.worked_examples.proofs.DayLoad.{cpu1_name, daily_key, day_is_draft, of_both, one_occurrence, one_workstation, only_pair, open_interval, station_found}

@@ -7,17 +7,17 @@ use Rattle.plan_basics.specs.declared.keys.OpKey.{OpKey}
 use Rattle.plan_basics.specs.Intervals.{IsInterval, interval_by}
 use Rattle.plan_basics.specs.Keys.{Name, IsOperationKey, IsOccurrenceKey, name_cmp, name_cmp_total, name_cmp-IsAntisymmetric, occurrence_cmp_total, occurrence_cmp-IsAntisymmetric, operation_cmp_total, operation_cmp-IsAntisymmetric}
 use Rattle.plan_basics.specs.Names.{IsName}
-use Rattle.plan_laws.specs.special_resources.specs.Holders.{Usage}
-use Rattle.plan_laws.specs.workstations.specs.Workstations.{IsWorkstation}
-use Rattle.plan_laws.specs.plan_model.specs.Contents.{Operation, IsPairOf}
-use Rattle.plan_laws.specs.plan_model.specs.declared.Stock.{Stock}
-use Rattle.plan_laws.specs.plan_model.specs.Valid.{AreOccurrences, IsOccurrence, IsOperation, IsUntouched, IsValid}
-use Rattle.plan_laws.specs.plan_drafts.specs.Drafts.{IsDraft}
-use Rattle.plan_laws.specs.ready_list.specs.declared.ReadyKey.{ReadyKey}
-use Rattle.plan_laws.specs.plan_model.specs.Holdings.{given_out}
-use Rattle.plan_laws.specs.plan_model.specs.Ready.{IsChosen, IsEntry}
-use Rattle.plan_laws.specs.plan_model.specs.Starts.{IsAllowedToStart, IsLatestStart}
-use Rattle.plan_laws.specs.plan_model.specs.Status.{IsReady}
+use Rattle.special_resources.specs.Holders.{Usage}
+use Rattle.workstations.specs.Workstations.{IsWorkstation}
+use Rattle.plan_model.specs.Contents.{Operation, IsPairOf}
+use Rattle.plan_model.specs.declared.Stock.{Stock}
+use Rattle.plan_model.specs.Valid.{AreOccurrences, IsOccurrence, IsOperation, IsUntouched, IsValid}
+use Rattle.plan_drafts.specs.Drafts.{IsDraft}
+use Rattle.ready_list.specs.declared.ReadyKey.{ReadyKey}
+use Rattle.plan_model.specs.Holdings.{given_out}
+use Rattle.plan_model.specs.Ready.{IsChosen, IsEntry}
+use Rattle.plan_model.specs.Starts.{IsAllowedToStart, IsLatestStart}
+use Rattle.plan_model.specs.Status.{IsReady}
 use Rattle.plan_laws.proofs.Decide.{pair_cmp_total}
 use Rattle.plan_laws.proofs.Kept.{named_none}
 use Rattle.std.proofs.lemmas.Option.{none-some}

@@ -3,11 +3,11 @@ use Rattle.std.proofs.Common.{◌≡◌, inl, inr, sym, ◌∙◌, ap, subst, []
 use Rattle.std.specs.List.Sorted.{IsStrictlySortedBy}
 use Rattle.std.specs.FinMap.{get}
 use Rattle.plan_basics.specs.declared.keys.OpKey.{OpKey}
-use Rattle.plan_laws.specs.ready_list.specs.declared.ReadyKey.{ReadyKey}
-use Rattle.plan_laws.specs.plan_model.specs.Contents.{Contents, Operation}
-use Rattle.plan_laws.specs.plan_model.specs.Ready.{IsEntry, IsReadyList}
-use Rattle.plan_laws.specs.plan_model.specs.Starts.{IsLatestStart}
-use Rattle.plan_laws.specs.plan_model.specs.Status.{IsReady}
+use Rattle.ready_list.specs.declared.ReadyKey.{ReadyKey}
+use Rattle.plan_model.specs.Contents.{Contents, Operation}
+use Rattle.plan_model.specs.Ready.{IsEntry, IsReadyList}
+use Rattle.plan_model.specs.Starts.{IsLatestStart}
+use Rattle.plan_model.specs.Status.{IsReady}
 use Rattle.std.proofs.lemmas.Option.{same_Some}
 use Rattle.worked_examples.proofs.Facts.{one_latest}
 use Rattle.worked_examples.proofs.Lists.{contained, one_of}

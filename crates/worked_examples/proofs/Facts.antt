@@ -7,21 +7,21 @@ use Rattle.std.specs.FinMap.{get}
 use Rattle.plan_basics.specs.declared.Attr.{Attr}
 use Rattle.plan_basics.specs.declared.Attr.TheVariants as attribute
 use Rattle.plan_basics.specs.declared.keys.OpKey.{OpKey}
-use Rattle.plan_laws.specs.operation_graph.specs.Paths.{IsPathBy}
-use Rattle.plan_laws.specs.latest_start.specs.LeastStart.{IsLeastStart, start_by}
-use Rattle.plan_laws.specs.status_rules.specs.Table.{marked_status, reports, status_by}
-use Rattle.plan_laws.specs.status_rules.specs.declared.Mark.{Mark}
-use Rattle.plan_laws.specs.status_rules.specs.declared.Mark.TheVariants as mark
-use Rattle.plan_laws.specs.status_rules.specs.declared.Preds.{Preds}
-use Rattle.plan_laws.specs.status_rules.specs.declared.Status.{Status}
-use Rattle.plan_laws.specs.status_rules.specs.declared.Status.TheVariants as status
-use Rattle.plan_laws.specs.status_rules.specs.LeastSet.{by_given}
-use Rattle.plan_laws.specs.plan_model.specs.Contents.{Contents, attribute_at, HasAttribute, Operation, Precedes}
-use Rattle.plan_laws.specs.plan_model.specs.Status.{ArePreds, HasStatus, IsReady, IsSatisfied, UnmarkedStatus}
+use Rattle.operation_graph.specs.Paths.{IsPathBy}
+use Rattle.latest_start.specs.LeastStart.{IsLeastStart, start_by}
+use Rattle.status_rules.specs.Table.{marked_status, reports, status_by}
+use Rattle.status_rules.specs.declared.Mark.{Mark}
+use Rattle.status_rules.specs.declared.Mark.TheVariants as mark
+use Rattle.status_rules.specs.declared.Preds.{Preds}
+use Rattle.status_rules.specs.declared.Status.{Status}
+use Rattle.status_rules.specs.declared.Status.TheVariants as status
+use Rattle.status_rules.specs.LeastSet.{by_given}
+use Rattle.plan_model.specs.Contents.{Contents, attribute_at, HasAttribute, Operation, Precedes}
+use Rattle.plan_model.specs.Status.{ArePreds, HasStatus, IsReady, IsSatisfied, UnmarkedStatus}
 use Rattle.plan_laws.proofs.Decide.{invert}
 use Rattle.std.proofs.lemmas.Option.{same_Some}
 use Rattle.plan_laws.proofs.Tables.{status_is}
-use Rattle.plan_laws.specs.workstations.specs.Workstations.{Workstation}
+use Rattle.workstations.specs.Workstations.{Workstation}
 use Rattle.plan_basics.specs.Keys.{Name}
 
 -- ---- statuses

@@ -9,13 +9,13 @@ use Rattle.plan_basics.specs.declared.Refusal.TheVariants as refusal
 use Rattle.plan_basics.specs.declared.keys.OpKey.{OpKey}
 use Rattle.plan_basics.specs.Intervals.{IsOpenAt, OpenInterval}
 use Rattle.plan_basics.specs.Keys.{Name, name_cmp}
-use Rattle.plan_laws.specs.workstations.specs.Workstations.{HasCapacity, HasRoom, Workstation, capacity_of}
-use Rattle.plan_laws.specs.workstations.specs.declared.Capacity.{Capacity}
-use Rattle.plan_laws.specs.status_rules.specs.Table.{marked_status}
-use Rattle.plan_laws.specs.plan_model.specs.Holdings.{given_out, holds_server, takes}
-use Rattle.plan_laws.specs.plan_model.specs.Contents.{Contents, Operation, attribute_at}
-use Rattle.plan_laws.specs.plan_model.specs.Starts.{FitsAt, IsAllowedToStart, MayStart}
-use Rattle.plan_laws.specs.plan_model.specs.Status.{IsReady}
+use Rattle.workstations.specs.Workstations.{HasCapacity, HasRoom, Workstation, capacity_of}
+use Rattle.workstations.specs.declared.Capacity.{Capacity}
+use Rattle.status_rules.specs.Table.{marked_status}
+use Rattle.plan_model.specs.Holdings.{given_out, holds_server, takes}
+use Rattle.plan_model.specs.Contents.{Contents, Operation, attribute_at}
+use Rattle.plan_model.specs.Starts.{FitsAt, IsAllowedToStart, MayStart}
+use Rattle.plan_model.specs.Status.{IsReady}
 use Rattle.std.proofs.lemmas.Option.{none-some, same_Some}
 use Rattle.worked_examples.proofs.Literal.{entry_of}
 use Rattle.worked_examples.specs.Night.{workstation_by}

@@ -3,12 +3,12 @@ use Rattle.std.proofs.Common.{arith, refl, pos, subst, []}
 use Rattle.std.specs.List.Sorted.{IsStrictlySortedBy}
 use Rattle.std.specs.FinMap.{get, get-empty}
 use Rattle.plan_basics.specs.Keys.{operation_cmp}
-use Rattle.plan_laws.specs.plan_model.specs.Contents.{nothing}
-use Rattle.plan_laws.specs.plan_model.specs.Ready.{IsReadyList, IsChosen}
-use Rattle.plan_laws.specs.plan_records.specs.declared.Request.{Request}
-use Rattle.plan_laws.specs.plan_records.specs.declared.What.TheVariants as what
-use Rattle.plan_laws.specs.plan_records.specs.Answer.{accepted}
-use Rattle.plan_laws.specs.plan_records.specs.Step.{Step}
+use Rattle.plan_model.specs.Contents.{nothing}
+use Rattle.plan_model.specs.Ready.{IsReadyList, IsChosen}
+use Rattle.plan_records.specs.declared.Request.{Request}
+use Rattle.plan_records.specs.declared.What.TheVariants as what
+use Rattle.plan_records.specs.Answer.{accepted}
+use Rattle.plan_records.specs.Step.{Step}
 use Rattle.plan_laws.proofs.Every.{nothing_at}
 use Rattle.plan_laws.proofs.Kept.{named_none}
 use Rattle.worked_examples.specs.Day.{idle, evening, loaded_at}

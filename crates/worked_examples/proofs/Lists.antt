@@ -9,10 +9,10 @@ use Rattle.std.specs.Cmp.{IsTotalOrder}
 use Rattle.std.specs.FinMap.{FinMap, IsAntisymmetric, entries, entries-from_sorted, find, from_entries, from_sorted, get, get-empty, get-from_entries, get-from_sorted, get-retain_keys, is_sorted, retain_keys, same_map}
 use Rattle.std.specs.FinMap.Entries.{find-where_key}
 use Rattle.std.specs.FinSet as set
-use Rattle.plan_laws.specs.plan_model.specs.Revise.{get-joined, get-revise, joined, or_else, revise}
-use Rattle.plan_laws.specs.plan_drafts.proofs.MadeEntries.{find-made}
-pub use Rattle.plan_laws.specs.plan_drafts.proofs.MadeEntries.{each_made as anew}
-use Rattle.plan_laws.specs.plan_drafts.proofs.RowPlaces.{from_made}
+use Rattle.plan_model.specs.Revise.{get-joined, get-revise, joined, or_else, revise}
+use Rattle.plan_drafts.proofs.MadeEntries.{find-made}
+pub use Rattle.plan_drafts.proofs.MadeEntries.{each_made as anew}
+use Rattle.plan_drafts.proofs.RowPlaces.{from_made}
 use Rattle.plan_laws.proofs.Sorted.{contains_head, contains_later}
 use Rattle.worked_examples.proofs.Literal.{OneOf}
 

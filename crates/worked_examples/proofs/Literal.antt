@@ -8,8 +8,8 @@ use Rattle.std.specs.FinMap.{IsAntisymmetric, contains_key, get, find, from_entr
 use Rattle.std.specs.FinSet.{contains, contains-from_list, from_list}
 use Rattle.plan_basics.specs.declared.keys.OpKey.{OpKey}
 use Rattle.plan_basics.specs.Keys.{operation_cmp, operation_cmp_total}
-use Rattle.plan_laws.specs.plan_model.specs.Contents.{pair_cmp}
-use Rattle.plan_laws.specs.plan_drafts.proofs.Tables.{is_found}
+use Rattle.plan_model.specs.Contents.{pair_cmp}
+use Rattle.plan_drafts.proofs.Tables.{is_found}
 use Rattle.std.proofs.lemmas.Option.{same_Some, none-some}
 use Rattle.plan_laws.proofs.Pairs.{pair_cmp_total, pair_cmp-IsAntisymmetric}
 

@@ -8,12 +8,12 @@ use Rattle.plan_basics.specs.declared.keys.OpKey.{OpKey}
 use Rattle.plan_basics.specs.Intervals.{IsInterval, interval_by}
 use Rattle.plan_basics.specs.Keys.{IsOccurrenceKey, Name, name_cmp, name_cmp_total, name_cmp-IsAntisymmetric, occurrence_cmp_total, occurrence_cmp-IsAntisymmetric, operation_cmp_total, operation_cmp-IsAntisymmetric}
 use Rattle.plan_basics.specs.Names.{IsName, IsResourceName, is_resource_byte}
-use Rattle.plan_laws.specs.special_resources.specs.Holders.{IsAmount, Usage}
-use Rattle.plan_laws.specs.workstations.specs.Workstations.{IsWorkstation, Workstation}
-use Rattle.plan_laws.specs.plan_model.specs.Contents.{IsPairOf, Operation}
-use Rattle.plan_laws.specs.plan_model.specs.declared.Stock.{Stock}
-use Rattle.plan_laws.specs.plan_model.specs.Valid.{AreOccurrences, IsOccurrence, IsOperation, IsUntouched, IsValid}
-use Rattle.plan_laws.specs.plan_drafts.specs.Drafts.{IsDraft}
+use Rattle.special_resources.specs.Holders.{IsAmount, Usage}
+use Rattle.workstations.specs.Workstations.{IsWorkstation, Workstation}
+use Rattle.plan_model.specs.Contents.{IsPairOf, Operation}
+use Rattle.plan_model.specs.declared.Stock.{Stock}
+use Rattle.plan_model.specs.Valid.{AreOccurrences, IsOccurrence, IsOperation, IsUntouched, IsValid}
+use Rattle.plan_drafts.specs.Drafts.{IsDraft}
 use Rattle.plan_laws.proofs.Decide.{pair_cmp_total}
 use Rattle.std.proofs.lemmas.Option.{none-some}
 use Rattle.worked_examples.specs.Day.{cpu1, evening}

@@ -8,24 +8,24 @@ use Rattle.plan_basics.specs.declared.Refusal.TheVariants as refusal
 use Rattle.plan_basics.specs.Intervals.{interval_by}
 use Rattle.plan_basics.specs.Keys.{name_cmp, name_cmp_total, name_cmp-IsAntisymmetric, occurrence_cmp_total, operation_cmp, operation_cmp_total, operation_cmp-IsAntisymmetric}
 use Rattle.plan_laws.proofs.Entries.{same_operation}
-use Rattle.plan_laws.specs.special_resources.proofs.Amounts.{none_held}
-use Rattle.plan_laws.specs.special_resources.specs.Holders.{OtherHolds, Usage}
-use Rattle.plan_laws.specs.status_rules.specs.declared.Mark.TheVariants as mark
-use Rattle.plan_laws.specs.status_rules.specs.declared.Status.TheVariants as status
-use Rattle.plan_laws.specs.ready_list.specs.declared.ReadyKey.{ReadyKey}
-use Rattle.plan_laws.specs.ready_list.specs.Choice.{is_among}
-use Rattle.plan_laws.specs.plan_model.specs.Holdings.{Holds, given_out, takes}
-use Rattle.plan_laws.specs.plan_model.specs.Contents.{Operation, attribute_at}
-use Rattle.plan_laws.specs.plan_model.specs.Ready.{IsChosen, IsEntry, named, with_mark}
-use Rattle.plan_laws.specs.plan_model.specs.Revise.{revise}
-use Rattle.plan_laws.specs.plan_model.specs.Starts.{IsAllowedToStart, MayStart}
-use Rattle.plan_laws.specs.plan_model.specs.Status.{HasStatus, IsReady}
-use Rattle.plan_laws.specs.plan_records.specs.declared.Request.{Request}
-use Rattle.plan_laws.specs.plan_records.specs.declared.What.TheVariants as what
-use Rattle.plan_laws.specs.plan_records.specs.Acceptance.{MayBeAccepted, MayBeEnded}
-use Rattle.plan_laws.specs.plan_records.specs.Changes.{is_at}
+use Rattle.special_resources.proofs.Amounts.{none_held}
+use Rattle.special_resources.specs.Holders.{OtherHolds, Usage}
+use Rattle.status_rules.specs.declared.Mark.TheVariants as mark
+use Rattle.status_rules.specs.declared.Status.TheVariants as status
+use Rattle.ready_list.specs.declared.ReadyKey.{ReadyKey}
+use Rattle.ready_list.specs.Choice.{is_among}
+use Rattle.plan_model.specs.Holdings.{Holds, given_out, takes}
+use Rattle.plan_model.specs.Contents.{Operation, attribute_at}
+use Rattle.plan_model.specs.Ready.{IsChosen, IsEntry, named, with_mark}
+use Rattle.plan_model.specs.Revise.{revise}
+use Rattle.plan_model.specs.Starts.{IsAllowedToStart, MayStart}
+use Rattle.plan_model.specs.Status.{HasStatus, IsReady}
+use Rattle.plan_records.specs.declared.Request.{Request}
+use Rattle.plan_records.specs.declared.What.TheVariants as what
+use Rattle.plan_records.specs.Acceptance.{MayBeAccepted, MayBeEnded}
+use Rattle.plan_records.specs.Changes.{is_at}
 use Rattle.plan_laws.proofs.Kept.{named_none}
-use Rattle.plan_laws.specs.plan_model.proofs.Looks.{get-named}
+use Rattle.plan_model.proofs.Looks.{get-named}
 use Rattle.std.proofs.lemmas.Option.{none-some}
 use Rattle.worked_examples.specs.Day.{cpu1, evening, loaded_at, morning}
 use Rattle.worked_examples.specs.Night.{alone, custfile, custfile_stock, done, dumm, end_of_night, end_of_second, loading, night, night_occurrences, night_operations, night_resources, payroll, payroll_at, prt1, second_ended, second_started, setp}

@@ -4,11 +4,11 @@ use Rattle.std.specs.FinMap.{get, get-from_entries}
 use Rattle.plan_basics.specs.declared.Attr.TheVariants as attribute
 use Rattle.plan_basics.specs.declared.keys.OpKey.{OpKey}
 use Rattle.plan_basics.specs.Keys.{occurrence_cmp_total}
-use Rattle.plan_laws.specs.ready_list.specs.declared.ReadyKey.{ReadyKey}
-use Rattle.plan_laws.specs.plan_model.specs.Contents.{Operation, attribute_at}
-use Rattle.plan_laws.specs.plan_model.specs.Ready.{IsChosen, IsEntry, IsOnAutomatic, named}
-use Rattle.plan_laws.specs.plan_model.specs.Starts.{IsAllowedToStart}
-use Rattle.plan_laws.specs.plan_model.specs.Status.{IsReady}
+use Rattle.ready_list.specs.declared.ReadyKey.{ReadyKey}
+use Rattle.plan_model.specs.Contents.{Operation, attribute_at}
+use Rattle.plan_model.specs.Ready.{IsChosen, IsEntry, IsOnAutomatic, named}
+use Rattle.plan_model.specs.Starts.{IsAllowedToStart}
+use Rattle.plan_model.specs.Status.{IsReady}
 use Rattle.std.proofs.lemmas.Option.{same_Some}
 use Rattle.worked_examples.specs.Day.{morning}
 use Rattle.worked_examples.specs.Night.{loading, night, night_occurrences, payroll, payroll_at}

@@ -13,21 +13,21 @@ use Rattle.plan_basics.specs.declared.Refusal.{Refusal}
 use Rattle.plan_basics.specs.declared.Refusal.TheVariants as refusal
 use Rattle.plan_basics.specs.Intervals.{IsOpenAt, OpenInterval, interval_by}
 use Rattle.plan_basics.specs.Refusals.{number_of}
-use Rattle.plan_laws.specs.workstations.specs.Workstations.{Workstation}
-use Rattle.plan_laws.specs.operation_graph.specs.Paths.{LeadsBy, by_edge, by_more}
-use Rattle.plan_laws.specs.status_rules.specs.declared.Status.TheVariants as status
-use Rattle.plan_laws.specs.status_rules.specs.declared.Mark.TheVariants as mark
-use Rattle.plan_laws.specs.status_rules.specs.Table.{marked_status}
-use Rattle.plan_laws.specs.plan_model.specs.Contents.{Contents, IsPairOf, Operation, Precedes, attribute_at, pair_cmp}
-use Rattle.plan_laws.specs.plan_model.specs.Ready.{with_mark}
-use Rattle.plan_laws.specs.plan_model.specs.Status.{HasStatus, UnmarkedStatus}
-use Rattle.plan_laws.specs.plan_model.specs.Starts.{FitsAt}
-use Rattle.plan_laws.specs.plan_records.specs.declared.Request.{Request}
-use Rattle.plan_laws.specs.plan_records.specs.declared.What.TheVariants as what
-use Rattle.plan_laws.specs.plan_records.specs.Answer.{refused}
-use Rattle.plan_laws.specs.plan_records.specs.Changes.{is_at}
-use Rattle.plan_laws.specs.plan_records.specs.Acceptance.{MayBeAccepted, MayBeStarted}
-use Rattle.plan_laws.specs.plan_records.specs.Step.{Step}
+use Rattle.workstations.specs.Workstations.{Workstation}
+use Rattle.operation_graph.specs.Paths.{LeadsBy, by_edge, by_more}
+use Rattle.status_rules.specs.declared.Status.TheVariants as status
+use Rattle.status_rules.specs.declared.Mark.TheVariants as mark
+use Rattle.status_rules.specs.Table.{marked_status}
+use Rattle.plan_model.specs.Contents.{Contents, IsPairOf, Operation, Precedes, attribute_at, pair_cmp}
+use Rattle.plan_model.specs.Ready.{with_mark}
+use Rattle.plan_model.specs.Status.{HasStatus, UnmarkedStatus}
+use Rattle.plan_model.specs.Starts.{FitsAt}
+use Rattle.plan_records.specs.declared.Request.{Request}
+use Rattle.plan_records.specs.declared.What.TheVariants as what
+use Rattle.plan_records.specs.Answer.{refused}
+use Rattle.plan_records.specs.Changes.{is_at}
+use Rattle.plan_records.specs.Acceptance.{MayBeAccepted, MayBeStarted}
+use Rattle.plan_records.specs.Step.{Step}
 use Rattle.plan_laws.proofs.Decide.{pair_cmp_total}
 use Rattle.std.proofs.lemmas.Option.{same_Some}
 use Rattle.worked_examples.specs.Night.{night, night_occurrences, night_pairs, payroll, payroll_at, loading, two_at_night, setp, setp_station, done, third_started}

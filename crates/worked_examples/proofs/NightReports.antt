@@ -3,10 +3,10 @@ use Rattle.std.proofs.Common.{◌≡◌, ◌∙◌, ap, Bool, true, cond, Some, 
 use Rattle.std.specs.FinMap.{empty, get, find, get-from_entries}
 use Rattle.plan_basics.specs.declared.keys.OpKey.{OpKey}
 use Rattle.plan_basics.specs.Keys.{operation_cmp, operation_cmp_total}
-use Rattle.plan_laws.specs.status_rules.specs.declared.Mark.TheVariants as mark
-use Rattle.plan_laws.specs.plan_model.specs.Contents.{Contents, Operation}
-use Rattle.plan_laws.specs.plan_model.specs.Ready.{with_mark}
-use Rattle.plan_laws.specs.plan_records.specs.Changes.{is_at, revised}
+use Rattle.status_rules.specs.declared.Mark.TheVariants as mark
+use Rattle.plan_model.specs.Contents.{Contents, Operation}
+use Rattle.plan_model.specs.Ready.{with_mark}
+use Rattle.plan_records.specs.Changes.{is_at, revised}
 use Rattle.plan_laws.proofs.Revised.{get-revised}
 use Rattle.worked_examples.specs.Day.{cpu1}
 use Rattle.worked_examples.specs.Night.{night, night_operations, payroll_at, planned, setp, prt1, dumm, needs_custfile, done, passed_by, three_done, two_passed, fourth_held}

@@ -5,14 +5,14 @@ use Rattle.std.specs.FinSet.{contains-from_list}
 use Rattle.std.specs.List.{list_any}
 use Rattle.std.specs.Ordering.{eq_by_cmp}
 use Rattle.plan_basics.specs.declared.keys.OpKey.{OpKey}
-use Rattle.plan_laws.specs.operation_graph.specs.Paths.{IsPathBy, end_of}
-use Rattle.plan_laws.specs.status_rules.specs.declared.Mark.TheVariants as mark
-use Rattle.plan_laws.specs.ready_list.specs.Choice.{is_among}
-use Rattle.plan_laws.specs.plan_model.specs.Contents.{IsLive, Operation, Operations, Precedes, pair_cmp}
-use Rattle.plan_laws.specs.plan_model.specs.Ready.{with_mark}
-use Rattle.plan_laws.specs.plan_model.specs.Starts.{Reaches}
+use Rattle.operation_graph.specs.Paths.{IsPathBy, end_of}
+use Rattle.status_rules.specs.declared.Mark.TheVariants as mark
+use Rattle.ready_list.specs.Choice.{is_among}
+use Rattle.plan_model.specs.Contents.{IsLive, Operation, Operations, Precedes, pair_cmp}
+use Rattle.plan_model.specs.Ready.{with_mark}
+use Rattle.plan_model.specs.Starts.{Reaches}
 use Rattle.plan_laws.proofs.Decide.{pair_cmp_total}
-use Rattle.plan_laws.specs.plan_model.proofs.Looks.{split_at}
+use Rattle.plan_model.proofs.Looks.{split_at}
 use Rattle.worked_examples.specs.Day.{cpu1}
 use Rattle.worked_examples.specs.Night.{dumm, from_first_again, from_third_again, night, night_pairs, payroll_at, prt1, setp, three_done, two_passed}
 use Rattle.worked_examples.specs.Statements.{RerunOfTheFirst, RerunOfTheThird}

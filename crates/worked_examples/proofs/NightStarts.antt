@@ -1,8 +1,8 @@
 -- The latest starts of the night's plan.
 use Rattle.std.proofs.Common.{rules, ◌≡◌, refl, subst, sym, pos, Some}
 use Rattle.std.specs.FinMap.{get}
-use Rattle.plan_laws.specs.plan_model.specs.Contents.{Operations}
-use Rattle.plan_laws.specs.plan_model.specs.Starts.{IsLatestStart}
+use Rattle.plan_model.specs.Contents.{Operations}
+use Rattle.plan_model.specs.Starts.{IsLatestStart}
 use Rattle.worked_examples.specs.Night.{night, night_pairs, payroll_at}
 use Rattle.worked_examples.specs.Statements.{LatestStartsOfTheNight}
 use Rattle.worked_examples.proofs.Moments.{starts_are}

@@ -4,13 +4,13 @@ use Rattle.std.specs.FinMap.{get, find, get-from_entries}
 use Rattle.std.specs.FinSet.{contains-from_list}
 use Rattle.plan_basics.specs.declared.keys.OpKey.{OpKey}
 use Rattle.plan_basics.specs.Keys.{Name, name_cmp, name_cmp_total}
-use Rattle.plan_laws.specs.workstations.specs.Workstations.{Workstation}
-use Rattle.plan_laws.specs.status_rules.specs.Table.{reports, status_by}
-use Rattle.plan_laws.specs.status_rules.specs.declared.Mark.TheVariants as mark
-use Rattle.plan_laws.specs.status_rules.specs.declared.Preds.{Preds}
-use Rattle.plan_laws.specs.status_rules.specs.declared.Status.{Status}
-use Rattle.plan_laws.specs.plan_model.specs.Contents.{Contents, Operation, Operations, Precedes}
-use Rattle.plan_laws.specs.plan_model.specs.Status.{HasStatus}
+use Rattle.workstations.specs.Workstations.{Workstation}
+use Rattle.status_rules.specs.Table.{reports, status_by}
+use Rattle.status_rules.specs.declared.Mark.TheVariants as mark
+use Rattle.status_rules.specs.declared.Preds.{Preds}
+use Rattle.status_rules.specs.declared.Status.{Status}
+use Rattle.plan_model.specs.Contents.{Contents, Operation, Operations, Precedes}
+use Rattle.plan_model.specs.Status.{HasStatus}
 use Rattle.plan_laws.proofs.Decide.{pair_cmp_total}
 use Rattle.worked_examples.specs.Night.{night, night_pairs, night_workstations, payroll_at, cpu1_station, setp_station, prt1_station, dumm_station}
 use Rattle.worked_examples.proofs.Facts.{none_before, one_is_before, status_of_first, status_of_next}

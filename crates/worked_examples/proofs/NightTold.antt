@@ -3,9 +3,9 @@ use Rattle.std.proofs.Common.{arith, ◌≡◌, inl, inr, refl, sym, ◌∙◌, 
 use Rattle.std.specs.FinMap.{get, get-empty, get-from_entries, len-empty}
 use Rattle.plan_basics.specs.Keys.{name_cmp, name_cmp_total}
 use Rattle.plan_basics.specs.declared.Refusal.TheVariants as refusal
-use Rattle.plan_laws.specs.plan_records.specs.Answer.{Answer, accepted, refused}
-use Rattle.plan_laws.specs.plan_records.specs.Run.{State, usable}
-use Rattle.plan_laws.specs.plan_records.specs.Step.{AnswersAgain, HasReceiptRoom, IsNumbered, Numbered, Receipt, last_number}
+use Rattle.plan_records.specs.Answer.{Answer, accepted, refused}
+use Rattle.plan_records.specs.Run.{State, usable}
+use Rattle.plan_records.specs.Step.{AnswersAgain, HasReceiptRoom, IsNumbered, Numbered, Receipt, last_number}
 use Rattle.worked_examples.specs.Night.{payroll_at}
 use Rattle.worked_examples.specs.Statements.{IsAnsweredThen, NumberedAgain, NumberedRequest, RunToldTwice}
 use Rattle.worked_examples.specs.Tracker.{after_told, cputrk, ended_text, ended_told, failure_told, no_receipts, one_receipt}

@@ -3,7 +3,7 @@ use Rattle.std.proofs.Common.{rules, ◌≡◌, refl, pos, negsuc}
 use Rattle.std.specs.FinMap.{find, get, get-from_entries}
 use Rattle.plan_basics.specs.declared.keys.OpKey.{OpKey}
 use Rattle.plan_basics.specs.Keys.{operation_cmp, operation_cmp_total}
-use Rattle.plan_laws.specs.plan_model.specs.Starts.{IsLatestStart}
+use Rattle.plan_model.specs.Starts.{IsLatestStart}
 use Rattle.worked_examples.specs.Overdue.{old_at, overdue, overdue_operations, overdue_pairs}
 use Rattle.worked_examples.specs.Statements.{LatestStartsOfOverdueWork}
 use Rattle.worked_examples.proofs.Starts.{starts_at_end, starts_before}

@@ -8,18 +8,18 @@ use Rattle.plan_basics.specs.declared.keys.OpKey.{OpKey}
 use Rattle.plan_basics.specs.declared.Refusal.{Refusal}
 use Rattle.plan_basics.specs.declared.Refusal.TheVariants as refusal
 use Rattle.plan_basics.specs.Refusals.{number_of}
-use Rattle.plan_laws.specs.status_rules.specs.declared.Status.{Status}
-use Rattle.plan_laws.specs.status_rules.specs.Table.{marked_status}
-use Rattle.plan_laws.specs.plan_records.specs.declared.Request.{Request}
-use Rattle.plan_laws.specs.plan_records.specs.declared.What.TheVariants as what
-use Rattle.plan_laws.specs.plan_records.specs.Answer.{refused}
-use Rattle.plan_laws.specs.plan_records.specs.Acceptance.{MayBeEnded, MayBeAccepted}
-use Rattle.plan_laws.specs.plan_records.specs.Step.{Step}
+use Rattle.status_rules.specs.declared.Status.{Status}
+use Rattle.status_rules.specs.Table.{marked_status}
+use Rattle.plan_records.specs.declared.Request.{Request}
+use Rattle.plan_records.specs.declared.What.TheVariants as what
+use Rattle.plan_records.specs.Answer.{refused}
+use Rattle.plan_records.specs.Acceptance.{MayBeEnded, MayBeAccepted}
+use Rattle.plan_records.specs.Step.{Step}
 use Rattle.plan_basics.specs.Keys.{name_cmp_total, operation_cmp_total}
-use Rattle.plan_laws.specs.status_rules.specs.declared.Mark.TheVariants as mark
-use Rattle.plan_laws.specs.status_rules.specs.declared.Status.TheVariants as status
-use Rattle.plan_laws.specs.plan_model.specs.Contents.{Operation, pair_cmp, attribute_at, Precedes}
-use Rattle.plan_laws.specs.plan_model.specs.Status.{IsSatisfied, HasStatus, UnmarkedStatus}
+use Rattle.status_rules.specs.declared.Mark.TheVariants as mark
+use Rattle.status_rules.specs.declared.Status.TheVariants as status
+use Rattle.plan_model.specs.Contents.{Operation, pair_cmp, attribute_at, Precedes}
+use Rattle.plan_model.specs.Status.{IsSatisfied, HasStatus, UnmarkedStatus}
 use Rattle.std.proofs.lemmas.Option.{same_Some}
 use Rattle.plan_laws.proofs.Decide.{invert, pair_cmp_total, pair_same}
 use Rattle.worked_examples.specs.Day.{day, evening, loaded_at, first, second, lasting, cpu1, always_open}

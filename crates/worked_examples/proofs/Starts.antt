@@ -6,9 +6,9 @@ use Rattle.std.specs.FinSet.{contains, contains-from_list, from_list}
 use Rattle.std.specs.List.{list_any}
 use Rattle.std.specs.Ordering.{eq_by_cmp}
 use Rattle.plan_basics.specs.declared.keys.OpKey.{OpKey}
-use Rattle.plan_laws.specs.status_rules.specs.declared.Mark.TheVariants as mark
-use Rattle.plan_laws.specs.plan_model.specs.Contents.{Contents, Operation, Precedes, pair_cmp}
-use Rattle.plan_laws.specs.plan_model.specs.Starts.{IsLatestStart}
+use Rattle.status_rules.specs.declared.Mark.TheVariants as mark
+use Rattle.plan_model.specs.Contents.{Contents, Operation, Precedes, pair_cmp}
+use Rattle.plan_model.specs.Starts.{IsLatestStart}
 use Rattle.plan_laws.proofs.Pairs.{pair_cmp_total}
 use Rattle.worked_examples.proofs.Facts.{latest_of_last, latest_of_one}
 use Rattle.worked_examples.proofs.Literal.{OneOf, afters, one_after, only}

@@ -4,15 +4,15 @@ use Rattle.plan_basics.specs.Minutes.{IsMoment}
 use Rattle.plan_basics.specs.declared.keys.OpKey.{OpKey}
 use Rattle.plan_basics.specs.declared.Refusal.{Refusal}
 use Rattle.plan_basics.specs.declared.Refusal.TheVariants as refusal
-use Rattle.plan_laws.specs.plan_model.specs.Plan.{no_plan}
-use Rattle.plan_laws.specs.plan_model.specs.Contents.{Contents}
-use Rattle.plan_laws.specs.plan_model.specs.Ready.{IsChosen, named}
-use Rattle.plan_laws.specs.plan_records.specs.declared.Request.{Request}
-use Rattle.plan_laws.specs.plan_records.specs.declared.What.TheVariants as what
-use Rattle.plan_laws.specs.plan_records.specs.Acceptance.{MayBeAccepted}
-use Rattle.plan_laws.specs.plan_records.specs.Answer.{accepted}
-use Rattle.plan_laws.specs.plan_drafts.specs.Drafts.{IsDraft}
-use Rattle.plan_laws.specs.plan_records.specs.Step.{Step}
+use Rattle.plan_model.specs.Plan.{no_plan}
+use Rattle.plan_model.specs.Contents.{Contents}
+use Rattle.plan_model.specs.Ready.{IsChosen, named}
+use Rattle.plan_records.specs.declared.Request.{Request}
+use Rattle.plan_records.specs.declared.What.TheVariants as what
+use Rattle.plan_records.specs.Acceptance.{MayBeAccepted}
+use Rattle.plan_records.specs.Answer.{accepted}
+use Rattle.plan_drafts.specs.Drafts.{IsDraft}
+use Rattle.plan_records.specs.Step.{Step}
 use Rattle.worked_examples.specs.Day.{loaded_at}
 
 module _ (P : Contents) (m : ℕ) (is : IsMoment m) (chosen : List OpKey) (are : IsChosen P m chosen) where

@@ -1,12 +1,12 @@
 -- The choices from three operations.
 use Rattle.std.proofs.Common.{ℕ, ◌≡◌, sym, ◌∙◌, Bool, true, false, true≢false, List}
 use Rattle.plan_basics.specs.declared.keys.OpKey.{OpKey}
-use Rattle.plan_laws.specs.ready_list.specs.declared.ReadyKey.{ReadyKey}
-use Rattle.plan_laws.specs.ready_list.specs.Choice.{IsChoice, among, is_among, operations_of}
-use Rattle.plan_laws.specs.plan_model.specs.Contents.{Contents}
-use Rattle.plan_laws.specs.plan_model.specs.Ready.{IsChosen, IsOnAutomatic, IsReadyList, named}
-use Rattle.plan_laws.specs.plan_model.specs.Starts.{IsAllowedToStart}
-use Rattle.plan_laws.specs.plan_model.proofs.Looks.{split_at}
+use Rattle.ready_list.specs.declared.ReadyKey.{ReadyKey}
+use Rattle.ready_list.specs.Choice.{IsChoice, among, is_among, operations_of}
+use Rattle.plan_model.specs.Contents.{Contents}
+use Rattle.plan_model.specs.Ready.{IsChosen, IsOnAutomatic, IsReadyList, named}
+use Rattle.plan_model.specs.Starts.{IsAllowedToStart}
+use Rattle.plan_model.proofs.Looks.{split_at}
 use Rattle.worked_examples.proofs.Lists.{EachSplit, each_split}
 
 -- a choice from lists that are written out, member by member

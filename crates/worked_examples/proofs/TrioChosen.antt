@@ -6,11 +6,11 @@ use Rattle.std.specs.Ordering.{eq_by_cmp}
 use Rattle.std.specs.declared.cmp.Ordering.TheVariants.{Less}
 use Rattle.plan_basics.specs.declared.keys.OpKey.{OpKey}
 use Rattle.plan_basics.specs.Keys.{operation_cmp}
-use Rattle.plan_laws.specs.ready_list.specs.declared.ReadyKey.{ReadyKey}
-use Rattle.plan_laws.specs.ready_list.specs.Choice.{among, is_among}
-use Rattle.plan_laws.specs.ready_list.specs.Order.{ready_cmp}
-use Rattle.plan_laws.specs.plan_model.specs.Ready.{IsChosen, IsOnAutomatic, named}
-use Rattle.plan_laws.specs.plan_model.specs.Starts.{IsAllowedToStart}
+use Rattle.ready_list.specs.declared.ReadyKey.{ReadyKey}
+use Rattle.ready_list.specs.Choice.{among, is_among}
+use Rattle.ready_list.specs.Order.{ready_cmp}
+use Rattle.plan_model.specs.Ready.{IsChosen, IsOnAutomatic, named}
+use Rattle.plan_model.specs.Starts.{IsAllowedToStart}
 use Rattle.worked_examples.specs.Day.{evening}
 use Rattle.worked_examples.specs.Trio.{Terms, aaa, bbb, operation_by, trio, trio_operations}
 use Rattle.worked_examples.proofs.Lists.{AreAmong, EachSplit, each_so}

@@ -7,18 +7,18 @@ use Rattle.plan_basics.specs.declared.Attr.TheVariants as attribute
 use Rattle.plan_basics.specs.declared.keys.OpKey.{OpKey}
 use Rattle.plan_basics.specs.Intervals.{interval_by}
 use Rattle.plan_basics.specs.Keys.{name_cmp_total, occurrence_cmp, occurrence_cmp_total, operation_cmp, operation_cmp_total, operation_cmp-IsAntisymmetric}
-use Rattle.plan_laws.specs.workstations.specs.declared.Capacity.{Capacity}
-use Rattle.plan_laws.specs.status_rules.specs.declared.Mark.TheVariants as mark
-use Rattle.plan_laws.specs.status_rules.specs.declared.Status.TheVariants as status
-use Rattle.plan_laws.specs.ready_list.specs.declared.ReadyKey.{ReadyKey}
-use Rattle.plan_laws.specs.ready_list.specs.Choice.{is_among}
-use Rattle.plan_laws.specs.ready_list.specs.Order.{ready_cmp}
-use Rattle.plan_laws.specs.plan_model.specs.Holdings.{given_out}
-use Rattle.plan_laws.specs.plan_model.specs.Contents.{Precedes, pair_cmp}
-use Rattle.plan_laws.specs.plan_model.specs.Ready.{IsEntry, IsOnAutomatic, IsReadyList, named, with_mark}
-use Rattle.plan_laws.specs.plan_model.specs.Starts.{IsAllowedToStart, IsLatestStart}
-use Rattle.plan_laws.specs.plan_model.specs.Status.{HasStatus}
-use Rattle.plan_laws.specs.plan_model.proofs.Looks.{as_named, get-named}
+use Rattle.workstations.specs.declared.Capacity.{Capacity}
+use Rattle.status_rules.specs.declared.Mark.TheVariants as mark
+use Rattle.status_rules.specs.declared.Status.TheVariants as status
+use Rattle.ready_list.specs.declared.ReadyKey.{ReadyKey}
+use Rattle.ready_list.specs.Choice.{is_among}
+use Rattle.ready_list.specs.Order.{ready_cmp}
+use Rattle.plan_model.specs.Holdings.{given_out}
+use Rattle.plan_model.specs.Contents.{Precedes, pair_cmp}
+use Rattle.plan_model.specs.Ready.{IsEntry, IsOnAutomatic, IsReadyList, named, with_mark}
+use Rattle.plan_model.specs.Starts.{IsAllowedToStart, IsLatestStart}
+use Rattle.plan_model.specs.Status.{HasStatus}
+use Rattle.plan_model.proofs.Looks.{as_named, get-named}
 use Rattle.std.proofs.lemmas.Option.{same_Some}
 use Rattle.worked_examples.specs.Day.{evening, cpu1}
 use Rattle.worked_examples.specs.Night.{cpu1_station, end_of_night}

@@ -1,6 +1,6 @@
 -- The choices from three operations, and the step that one of them is part of.
 use Rattle.std.proofs.Common.{arith, refl, [], ◌∷◌}
-use Rattle.plan_laws.specs.plan_model.specs.Ready.{IsChosen}
+use Rattle.plan_model.specs.Ready.{IsChosen}
 use Rattle.worked_examples.specs.Day.{evening, morning}
 use Rattle.worked_examples.specs.Trio.{Terms, aaa, bbb, ccc, by_duration, by_fixed_resource, by_key, by_latest_start, by_priority, three, half_past_three, four, ten_past_four, terms}
 use Rattle.worked_examples.specs.Statements.{ChoicesForTwoServers, ChoiceForFixedResource, TickThatNames}

@@ -15,13 +15,13 @@ use Rattle.plan_basics.specs.Intervals.{IsInterval, OpenInterval}
 use Rattle.plan_basics.specs.Keys.{IsOperationKey, name_cmp}
 use Rattle.plan_basics.specs.Minutes.{IsMoment}
 use Rattle.plan_basics.specs.Names.{IsName, is_name_byte}
-use Rattle.plan_laws.specs.special_resources.specs.Holders.{Usage}
-use Rattle.plan_laws.specs.workstations.proofs.Lookups.{one_more}
-use Rattle.plan_laws.specs.workstations.specs.Workstations.{IsWorkstation}
-use Rattle.plan_laws.specs.operation_graph.specs.Paths.{IsAcyclicBy, IsRankBy, LeadsBy, by_edge, by_more}
-use Rattle.plan_laws.specs.status_rules.specs.declared.Mark.TheVariants as mark
-use Rattle.plan_laws.specs.plan_model.specs.Contents.{Operation, pair_cmp}
-use Rattle.plan_laws.specs.plan_model.specs.Valid.{IsOperation}
+use Rattle.special_resources.specs.Holders.{Usage}
+use Rattle.workstations.proofs.Lookups.{one_more}
+use Rattle.workstations.specs.Workstations.{IsWorkstation}
+use Rattle.operation_graph.specs.Paths.{IsAcyclicBy, IsRankBy, LeadsBy, by_edge, by_more}
+use Rattle.status_rules.specs.declared.Mark.TheVariants as mark
+use Rattle.plan_model.specs.Contents.{Operation, pair_cmp}
+use Rattle.plan_model.specs.Valid.{IsOperation}
 use Rattle.plan_laws.proofs.Decide.{pair_cmp_total, pair_same}
 use Rattle.std.proofs.lemmas.Option.{none-some}
 use Rattle.worked_examples.specs.Night.{workstation_by}

@@ -4,10 +4,10 @@ use Rattle.std.specs.FinMap.{from_entries, empty}
 use Rattle.std.specs.FinSet.{from_list}
 use Rattle.plan_basics.specs.declared.keys.OccKey.{OccKey}
 use Rattle.plan_basics.specs.declared.keys.OpKey.{OpKey}
-use Rattle.plan_laws.specs.status_rules.specs.declared.Mark.TheVariants as mark
-use Rattle.plan_laws.specs.plan_model.specs.Contents.{Contents, Operation, AddedParts}
-use Rattle.plan_laws.specs.plan_model.specs.declared.Occurrence.{Occurrence}
-use Rattle.plan_laws.specs.plan_records.specs.Changes.{marked}
+use Rattle.status_rules.specs.declared.Mark.TheVariants as mark
+use Rattle.plan_model.specs.Contents.{Contents, Operation, AddedParts}
+use Rattle.plan_model.specs.declared.Occurrence.{Occurrence}
+use Rattle.plan_records.specs.Changes.{marked}
 use Rattle.worked_examples.specs.Billing.{eleven}
 use Rattle.worked_examples.specs.Day.{daily, day, first, lasting, occurrence, second}
 

@@ -5,12 +5,12 @@ use Rattle.std.specs.FinSet as set
 use Rattle.plan_basics.specs.declared.keys.OccKey.{OccKey}
 use Rattle.plan_basics.specs.declared.keys.OpKey.{OpKey}
 use Rattle.plan_basics.specs.Keys.{name_cmp}
-use Rattle.plan_laws.specs.special_resources.specs.declared.Mode.TheVariants.{Shared}
-use Rattle.plan_laws.specs.special_resources.specs.Holders.{Usage}
-use Rattle.plan_laws.specs.status_rules.specs.declared.Mark.TheVariants as mark
-use Rattle.plan_laws.specs.plan_model.specs.Contents.{Contents, Operation, AddedParts}
-use Rattle.plan_laws.specs.plan_model.specs.declared.Occurrence.{Occurrence}
-use Rattle.plan_laws.specs.plan_records.specs.Changes.{marked, with_added}
+use Rattle.special_resources.specs.declared.Mode.TheVariants.{Shared}
+use Rattle.special_resources.specs.Holders.{Usage}
+use Rattle.status_rules.specs.declared.Mark.TheVariants as mark
+use Rattle.plan_model.specs.Contents.{Contents, Operation, AddedParts}
+use Rattle.plan_model.specs.declared.Occurrence.{Occurrence}
+use Rattle.plan_records.specs.Changes.{marked, with_added}
 use Rattle.worked_examples.specs.Day.{evening, lasting}
 use Rattle.worked_examples.specs.Night.{custfile, done, night, payroll_at}
 use Rattle.worked_examples.specs.Trio.{three}

@@ -7,11 +7,11 @@ use Rattle.plan_basics.specs.declared.keys.OccKey.{OccKey}
 use Rattle.plan_basics.specs.declared.keys.OpKey.{OpKey}
 use Rattle.plan_basics.specs.Intervals.{interval_by}
 use Rattle.plan_basics.specs.Keys.{Name}
-use Rattle.plan_laws.specs.workstations.specs.Workstations.{Workstation}
-use Rattle.plan_laws.specs.status_rules.specs.declared.Mark.TheVariants.{Unmarked}
-use Rattle.plan_laws.specs.plan_model.specs.Plan.{Plan}
-use Rattle.plan_laws.specs.plan_model.specs.Contents.{Contents, Operation, nothing}
-use Rattle.plan_laws.specs.plan_model.specs.declared.Occurrence.{Occurrence}
+use Rattle.workstations.specs.Workstations.{Workstation}
+use Rattle.status_rules.specs.declared.Mark.TheVariants.{Unmarked}
+use Rattle.plan_model.specs.Plan.{Plan}
+use Rattle.plan_model.specs.Contents.{Contents, Operation, nothing}
+use Rattle.plan_model.specs.declared.Occurrence.{Occurrence}
 
 -- 2024-03-01 at 22:00: the minutes of its days from 1972-01-01 on, and of its hours; moments_of_the_night ties each such numeral to its date
 abbrev pub evening : ℕ

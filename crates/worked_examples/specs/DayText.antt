@@ -1,6 +1,6 @@
 -- The records of the small plan, as fields of a plan's text.
 use Rattle.std.specs.Prelude.{ℕ, [], ◌∷◌, List, codes}
-use Rattle.plan_laws.specs.plan_items.specs.Items.{Fields}
+use Rattle.plan_items.specs.Items.{Fields}
 
 -- the text of the first minute
 abbrev pub first_minute : List ℕ

@@ -9,16 +9,16 @@ use Rattle.plan_basics.specs.declared.keys.OpKey.{OpKey}
 use Rattle.plan_basics.specs.declared.limits.TheConstants.{MOST_QUANTITY}
 use Rattle.plan_basics.specs.Intervals.{OpenInterval, interval_by}
 use Rattle.plan_basics.specs.Keys.{Name, name_cmp}
-use Rattle.plan_laws.specs.special_resources.specs.declared.Mode.TheVariants.{Exclusive}
-use Rattle.plan_laws.specs.special_resources.specs.Holders.{Usage}
-use Rattle.plan_laws.specs.workstations.specs.Workstations.{Workstation}
-use Rattle.plan_laws.specs.status_rules.specs.declared.Mark.TheVariants as mark
-use Rattle.plan_laws.specs.plan_model.specs.Contents.{Contents, Operation}
-use Rattle.plan_laws.specs.plan_model.specs.declared.Occurrence.{Occurrence}
-use Rattle.plan_laws.specs.plan_model.specs.declared.Stock.{Stock}
-use Rattle.plan_laws.specs.plan_model.specs.Ready.{with_mark}
-use Rattle.plan_laws.specs.ready_list.specs.Choice.{is_among}
-use Rattle.plan_laws.specs.plan_records.specs.Changes.{is_at, marked, revised}
+use Rattle.special_resources.specs.declared.Mode.TheVariants.{Exclusive}
+use Rattle.special_resources.specs.Holders.{Usage}
+use Rattle.workstations.specs.Workstations.{Workstation}
+use Rattle.status_rules.specs.declared.Mark.TheVariants as mark
+use Rattle.plan_model.specs.Contents.{Contents, Operation}
+use Rattle.plan_model.specs.declared.Occurrence.{Occurrence}
+use Rattle.plan_model.specs.declared.Stock.{Stock}
+use Rattle.plan_model.specs.Ready.{with_mark}
+use Rattle.ready_list.specs.Choice.{is_among}
+use Rattle.plan_records.specs.Changes.{is_at, marked, revised}
 use Rattle.worked_examples.specs.Day.{cpu1, evening, lasting, morning}
 
 -- 2024-03-01 at 21:00, when the plan is loaded

@@ -4,7 +4,7 @@ use Rattle.std.specs.FinMap.{from_entries, empty}
 use Rattle.std.specs.FinSet.{from_list}
 use Rattle.plan_basics.specs.declared.keys.OccKey.{OccKey}
 use Rattle.plan_basics.specs.declared.keys.OpKey.{OpKey}
-use Rattle.plan_laws.specs.plan_model.specs.Contents.{Contents, Operation}
+use Rattle.plan_model.specs.Contents.{Contents, Operation}
 use Rattle.worked_examples.specs.Day.{cpu1}
 use Rattle.worked_examples.specs.Night.{cpu1_station}
 use Rattle.worked_examples.specs.Trio.{aaa, four, occurrence_by, operation_by, terms}

@@ -1,21 +1,21 @@
 -- What is to hold of the plans that are written out here.
 use Rattle.std.specs.Prelude.{◌≡◌, ◌≢◌, ◌↔◌, [], ◌∷◌, ℕ, Option, Some, pos, neg_ℤ}
 use Rattle.plan_basics.specs.Minutes.{civil_minute}
-use Rattle.plan_laws.specs.status_rules.specs.declared.Status.TheVariants as status
+use Rattle.status_rules.specs.declared.Status.TheVariants as status
 use Rattle.plan_basics.specs.declared.Refusal.{Refusal}
 use Rattle.plan_basics.specs.declared.Refusal.TheVariants as refusal
-use Rattle.plan_laws.specs.plan_model.specs.Plan.{Plan, no_plan}
-use Rattle.plan_laws.specs.plan_model.specs.Contents.{Contents, Has}
-use Rattle.plan_laws.specs.plan_records.specs.declared.What.{What}
-use Rattle.plan_laws.specs.plan_records.specs.declared.What.TheVariants as what
-use Rattle.plan_laws.specs.plan_records.specs.Answer.{Answer, accepted, refused}
-use Rattle.plan_laws.specs.plan_records.specs.Changes.{Changes, LeavesOver}
-use Rattle.plan_laws.specs.plan_records.specs.Run.{Run, numbered, usable}
-use Rattle.plan_laws.specs.plan_records.specs.Step.{Numbered, NumberedStep, Step}
-use Rattle.plan_laws.specs.plan_model.specs.Status.{HasStatus}
-use Rattle.plan_laws.specs.plan_model.specs.Holdings.{Holds}
-use Rattle.plan_laws.specs.plan_model.specs.Ready.{IsChosen, named}
-use Rattle.plan_laws.specs.plan_model.specs.Starts.{IsLatestStart, MayStart}
+use Rattle.plan_model.specs.Plan.{Plan, no_plan}
+use Rattle.plan_model.specs.Contents.{Contents, Has}
+use Rattle.plan_records.specs.declared.What.{What}
+use Rattle.plan_records.specs.declared.What.TheVariants as what
+use Rattle.plan_records.specs.Answer.{Answer, accepted, refused}
+use Rattle.plan_records.specs.Changes.{Changes, LeavesOver}
+use Rattle.plan_records.specs.Run.{Run, numbered, usable}
+use Rattle.plan_records.specs.Step.{Numbered, NumberedStep, Step}
+use Rattle.plan_model.specs.Status.{HasStatus}
+use Rattle.plan_model.specs.Holdings.{Holds}
+use Rattle.plan_model.specs.Ready.{IsChosen, named}
+use Rattle.plan_model.specs.Starts.{IsLatestStart, MayStart}
 use Rattle.worked_examples.specs.Day.{day, evening, first, loaded_at, morning, second}
 use Rattle.worked_examples.specs.Overdue.{old_at, overdue}
 use Rattle.worked_examples.specs.Trio.{aaa, bbb, ccc, by_duration, by_fixed_resource, by_key, by_latest_start, by_priority, three, half_past_three, four, ten_past_four}

@@ -2,11 +2,11 @@
 use Rattle.std.specs.Prelude.{ℕ, [], ◌∷◌, List, pos, codes}
 use Rattle.std.specs.FinMap.{empty, from_entries}
 use Rattle.plan_basics.specs.Keys.{Name}
-use Rattle.plan_laws.specs.plan_model.specs.Plan.{Plan}
-use Rattle.plan_laws.specs.plan_model.specs.Ready.{named}
-use Rattle.plan_laws.specs.plan_records.specs.declared.What.{What}
-use Rattle.plan_laws.specs.plan_records.specs.declared.What.TheVariants as what
-use Rattle.plan_laws.specs.plan_records.specs.Step.{Numbered, Receipts}
+use Rattle.plan_model.specs.Plan.{Plan}
+use Rattle.plan_model.specs.Ready.{named}
+use Rattle.plan_records.specs.declared.What.{What}
+use Rattle.plan_records.specs.declared.What.TheVariants as what
+use Rattle.plan_records.specs.Step.{Numbered, Receipts}
 use Rattle.worked_examples.specs.Day.{loaded_at}
 use Rattle.worked_examples.specs.Night.{end_of_second, payroll_at, second_ended}
 

@@ -5,8 +5,8 @@ use Rattle.std.specs.FinSet as set
 use Rattle.plan_basics.specs.declared.keys.OccKey.{OccKey}
 use Rattle.plan_basics.specs.declared.keys.OpKey.{OpKey}
 use Rattle.plan_basics.specs.Keys.{Name}
-use Rattle.plan_laws.specs.plan_model.specs.Contents.{Contents, Operation}
-use Rattle.plan_laws.specs.plan_model.specs.declared.Occurrence.{Occurrence}
+use Rattle.plan_model.specs.Contents.{Contents, Operation}
+use Rattle.plan_model.specs.declared.Occurrence.{Occurrence}
 use Rattle.worked_examples.specs.Day.{cpu1, evening, lasting, morning}
 use Rattle.worked_examples.specs.Night.{cpu1_station}
 

@@ -3,16 +3,16 @@
 #![tactic(auto)]
 
 ghost use Rattle.std.specs.Prelude.{pos, negsuc, None, []};
-ghost use Rattle.plan_laws.specs.plan_model.specs.Plan.{no_plan};
-ghost use Rattle.plan_laws.specs.plan_model.specs.Status.{HasStatus};
-ghost use Rattle.plan_laws.specs.plan_drafts.specs.Drafts.{IsDraft};
-ghost use Rattle.plan_laws.specs.plan_drafts.specs.Records.{Denotes};
+ghost use Rattle.plan_model.specs.Plan.{no_plan};
+ghost use Rattle.plan_model.specs.Status.{HasStatus};
+ghost use Rattle.plan_drafts.specs.Drafts.{IsDraft};
+ghost use Rattle.plan_drafts.specs.Records.{Denotes};
 ghost use Rattle.worked_examples.specs.DayText.{day_records};
-ghost use Rattle.plan_laws.specs.plan_records.specs.Step.{Step};
-ghost use Rattle.plan_laws.specs.plan_records.specs.declared.What.{What};
-ghost use Rattle.plan_laws.specs.plan_records.specs.Answer.{refused, accepted};
+ghost use Rattle.plan_records.specs.Step.{Step};
+ghost use Rattle.plan_records.specs.declared.What.{What};
+ghost use Rattle.plan_records.specs.Answer.{refused, accepted};
 ghost use Rattle.plan_basics.specs.declared.Refusal.{Refusal};
-ghost use Rattle.plan_laws.specs.status_rules.specs.declared.Status.{Status};
+ghost use Rattle.status_rules.specs.declared.Status.{Status};
 ghost use Rattle.worked_examples.specs.Statements.{MomentsOfTheNight, LatestStartsOfTheNight, StatusesWhenLoaded, StatusesAfterTheThird, StatusesOfHeld, StatusesOfPassed, StartsWhileClosed, PairThatLeadsBack, DeletionWhileStarted, SecondLoad, ChoicesForTwoServers, ChoiceForFixedResource, TickThatNames, LatestStartsOfOverdueWork, KeptResource, LoadThatNames, LoadOfTheNight, EndOfTheSecond, RerunOfTheThird, RerunOfTheFirst, BackupAdded, DailyLeaves, NumberedRequest, NumberedAgain, RunToldTwice};
 ghost use Rattle.worked_examples.specs.Day.{day, idle, loaded_at, first, second, evening};
 

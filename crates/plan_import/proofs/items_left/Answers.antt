@@ -1,4 +1,4 @@
-use Rattle.plan_records.specs.plan_items.specs.Items.{IsItem}
+use Rattle.plan_items.specs.Items.{IsItem}
 use Rattle.std.proofs.lemmas.List.Elements.{All-nil}
 use Rattle.plan_import.proofs.Saying.{all-item-more, begins-said, ends-said, fails-said, goes-said}
 use Rattle.plan_import.proofs.items_left.Goals as goal

@@ -1,6 +1,6 @@
 use Rattle.std.proofs.Common.{◌≡◌, All, length}
 use Rattle.csv.specs.Reading.{source_of}
-use Rattle.plan_records.specs.plan_items.specs.Items.{IsItem}
+use Rattle.plan_items.specs.Items.{IsItem}
 use Rattle.plan_import.specs.Records.{IsPlain}
 use Rattle.plan_import.proofs.Saying.{SaidSoFar}
 use Rattle.plan_import.proofs.items_left.Given as goal

@@ -1,5 +1,5 @@
 use Rattle.std.proofs.Common.{sym, subst, All}
-use Rattle.plan_records.specs.plan_items.specs.Items.{IsItem}
+use Rattle.plan_items.specs.Items.{IsItem}
 use Rattle.plan_import.proofs.Saying.{extension_by_items, no_extension_said}
 use Rattle.plan_import.proofs.read_extension.Goals as goal
 

@@ -1,5 +1,5 @@
 use Rattle.std.proofs.Common.{sym, subst, All}
-use Rattle.plan_records.specs.plan_items.specs.Items.{IsItem}
+use Rattle.plan_items.specs.Items.{IsItem}
 use Rattle.plan_import.proofs.Saying.{no_plan_said, plan_by_items}
 use Rattle.plan_import.proofs.read_plan.Goals as goal
 

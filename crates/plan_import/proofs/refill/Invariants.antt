@@ -1,6 +1,6 @@
 use Rattle.std.proofs.Common.{◌≡◌, length, take}
 use Rattle.csv.specs.Records.{fields_of as row_fields}
-use Rattle.plan_records.specs.plan_items.specs.Items.{fields_of}
+use Rattle.plan_items.specs.Items.{fields_of}
 use Rattle.plan_import.proofs.refill.Given as goal
 
 abbrev pub invariant-loop-i : goal.invariant-loop-i

@@ -1,7 +1,7 @@
 use Rattle.std.proofs.Common.{◌≡◌, ℕ, List, IfOk, arith, length, subst}
 use Rattle.plan_basics.specs.Watched.{inner_of}
-use Rattle.addition_faults.specs.AddedTexts.{TextDenotesSomeAdded}
-use Rattle.addition_faults.specs.declared.faults.AddedText.TheVariants as added
+use Rattle.text_faults.specs.AddedTexts.{TextDenotesSomeAdded}
+use Rattle.text_faults.specs.declared.additions.faults.AddedText.TheVariants as added
 use Rattle.command_answers.specs.Judged.{AreFaultsShown}
 use Rattle.command_answers.proofs.Judging.{by_length, judged, read_judged}
 use Rattle.command_answers.proofs.validating.validate_extension.Goals as goal

@@ -1,6 +1,6 @@
 use Rattle.std.proofs.Common.{◌≡◌, ℕ, List, IfOk, arith, length, subst}
 use Rattle.plan_basics.specs.Watched.{inner_of}
-use Rattle.addition_faults.specs.text_faults.specs.TextFaults.{TextDenotesSome}
+use Rattle.text_faults.specs.TextFaults.{TextDenotesSome}
 use Rattle.command_answers.specs.Judged.{AreFaultsShown}
 use Rattle.command_answers.proofs.Judging.{by_length, judged, read_judged}
 use Rattle.command_answers.proofs.validating.validate_plan.Goals as goal

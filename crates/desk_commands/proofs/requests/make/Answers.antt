@@ -1,7 +1,7 @@
 use Rattle.std.proofs.Common.{◌≡◌, ◌∙◌, codes, refl, subst, Err}
 use Rattle.clap.specs.Matches.{found_of}
 use Rattle.plan_basics.specs.Watched.{inner_of}
-use Rattle.command_answers.specs.request_texts.specs.Requests.{ReadsAsRequest}
+use Rattle.command_answers.specs.request_json.specs.Requests.{ReadsAsRequest}
 use Rattle.command_answers.specs.Given.{IsNoRequest}
 use Rattle.command_words.specs.Words.{text_given}
 use Rattle.command_answers.specs.declared.endings.Fault.TheVariants as fault

@@ -1,7 +1,7 @@
 use Rattle.std.proofs.Common.{◌∙◌, ap}
-use Rattle.plan_records.specs.ready_list.specs.Choice.{is_among}
+use Rattle.ready_list.specs.Choice.{is_among}
 use Rattle.plan_records.specs.plan_model.specs.Ready.{with_mark}
-use Rattle.status_rules.specs.declared.Mark.TheVariants as mark
+use Rattle.plan_records.specs.status_rules.specs.declared.Mark.TheVariants as mark
 use Rattle.plan_changes.proofs.InOccurrence.{is_in, revised_alike}
 use Rattle.plan_changes.proofs.Answered.{if_ok}
 use Rattle.plan_changes.proofs.commands.deleted.Goals as goal

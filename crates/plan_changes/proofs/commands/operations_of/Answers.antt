@@ -4,7 +4,7 @@ use Rattle.std.specs.List.{filter}
 use Rattle.std.specs.Map.{keys_of}
 use Rattle.plan_basics.specs.declared.keys.OpKey.{OpKey}
 use Rattle.plan_records.specs.plan_model.specs.Contents.{Operation}
-use Rattle.plan_records.specs.ready_list.specs.Choice.{is_among}
+use Rattle.ready_list.specs.Choice.{is_among}
 use Rattle.plan_changes.proofs.InOccurrence.{found_more, found_other, is_in, occurrence_test, passed}
 use Rattle.plan_changes.proofs.commands.operations_of.Goals as goal
 use Rattle.plan_changes.proofs.commands.operations_of.Goals.{then-eq+in_ok-push, else-eq}

@@ -1,8 +1,8 @@
 use Rattle.std.proofs.Common.{refl, ap, ◌∙◌}
 use Rattle.std.specs.FinMap.{insert}
 use Rattle.plan_basics.specs.Keys.{operation_cmp, operation_cmp_total, operation_cmp-IsAntisymmetric}
-use Rattle.plan_moves.specs.Markings.{with_marking}
-use Rattle.plan_moves.specs.declared.Marking.{Marking}
+use Rattle.plan_records.specs.plan_model.specs.Markings.{with_marking}
+use Rattle.plan_records.specs.plan_model.specs.declared.moves.Marking.{Marking}
 use Rattle.plan_records.specs.plan_drafts.proofs.OneRow.{unrevised}
 use Rattle.plan_changes.proofs.Put.{put_made}
 use Rattle.plan_changes.proofs.commands.set_held.Goals as goal

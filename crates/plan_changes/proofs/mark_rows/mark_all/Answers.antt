@@ -4,8 +4,8 @@ use Rattle.std.proofs.lemmas.Option.{same_Some, none-some}
 use Rattle.std.specs.FinMap.{get, insert}
 use Rattle.plan_basics.specs.Keys.{operation_cmp-IsAntisymmetric}
 use Rattle.plan_basics.specs.declared.keys.OpKey.{OpKey}
-use Rattle.status_rules.specs.declared.Mark.{Mark}
-use Rattle.plan_records.specs.ready_list.specs.Choice.{is_among}
+use Rattle.plan_records.specs.status_rules.specs.declared.Mark.{Mark}
+use Rattle.ready_list.specs.Choice.{is_among}
 use Rattle.plan_records.specs.plan_model.specs.Contents.{Contents, Operation}
 use Rattle.plan_records.specs.plan_model.specs.Ready.{with_mark}
 use Rattle.plan_records.specs.plan_model.specs.Revise.{get-revise}

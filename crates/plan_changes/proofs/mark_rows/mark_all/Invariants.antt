@@ -1,5 +1,5 @@
 use Rattle.std.proofs.Common.{◌≡◌, take}
-use Rattle.plan_records.specs.ready_list.specs.Choice.{is_among}
+use Rattle.ready_list.specs.Choice.{is_among}
 use Rattle.plan_records.specs.plan_model.specs.Ready.{with_mark}
 use Rattle.plan_records.specs.Changes.{revised}
 use Rattle.plan_changes.proofs.mark_rows.mark_all.Given as goal

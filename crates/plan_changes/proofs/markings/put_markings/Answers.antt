@@ -3,7 +3,7 @@ use Rattle.std.proofs.lemmas.List.{drop_all}
 use Rattle.std.proofs.lemmas.Option.{slice_get_read}
 use Rattle.std.specs.FinMap.{contains_key, get}
 use Rattle.plan_records.specs.plan_model.specs.Contents.{Contents, IsInPlan}
-use Rattle.plan_moves.specs.Markings.{with_marking}
+use Rattle.plan_records.specs.plan_model.specs.Markings.{with_marking}
 use Rattle.plan_records.specs.plan_drafts.proofs.Tables.{is_found}
 use Rattle.plan_changes.specs.Markings.{DifferInMarks}
 use Rattle.plan_changes.proofs.Remarks.{from_index, marked_at, one_put, same_plan, stays_known}

@@ -1,4 +1,4 @@
-use Rattle.plan_records.specs.plan_drafts.specs.Contents.{added_of}
+use Rattle.plan_drafts.specs.Contents.{added_of}
 use Rattle.plan_checks.proofs.AdditionLines.{barred_by_ends, barred_by_key, barred_by_resources, barred_by_statuses, barred_by_workstations, told_by_growth, told_off, told_on}
 use Rattle.plan_checks.proofs.additions.check_added.Goals as goal
 

@@ -4,13 +4,13 @@ use Rattle.std.specs.FinSet as set
 use Rattle.std.specs.List.Sorted.{IsStrictlySortedBy}
 use Rattle.plan_basics.specs.Keys.{operation_cmp}
 use Rattle.plan_basics.specs.declared.keys.OpKey.{OpKey}
-use Rattle.plan_figures.specs.plan_changes.specs.Additions.{HasNothingOf}
+use Rattle.derived_figures.specs.plan_changes.specs.Additions.{HasNothingOf}
 use Rattle.plan_model.proofs.Entries.{entries_in_order}
 use Rattle.plan_model.specs.Contents.{Contents, Pairs, pair_cmp}
 use Rattle.plan_model.specs.Valid.{IsAcyclic}
 use Rattle.plan_records.specs.Changes.{with_added}
-use Rattle.plan_records.specs.plan_drafts.proofs.InOrder.{ends_known}
-use Rattle.plan_records.specs.plan_drafts.specs.Contents.{added_of}
+use Rattle.plan_drafts.proofs.InOrder.{ends_known}
+use Rattle.plan_drafts.specs.Contents.{added_of}
 use Rattle.plan_checks.proofs.AdditionLines.{full_by_growth, none_by_growth, returning_by_growth}
 use Rattle.plan_checks.proofs.ComingApart.{comes_apart}
 use Rattle.plan_checks.proofs.Grown.{has_room, joins_operations, within_limits}

@@ -3,8 +3,8 @@ use Rattle.plan_basics.specs.Refusals.{IsLeastRefusal, NoneRefuses}
 use Rattle.plan_basics.specs.declared.Refusal.TheVariants as refusal
 use Rattle.plan_model.specs.Contents.{Contents}
 use Rattle.plan_records.specs.Acceptance.{MayBeAdded}
-use Rattle.plan_records.specs.plan_drafts.specs.Contents.{added_of}
-use Rattle.plan_records.specs.plan_drafts.specs.Places.{AreStatuses}
+use Rattle.plan_drafts.specs.Contents.{added_of}
+use Rattle.plan_drafts.specs.Places.{AreStatuses}
 use Rattle.plan_checks.proofs.additions.check_shown.Goals as goal
 
 pub of-requires : goal.of-requires

@@ -6,8 +6,8 @@ use Rattle.plan_basics.specs.declared.Refusal.TheVariants as refusal
 use Rattle.plan_basics.specs.declared.keys.OpKey.{OpKey}
 use Rattle.plan_model.specs.Contents.{Contents, Operation}
 use Rattle.plan_records.specs.Acceptance.{MayBeDone}
-use Rattle.plan_figures.specs.Frames.{IsFrameOf}
-use Rattle.plan_figures.specs.Reports.{IsReported}
+use Rattle.derived_figures.specs.Frames.{IsFrameOf}
+use Rattle.derived_figures.specs.Reports.{IsReported}
 use Rattle.plan_checks.proofs.ByPair.{HasRow}
 use Rattle.plan_checks.proofs.Searching.{found_in}
 use Rattle.plan_checks.proofs.checks.check_operation.Goals as goal

@@ -3,7 +3,7 @@ use Rattle.plan_basics.specs.Refusals.{IsLeastRefusal, NoneRefuses}
 use Rattle.plan_basics.specs.declared.Refusal.TheVariants as refusal
 use Rattle.plan_model.specs.Contents.{Contents}
 use Rattle.plan_records.specs.Acceptance.{MayBeDone}
-use Rattle.plan_figures.specs.Frames.{IsFrameOf}
+use Rattle.derived_figures.specs.Frames.{IsFrameOf}
 use Rattle.plan_checks.proofs.checks.check_request.Goals as goal
 
 pub check_operation-requires-clause-operation : goal.check_operation-requires-clause-operation

@@ -2,7 +2,7 @@ use Rattle.std.proofs.Common.{◌≡◌, inr, sym, subst, ◌∙◌, ◌<◌, tr
 use Rattle.plan_basics.specs.declared.Refusal.{Refusal}
 use Rattle.plan_basics.specs.declared.Refusal.TheVariants as refusal
 use Rattle.plan_basics.specs.Refusals.{number_of, IsLeastRefusal, NoneRefuses}
-use Rattle.plan_figures.specs.plan_choice.specs.Choices.{HasTaken}
+use Rattle.derived_figures.specs.start_choice.specs.Choices.{HasTaken}
 use Rattle.plan_model.specs.Contents.{Contents}
 use Rattle.plan_model.specs.Starts.{MayStart}
 use Rattle.plan_records.specs.Acceptance.{MayBeStarted}

@@ -5,7 +5,7 @@ use Rattle.plan_basics.specs.declared.Refusal.TheVariants as refusal
 use Rattle.plan_records.specs.Acceptance.{MayBeAdded, MayBeOpenBy}
 use Rattle.plan_model.specs.Contents.{Contents}
 use Rattle.plan_records.specs.declared.What.TheVariants as what
-use Rattle.plan_records.specs.plan_drafts.specs.Contents.{added_of}
+use Rattle.plan_drafts.specs.Contents.{added_of}
 use Rattle.plan_checks.proofs.Reporting.{if_barred, if_fails, if_none_refuses}
 use Rattle.plan_checks.proofs.checks.check_unseen.Goals as goal
 

@@ -1,6 +1,6 @@
 use Rattle.std.proofs.Common.{ap, sym, ◌∙◌}
 use Rattle.std.specs.FinMap.{get}
-use Rattle.plan_records.specs.plan_drafts.proofs.Tables.{some_is}
+use Rattle.plan_drafts.proofs.Tables.{some_is}
 use Rattle.plan_model.specs.Contents.{Contents}
 use Rattle.plan_checks.proofs.ByCommand.{available}
 use Rattle.plan_checks.proofs.commands.check_available.Goals as goal

@@ -2,7 +2,7 @@ use Rattle.std.proofs.Common.{◌≡◌, inr, subst, true, List}
 use Rattle.std.specs.FinMap.{contains_key, get}
 use Rattle.plan_basics.specs.Intervals.{OpenInterval}
 use Rattle.plan_basics.specs.Refusals.{IsLeastRefusal, NoneRefuses}
-use Rattle.plan_records.specs.plan_drafts.proofs.Tables.{some_is}
+use Rattle.plan_drafts.proofs.Tables.{some_is}
 use Rattle.plan_model.specs.Contents.{Contents}
 use Rattle.plan_model.specs.workstations.specs.Timetables.{MayBeTaken}
 use Rattle.plan_checks.proofs.ByCommand.{not_open_by, open_by}

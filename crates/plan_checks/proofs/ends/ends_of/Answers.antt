@@ -1,4 +1,4 @@
-use Rattle.plan_records.specs.plan_drafts.specs.Contents.{added_of}
+use Rattle.plan_drafts.specs.Contents.{added_of}
 use Rattle.plan_checks.proofs.ends.ends_of.Goals as goal
 
 pub returns-then-may_succeed-clause-may : goal.returns-then-may_succeed-clause-may

@@ -1,6 +1,6 @@
 use Rattle.std.proofs.Common.{refl, sym, subst, arith, ◌+◌, Decides}
 use Rattle.std.specs.List.{AllWithin}
-use Rattle.plan_records.specs.plan_drafts.specs.Contents.{added_of}
+use Rattle.plan_drafts.specs.Contents.{added_of}
 use Rattle.plan_checks.specs.Additions.{IsFoundPair, IsOpenPair}
 use Rattle.plan_checks.proofs.ComingIn.{each_pair_told, ends_told, more_told, none_more}
 use Rattle.plan_checks.proofs.ends.ends_of_pairs.Goals.{else-are_known, else-are_open, then-are_known, then-are_open}

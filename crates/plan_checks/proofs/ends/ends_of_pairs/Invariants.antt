@@ -1,6 +1,6 @@
 use Rattle.std.specs.Prelude.{Decides}
 use Rattle.std.specs.List.{AllWithin}
-use Rattle.plan_records.specs.plan_drafts.specs.Contents.{added_of}
+use Rattle.plan_drafts.specs.Contents.{added_of}
 use Rattle.plan_checks.specs.Additions.{IsFoundPair, IsOpenPair}
 use Rattle.plan_checks.proofs.ends.ends_of_pairs.Given as goal
 

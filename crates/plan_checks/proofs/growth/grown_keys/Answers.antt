@@ -5,7 +5,7 @@ use Rattle.std.specs.List.Sorted.{IsStrictlySortedBy}
 use Rattle.std.specs.Map.{keys_of}
 use Rattle.plan_basics.specs.Keys.{operation_cmp, operation_cmp-IsAntisymmetric}
 use Rattle.plan_basics.specs.declared.keys.OpKey.{OpKey}
-use Rattle.plan_figures.specs.plan_changes.specs.Additions.{ShareNoMember}
+use Rattle.derived_figures.specs.plan_changes.specs.Additions.{ShareNoMember}
 use Rattle.plan_model.proofs.Entries.{entries_in_order}
 use Rattle.plan_checks.proofs.Grown.{grown_keys, keys_apart}
 use Rattle.plan_checks.proofs.growth.grown_keys.Goals as goal

@@ -1,9 +1,9 @@
 use Rattle.std.proofs.Common.{sym, ap, subst, ◌∙◌, List}
 use Rattle.std.specs.FinSet as set
 use Rattle.plan_basics.specs.declared.keys.OpKey.{OpKey}
-use Rattle.plan_figures.specs.plan_changes.specs.Additions.{ShareNoMember}
+use Rattle.derived_figures.specs.plan_changes.specs.Additions.{ShareNoMember}
 use Rattle.plan_model.specs.Contents.{Pairs, pair_cmp}
-use Rattle.plan_figures.specs.plan_laws.proofs.Pairs.{pair_cmp-IsAntisymmetric}
+use Rattle.derived_figures.specs.plan_laws.proofs.Pairs.{pair_cmp-IsAntisymmetric}
 use Rattle.plan_checks.proofs.growth.grown_pairs.Goals as goal
 
 pub merge-requires-clause-exact : goal.merge-requires-clause-exact

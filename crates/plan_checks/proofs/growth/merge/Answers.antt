@@ -1,6 +1,6 @@
 use Rattle.std.proofs.Common.{◌++◌}
 use Rattle.std.specs.List.Sorted.{IsPermutation}
-use Rattle.plan_figures.specs.plan_changes.proofs.Merging.{from_keys_merged, keys_merged_up}
+use Rattle.derived_figures.specs.plan_changes.proofs.Merging.{from_keys_merged, keys_merged_up}
 use Rattle.plan_checks.proofs.growth.merge.Goals as goal
 
 pub returns : goal.returns

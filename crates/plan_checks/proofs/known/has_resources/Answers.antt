@@ -2,7 +2,7 @@ use Rattle.std.proofs.Common.{◌≡◌, sym, ap, ◌∙◌, true, rules, tests}
 use Rattle.std.proofs.lemmas.Iterator.{YieldsList-from_slice, cases_from_all}
 use Rattle.std.specs.FinMap.{contains_key}
 use Rattle.plan_model.specs.Contents.{Operation}
-use Rattle.plan_model.specs.special_resources.specs.declared.Need.{Need}
+use Rattle.special_resources.specs.declared.Need.{Need}
 use Rattle.plan_checks.proofs.ComingIn.{needs_told}
 use Rattle.plan_checks.proofs.known.has_resources.Goals as goal
 

@@ -1,7 +1,7 @@
 use Rattle.std.proofs.Common.{◌≡◌, ap, subst, true, Decides}
 use Rattle.std.specs.FinMap.{contains_key, get}
 use Rattle.plan_basics.specs.Keys.{Name}
-use Rattle.plan_records.specs.plan_drafts.proofs.Tables.{some_is}
+use Rattle.plan_drafts.proofs.Tables.{some_is}
 use Rattle.plan_model.specs.Contents.{Contents, Operation}
 use Rattle.plan_checks.proofs.ComingIn.{found_told}
 use Rattle.plan_checks.proofs.known.has_workstation.Goals as goal

@@ -1,6 +1,6 @@
 use Rattle.std.proofs.Common.{◌≡◌, sym, subst, not, true, Decides}
 use Rattle.std.specs.FinMap.{contains_key, get}
-use Rattle.plan_records.specs.plan_drafts.proofs.Tables.{some_is}
+use Rattle.plan_drafts.proofs.Tables.{some_is}
 use Rattle.plan_model.specs.Contents.{Contents}
 use Rattle.plan_checks.proofs.ComingIn.{found_told, missing_told}
 use Rattle.plan_checks.proofs.known.is_new_occurrence.Goals as goal

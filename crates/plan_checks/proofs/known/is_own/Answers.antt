@@ -3,7 +3,7 @@ use Rattle.std.specs.List.Sorted.{IsStrictlySortedBy}
 use Rattle.std.specs.Map.{keys_of}
 use Rattle.plan_basics.specs.Keys.{occurrence_cmp}
 use Rattle.plan_basics.specs.declared.keys.OccKey.{OccKey}
-use Rattle.plan_figures.specs.shown_records.specs.Leaving.{is_one_of}
+use Rattle.derived_figures.specs.counted_records.specs.Leaving.{is_one_of}
 use Rattle.plan_model.specs.declared.Occurrence.{Occurrence}
 use Rattle.plan_checks.proofs.known.is_own.Goals as goal
 

@@ -1,8 +1,8 @@
 use Rattle.std.proofs.Common.{sym, ap, ◌∙◌, rules, tests}
 use Rattle.std.proofs.lemmas.Iterator.{YieldsList-from_slice, cases_from_all}
 use Rattle.plan_model.specs.Contents.{Operation}
-use Rattle.plan_model.specs.special_resources.specs.Holders.{Usage}
-use Rattle.plan_model.specs.special_resources.specs.declared.Need.{Need}
+use Rattle.special_resources.specs.Holders.{Usage}
+use Rattle.special_resources.specs.declared.Need.{Need}
 use Rattle.plan_checks.proofs.ComingIn.{needs_told}
 use Rattle.plan_checks.specs.Additions.{HasSoMuch}
 use Rattle.plan_checks.proofs.known.needs_fit.Goals as goal

@@ -1,5 +1,5 @@
 use Rattle.std.specs.FinMap.{entries}
-use Rattle.plan_figures.specs.plan_status.proofs.RowKeys.{key_of_row}
+use Rattle.derived_figures.specs.plan_status.proofs.RowKeys.{key_of_row}
 use Rattle.plan_checks.proofs.reach.key_at.Goals as goal
 
 pub returns : goal.returns

@@ -2,10 +2,10 @@ use Rattle.std.proofs.Common.{◌≡◌, ◌<◌, sym, subst, ◌∙◌, All, Li
 use Rattle.std.specs.FinMap.{contains_key, entries, get, keys}
 use Rattle.operation_graph.specs.Graphs.{AreExactly, HasEdge, IsSet}
 use Rattle.operation_graph.specs.Paths.{ReachesBy}
-use Rattle.plan_records.specs.plan_drafts.proofs.Tables.{some_is}
-use Rattle.plan_records.specs.plan_drafts.specs.PlanGraphs.{StandAt}
+use Rattle.plan_drafts.proofs.Tables.{some_is}
+use Rattle.plan_drafts.specs.PlanGraphs.{StandAt}
 use Rattle.plan_model.specs.Contents.{Contents, Operation}
-use Rattle.plan_figures.specs.plan_status.proofs.RowKeys.{key_of_row}
+use Rattle.derived_figures.specs.plan_status.proofs.RowKeys.{key_of_row}
 use Rattle.plan_checks.proofs.ReachedKeys.{reached_among, reached_within}
 use Rattle.plan_checks.proofs.reach.reached_keys.Goals as goal
 use Rattle.plan_checks.specs.Reach.{is_live_status}

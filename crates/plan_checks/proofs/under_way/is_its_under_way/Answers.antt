@@ -1,7 +1,7 @@
 use Rattle.std.proofs.Common.{◌≡◌, ◌<◌, sym, ap, subst, ◌∙◌, false, true≢false, length, slice_get, Some, rules}
 use Rattle.std.specs.FinMap.{entries}
 use Rattle.plan_basics.specs.declared.keys.OpKey.{OpKey}
-use Rattle.plan_figures.specs.plan_laws.proofs.Classes.{under_way_by, under_way_told}
+use Rattle.derived_figures.specs.plan_laws.proofs.Classes.{under_way_by, under_way_told}
 use Rattle.std.proofs.lemmas.Option.{same_Some}
 use Rattle.plan_model.specs.Contents.{Contents, Operation}
 use Rattle.plan_checks.proofs.under_way.is_its_under_way.Goals as goal

@@ -1,9 +1,9 @@
 use Rattle.std.proofs.Common.{◌≡◌, ◌<◌, refl, sym, ap, ◌∙◌, arith, length, true, false, true≢false, rules}
 use Rattle.std.proofs.lemmas.Option.{slice_get_within}
 use Rattle.std.specs.FinMap.{entries}
-use Rattle.plan_records.specs.plan_drafts.proofs.RowPlaces.{row_at}
+use Rattle.plan_drafts.proofs.RowPlaces.{row_at}
 use Rattle.plan_model.specs.Contents.{Contents}
-use Rattle.plan_figures.specs.plan_status.proofs.LoadedRows.{row_of}
+use Rattle.derived_figures.specs.plan_status.proofs.LoadedRows.{row_of}
 use Rattle.plan_checks.proofs.Searching.{none_more, under_way_in_plan}
 use Rattle.plan_checks.proofs.under_way.is_occurrence_under_way.Goals as goal
 use Rattle.plan_checks.specs.Commands.{IsItsUnderWay}

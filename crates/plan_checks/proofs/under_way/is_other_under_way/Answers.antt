@@ -1,6 +1,6 @@
 use Rattle.std.proofs.Common.{◌≡◌, sym, ◌∙◌, rules}
-use Rattle.plan_figures.specs.plan_laws.proofs.Classes.{under_way_by, under_way_told}
-use Rattle.plan_figures.specs.Reports.{IsOfStatus}
+use Rattle.derived_figures.specs.plan_laws.proofs.Classes.{under_way_by, under_way_told}
+use Rattle.derived_figures.specs.Reports.{IsOfStatus}
 use Rattle.plan_checks.proofs.Searching.{found_in}
 use Rattle.plan_checks.proofs.under_way.is_other_under_way.Goals as goal
 

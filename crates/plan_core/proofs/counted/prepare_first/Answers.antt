@@ -1,7 +1,7 @@
 use Rattle.std.proofs.Common.{None}
 use Rattle.plan_core.proofs.counted.prepare_first.Goals as goal
-use Rattle.plan_outcomes.specs.plan_model.specs.Plan.{plan_held}
-use Rattle.plan_outcomes.specs.plan_steps.specs.plan_checks.proofs.Searching.{if_err}
+use Rattle.plan_model.specs.Plan.{plan_held}
+use Rattle.request_outcomes.specs.plan_checks.proofs.Searching.{if_err}
 
 pub prepared_anew-requires : goal.prepared_anew-requires
 prepared_anew-requires c = (plan_held c.args.clock None, c.args.request.now, c.in_ok-anew.ensures.anew)

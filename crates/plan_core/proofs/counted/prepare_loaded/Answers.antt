@@ -1,12 +1,12 @@
 use Rattle.std.proofs.Common.{◌≡◌, ◌∙◌, ap, sym, subst, IfOk, Some}
 use Rattle.plan_core.proofs.counted.prepare_loaded.Goals as goal
 use Rattle.plan_core.proofs.counted.prepare_loaded.Goals.{In-Ok}
-use Rattle.plan_outcomes.specs.Led.{AreLooksLed, IsLedOf}
-use Rattle.plan_outcomes.specs.declared.led.Led.{Led}
-use Rattle.plan_outcomes.specs.plan_model.specs.Contents.{Contents}
-use Rattle.plan_outcomes.specs.plan_model.specs.Plan.{plan_held}
-use Rattle.plan_outcomes.specs.plan_steps.specs.plan_checks.proofs.Searching.{if_err}
-use Rattle.plan_outcomes.specs.plan_steps.specs.shown_records.specs.States.{ShownState}
+use Rattle.request_outcomes.specs.Led.{AreLooksLed, IsLedOf}
+use Rattle.request_outcomes.specs.declared.led.Led.{Led}
+use Rattle.plan_model.specs.Contents.{Contents}
+use Rattle.plan_model.specs.Plan.{plan_held}
+use Rattle.request_outcomes.specs.plan_checks.proofs.Searching.{if_err}
+use Rattle.plan_opening.specs.counted_records.specs.States.{ShownState}
 
 -- what is shown is what the plan holds
 is_shown : (c : In-Ok) → c.of-shown.result.contents ≡ c.args.loaded

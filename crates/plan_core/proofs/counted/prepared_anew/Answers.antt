@@ -1,15 +1,15 @@
 use Rattle.std.proofs.Common.{◌≡◌, ◌⊎◌, sym, subst, IfErr, IfOk}
 use Rattle.plan_core.proofs.counted.prepared_anew.Goals as goal
 use Rattle.plan_core.proofs.counted.prepared_anew.Goals.{After-into_contents-contents}
-use Rattle.plan_outcomes.specs.Anew.{IsAnewOf, IsKeptOf, IsRemadeBy}
-use Rattle.plan_outcomes.specs.declared.settle.Settled.{Settled}
+use Rattle.request_outcomes.specs.Anew.{IsAnewOf, IsKeptOf, IsRemadeBy}
+use Rattle.request_outcomes.specs.declared.settle.Settled.{Settled}
 use Rattle.plan_basics.specs.declared.Refusal.TheVariants as refusal
-use Rattle.plan_outcomes.specs.plan_model.specs.Contents.{Contents}
-use Rattle.plan_outcomes.specs.plan_model.specs.Plan.{Plan}
-use Rattle.plan_outcomes.specs.plan_records.specs.Answer.{refused}
-use Rattle.plan_outcomes.specs.plan_records.specs.Step.{Step}
-use Rattle.plan_outcomes.specs.plan_records.specs.declared.Request.{Request}
-use Rattle.plan_outcomes.specs.plan_steps.specs.plan_checks.proofs.ByPair.{handed_on}
+use Rattle.plan_model.specs.Contents.{Contents}
+use Rattle.plan_model.specs.Plan.{Plan}
+use Rattle.plan_records.specs.Answer.{refused}
+use Rattle.plan_records.specs.Step.{Step}
+use Rattle.plan_records.specs.declared.Request.{Request}
+use Rattle.request_outcomes.specs.plan_checks.proofs.ByPair.{handed_on}
 
 -- what is kept of some contents is kept of those that they are
 kept_at : (P Q : Contents) (s : Settled) → P ≡ Q → IsKeptOf P s → IsKeptOf Q s

@@ -1,10 +1,10 @@
 use Rattle.std.proofs.Common.{sym, subst}
-use Rattle.plan_outcomes.specs.plan_steps.specs.plan_checks.proofs.Searching.{if_err}
+use Rattle.request_outcomes.specs.plan_checks.proofs.Searching.{if_err}
 use Rattle.plan_core.proofs.Seen.{prepared_in}
 use Rattle.plan_core.proofs.counted.prepared_by.Goals as goal
-use Rattle.plan_outcomes.specs.Led.{AreLooksLed, IsLedOf}
+use Rattle.request_outcomes.specs.Led.{AreLooksLed, IsLedOf}
 use Rattle.plan_core.specs.Prepares.{IsPreparedIn}
-use Rattle.plan_outcomes.specs.declared.led.Led.{Led}
+use Rattle.request_outcomes.specs.declared.led.Led.{Led}
 
 pub returns-in-Small-clause-prepared : goal.returns-in-Small-clause-prepared
 returns-in-Small-clause-prepared c = λ P request of looked.

@@ -1,12 +1,12 @@
 use Rattle.std.proofs.Common.{◌≡◌, sym, ap, subst, ◌∙◌}
 use Rattle.plan_core.proofs.taking.with_writing.Goals as goal
 use Rattle.plan_core.proofs.taking.with_writing.Goals.{After-stepped-contents}
-use Rattle.plan_outcomes.specs.Next.{rewritten}
-use Rattle.plan_outcomes.specs.plan_steps.specs.Revisions.{written}
-use Rattle.plan_outcomes.specs.plan_drafts.specs.PlanGraphs.{IsGraphFor}
-use Rattle.plan_outcomes.specs.plan_model.specs.Contents.{Contents}
-use Rattle.plan_outcomes.specs.plan_model.specs.Ready.{named}
-use Rattle.plan_outcomes.specs.plan_figures.specs.Figures.{AreFigures}
+use Rattle.request_outcomes.specs.Next.{rewritten}
+use Rattle.request_outcomes.specs.small_requests.specs.Revisions.{written}
+use Rattle.plan_records.specs.plan_drafts.specs.PlanGraphs.{IsGraphFor}
+use Rattle.plan_model.specs.Contents.{Contents}
+use Rattle.plan_model.specs.Ready.{named}
+use Rattle.plan_opening.specs.derived_figures.specs.Figures.{AreFigures}
 
 -- what is written makes the plan that is meant
 is_written : (c : After-stepped-contents) → c.stepped-contents.result ≡ named c.args.named.now (rewritten c.args.writing c.args.plan)

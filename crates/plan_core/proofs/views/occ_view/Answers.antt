@@ -2,7 +2,7 @@ use Rattle.std.proofs.Common.{◌≡◌, ◌<◌, Some, length, slice_get, slice
 use Rattle.std.proofs.lemmas.Option.{same_Some, slice_get-get_or}
 use Rattle.std.specs.FinMap.{entries}
 use Rattle.plan_basics.specs.declared.keys.OccKey.{OccKey}
-use Rattle.plan_outcomes.specs.plan_model.specs.declared.Occurrence.{Occurrence}
+use Rattle.plan_model.specs.declared.Occurrence.{Occurrence}
 use Rattle.status_rules.specs.declared.Counts.{Counts}
 use Rattle.plan_core.proofs.OccViews.{occ_view_at}
 use Rattle.plan_core.proofs.views.occ_view.Goals as goal

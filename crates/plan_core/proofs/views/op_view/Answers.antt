@@ -3,10 +3,10 @@ use Rattle.std.proofs.lemmas.Int.{ints}
 use Rattle.std.proofs.lemmas.Option.{same_Some, slice_get-get_or}
 use Rattle.std.specs.FinMap.{entries, get}
 use Rattle.plan_basics.specs.declared.keys.OpKey.{OpKey}
-use Rattle.plan_outcomes.specs.plan_model.specs.Contents.{Operation}
-use Rattle.plan_status.proofs.LoadedRows.{its_occurrence}
-use Rattle.plan_status.proofs.Workplaces.{there}
-use Rattle.plan_status.specs.declared.standings.Standing.{Standing}
+use Rattle.plan_model.specs.Contents.{Operation}
+use Rattle.plan_opening.specs.plan_status.proofs.LoadedRows.{its_occurrence}
+use Rattle.plan_opening.specs.plan_status.proofs.Workplaces.{there}
+use Rattle.plan_opening.specs.plan_status.specs.declared.standings.Standing.{Standing}
 use Rattle.status_rules.specs.declared.Status.TheVariants.{Started}
 use Rattle.plan_core.proofs.OpViews.{op_view_at, row_in_plan}
 use Rattle.plan_core.proofs.views.op_view.Goals as goal

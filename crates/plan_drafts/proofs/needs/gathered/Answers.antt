@@ -2,8 +2,8 @@ use Rattle.std.proofs.Common.{sym, subst, ap, ◌∙◌, ◌+◌, ◌≤◌, ari
 use Rattle.std.specs.FinMap.{insert, len}
 use Rattle.std.proofs.lemmas.List.{take_all}
 use Rattle.plan_basics.specs.declared.limits.TheConstants.{MOST_NEEDS}
-use Rattle.plan_model.specs.special_resources.specs.Holdings.{usage_of}
-use Rattle.plan_model.specs.special_resources.specs.Needs.{ComeBefore, usages_of}
+use Rattle.plan_items.specs.special_resources.specs.Holdings.{usage_of}
+use Rattle.plan_items.specs.special_resources.specs.Needs.{ComeBefore, usages_of}
 use Rattle.plan_drafts.proofs.OwnNeeds.{said_need, comes_next, one_more, so_many}
 use Rattle.plan_drafts.proofs.needs.gathered.Goals as goal
 

@@ -1,6 +1,6 @@
 use Rattle.std.proofs.Common.{◌≡◌, ◌≤◌, map, take}
 use Rattle.plan_basics.specs.declared.limits.TheConstants.{MOST_NEEDS}
-use Rattle.plan_model.specs.special_resources.specs.Needs.{usages_of}
+use Rattle.plan_items.specs.special_resources.specs.Needs.{usages_of}
 use Rattle.plan_drafts.proofs.OwnNeeds.{said_need}
 use Rattle.plan_drafts.proofs.needs.gathered.Given as goal
 

@@ -3,7 +3,7 @@ use Rattle.std.proofs.lemmas.List.{take_rest}
 use Rattle.std.proofs.lemmas.List.Sorted.{IsPartitionPoint-from_clause}
 use Rattle.std.specs.List.Sorted.{IsPartitionedBy, IsPartitionPoint}
 use Rattle.plan_basics.specs.declared.keys.OpKey.{OpKey}
-use Rattle.plan_model.specs.special_resources.specs.declared.Need.{Need}
+use Rattle.plan_items.specs.special_resources.specs.declared.Need.{Need}
 use Rattle.plan_drafts.proofs.OwnNeeds.{is_before, is_up_to, before_parted, up_to_parted, part_is}
 use Rattle.plan_drafts.proofs.needs.needs_by.Goals as goal
 

@@ -1,7 +1,7 @@
 use Rattle.std.proofs.Common.{◌≡◌, ◌<◌, ◌≤◌, sym, subst, length, map}
 use Rattle.std.specs.Prelude.{MatchOption}
 use Rattle.plan_basics.specs.declared.limits.TheConstants.{MOST_NEEDS}
-use Rattle.plan_model.specs.special_resources.specs.Needs.{AreInNameOrder, usages_of}
+use Rattle.plan_items.specs.special_resources.specs.Needs.{AreInNameOrder, usages_of}
 use Rattle.plan_drafts.proofs.Lists.{length_map}
 use Rattle.plan_drafts.proofs.OwnNeeds.{said_need, own_in_order}
 use Rattle.plan_drafts.proofs.needs.own_needs.Goals as goal

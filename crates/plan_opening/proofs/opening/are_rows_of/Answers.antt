@@ -1,5 +1,5 @@
 use Rattle.std.proofs.Common.{sym, subst, Some}
-use Rattle.plan_rows.specs.plan_model.specs.Plan.{plan_held}
+use Rattle.plan_model.specs.Plan.{plan_held}
 use Rattle.plan_opening.proofs.Opened.{rows_from_these, these_from_rows}
 use Rattle.plan_opening.proofs.opening.are_rows_of.Goals as goal
 use Rattle.plan_records.specs.Rows.{AreRows}

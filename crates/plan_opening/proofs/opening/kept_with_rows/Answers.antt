@@ -1,9 +1,9 @@
 use Rattle.std.proofs.Common.{◌≡◌, ◌∙◌, sym, subst, true≢false, Some}
-use Rattle.plan_rows.specs.plan_choice.specs.Choices.{AreLatestStarts}
-use Rattle.plan_rows.specs.plan_drafts.specs.PlanGraphs.{IsGraphFor}
-use Rattle.plan_rows.specs.plan_figures.specs.Figures.{AreFigures}
-use Rattle.plan_rows.specs.plan_model.specs.Contents.{Contents}
-use Rattle.plan_rows.specs.plan_model.specs.Plan.{plan_held}
+use Rattle.plan_rows.specs.start_choice.specs.Choices.{AreLatestStarts}
+use Rattle.plan_drafts.specs.PlanGraphs.{IsGraphFor}
+use Rattle.plan_rows.specs.derived_figures.specs.Figures.{AreFigures}
+use Rattle.plan_model.specs.Contents.{Contents}
+use Rattle.plan_model.specs.Plan.{plan_held}
 use Rattle.plan_opening.proofs.opening.kept_with_rows.Goals as goal
 use Rattle.plan_records.specs.Rows.{AreRows}
 

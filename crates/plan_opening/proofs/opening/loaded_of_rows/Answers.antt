@@ -1,6 +1,6 @@
 use Rattle.std.proofs.Common.{Some}
 use Rattle.std.proofs.lemmas.Option.{none-some}
-use Rattle.plan_rows.specs.plan_model.specs.Plan.{plan_held}
+use Rattle.plan_model.specs.Plan.{plan_held}
 use Rattle.plan_opening.proofs.Opened.{if_loaded}
 use Rattle.plan_opening.proofs.opening.loaded_of_rows.Goals as goal
 

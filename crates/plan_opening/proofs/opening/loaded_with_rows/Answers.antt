@@ -1,7 +1,7 @@
 use Rattle.std.proofs.Common.{◌∙◌, sym, subst, ap}
-use Rattle.plan_rows.specs.plan_drafts.specs.PlanGraphs.{IsGraphFor}
-use Rattle.plan_rows.specs.plan_model.specs.Contents.{Contents}
-use Rattle.plan_rows.specs.plan_figures.specs.shown_records.specs.States.{ShownState}
+use Rattle.plan_drafts.specs.PlanGraphs.{IsGraphFor}
+use Rattle.plan_model.specs.Contents.{Contents}
+use Rattle.plan_rows.specs.counted_records.specs.States.{ShownState}
 use Rattle.plan_opening.proofs.opening.loaded_with_rows.Goals as goal
 
 pub kept_with_rows-kept-requires : goal.kept_with_rows-kept-requires

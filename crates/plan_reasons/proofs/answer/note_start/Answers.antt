@@ -1,5 +1,5 @@
 use Rattle.std.proofs.Common.{◌≡◌, sym, subst, ◌∙◌, true, rules}
-use Rattle.plan_choice.specs.Choices.{AreHeldIn}
+use Rattle.plan_core.specs.start_choice.specs.Choices.{AreHeldIn}
 use Rattle.plan_model.specs.Contents.{Contents}
 use Rattle.plan_reasons.specs.Reasons.{needs_start}
 use Rattle.plan_reasons.proofs.Collecting.{more_of_kind, more_of_list}

@@ -2,8 +2,8 @@ use Rattle.std.proofs.Common.{◌≡◌, sym, subst, ◌∙◌, Some, slice_get}
 use Rattle.std.specs.FinMap.{entries}
 use Rattle.std.proofs.lemmas.Option.{same_Some}
 use Rattle.plan_model.specs.Contents.{Contents, Operation}
-use Rattle.plan_status.proofs.LoadedRows.{row_found}
-use Rattle.plan_core.specs.plan_figures.specs.Reports.{IsReported}
+use Rattle.plan_core.specs.plan_status.proofs.LoadedRows.{row_found}
+use Rattle.plan_core.specs.derived_figures.specs.Reports.{IsReported}
 use Rattle.plan_reasons.specs.Parts.{AreBefore, GoesOn}
 use Rattle.plan_reasons.proofs.Collecting.{all_found, more_of_kind, more_of_list, none_before}
 use Rattle.plan_reasons.proofs.answer.reasons_at.Goals as goal

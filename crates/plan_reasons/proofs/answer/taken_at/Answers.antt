@@ -1,10 +1,10 @@
 use Rattle.std.proofs.Common.{◌≡◌, ◌∙◌, ◌<◌, arith, refl, sym, subst, length}
 use Rattle.std.proofs.lemmas.Option.{slice_get_read}
 use Rattle.std.specs.FinMap.{entries}
-use Rattle.plan_choice.specs.Choices.{AreGivenOut}
+use Rattle.plan_core.specs.start_choice.specs.Choices.{AreGivenOut}
 use Rattle.plan_model.specs.Contents.{Contents}
 use Rattle.plan_reasons.proofs.answer.taken_at.Goals as goal
-use Rattle.plan_status.specs.Briefs.{AreBriefs}
+use Rattle.plan_core.specs.plan_status.specs.Briefs.{AreBriefs}
 
 pub given_out_of-requires : goal.given_out_of-requires
 given_out_of-requires c =

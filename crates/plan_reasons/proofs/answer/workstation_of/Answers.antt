@@ -1,7 +1,7 @@
 use Rattle.std.proofs.Common.{sym, ap, ◌∙◌}
 use Rattle.std.specs.FinMap.{get}
 use Rattle.plan_model.specs.Contents.{Operation}
-use Rattle.plan_status.proofs.Workplaces.{workplace_found}
+use Rattle.plan_core.specs.plan_status.proofs.Workplaces.{workplace_found}
 use Rattle.plan_reasons.proofs.answer.workstation_of.Goals as goal
 
 pub unwrap-requires : goal.unwrap-requires

@@ -4,9 +4,9 @@ use Rattle.std.proofs.lemmas.List.{length-map}
 use Rattle.plan_basics.proofs.Members.{all_by_members}
 use Rattle.plan_basics.specs.declared.keys.OpKey.{OpKey}
 use Rattle.plan_model.specs.Contents.{Operation}
-use Rattle.plan_status.proofs.RowKeys.{key_of_row}
-use Rattle.upstream.proofs.Backwards.{upstream_within}
-use Rattle.upstream.specs.Upstream.{IsSource}
+use Rattle.plan_core.specs.plan_status.proofs.RowKeys.{key_of_row}
+use Rattle.graph_paths.proofs.Backwards.{upstream_within}
+use Rattle.graph_paths.specs.Upstream.{IsSource}
 use Rattle.plan_reasons.specs.Places.{AreAt}
 use Rattle.plan_reasons.proofs.Waits.{all_roots}
 use Rattle.plan_reasons.proofs.predecessors.beginnings.Goals as goal

@@ -1,7 +1,7 @@
 use Rattle.std.proofs.Common.{◌≡◌, ap, ◌∙◌, get_or}
 use Rattle.std.specs.FinMap.{entries}
 use Rattle.plan_model.specs.Contents.{Contents}
-use Rattle.plan_status.proofs.RowKeys.{row_read}
+use Rattle.plan_core.specs.plan_status.proofs.RowKeys.{row_read}
 use Rattle.plan_reasons.proofs.predecessors.unsatisfied_at.Goals as goal
 
 pub returns-clause-at : goal.returns-clause-at

@@ -1,11 +1,11 @@
 use Rattle.std.proofs.Common.{◌≡◌, ◌<◌, ◌↔◌, arith, sym, ap, subst, ◌∙◌, All, Contains, length, map}
 use Rattle.std.specs.FinMap.{entries}
 use Rattle.std.proofs.lemmas.List.{length-map}
-use Rattle.plan_core.specs.operation_graph.specs.Graphs.{HasEdge, IsSet}
+use Rattle.operation_graph.specs.Graphs.{HasEdge, IsSet}
 use Rattle.plan_basics.proofs.Members.{all_by_members}
 use Rattle.plan_basics.specs.declared.keys.OpKey.{OpKey}
 use Rattle.plan_model.specs.Contents.{Operation}
-use Rattle.plan_status.proofs.RowKeys.{key_of_row}
+use Rattle.plan_core.specs.plan_status.proofs.RowKeys.{key_of_row}
 use Rattle.plan_reasons.specs.Parts.{AreOfKind}
 use Rattle.plan_reasons.specs.Places.{AreAt}
 use Rattle.plan_reasons.specs.declared.reasons.Reason.TheVariants as reason

@@ -1,10 +1,10 @@
 use Rattle.std.proofs.Common.{◌≡◌, ◌∙◌, refl, sym, ap, subst, ◌++◌, map, slice_get, Contains}
 use Rattle.std.specs.List.Sorted.{IsStrictlySortedBy}
 use Rattle.std.specs.declared.cmp.Ordering.{Ordering}
-use Rattle.plan_figures.specs.plan_drafts.proofs.Orders.{map_same}
-use Rattle.plan_figures.specs.plan_drafts.specs.RowKeys.{derived_exact, derived_is}
-use Rattle.plan_figures.specs.plan_drafts.specs.declared.RowKey.{RowKey}
-use Rattle.plan_figures.specs.plan_records.specs.Rows.{AreChanges, IsRow, key_of, row_cmp}
+use Rattle.plan_records.specs.plan_drafts.proofs.Orders.{map_same}
+use Rattle.plan_records.specs.plan_drafts.specs.RowKeys.{derived_exact, derived_is}
+use Rattle.plan_records.specs.plan_drafts.specs.declared.RowKey.{RowKey}
+use Rattle.plan_records.specs.Rows.{AreChanges, IsRow, key_of, row_cmp}
 use Rattle.plan_rows.proofs.all_rows.changed_rows.Goals as goal
 use Rattle.row_differences.proofs.RowsChanged.{row_changes}
 use Rattle.row_differences.specs.Changes.{AreAt}

@@ -1,6 +1,6 @@
 use Rattle.std.proofs.Common.{◌∙◌, ap, sym, Some, option_map}
 use Rattle.std.proofs.lemmas.Option.{slice_get-map}
-use Rattle.plan_figures.specs.plan_records.specs.Rows.{key_of}
+use Rattle.plan_records.specs.Rows.{key_of}
 use Rattle.plan_rows.proofs.all_rows.key_at.Goals as goal
 
 pub returns : goal.returns

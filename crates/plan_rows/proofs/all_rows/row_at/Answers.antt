@@ -1,7 +1,7 @@
 use Rattle.std.proofs.Common.{◌<◌, ◌∙◌, ap, subst, sym, Some, ℕ}
 use Rattle.std.proofs.lemmas.Option.{slice_get-get_or}
-use Rattle.plan_figures.specs.plan_drafts.proofs.Lists.{length_map}
-use Rattle.plan_figures.specs.plan_records.specs.Rows.{key_of}
+use Rattle.plan_records.specs.plan_drafts.proofs.Lists.{length_map}
+use Rattle.plan_records.specs.Rows.{key_of}
 use Rattle.plan_rows.proofs.all_rows.row_at.Goals as goal
 
 pub bounds-rows-place : goal.bounds-rows-place

@@ -1,5 +1,5 @@
 use Rattle.std.proofs.Common.{◌∙◌, sym, subst, ap, Some}
-use Rattle.plan_figures.specs.shown_records.specs.States.{ShownState}
+use Rattle.derived_figures.specs.counted_records.specs.States.{ShownState}
 use Rattle.plan_model.specs.Contents.{Contents}
 use Rattle.plan_model.specs.Plan.{plan_held}
 use Rattle.plan_rows.proofs.AllTables.{in_all_tables}

@@ -1,5 +1,5 @@
 use Rattle.std.proofs.Common.{◌∙◌, sym, subst, refl, [], Some}
-use Rattle.plan_figures.specs.plan_records.specs.Rows.{key_of, row_cmp}
+use Rattle.plan_records.specs.Rows.{key_of, row_cmp}
 use Rattle.plan_rows.proofs.AllTables.{in_no_table}
 use Rattle.plan_rows.proofs.MetaRow.{clock_of_plan, loaded_where_shown}
 use Rattle.plan_rows.proofs.meta.meta_changes.Goals as goal

@@ -2,8 +2,8 @@ use Rattle.std.proofs.Common.{◌∙◌, sym, subst, [], ◌∷◌}
 use Rattle.std.proofs.lemmas.Bool.{true≢false}
 use Rattle.std.proofs.lemmas.List.{append-nil}
 use Rattle.std.proofs.lemmas.Result.{on_ok_weaker}
-use Rattle.plan_figures.specs.plan_records.specs.Rows.{key_of, row_cmp}
-use Rattle.plan_figures.specs.plan_records.specs.declared.PlanRow.TheVariants as row
+use Rattle.plan_records.specs.Rows.{key_of, row_cmp}
+use Rattle.plan_records.specs.declared.PlanRow.TheVariants as row
 use Rattle.plan_rows.proofs.MetaRow.{meta_changed, meta_stays}
 use Rattle.plan_rows.proofs.OneMore.{one_more_table}
 use Rattle.plan_rows.proofs.meta.push_meta.Goals as goal

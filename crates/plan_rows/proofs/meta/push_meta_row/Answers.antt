@@ -1,6 +1,6 @@
 use Rattle.std.proofs.Common.{◌≡◌, ◌++◌, subst, [], ◌∷◌}
 use Rattle.std.proofs.lemmas.Result.{on_ok_weaker}
-use Rattle.plan_figures.specs.plan_records.specs.declared.PlanRow.TheVariants as row
+use Rattle.plan_records.specs.declared.PlanRow.TheVariants as row
 use Rattle.plan_rows.proofs.MetaRow.{one_made, only_place}
 use Rattle.plan_rows.proofs.meta.push_meta_row.Goals as goal
 

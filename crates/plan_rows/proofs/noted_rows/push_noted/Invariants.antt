@@ -1,7 +1,7 @@
 use Rattle.std.specs.Prelude.{◌≡◌, ◌+◌, ◌*◌, ◌≤◌, ℕ, Bool, List, count_by}
 use Rattle.std.specs.List.Sorted.{IsStrictlySortedBy}
 use Rattle.std.specs.Ordering.{nat_cmp}
-use Rattle.plan_figures.specs.plan_records.specs.declared.PlanRow.{PlanRow}
+use Rattle.plan_records.specs.declared.PlanRow.{PlanRow}
 use Rattle.plan_rows.proofs.DifferentRows.{IsToldTo}
 use Rattle.plan_rows.proofs.noted_rows.push_noted.Given as goal
 use Rattle.plan_rows.specs.Notes.{AreNotedAt}

@@ -2,7 +2,7 @@ use Rattle.std.proofs.Common.{Some, sym, ap, subst, refl, arith, [], length}
 use Rattle.std.specs.FinMap.{entries}
 use Rattle.plan_model.specs.Contents.{Contents}
 use Rattle.plan_model.specs.Plan.{plan_held}
-use Rattle.plan_figures.specs.plan_records.specs.Rows.{AreChanges, key_of, row_cmp}
+use Rattle.plan_records.specs.Rows.{AreChanges, key_of, row_cmp}
 use Rattle.plan_rows.proofs.AllTables.{in_all_tables, in_no_table}
 use Rattle.plan_rows.proofs.Counted.{no_operation_below}
 use Rattle.plan_rows.proofs.MovedRows.{same_occurrences}
@@ -17,7 +17,7 @@ use Rattle.plan_rows.specs.Shown.{plan_shown, shown_with}
 use Rattle.plan_rows.specs.Tables.{AreChangesBelow, IsRowBelow}
 use Rattle.plan_rows.specs.Touched.{AreTouched}
 use Rattle.row_differences.specs.Changes.{AreRowChanges}
-use Rattle.plan_figures.specs.shown_records.specs.States.{ShownState}
+use Rattle.derived_figures.specs.counted_records.specs.States.{ShownState}
 
 pub push_noted_beside-requires : goal.push_noted_beside-requires
 push_noted_beside-requires c =

@@ -1,7 +1,7 @@
 use Rattle.std.proofs.Common.{◌≡◌, ap, subst, slice_get, is_some, Some}
 use Rattle.std.specs.FinMap.{entries}
 use Rattle.plan_model.specs.Contents.{Contents}
-use Rattle.plan_figures.specs.plan_status.proofs.LoadedRows.{row_found}
+use Rattle.derived_figures.specs.plan_status.proofs.LoadedRows.{row_found}
 use Rattle.plan_rows.proofs.occurrence_places.occurrence_place.Goals as goal
 
 pub occurrence_place_of-requires : goal.occurrence_place_of-requires

@@ -3,7 +3,7 @@ use Rattle.std.specs.FinMap.{entries}
 use Rattle.std.specs.Map.{keys_of}
 use Rattle.std.proofs.lemmas.Result.{on_ok_weaker}
 use Rattle.plan_basics.specs.Keys.{occurrence_cmp, occurrence_cmp-IsAntisymmetric, occurrence_cmp_total}
-use Rattle.plan_figures.specs.plan_drafts.specs.declared.RowKey.TheVariants as key
+use Rattle.plan_records.specs.plan_drafts.specs.declared.RowKey.TheVariants as key
 use Rattle.plan_rows.proofs.Counted.{no_look}
 use Rattle.plan_rows.proofs.MovedRows.{same_occurrences}
 use Rattle.plan_rows.proofs.NotedTables.{noted_table}

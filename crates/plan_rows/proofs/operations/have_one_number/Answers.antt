@@ -1,6 +1,6 @@
 use Rattle.std.proofs.Common.{◌∙◌, sym, ap, slice_index_or, false, option_map, Some}
 use Rattle.std.proofs.lemmas.Option.{same_Some, slice_get-get_or}
-use Rattle.plan_figures.specs.plan_status.specs.declared.standings.Standing.{Standing}
+use Rattle.derived_figures.specs.plan_status.specs.declared.standings.Standing.{Standing}
 use Rattle.plan_rows.proofs.operations.have_one_number.Goals as goal
 
 pub returns : goal.returns

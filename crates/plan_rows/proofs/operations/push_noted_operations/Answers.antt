@@ -3,7 +3,7 @@ use Rattle.std.specs.FinMap.{entries}
 use Rattle.std.specs.Map.{keys_of}
 use Rattle.std.proofs.lemmas.Result.{on_ok_weaker}
 use Rattle.plan_basics.specs.Keys.{operation_cmp, operation_cmp-IsAntisymmetric, operation_cmp_total}
-use Rattle.plan_figures.specs.plan_drafts.specs.declared.RowKey.TheVariants as key
+use Rattle.plan_records.specs.plan_drafts.specs.declared.RowKey.TheVariants as key
 use Rattle.plan_rows.proofs.NotedTables.{noted_table}
 use Rattle.plan_rows.proofs.ShownRows.{are_operations, operation_keys, operations_ascend}
 use Rattle.plan_rows.proofs.TouchedRows.{operation_keys_stay, operations_elsewhere, operations_within, within_keys}

@@ -2,7 +2,7 @@ use Rattle.std.proofs.Common.{rules, ◌≡◌, Some, slice_index_or, false, sym
 use Rattle.std.proofs.lemmas.Int.{ints}
 use Rattle.std.proofs.lemmas.Option.{slice_get-get_or, slice_get_within}
 use Rattle.std.specs.FinMap.{entries}
-use Rattle.plan_figures.specs.plan_status.specs.declared.standings.Standing.{Standing}
+use Rattle.derived_figures.specs.plan_status.specs.declared.standings.Standing.{Standing}
 use Rattle.status_rules.specs.declared.Status.TheVariants.{Started}
 use Rattle.plan_rows.proofs.ShownPlaces.{row_shown}
 use Rattle.plan_rows.proofs.ShownRows.{operation_at}

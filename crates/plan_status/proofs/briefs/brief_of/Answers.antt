@@ -4,9 +4,9 @@ use Rattle.std.specs.FinMap.{entries, get}
 use Rattle.plan_basics.specs.Keys.{Name, name_cmp_total, name_cmp-IsAntisymmetric}
 use Rattle.plan_basics.specs.declared.keys.OpKey.{OpKey}
 use Rattle.plan_laws.specs.plan_drafts.proofs.EntryRows.{row_in}
-use Rattle.plan_laws.specs.plan_model.specs.Contents.{Contents, HasAttribute, Operation}
-use Rattle.plan_laws.specs.plan_model.specs.Valid.{IsValid}
-use Rattle.workstations.specs.Workstations.{Workstation}
+use Rattle.plan_model.specs.Contents.{Contents, HasAttribute, Operation}
+use Rattle.plan_model.specs.Valid.{IsValid}
+use Rattle.plan_model.specs.workstations.specs.Workstations.{Workstation}
 use Rattle.plan_status.proofs.RowKeys.{key_of_row, row_shown}
 use Rattle.plan_status.proofs.Workplaces.{own_place, workplace_known}
 use Rattle.plan_status.proofs.briefs.brief_of.Goals as goal

@@ -2,7 +2,7 @@ use Rattle.std.proofs.Common.{◌≡◌, sym, subst, ◌∙◌}
 use Rattle.std.proofs.lemmas.Option.{same_Some}
 use Rattle.std.specs.FinMap.{entries}
 use Rattle.plan_basics.specs.declared.keys.OpKey.{OpKey}
-use Rattle.plan_laws.specs.plan_model.specs.Contents.{Operation}
+use Rattle.plan_model.specs.Contents.{Operation}
 use Rattle.plan_status.proofs.LoadedRows.{row_found}
 use Rattle.plan_status.proofs.RowKeys.{row_shown}
 use Rattle.plan_status.proofs.SoFar.{one_more}

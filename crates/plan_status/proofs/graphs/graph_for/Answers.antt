@@ -1,7 +1,7 @@
 use Rattle.std.proofs.Common.{sym, subst, ap, ◌∙◌}
 use Rattle.std.specs.FinSet.{from_list}
 use Rattle.std.specs.Map.{keys_of}
-use Rattle.plan_laws.specs.plan_model.specs.Valid.{IsAcyclic}
+use Rattle.plan_model.specs.Valid.{IsAcyclic}
 use Rattle.plan_laws.specs.plan_drafts.specs.PlanGraphs.{IsGraphOf}
 use Rattle.plan_laws.specs.plan_drafts.proofs.InOrder.{ends_known, told_by}
 use Rattle.plan_status.proofs.graphs.graph_for.Goals as goal

@@ -1,6 +1,6 @@
 use Rattle.std.proofs.Common.{sym, subst, Decides}
 use Rattle.plan_laws.proofs.Classes.{satisfied_decides}
-use Rattle.plan_laws.specs.plan_model.specs.Status.{IsSatisfied}
+use Rattle.plan_model.specs.Status.{IsSatisfied}
 use Rattle.plan_status.proofs.standings.is_satisfied.Goals as goal
 
 pub returns : goal.returns

@@ -2,7 +2,7 @@ use Rattle.std.proofs.Common.{◌≡◌, sym, ◌∙◌, ap, true, false, true�
 use Rattle.plan_basics.specs.declared.Attr.TheVariants.{Nonreporting}
 use Rattle.status_rules.proofs.Live.{live_mark, mark_live}
 use Rattle.status_rules.specs.Classes.{is_live}
-use Rattle.plan_laws.specs.plan_model.specs.Contents.{Operation}
+use Rattle.plan_model.specs.Contents.{Operation}
 use Rattle.std.proofs.lemmas.Option.{same_Some}
 use Rattle.plan_status.specs.Incoming.{with_pairs}
 use Rattle.plan_status.proofs.Alike.{decides_on}

@@ -2,7 +2,7 @@ use Rattle.std.proofs.Common.{rules, arith, ◌≡◌, ◌<◌, ◌+◌, ℕ, ap
 use Rattle.std.proofs.lemmas.Option.{slice_get-get_or}
 use Rattle.std.specs.FinMap.{entries}
 use Rattle.std.specs.FinSet.{from_list}
-use Rattle.plan_laws.specs.plan_model.specs.Contents.{Contents, pair_cmp}
+use Rattle.plan_model.specs.Contents.{Contents, pair_cmp}
 use Rattle.plan_status.specs.Briefs.{IsBriefedBy}
 use Rattle.plan_status.proofs.InTurn.{AreAllInTurn, IsPairAt, all_shown, comes_after, ends_within, few_edges, pair_below, pair_of, pairs_all, pairs_more, pairs_so_far}
 use Rattle.plan_status.proofs.LoadedRows.{few_rows}

@@ -1,5 +1,5 @@
 use Rattle.std.specs.FinMap.{entries}
-use Rattle.plan_laws.specs.plan_model.specs.Contents.{Contents}
+use Rattle.plan_model.specs.Contents.{Contents}
 use Rattle.plan_status.specs.Briefs.{IsBriefedBy}
 use Rattle.plan_status.proofs.RowStandings.{AreStandingsSoFar}
 use Rattle.plan_status.proofs.InTurn.{pairs_so_far}

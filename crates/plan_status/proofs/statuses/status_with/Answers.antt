@@ -1,5 +1,5 @@
 use Rattle.std.proofs.Common.{sym, subst}
-use Rattle.plan_laws.specs.plan_model.specs.Status.{HasStatus}
+use Rattle.plan_model.specs.Status.{HasStatus}
 use Rattle.plan_status.proofs.ByStanding.{status_on}
 use Rattle.plan_status.proofs.statuses.status_with.Goals as goal
 use Rattle.status_rules.specs.Table.{status_by}

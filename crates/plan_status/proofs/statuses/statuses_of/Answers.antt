@@ -1,7 +1,7 @@
 use Rattle.std.proofs.Common.{arith, refl, ◌<◌, length}
 use Rattle.std.proofs.lemmas.Option.{slice_get-get_or}
 use Rattle.std.specs.FinMap.{entries}
-use Rattle.plan_laws.specs.plan_model.specs.Status.{HasStatus}
+use Rattle.plan_model.specs.Status.{HasStatus}
 use Rattle.plan_status.proofs.RowKeys.{row_shown}
 use Rattle.plan_status.proofs.SoFar.{all_rows, none_so_far, one_more}
 use Rattle.plan_status.proofs.statuses.statuses_of.Goals as goal

@@ -1,6 +1,6 @@
 use Rattle.std.specs.FinMap.{entries}
-use Rattle.plan_laws.specs.plan_model.specs.Contents.{Contents}
-use Rattle.plan_laws.specs.plan_model.specs.Status.{HasStatus}
+use Rattle.plan_model.specs.Contents.{Contents}
+use Rattle.plan_model.specs.Status.{HasStatus}
 use Rattle.plan_status.proofs.SoFar.{AreSoFar}
 use Rattle.plan_status.specs.Briefs.{AreBriefs}
 use Rattle.plan_status.specs.Standings.{AreStandings}

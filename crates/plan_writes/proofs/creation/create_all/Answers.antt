@@ -2,12 +2,12 @@ use Rattle.std.proofs.Common.{arith, ℕ, ◌≡◌, false, length, inl, inr, ap
 use Rattle.sqlite.specs.Effect.{Database, IsDatabase}
 use Rattle.sqlite.specs.Held.{state}
 use Rattle.sqlite.specs.State.{HasCleanDisk}
-use Rattle.table_rows.specs.Rows.{IsEmpty}
-use Rattle.table_rows.specs.Tables.{no_schema}
-use Rattle.plan_schema.specs.Schema.{desk_schema}
-use Rattle.plan_schema.specs.Stored.{Stores, none_held, with_meta}
-use Rattle.plan_schema.proofs.Empty.{stores_none}
-use Rattle.plan_columns.specs.Columns.{meta_columns}
+use Rattle.store_schema.specs.Rows.{IsEmpty}
+use Rattle.store_schema.specs.Tables.{no_schema}
+use Rattle.store_schema.specs.Schema.{desk_schema}
+use Rattle.store_schema.specs.StoredPlans.{Stores, none_held, with_meta}
+use Rattle.store_schema.proofs.Empty.{stores_none}
+use Rattle.store_schema.specs.Columns.{meta_columns}
 use Rattle.plan_writes.proofs.Within.{as_err, then_runs}
 use Rattle.plan_writes.specs.Within.{Begins, Grows, Rewrites}
 use Rattle.plan_writes.proofs.creation.create_all.Goals as goal

@@ -1,7 +1,7 @@
 use Rattle.std.proofs.Common.{◌≡◌, drop, map}
 use Rattle.sqlite.specs.Held.{state}
-use Rattle.table_rows.specs.Tables.{no_schema}
-use Rattle.plan_schema.specs.Schema.{desk_schema}
+use Rattle.store_schema.specs.Tables.{no_schema}
+use Rattle.store_schema.specs.Schema.{desk_schema}
 use Rattle.plan_writes.proofs.Making.{RunsOn}
 use Rattle.plan_writes.proofs.creation.create_empty.Given as goal
 

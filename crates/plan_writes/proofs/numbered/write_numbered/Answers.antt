@@ -1,6 +1,6 @@
 use Rattle.std.proofs.Common.{◌∙◌, rules, ap, not}
 use Rattle.sqlite.specs.Held.{state}
-use Rattle.plan_columns.specs.Receipts.{written_numbered}
+use Rattle.store_schema.specs.Receipts.{written_numbered}
 use Rattle.plan_writes.specs.Within.{Rewrites}
 use Rattle.plan_writes.proofs.Whole.{whole_crash, whole_ok}
 use Rattle.plan_writes.proofs.numbered.write_numbered.Goals as goal

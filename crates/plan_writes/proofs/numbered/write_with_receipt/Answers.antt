@@ -1,8 +1,8 @@
 use Rattle.std.proofs.Common.{◌∙◌}
 use Rattle.sqlite.specs.Held.{state}
-use Rattle.plan_schema.specs.Stored.{with_receipt}
-use Rattle.plan_columns.specs.Receipts.{stored_receipt, written_numbered}
-use Rattle.plan_columns.specs.Tables.{written}
+use Rattle.store_schema.specs.StoredPlans.{with_receipt}
+use Rattle.store_schema.specs.Receipts.{stored_receipt, written_numbered}
+use Rattle.store_schema.specs.WrittenTables.{written}
 use Rattle.plan_writes.specs.Within.{Rewrites}
 use Rattle.plan_writes.proofs.Within.{as_err, then_runs}
 use Rattle.plan_writes.proofs.numbered.write_with_receipt.Goals as goal

@@ -1,10 +1,10 @@
 use Rattle.std.proofs.Common.{pos, ◌∷◌, []}
 use Rattle.sqlite.specs.Held.{state}
 use Rattle.sqlite.specs.declared.types.Value.TheVariants.{Text, Int}
-use Rattle.plan_schema.specs.declared.TheConstants.{DROP_DEPENDENCY}
-use Rattle.plan_schema.proofs.Dependencies.{dependency_dropped}
-use Rattle.plan_columns.specs.Tables.{without_row}
-use Rattle.plan_columns.specs.plan_drafts.specs.declared.RowKey.TheVariants as key
+use Rattle.store_schema.specs.declared.texts.TheConstants.{DROP_DEPENDENCY}
+use Rattle.store_schema.proofs.Dependencies.{dependency_dropped}
+use Rattle.store_schema.specs.WrittenTables.{without_row}
+use Rattle.store_schema.specs.plan_drafts.specs.declared.RowKey.TheVariants as key
 use Rattle.plan_writes.proofs.Growth.{rewrites_so}
 use Rattle.plan_writes.proofs.Texts.{drops_dependency}
 use Rattle.plan_writes.proofs.operation_rows.drop_dependency.Goals as goal

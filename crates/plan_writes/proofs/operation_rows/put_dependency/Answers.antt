@@ -1,8 +1,8 @@
 use Rattle.sqlite.specs.Held.{state}
-use Rattle.plan_schema.specs.Stored.{with_dependency, dependency_row}
-use Rattle.plan_schema.specs.declared.TheConstants.{PUT_DEPENDENCY}
-use Rattle.plan_schema.proofs.Dependencies.{dependency_put}
-use Rattle.plan_columns.specs.Columns.{dependency_columns}
+use Rattle.store_schema.specs.StoredPlans.{with_dependency, dependency_row}
+use Rattle.store_schema.specs.declared.texts.TheConstants.{PUT_DEPENDENCY}
+use Rattle.store_schema.proofs.Dependencies.{dependency_put}
+use Rattle.store_schema.specs.Columns.{dependency_columns}
 use Rattle.plan_writes.proofs.Growth.{rewrites_so}
 use Rattle.plan_writes.proofs.Texts.{writes_dependency}
 use Rattle.plan_writes.proofs.operation_rows.put_dependency.Goals as goal

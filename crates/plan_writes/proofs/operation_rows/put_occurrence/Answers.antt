@@ -1,8 +1,8 @@
 use Rattle.sqlite.specs.Held.{state}
-use Rattle.plan_schema.specs.Stored.{with_occurrence, occurrence_row}
-use Rattle.plan_schema.specs.declared.TheConstants.{PUT_OCCURRENCE}
-use Rattle.plan_schema.proofs.Occurrences.{occurrence_put}
-use Rattle.plan_columns.specs.Columns.{occurrence_columns}
+use Rattle.store_schema.specs.StoredPlans.{with_occurrence, occurrence_row}
+use Rattle.store_schema.specs.declared.texts.TheConstants.{PUT_OCCURRENCE}
+use Rattle.store_schema.proofs.Occurrences.{occurrence_put}
+use Rattle.store_schema.specs.Columns.{occurrence_columns}
 use Rattle.plan_writes.proofs.Growth.{rewrites_so}
 use Rattle.plan_writes.proofs.Texts.{writes_occurrence}
 use Rattle.plan_writes.proofs.operation_rows.put_occurrence.Goals as goal

@@ -1,8 +1,8 @@
 use Rattle.sqlite.specs.Held.{state}
-use Rattle.plan_schema.specs.Stored.{with_operation, operation_row}
-use Rattle.plan_schema.specs.declared.TheConstants.{PUT_OPERATION}
-use Rattle.plan_schema.proofs.Operations.{operation_put}
-use Rattle.plan_columns.specs.Columns.{operation_columns}
+use Rattle.store_schema.specs.StoredPlans.{with_operation, operation_row}
+use Rattle.store_schema.specs.declared.texts.TheConstants.{PUT_OPERATION}
+use Rattle.store_schema.proofs.Operations.{operation_put}
+use Rattle.store_schema.specs.Columns.{operation_columns}
 use Rattle.plan_writes.proofs.Growth.{rewrites_so}
 use Rattle.plan_writes.proofs.Texts.{writes_operation}
 use Rattle.plan_writes.proofs.operation_rows.put_operation.Goals as goal

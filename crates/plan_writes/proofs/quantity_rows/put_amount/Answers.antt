@@ -1,8 +1,8 @@
 use Rattle.sqlite.specs.Held.{state}
-use Rattle.plan_schema.specs.Stored.{with_amount, amount_row}
-use Rattle.plan_schema.specs.declared.TheConstants.{PUT_AMOUNT}
-use Rattle.plan_schema.proofs.Amounts.{amount_put}
-use Rattle.plan_columns.specs.Columns.{amount_columns}
+use Rattle.store_schema.specs.StoredPlans.{with_amount, amount_row}
+use Rattle.store_schema.specs.declared.texts.TheConstants.{PUT_AMOUNT}
+use Rattle.store_schema.proofs.Amounts.{amount_put}
+use Rattle.store_schema.specs.Columns.{amount_columns}
 use Rattle.plan_writes.proofs.Growth.{rewrites_so}
 use Rattle.plan_writes.proofs.Texts.{writes_amount}
 use Rattle.plan_writes.proofs.quantity_rows.put_amount.Goals as goal

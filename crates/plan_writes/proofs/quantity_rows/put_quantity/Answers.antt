@@ -1,8 +1,8 @@
 use Rattle.sqlite.specs.Held.{state}
-use Rattle.plan_schema.specs.Stored.{with_quantity, quantity_row}
-use Rattle.plan_schema.specs.declared.TheConstants.{PUT_QUANTITY}
-use Rattle.plan_schema.proofs.Quantities.{quantity_put}
-use Rattle.plan_columns.specs.Columns.{quantity_columns}
+use Rattle.store_schema.specs.StoredPlans.{with_quantity, quantity_row}
+use Rattle.store_schema.specs.declared.texts.TheConstants.{PUT_QUANTITY}
+use Rattle.store_schema.proofs.Quantities.{quantity_put}
+use Rattle.store_schema.specs.Columns.{quantity_columns}
 use Rattle.plan_writes.proofs.Growth.{rewrites_so}
 use Rattle.plan_writes.proofs.Texts.{writes_quantity}
 use Rattle.plan_writes.proofs.quantity_rows.put_quantity.Goals as goal

@@ -2,10 +2,10 @@ use Rattle.std.proofs.Common.{◌≡◌, ◌∙◌, FitsSigned, ap, arith, of_z,
 use Rattle.std.proofs.lemmas.Int.{ints}
 use Rattle.sqlite.specs.Held.{state}
 use Rattle.sqlite.specs.declared.types.Value.TheVariants.{Int}
-use Rattle.plan_schema.specs.Stored.{with_receipt, receipt_row}
-use Rattle.plan_schema.specs.declared.TheConstants.{PUT_RECEIPT}
-use Rattle.plan_schema.proofs.Receipts.{receipt_put}
-use Rattle.plan_columns.specs.Receipts.{stored_receipt}
+use Rattle.store_schema.specs.StoredPlans.{with_receipt, receipt_row}
+use Rattle.store_schema.specs.declared.texts.TheConstants.{PUT_RECEIPT}
+use Rattle.store_schema.proofs.Receipts.{receipt_put}
+use Rattle.store_schema.specs.Receipts.{stored_receipt}
 use Rattle.plan_writes.proofs.Growth.{rewrites_so}
 use Rattle.plan_writes.proofs.Texts.{writes_receipt}
 use Rattle.plan_writes.proofs.receipt_rows.put_receipt.Goals as goal

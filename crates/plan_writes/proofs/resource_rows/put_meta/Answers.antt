@@ -1,10 +1,10 @@
 use Rattle.sqlite.specs.Held.{state}
-use Rattle.plan_schema.specs.Schema.{desk_schema}
-use Rattle.plan_schema.specs.Stored.{with_meta, meta_values}
-use Rattle.plan_schema.specs.declared.TheConstants.{PUT_META}
-use Rattle.plan_schema.proofs.MetaTexts.{put_is, put_plain}
-use Rattle.plan_schema.proofs.Metas.{meta_put}
-use Rattle.plan_columns.specs.Columns.{meta_columns}
+use Rattle.store_schema.specs.Schema.{desk_schema}
+use Rattle.store_schema.specs.StoredPlans.{with_meta, meta_values}
+use Rattle.store_schema.specs.declared.texts.TheConstants.{PUT_META}
+use Rattle.store_schema.proofs.MetaTexts.{put_is, put_plain}
+use Rattle.store_schema.proofs.Metas.{meta_put}
+use Rattle.store_schema.specs.Columns.{meta_columns}
 use Rattle.plan_writes.proofs.Faults.{finds_table_named}
 use Rattle.plan_writes.proofs.Growth.{rewrites_so}
 use Rattle.plan_writes.proofs.Texts.{writes_meta}

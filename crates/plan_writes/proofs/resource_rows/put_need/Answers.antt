@@ -1,8 +1,8 @@
 use Rattle.sqlite.specs.Held.{state}
-use Rattle.plan_schema.specs.Stored.{with_need, need_row}
-use Rattle.plan_schema.specs.declared.TheConstants.{PUT_NEED}
-use Rattle.plan_schema.proofs.Needs.{need_put}
-use Rattle.plan_columns.specs.Columns.{need_columns}
+use Rattle.store_schema.specs.StoredPlans.{with_need, need_row}
+use Rattle.store_schema.specs.declared.texts.TheConstants.{PUT_NEED}
+use Rattle.store_schema.proofs.Needs.{need_put}
+use Rattle.store_schema.specs.Columns.{need_columns}
 use Rattle.plan_writes.proofs.Growth.{rewrites_so}
 use Rattle.plan_writes.proofs.Texts.{writes_need}
 use Rattle.plan_writes.proofs.resource_rows.put_need.Goals as goal

@@ -1,8 +1,8 @@
 use Rattle.sqlite.specs.Held.{state}
-use Rattle.plan_schema.specs.Stored.{with_resource, resource_row}
-use Rattle.plan_schema.specs.declared.TheConstants.{PUT_RESOURCE}
-use Rattle.plan_schema.proofs.Resources.{resource_put}
-use Rattle.plan_columns.specs.Columns.{resource_columns}
+use Rattle.store_schema.specs.StoredPlans.{with_resource, resource_row}
+use Rattle.store_schema.specs.declared.texts.TheConstants.{PUT_RESOURCE}
+use Rattle.store_schema.proofs.Resources.{resource_put}
+use Rattle.store_schema.specs.Columns.{resource_columns}
 use Rattle.plan_writes.proofs.Growth.{rewrites_so}
 use Rattle.plan_writes.proofs.Texts.{writes_resource}
 use Rattle.plan_writes.proofs.resource_rows.put_resource.Goals as goal

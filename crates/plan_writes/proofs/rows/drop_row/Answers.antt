@@ -1,7 +1,7 @@
 use Rattle.std.proofs.Common.{◌≡◌, inl, inr, refl, sym, ap, subst}
 use Rattle.sqlite.specs.Held.{state}
-use Rattle.plan_schema.specs.Stored.{Held, Stores}
-use Rattle.plan_columns.specs.Tables.{without_row}
+use Rattle.store_schema.specs.StoredPlans.{Held, Stores}
+use Rattle.store_schema.specs.WrittenTables.{without_row}
 use Rattle.plan_writes.specs.Within.{Rewrites}
 use Rattle.plan_writes.proofs.Within.{nothing_done}
 use Rattle.plan_writes.proofs.rows.drop_row.Goals as goal

@@ -1,6 +1,6 @@
 use Rattle.std.proofs.Common.{refl, ◌∙◌}
 use Rattle.sqlite.specs.Held.{state}
-use Rattle.plan_columns.specs.Tables.{without_row, without_rows}
+use Rattle.store_schema.specs.WrittenTables.{without_row, without_rows}
 use Rattle.plan_writes.proofs.Lists.{set_out, goes_on, breaks_off, arrives}
 use Rattle.plan_writes.proofs.rows.drop_rows.Goals as goal
 

@@ -1,6 +1,6 @@
 use Rattle.std.proofs.Common.{◌≡◌, drop}
 use Rattle.sqlite.specs.Held.{state}
-use Rattle.plan_columns.specs.Tables.{without_rows}
+use Rattle.store_schema.specs.WrittenTables.{without_rows}
 use Rattle.plan_writes.proofs.Lists.{RunsOn}
 use Rattle.plan_writes.proofs.rows.drop_rows.Given as goal
 

@@ -1,7 +1,7 @@
 use Rattle.sqlite.specs.Held.{state}
 use Rattle.std.proofs.Common.{◌∙◌}
 use Rattle.plan_writes.specs.Within.{Rewrites}
-use Rattle.plan_columns.specs.Tables.{with_rows, without_rows, written}
+use Rattle.store_schema.specs.WrittenTables.{with_rows, without_rows, written}
 use Rattle.plan_writes.proofs.Within.{then_runs, as_err}
 use Rattle.plan_writes.proofs.rows.write_and_drop.Goals as goal
 

@@ -1,6 +1,6 @@
 use Rattle.std.proofs.Common.{◌≡◌, drop}
 use Rattle.sqlite.specs.Held.{state}
-use Rattle.plan_columns.specs.Tables.{with_rows}
+use Rattle.store_schema.specs.WrittenTables.{with_rows}
 use Rattle.plan_writes.proofs.Lists.{RunsOn}
 use Rattle.plan_writes.proofs.rows.write_rows.Given as goal
 

@@ -1,7 +1,7 @@
 use Rattle.std.proofs.Common.{[]}
 use Rattle.sqlite.specs.Held.{state}
-use Rattle.plan_schema.specs.Schema.{amount, schema_10}
-use Rattle.plan_schema.specs.declared.TheConstants.{CREATE_AMOUNT}
+use Rattle.store_schema.specs.Schema.{amount, schema_10}
+use Rattle.store_schema.specs.declared.texts.TheConstants.{CREATE_AMOUNT}
 use Rattle.plan_writes.specs.Upgrading.{Adds}
 use Rattle.plan_writes.proofs.AllTables.{amount_is_made}
 use Rattle.plan_writes.proofs.Upgraded.{adds_named, adds_so}

@@ -1,9 +1,9 @@
 use Rattle.std.proofs.Common.{Ok, Err}
 use Rattle.sqlite.specs.Effect.{Database}
 use Rattle.sqlite.specs.Held.{state}
-use Rattle.plan_schema.specs.Schema.{amount, quantity, first_schema, schema_10, desk_schema}
-use Rattle.plan_schema.specs.Stored.{with_meta}
-use Rattle.plan_columns.specs.Columns.{meta_columns}
+use Rattle.store_schema.specs.Schema.{amount, quantity, first_schema, schema_10, desk_schema}
+use Rattle.store_schema.specs.StoredPlans.{with_meta}
+use Rattle.store_schema.specs.Columns.{meta_columns}
 use Rattle.plan_writes.specs.Upgrading.{Adds, Upgrades}
 use Rattle.plan_writes.specs.Within.{Rewrites, RunsWithin}
 use Rattle.plan_writes.proofs.Upgraded.{free_after, named_as, upgraded}

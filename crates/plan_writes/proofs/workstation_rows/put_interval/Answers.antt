@@ -1,8 +1,8 @@
 use Rattle.sqlite.specs.Held.{state}
-use Rattle.plan_schema.specs.Stored.{with_interval, interval_row}
-use Rattle.plan_schema.specs.declared.TheConstants.{PUT_INTERVAL}
-use Rattle.plan_schema.proofs.Intervals.{interval_put}
-use Rattle.plan_columns.specs.Columns.{interval_columns}
+use Rattle.store_schema.specs.StoredPlans.{with_interval, interval_row}
+use Rattle.store_schema.specs.declared.texts.TheConstants.{PUT_INTERVAL}
+use Rattle.store_schema.proofs.Intervals.{interval_put}
+use Rattle.store_schema.specs.Columns.{interval_columns}
 use Rattle.plan_writes.proofs.Growth.{rewrites_so}
 use Rattle.plan_writes.proofs.Texts.{writes_interval}
 use Rattle.plan_writes.proofs.workstation_rows.put_interval.Goals as goal

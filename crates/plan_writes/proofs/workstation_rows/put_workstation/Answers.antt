@@ -1,8 +1,8 @@
 use Rattle.sqlite.specs.Held.{state}
-use Rattle.plan_schema.specs.Stored.{with_workstation, workstation_row}
-use Rattle.plan_schema.specs.declared.TheConstants.{PUT_WORKSTATION}
-use Rattle.plan_schema.proofs.Workstations.{workstation_put}
-use Rattle.plan_columns.specs.Columns.{workstation_columns}
+use Rattle.store_schema.specs.StoredPlans.{with_workstation, workstation_row}
+use Rattle.store_schema.specs.declared.texts.TheConstants.{PUT_WORKSTATION}
+use Rattle.store_schema.proofs.Workstations.{workstation_put}
+use Rattle.store_schema.specs.Columns.{workstation_columns}
 use Rattle.plan_writes.proofs.Growth.{rewrites_so}
 use Rattle.plan_writes.proofs.Texts.{writes_workstation}
 use Rattle.plan_writes.proofs.workstation_rows.put_workstation.Goals as goal

@@ -1,6 +1,6 @@
 use Rattle.std.proofs.Common.{◌≡◌, ◌∙◌, sym, subst, ℕ, List, [], ◌∷◌, map}
 use Rattle.std.specs.List.Sorted.{IsStrictlySortedBy}
-use Rattle.plan_drafts.specs.plan_model.specs.Contents.{pair_cmp}
+use Rattle.plan_model.specs.Contents.{pair_cmp}
 use Rattle.plays_layers.specs.Numbered.{numbered, numbered_pair}
 use Rattle.plan_drafts.specs.PlanGraphs.{AreAmong}
 use Rattle.plays_layers.proofs.NumberedOrder.{chain_back_ends, ends_among, five, five_ascend, has_number, numbers_ascend, pairs_ascend}

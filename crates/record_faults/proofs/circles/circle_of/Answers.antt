@@ -2,7 +2,7 @@ use Rattle.std.proofs.Common.{◌≡◌, ◌<◌, ℕ, sym, ap, subst, ◌∙◌
 use Rattle.std.specs.List.{AllZip}
 use Rattle.std.proofs.lemmas.Option.{slice_get-get_or, slice_get_within}
 use Rattle.plan_basics.specs.declared.keys.OpKey.{OpKey}
-use Rattle.returning_paths.specs.Returns.{NoneReturns, IsReturn}
+use Rattle.graph_paths.specs.Returns.{NoneReturns, IsReturn}
 use Rattle.record_faults.specs.Circles.{StandsAt}
 use Rattle.record_faults.proofs.Circling.{ends_within, edge_at, no_circle, way_stands, circle_is}
 use Rattle.record_faults.proofs.circles.circle_of.Goals as goal

@@ -1,6 +1,6 @@
 use Rattle.std.proofs.Common.{◌≡◌, ◌<◌, true, false, eqb, sym, subst, refl, true≢false, length}
 use Rattle.std.specs.FinMap.{len}
-use Rattle.plan_drafts.specs.plan_model.specs.Contents.{Contents}
+use Rattle.plan_model.specs.Contents.{Contents}
 use Rattle.plan_drafts.proofs.Denoting.{no_entry, some_entry}
 use Rattle.plan_drafts.proofs.Unique.{one_plan_of_items}
 use Rattle.record_faults.proofs.denoting.items_make_some.Goals as goal

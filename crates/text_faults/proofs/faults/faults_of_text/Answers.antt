@@ -1,11 +1,11 @@
 use Rattle.std.proofs.Common.{◌≡◌, ◌↔◌, ap, sym, subst, List, [], All, Contains, IsSome}
-use Rattle.text_records.specs.plan_items.specs.Items.{Fields}
+use Rattle.plan_items.specs.Items.{Fields}
 use Rattle.record_faults.specs.Faults.{IsFault, DenoteSome}
 use Rattle.record_faults.specs.declared.faults.Fault.TheVariants as variant
 use Rattle.record_faults.specs.declared.faults.RecordFault.{RecordFault}
 use Rattle.record_faults.specs.Sayings.{texts_of}
-use Rattle.text_records.specs.Denoting.{DenotesPlansOf}
-use Rattle.text_records.specs.Records.{AreRecordsOf}
+use Rattle.plan_import.specs.Denoting.{DenotesPlansOf}
+use Rattle.plan_import.specs.TextRecords.{AreRecordsOf}
 use Rattle.text_faults.proofs.Reading.{denotes}
 use Rattle.text_faults.proofs.faults.faults_of_text.Goals as goal
 

@@ -1,6 +1,6 @@
 use Rattle.sqlite.specs.Held.{state}
 use Rattle.plan_records.specs.Answer.{answer_of}
-use Rattle.plan_tables.specs.Desk.{state_of}
+use Rattle.desk_tables.specs.Desk.{state_of}
 use Rattle.tracker_http.proofs.Carried.{any_crash, tables_carried}
 use Rattle.tracker_http.proofs.asking.tell_report.Goals as goal
 

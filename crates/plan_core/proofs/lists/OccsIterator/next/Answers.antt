@@ -1,7 +1,7 @@
 use Rattle.std.proofs.Common.{◌≤◌, ap, arith, length, subst}
 use Rattle.plan_core.proofs.FromPlace.{fewer, length_occs, none_from, rest_from}
 use Rattle.plan_core.proofs.lists.OccsIterator.next.Goals as goal
-use Rattle.plan_outcomes.specs.plan_steps.specs.plan_rows.specs.Shown.{IsShownIfAny}
+use Rattle.plan_opening.specs.plan_rows.specs.Shown.{IsShownIfAny}
 use Rattle.plan_core.specs.Views.{occ_views}
 
 pub returns-then-place-occurrences-clause-steps : goal.returns-then-place-occurrences-clause-steps

@@ -1,7 +1,7 @@
 use Rattle.std.proofs.Common.{◌≤◌, ap, arith, length, subst}
 use Rattle.plan_core.proofs.FromPlace.{fewer, length_ops, none_from, rest_from}
 use Rattle.plan_core.proofs.lists.OpsIterator.next.Goals as goal
-use Rattle.plan_outcomes.specs.plan_steps.specs.plan_rows.specs.Shown.{IsShownIfAny}
+use Rattle.plan_opening.specs.plan_rows.specs.Shown.{IsShownIfAny}
 use Rattle.plan_core.specs.Views.{op_views}
 
 pub returns-then-place-operations-clause-steps : goal.returns-then-place-operations-clause-steps

@@ -1,6 +1,6 @@
 use Rattle.std.proofs.Common.{◌≡◌, ◌∙◌, sym, ap, subst}
-use Rattle.plan_outcomes.specs.plan_records.specs.Answer.{accepted}
-use Rattle.plan_outcomes.specs.plan_records.specs.Step.{Step}
+use Rattle.plan_records.specs.Answer.{accepted}
+use Rattle.plan_records.specs.Step.{Step}
 use Rattle.plan_core.proofs.Answering.{step_answers}
 use Rattle.plan_core.proofs.plan.Plan.answer.Goals as goal
 use Rattle.plan_core.specs.State.{PlanState, plan_after}

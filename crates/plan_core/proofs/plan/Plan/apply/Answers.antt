@@ -1,7 +1,7 @@
 use Rattle.std.proofs.Common.{◌≡◌, sym, ap, subst}
-use Rattle.plan_outcomes.specs.plan_model.specs.Plan.{Plan, IsSoundPlan, plan_held}
-use Rattle.plan_outcomes.specs.plan_records.specs.Answer.{accepted}
-use Rattle.plan_outcomes.specs.plan_records.specs.Step.{Step}
+use Rattle.plan_model.specs.Plan.{Plan, IsSoundPlan, plan_held}
+use Rattle.plan_records.specs.Answer.{accepted}
+use Rattle.plan_records.specs.Step.{Step}
 use Rattle.plan_core.proofs.Seen.{seen_sound}
 use Rattle.plan_core.proofs.Provided.{step_sound, step_starts}
 use Rattle.plan_core.proofs.Seen.{is_after}

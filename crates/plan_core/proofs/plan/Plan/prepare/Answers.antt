@@ -1,12 +1,12 @@
 use Rattle.std.proofs.Common.{IfOk}
-use Rattle.plan_outcomes.specs.plan_steps.specs.plan_changes.proofs.Answered.{if_ok}
+use Rattle.plan_opening.specs.plan_changes.proofs.Answered.{if_ok}
 use Rattle.plan_core.proofs.Seen.{seen_prepared}
 use Rattle.plan_core.proofs.Provided.{step_sound, step_starts}
 use Rattle.plan_core.proofs.plan.Plan.prepare.Goals as goal
 use Rattle.plan_core.proofs.plan.Plan.prepare.Goals.{After-prepare_in-loaded}
 use Rattle.plan_core.specs.Prepares.{IsPreparedIn}
 use Rattle.plan_core.specs.State.{plan_after}
-use Rattle.plan_outcomes.specs.plan_records.specs.Answer.{accepted}
+use Rattle.plan_records.specs.Answer.{accepted}
 
 -- it was prepared for the plan that callers see
 led : (c : After-prepare_in-loaded) → IfOk c.prepare_in-loaded.result.1 (IsPreparedIn c.args.self.now.plan c.args.request.now)

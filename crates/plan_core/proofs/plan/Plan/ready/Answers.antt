@@ -3,15 +3,15 @@ use Rattle.std.proofs.lemmas.Option.{get_or_from_slice_get, slice_get-get_or}
 use Rattle.std.specs.FinMap.{contains_key, get, get-empty}
 use Rattle.std.specs.Option.{is_some}
 use Rattle.plan_basics.specs.Keys.{name_cmp}
-use Rattle.plan_outcomes.specs.plan_steps.specs.plan_choice.specs.Choices.{AreReadyEntries}
-use Rattle.plan_outcomes.specs.plan_drafts.proofs.Tables.{some_is}
-use Rattle.plan_outcomes.specs.plan_model.specs.Contents.{Contents, IsInPlan}
+use Rattle.plan_opening.specs.start_choice.specs.Choices.{AreReadyEntries}
+use Rattle.plan_records.specs.plan_drafts.proofs.Tables.{some_is}
+use Rattle.plan_model.specs.Contents.{Contents, IsInPlan}
 use Rattle.ready_list.specs.Entries.{on_workstation}
 use Rattle.ready_list.specs.declared.entry.ReadyEntry.{ReadyEntry}
 use Rattle.plan_core.proofs.FromPlace.{none_known}
 use Rattle.plan_core.proofs.ReadyViews.{are_ready_views, of_listed}
 use Rattle.plan_core.proofs.plan.Plan.ready.Goals as goal
-use Rattle.plan_outcomes.specs.plan_model.specs.Plan.{plan_held}
+use Rattle.plan_model.specs.Plan.{plan_held}
 use Rattle.plan_core.specs.State.{PlanState}
 use Rattle.plan_core.specs.Views.{AreReadyViews, ready_views}
 

@@ -1,10 +1,10 @@
 use Rattle.std.proofs.Common.{rules, refl, subst, List, ◌≡◌, ◌+◌, ◌++◌, ◌∷◌, [], take, map, cond, length, length-append, sym, ap, ◌∙◌, arith}
 use Rattle.std.specs.Result.{is_ok}
 use Rattle.std.proofs.lemmas.List.{map-append, take_all, take_more}
-use Rattle.plan_outcomes.specs.plan_records.specs.Answer.{answer_of}
-use Rattle.plan_outcomes.specs.plan_records.specs.Run.{Run, plain, usable}
-use Rattle.plan_outcomes.specs.plan_records.specs.declared.Reply.{Reply}
-use Rattle.plan_outcomes.specs.plan_records.specs.declared.Request.{Request}
+use Rattle.plan_records.specs.Answer.{answer_of}
+use Rattle.plan_records.specs.Run.{Run, plain, usable}
+use Rattle.plan_records.specs.declared.Reply.{Reply}
+use Rattle.plan_records.specs.declared.Request.{Request}
 use Rattle.plan_core.proofs.Answering.{accepted_answer_all, run_more}
 use Rattle.plan_core.proofs.Seen.{seen_sound}
 use Rattle.plan_core.proofs.Provided.{answered_sound, provided_more}

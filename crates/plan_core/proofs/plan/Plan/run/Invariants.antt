@@ -1,7 +1,7 @@
 use Rattle.std.proofs.Common.{◌≡◌, ◌≤◌, take, length, map, vec_len}
 use Rattle.std.specs.Vec.{vec_capacity}
-use Rattle.plan_outcomes.specs.plan_records.specs.Answer.{answer_of}
-use Rattle.plan_outcomes.specs.plan_model.specs.Plan.{IsSoundPlan}
+use Rattle.plan_records.specs.Answer.{answer_of}
+use Rattle.plan_model.specs.Plan.{IsSoundPlan}
 use Rattle.plan_core.specs.Provided.{RunStartsAreProvided}
 use Rattle.plan_core.specs.State.{AnswersAll}
 use Rattle.plan_core.proofs.plan.Plan.run.Given as goal

@@ -6,9 +6,9 @@ use Rattle.plan_core.proofs.OccViews.{occ_view_is, row_in_plan}
 use Rattle.plan_core.proofs.plan.Plan.view_occ.Goals as goal
 use Rattle.plan_core.proofs.plan.Plan.view_occ.Goals.{In_ok-place}
 use Rattle.plan_core.specs.Views.{IsOccView}
-use Rattle.plan_outcomes.specs.plan_drafts.proofs.Tables.{some_is}
-use Rattle.plan_outcomes.specs.plan_model.specs.Contents.{Contents}
-use Rattle.plan_outcomes.specs.plan_model.specs.declared.Occurrence.{Occurrence}
+use Rattle.plan_records.specs.plan_drafts.proofs.Tables.{some_is}
+use Rattle.plan_model.specs.Contents.{Contents}
+use Rattle.plan_model.specs.declared.Occurrence.{Occurrence}
 
 pub returns-in_err-shown-clause-some : goal.returns-in_err-shown-clause-some
 returns-in_err-shown-clause-some c =

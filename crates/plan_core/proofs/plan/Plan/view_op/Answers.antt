@@ -6,7 +6,7 @@ use Rattle.plan_core.proofs.OpViews.{op_view_is, row_in_plan}
 use Rattle.plan_core.proofs.plan.Plan.view_op.Goals as goal
 use Rattle.plan_core.proofs.plan.Plan.view_op.Goals.{In_ok-place}
 use Rattle.plan_core.specs.Views.{IsOpView}
-use Rattle.plan_outcomes.specs.plan_model.specs.Contents.{Contents, IsInPlan, Operation}
+use Rattle.plan_model.specs.Contents.{Contents, IsInPlan, Operation}
 
 pub returns-in_err-shown-clause-some : goal.returns-in_err-shown-clause-some
 returns-in_err-shown-clause-some c =

@@ -1,6 +1,6 @@
 use Rattle.std.proofs.Common.{◌≡◌, ◌∷◌, sym, ◌∙◌}
 use Rattle.std.proofs.lemmas.List.Elements.{All-rest}
-use Rattle.plan_outcomes.specs.plan_model.specs.Contents.{IsInPlan}
+use Rattle.plan_model.specs.Contents.{IsInPlan}
 use Rattle.plan_core.proofs.FromPlace.{fewer}
 use Rattle.plan_core.proofs.ReadyViews.{one_ready, view_is}
 use Rattle.plan_core.specs.Views.{ready_views}

@@ -4,7 +4,7 @@ use Rattle.std.proofs.lemmas.Option.{same_Some, none-some}
 use Rattle.plan_basics.specs.Keys.{operation_cmp_total, operation_cmp-IsAntisymmetric}
 use Rattle.plan_basics.specs.declared.keys.OpKey.{OpKey}
 use Rattle.plan_model.specs.Contents.{Contents, Operation}
-use Rattle.plan_moves.specs.Markings.{with_marking}
+use Rattle.plan_model.specs.Markings.{with_marking}
 use Rattle.plan_drafts.specs.Contents.{held_in}
 use Rattle.plan_drafts.proofs.Held.{looked_up, row_in_order, row_is, row_read}
 use Rattle.plan_drafts.proofs.contents.PlanContents.set_marking.Goals as goal

@@ -1,6 +1,6 @@
 use Rattle.std.proofs.Common.{◌≡◌, sym, subst, slice_get, Some}
 use Rattle.std.specs.FinMap.{entries}
-use Rattle.plan_figures.specs.plan_status.proofs.RowKeys.{key_of_row}
+use Rattle.derived_figures.specs.plan_status.proofs.RowKeys.{key_of_row}
 use Rattle.plan_rows.proofs.ShownRows.{operation_keys, operation_within}
 use Rattle.plan_rows.proofs.operations.OperationRecordTabled.key_at.Goals as goal
 use Rattle.plan_rows.specs.Shown.{source_of}

@@ -1,10 +1,10 @@
 use Rattle.std.proofs.Common.{◌≡◌, ◌∙◌, sym, subst}
-use Rattle.plan_figures.specs.plan_choice.specs.Choices.{AreLatestStarts}
+use Rattle.derived_figures.specs.start_choice.specs.Choices.{AreLatestStarts}
 use Rattle.plan_rows.proofs.shown.RowSource.of.Goals as goal
-use Rattle.plan_figures.specs.plan_drafts.specs.Places.{AreStatuses}
+use Rattle.plan_records.specs.plan_drafts.specs.Places.{AreStatuses}
 use Rattle.plan_model.specs.Contents.{Contents}
 use Rattle.plan_model.specs.Valid.{IsSound}
-use Rattle.plan_figures.specs.plan_status.specs.Standings.{AreStandings, AreTallies}
+use Rattle.derived_figures.specs.plan_status.specs.Standings.{AreStandings, AreTallies}
 
 pub returns-clause-shown : goal.returns-clause-shown
 returns-clause-shown c =

@@ -1,5 +1,5 @@
 use Rattle.std.proofs.Common.{sym, subst}
-use Rattle.plan_laws.specs.plan_model.specs.Status.{HasStatus}
+use Rattle.plan_model.specs.Status.{HasStatus}
 use Rattle.plan_status.proofs.Briefed.{status_briefed}
 use Rattle.plan_status.proofs.briefs.Brief.status.Goals as goal
 

@@ -1,6 +1,6 @@
 use Rattle.std.proofs.Common.{◌≡◌, subst, Some, slice_get}
 use Rattle.std.specs.FinMap.{entries}
-use Rattle.plan_laws.specs.plan_model.specs.Contents.{Contents, Operation}
+use Rattle.plan_model.specs.Contents.{Contents, Operation}
 use Rattle.plan_status.proofs.sound.SoundContents.known_operation_place.Goals as goal
 
 pub returns-clause-at : goal.returns-clause-at

@@ -1,9 +1,9 @@
 use Rattle.std.proofs.Common.{◌≡◌, ◌<◌, sym, subst, true, length, Some, slice_get}
 use Rattle.std.specs.FinMap.{contains_key, entries, get}
 use Rattle.plan_laws.specs.plan_drafts.proofs.Tables.{is_found}
-use Rattle.plan_laws.specs.plan_model.specs.Valid.{IsValid}
-use Rattle.plan_laws.specs.plan_model.specs.Contents.{Contents}
-use Rattle.plan_laws.specs.plan_model.specs.declared.Occurrence.{Occurrence}
+use Rattle.plan_model.specs.Valid.{IsValid}
+use Rattle.plan_model.specs.Contents.{Contents}
+use Rattle.plan_model.specs.declared.Occurrence.{Occurrence}
 use Rattle.plan_status.proofs.LoadedRows.{its_occurrence}
 use Rattle.plan_status.proofs.sound.SoundContents.occurrence_place_of.Goals as goal
 

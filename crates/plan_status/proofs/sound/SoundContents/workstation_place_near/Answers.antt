@@ -1,9 +1,9 @@
 use Rattle.std.proofs.Common.{◌≡◌, ◌<◌, sym, ap, subst, length, Some, slice_get}
 use Rattle.std.specs.FinMap.{entries, get}
 use Rattle.plan_basics.specs.declared.keys.OpKey.{OpKey}
-use Rattle.plan_laws.specs.plan_model.specs.Valid.{IsValid}
-use Rattle.plan_laws.specs.plan_model.specs.Contents.{Contents, Operation}
-use Rattle.workstations.specs.Workstations.{Workstation}
+use Rattle.plan_model.specs.Valid.{IsValid}
+use Rattle.plan_model.specs.Contents.{Contents, Operation}
+use Rattle.plan_model.specs.workstations.specs.Workstations.{Workstation}
 use Rattle.plan_status.proofs.Workplaces.{own_place, workplace_known}
 use Rattle.plan_status.proofs.sound.SoundContents.workstation_place_near.Goals as goal
 

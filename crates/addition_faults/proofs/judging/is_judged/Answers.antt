@@ -1,4 +1,0 @@
-use Rattle.addition_faults.proofs.judging.is_judged.Goals as goal
-
-pub returns-in-Undefined : goal.returns-in-Undefined
-returns-in-Undefined c = rw c.in-Undefined.is (c.is_name_judged.ensures c.args.added)

@@ -1,5 +1,0 @@
-use Rattle.addition_faults.proofs.ComingIn.{own_told}
-use Rattle.addition_faults.proofs.occurrences.is_own.Goals as goal
-
-pub returns : goal.returns
-returns c = λ said is. rw (c.is_some.ensures, c.first_place.ensures) (own_told said c.args.index.now is c.args.operation.now)

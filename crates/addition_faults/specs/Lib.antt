@@ -1,3 +1,0 @@
-pub use Rattle.text_faults
-pub mod AddedFaults
-pub mod AddedTexts

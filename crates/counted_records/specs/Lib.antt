@@ -1,0 +1,10 @@
+pub use Rattle.plan_changes
+pub use Rattle.plan_changes.specs.plan_drafts
+pub use Rattle.plan_status.specs.plan_laws
+pub use Rattle.plan_changes.specs.plan_records
+pub use Rattle.plan_status
+pub use Rattle.satisfaction
+pub mod States
+pub mod Looks
+pub mod Rules
+pub mod Leaving

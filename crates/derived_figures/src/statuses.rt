@@ -1,0 +1,104 @@
+// The statuses of a plan's operations.
+ghost use Rattle.std.specs.Prelude.{◌≡◌, ◌+◌, ◌<◌, ◌≤◌, None, Some, IfErr, IfOk, IfSome, IsNone, length, slice_get};
+ghost use Rattle.std.specs.FinMap.{entries, get, len};
+ghost use Rattle.plan_basics.specs.declared.Refusal.{Refusal};
+ghost use Rattle.plan_basics.specs.declared.keys.OpKey.{OpKey as OpKeyValue};
+ghost use Rattle.start_choice.specs.plan_drafts.specs.Places.{AreStatuses};
+ghost use Rattle.start_choice.specs.plan_drafts.specs.PlanGraphs.{IsGraphFor};
+ghost use Rattle.plan_model.specs.Contents.{Operation};
+ghost use Rattle.plan_model.specs.Valid.{IsSound};
+ghost use Rattle.derived_figures.specs.Reports.{IsOfStatus};
+
+use plan_basics::{OpKey, Refusal};
+use plan_model::Graph;
+use start_choice::{Beside, Shown, standings_of, statuses_of};
+use status_rules::Status;
+use std::alloc::Global;
+use std::marker::Model;
+
+/// What stands beside the records of a plan's operations, with the status of each operation. Contracts see it as what the plan
+/// holds.
+#[derive(Drop)]
+pub struct Statuses<'a> {
+    beside: Beside<'a>,
+    statuses: &'a [Status],
+}
+
+impl<'a> Model for Statuses<'a> {
+    ghost use Rattle.plan_model.specs.Contents.{Contents};
+    ghost use Rattle.plan_model.specs.Code.{contents_code};
+    ghost use Rattle.start_choice.specs.plan_drafts.specs.Places.{AreStatuses};
+
+    ghost Value = { Contents };
+
+    ghost coded = { contents_code };
+
+    ghost view = { λ p. p.beside.contents.now };
+
+    ghost invariant = { λ p. AreStatuses p.beside.contents.now p.statuses.now };
+}
+
+impl<'a> Statuses<'a> {
+    /// The statuses of the plan beside whose records this stands, in key order.
+    pub fn of(beside: Beside<'a>, statuses: &'a [Status]) -> Statuses<'a>
+        requires { AreStatuses beside.contents.now statuses.now }
+        ensures { result ≡ beside.entry.contents.now }
+    {
+        Statuses { beside, statuses }
+    }
+
+    /// What stands beside its records.
+    pub fn beside(&self) -> Beside<'a>
+        ensures contents { result.contents.now ≡ self.now }
+        ensures sound { IsSound self.now }
+    {
+        self.beside.are_sound();
+        self.beside
+    }
+
+    /// The index of the operation of a key, if there is one.
+    pub fn place_of(&self, key: &OpKey) -> Option<usize>
+        ensures found { IfSome result (λ i. (op : Operation) × (slice_get (entries self.now.operations) i ≡ Some (key.now, op))) }
+        ensures absent { IsNone result → get self.now.operations key.now ≡ None }
+    {
+        self.beside.operation_place(key)
+    }
+
+    /// The status of the operation at an index.
+    pub fn status_at(&self, place: usize) -> Status
+        requires { place < length (entries self.now.operations) }
+        ensures { (o : OpKeyValue) → (op : Operation) → slice_get (entries self.now.operations) place ≡ Some (o, op) → IsOfStatus self.now o result }
+    {
+        self.beside.are_sound();
+        self.statuses[place]
+    }
+
+    /// The status of the operation of a key, if there is one.
+    pub fn status_of(&self, key: &OpKey) -> Option<Status>
+        ensures found { IfSome result (IsOfStatus self.now key.now) }
+        ensures absent { IsNone result → get self.now.operations key.now ≡ None }
+    {
+        match self.place_of(key) {
+            Some(place) => Some(self.status_at(place)),
+            None => None,
+        }
+    }
+}
+
+/// The status of each operation of what is shown, which has this graph, in key order: by a look at each. The error is always `Memory`.
+pub fn statuses_shown(
+    alloc: Global,
+    shown: &mut Shown,
+    graph: &Graph,
+) -> Result<Vec<Status>, Refusal>
+    requires { IsGraphFor shown.old.contents graph.now }
+    ensures statuses { IfOk result (λ found. AreStatuses shown.old.contents found.items) }
+    ensures contents { shown.new.contents ≡ shown.old.contents }
+    ensures most { shown.new.looks ≤ shown.old.looks + len shown.old.contents.operations }
+    ensures refused { IfErr result (λ r. r ≡ Refusal.Memory) }
+{
+    shown.beside().are_sound();
+    let briefs = shown.briefs_of(alloc)?;
+    let standings = standings_of(alloc, &briefs, graph)?;
+    Ok(statuses_of(alloc, &briefs, &standings)?)
+}

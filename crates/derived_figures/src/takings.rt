@@ -1,0 +1,75 @@
+// What workstations have given out and who holds special resources, where some operations got other marks.
+ghost use Rattle.std.specs.Prelude.{◌≡◌, ◌+◌, ◌<◌, ◌≤◌, ℕ, Contains, IfErr, OnOk, length};
+ghost use Rattle.std.specs.FinMap.{entries};
+ghost use Rattle.std.specs.List.Sorted.{IsStrictlySortedBy};
+ghost use Rattle.std.specs.Ordering.{nat_cmp};
+ghost use Rattle.plan_basics.specs.declared.Refusal.{Refusal};
+ghost use Rattle.start_choice.specs.Choices.{AreGivenOut, AreHeldIn};
+ghost use Rattle.plan_model.specs.Contents.{Contents};
+ghost use Rattle.derived_figures.specs.TakingsBefore.{HasPlanBefore, IsBeforeAt};
+ghost use Rattle.derived_figures.specs.Between.{AreGivenBetween, AreHeldBetween};
+
+use super::given::given_anew;
+use super::held::retake_needs;
+use plan_basics::Refusal;
+use plan_model::Marking;
+use special_resources::Holdings;
+use start_choice::{Seen, Shown};
+use workstations::Capacity;
+
+// Moves what is given out and held, where the operation at this place had this marking before.
+fn retake_at(
+    shown: &mut Shown,
+    given: &mut [Capacity],
+    holdings: &mut Holdings,
+    place: usize,
+    marking: &Marking,
+) -> Result<(), Refusal>
+    requires within { place < length (entries shown.old.contents.operations) }
+    requires stations { length given.old ≡ length (entries shown.old.contents.workstations) }
+    ensures given { OnOk result ((P : Contents) → IsBeforeAt P shown.old.contents place marking.now given.old holdings.old.held → AreGivenBetween P shown.old.contents (place + 1) given.new) }
+    ensures held { OnOk result ((P : Contents) → IsBeforeAt P shown.old.contents place marking.now given.old holdings.old.held → AreHeldBetween P shown.old.contents (place + 1) holdings.new.held) }
+    ensures contents { shown.new.contents ≡ shown.old.contents }
+    ensures fewest { shown.old.looks ≤ shown.new.looks }
+    ensures most { shown.new.looks ≤ shown.old.looks + 1 }
+    ensures refused { IfErr result (λ r. r ≡ Refusal.Memory) }
+{
+    let Seen {
+        key,
+        operation,
+        beside,
+    } = shown.see(place);
+    if !beside.starts_are_known(operation, place) {
+        return Ok(());
+    }
+    let old = marking.put_on(operation);
+    let station = beside.workstation_place_near(operation, place);
+    given[station] = given_anew(&given[station], &old, operation);
+    retake_needs(holdings, key, operation)
+}
+
+/// Moves what workstations have given out and who holds special resources, where the operations at these places, in ascending
+/// order, had these markings before, one for each place. It takes a look at each place at most. The error is always `Memory`: then
+/// both may be moved in part.
+pub fn retake(
+    shown: &mut Shown,
+    given: &mut [Capacity],
+    holdings: &mut Holdings,
+    places: &[usize],
+    marks: &[Marking],
+) -> Result<(), Refusal>
+    requires before { HasPlanBefore shown.old.contents places.now marks.now given.old holdings.old.held }
+    requires ascending { IsStrictlySortedBy nat_cmp places.now }
+    requires within { (i : ℕ) → Contains places.now i → i < length (entries shown.old.contents.operations) }
+    ensures given { OnOk result (AreGivenOut shown.old.contents (entries shown.old.contents.workstations) given.new) }
+    ensures held { OnOk result (AreHeldIn shown.old.contents holdings.new.held) }
+    ensures contents { shown.new.contents ≡ shown.old.contents }
+    ensures fewest { shown.old.looks ≤ shown.new.looks }
+    ensures most { shown.new.looks ≤ shown.old.looks + length places.now }
+    ensures refused { IfErr result (λ r. r ≡ Refusal.Memory) }
+{
+    for (index, place) in places.iter().enumerate() {
+        retake_at(shown, given, holdings, *place, &marks[index])?;
+    }
+    Ok(())
+}

@@ -1,5 +1,0 @@
-use Rattle.std.proofs.Common.{refl}
-use Rattle.desk_schedules.proofs.faults_leave_as_stops.Goals as goal
-
-pub returns : goal.returns
-returns c s t call h = (h.0, refl, refl)

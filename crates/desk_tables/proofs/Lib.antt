@@ -1,0 +1,11 @@
+pub mod ErrorLists
+pub mod Held
+pub mod Answered
+pub mod Running
+pub mod InRange
+pub mod Opened
+pub mod BroughtUp
+pub mod Stopped
+mod Rooms
+mod Receipts
+pub mod PreparedSteps

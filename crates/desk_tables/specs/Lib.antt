@@ -1,0 +1,14 @@
+pub use Rattle.plan_core
+pub use Rattle.plan_core.specs.plan_laws
+pub use Rattle.plan_model
+pub use Rattle.plan_records
+pub use Rattle.store_reads
+pub mod Desk
+pub mod Calls
+pub mod Opening
+pub mod Faults
+pub mod Errors
+pub mod Runs
+pub mod Shut
+pub mod Stops
+pub mod Steps

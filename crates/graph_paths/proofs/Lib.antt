@@ -1,0 +1,5 @@
+pub mod Backwards
+pub mod Sifts
+pub mod Once
+pub mod Firsts
+pub mod Ways

@@ -1,0 +1,4 @@
+pub mod Upstream
+pub mod Walking
+pub mod Returns
+pub mod Reached

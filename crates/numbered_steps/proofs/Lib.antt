@@ -1,3 +1,0 @@
-mod Rooms
-mod Receipts
-pub mod PreparedSteps

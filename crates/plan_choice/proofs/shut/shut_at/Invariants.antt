@@ -1,6 +1,0 @@
-use Rattle.plan_choice.specs.Shut.{AreShut}
-use Rattle.plan_choice.proofs.shut.shut_at.Given as goal
-
--- what is told so far is so
-abbrev pub invariant-loop-place : goal.invariant-loop-place
-invariant-loop-place l = AreShut l.workstations l.at l.given l.shut.items

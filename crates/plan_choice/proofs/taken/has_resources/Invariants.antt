@@ -1,8 +1,0 @@
-use Rattle.std.proofs.Common.{◌<◌, ℕ, get_or}
-use Rattle.special_resources.specs.declared.Need.{Need}
-use Rattle.plan_choice.specs.Takings.{CanMeetNeed}
-use Rattle.plan_choice.proofs.taken.has_resources.Given as goal
-
--- the needs that were passed can be met
-abbrev pub invariant-loop-need : goal.invariant-loop-need
-invariant-loop-need l = (k : ℕ) (d : Need) → k < l.need-index → CanMeetNeed l.beside.contents.now.resources l.holdings.held l.key (get_or l.need-items k d)

@@ -1,8 +1,0 @@
-use Rattle.std.specs.FinMap.{entries}
-use Rattle.shown_records.specs.plan_status.specs.plan_drafts.specs.Places.{AreByPlace}
-use Rattle.shown_records.specs.plan_status.proofs.Tallying.{IsTallySoFar}
-use Rattle.plan_choice.proofs.tallies.tallies_of.Given as goal
-
--- the rows below i are counted
-abbrev pub invariant-loop-i : goal.invariant-loop-i
-invariant-loop-i l = AreByPlace (entries l.beside.contents.now.occurrences) l.tallies.items (IsTallySoFar l.beside.contents.now (entries l.beside.contents.now.operations) l.i)

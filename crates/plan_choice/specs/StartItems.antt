@@ -1,8 +1,0 @@
--- What latest starts go by.
-use Rattle.latest_start.specs.declared.Item.{Item}
-use Rattle.status_rules.specs.Classes.{is_live}
-use Rattle.shown_records.specs.plan_status.specs.declared.briefs.Brief.{Brief}
-
--- what the latest start of an operation goes by
-abbrev pub start_item : Brief → Item
-start_item b = record { duration = b.duration; deadline = b.deadline; live = is_live b.mark }

@@ -1,5 +1,0 @@
-use Rattle.plan_figures.proofs.Naming as naming
-use Rattle.plan_figures.proofs.laws.naming_keeps_kept.Goals as goal
-
-pub returns : goal.returns
-returns c = naming.naming_keeps_kept

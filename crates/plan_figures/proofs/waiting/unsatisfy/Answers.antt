@@ -1,9 +1,0 @@
-use Rattle.plan_figures.proofs.WaitingMoved.{taken_back}
-use Rattle.plan_figures.proofs.Right.{kept_on_ok}
-use Rattle.plan_figures.proofs.waiting.unsatisfy.Goals as goal
-
-pub rerun-requires-clause-rerun : goal.rerun-requires-clause-rerun
-rerun-requires-clause-rerun c = taken_back c.requires.moved.0 c.args.shown.now.contents c.args.graph.now c.requires.graph c.args.kept.now c.args.places.now c.requires.moved.1
-
-pub returns-clause-kept : goal.returns-clause-kept
-returns-clause-kept c = kept_on_ok c.args.shown.now.contents c.args.graph.now c.requires.graph c.rerun.result c.rerun.new.kept c.rerun.ensures.right

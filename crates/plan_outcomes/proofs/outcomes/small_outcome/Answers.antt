@@ -1,8 +1,0 @@
-use Rattle.plan_outcomes.proofs.SmallTried.{clear_asked, moment_asked}
-use Rattle.plan_outcomes.proofs.outcomes.small_outcome.Goals as goal
-
-pub small_trial-shown-requires-clause-clear : goal.small_trial-shown-requires-clause-clear
-small_trial-shown-requires-clause-clear c =
-    let P = c.args.shown.contents in
-    let q = c.args.asked.now in
-    (q.at, moment_asked P q c.requires.acceptable, clear_asked P q c.requires.acceptable)

@@ -1,7 +1,0 @@
-use Rattle.std.proofs.Common.{◌≡◌, None, drop}
-use Rattle.plan_reads.specs.Reads.{rise_above}
-use Rattle.plan_reads.proofs.rising.rowids_rise.Given as goal
-
--- the rows from the index on decide it
-abbrev pub invariant-loop-row : goal.invariant-loop-row
-invariant-loop-row l = rise_above None l.rows ≡ rise_above l.last (drop l.row-index l.rows)

@@ -1,8 +1,0 @@
-use Rattle.std.proofs.Common.{ap, codes, ◌∙◌, is_some}
-use Rattle.sqlite_schema.specs.Names.{table_named}
-use Rattle.plan_reads.proofs.Faults.{quantity_named}
-use Rattle.plan_reads.proofs.rows.has_quantity.Goals as goal
-
-pub returns : goal.returns
-returns g c version has =
-    c.is_some.ensures ∙ ap is_some (c.table_named.ensures ∙ ap (λ s. table_named s (codes "quantity")) (c.schema.ensures.value ∙ has)) ∙ quantity_named version

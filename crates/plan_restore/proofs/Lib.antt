@@ -1,6 +1,0 @@
-pub mod Bare
-pub mod Metas
-pub mod Reporting
-pub mod Restored
-pub mod RowItems
-pub mod RowNumbers

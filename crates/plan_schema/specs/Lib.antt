@@ -1,3 +1,0 @@
-pub use Rattle.table_rows
-pub mod Schema
-pub mod Stored

@@ -1,4 +1,0 @@
-pub mod EachRow
-pub mod Neighbours
-pub mod OneResource
-pub mod HeldAmounts

@@ -1,8 +1,0 @@
-use Rattle.std.proofs.Common.{Contains, take}
-use Rattle.plan_changes.specs.plan_moves.specs.declared.Marking.{Marking}
-use Rattle.plan_steps.specs.Idle.{IsIdle}
-use Rattle.plan_steps.proofs.edits.is_idle_at_one.Given as goal
-
--- none of those so far
-abbrev pub invariant-loop-marking : goal.invariant-loop-marking
-invariant-loop-marking l = (m : Marking) → Contains (take l.marking-index l.marks) m → ¬ IsIdle l.what m

@@ -1,5 +1,0 @@
-use Rattle.plan_steps.proofs.OneFrame.{frame_stays, lives_follow, moves_follow, operations_stay}
-use Rattle.plan_steps.proofs.laws.frame_stays.Goals as goal
-
-pub returns : goal.returns
-returns c = record { frame = frame_stays; follow = moves_follow; lives = lives_follow; nowhere = operations_stay }

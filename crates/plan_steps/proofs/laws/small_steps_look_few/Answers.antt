@@ -1,5 +1,0 @@
-use Rattle.plan_steps.proofs.StepLooks.{small_steps_look_few}
-use Rattle.plan_steps.proofs.laws.small_steps_look_few.Goals as goal
-
-pub returns : goal.returns
-returns c = small_steps_look_few

@@ -1,5 +1,0 @@
-use Rattle.plan_steps.proofs.FewLooks.{four_looks_each}
-use Rattle.plan_steps.proofs.laws.whole_plans_look_few.Goals as goal
-
-pub returns : goal.returns
-returns c = four_looks_each

@@ -1,7 +1,0 @@
-use Rattle.std.proofs.Common.{◌≡◌, ℕ, map, take}
-use Rattle.plan_cascade.specs.declared.kept.Kept.{Kept}
-use Rattle.plan_steps.proofs.places.noted.Given as goal
-
--- the places of the entries before this one
-abbrev pub invariant-loop-entry : goal.invariant-loop-entry
-invariant-loop-entry l = l.places.items ≡ map (λ (e : ℕ × Kept). e.0) (take l.entry-index l.journal)

@@ -1,7 +1,0 @@
-use Rattle.std.proofs.Common.{take}
-use Rattle.plan_steps.specs.Following.{AreStatusesOnceNamed}
-use Rattle.plan_steps.proofs.statuses.statuses_once_named.Given as goal
-
--- the statuses of the places so far
-abbrev pub invariant-loop-place : goal.invariant-loop-place
-invariant-loop-place l = AreStatusesOnceNamed l.statuses (take l.place-index l.places) l.named l.values.items

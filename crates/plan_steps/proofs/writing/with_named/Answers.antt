@@ -1,5 +1,0 @@
-use Rattle.plan_figures.specs.plan_laws.proofs.Kept.{choice_keeps_sound}
-use Rattle.plan_steps.proofs.writing.with_named.Goals as goal
-
-pub mark_all-requires : goal.mark_all-requires
-mark_all-requires c = choice_keeps_sound c.args.shown.contents c.requires.0 c.args.named.now c.beside.ensures.sound c.requires.1

@@ -1,8 +1,0 @@
-pub mod ErrorLists
-pub mod Held
-pub mod Answered
-pub mod Running
-pub mod InRange
-pub mod Opened
-pub mod BroughtUp
-pub mod Stopped

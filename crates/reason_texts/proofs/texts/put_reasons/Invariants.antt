@@ -1,7 +1,0 @@
-use Rattle.std.proofs.Common.{◌≡◌, ◌++◌, drop}
-use Rattle.std.specs.Prelude.{flat_map}
-use Rattle.reason_texts.specs.Texts.{reason_line}
-use Rattle.reason_texts.proofs.texts.put_reasons.Given as goal
-
-abbrev pub invariant-loop-reason : goal.invariant-loop-reason
-invariant-loop-reason l = l.text.items ++ flat_map reason_line (drop l.reason-index l.reasons) ≡ l.fn.text.items ++ flat_map reason_line l.reasons

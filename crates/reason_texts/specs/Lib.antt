@@ -1,2 +1,0 @@
-pub use Rattle.plan_reasons
-pub mod Texts

@@ -1,0 +1,6 @@
+pub use Rattle.plan_import
+pub mod Members
+pub mod Intervals
+pub mod Requests
+pub mod Counted
+pub mod Replies

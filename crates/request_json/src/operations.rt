@@ -1,0 +1,53 @@
+// What is asked of one operation, by `do`.
+ghost use Rattle.std.specs.Prelude.{◌≡◌, ◌↔◌, Some, MatchOption, IsTrue};
+ghost use Rattle.plan_basics.specs.declared.keys.OpKey.{OpKey};
+ghost use Rattle.plan_items.specs.Parts.{IsReading};
+ghost use Rattle.plan_records.specs.declared.What.{What};
+ghost use Rattle.request_json.specs.Counted.{AsksBy, IsReportVerb, on_operation, IsOnOperation};
+ghost use Rattle.serde_json.specs.View.{view};
+
+use super::members::operation_at;
+use plan_basics::OpKey;
+use plan_records::What;
+use serde_json::Value;
+
+/// Whether this `do` is a tracker's.
+pub fn is_report(verb: &str) -> bool
+    ensures { IsTrue result ↔ IsReportVerb verb.now }
+{
+    matches!(
+        verb,
+        "started" | "ended" | "error" | "interrupted" | "unknown"
+    )
+}
+
+/// What is asked of an operation, where nothing but its key is to be told.
+pub fn read_on_operation(verb: &str, value: &Value, count: usize) -> Option<What>
+    ensures { IsReading (λ x. AsksBy (view value.now) verb.now count x × IsOnOperation x) result }
+{
+    if count != 3 {
+        return None;
+    }
+    let key = operation_at(value, "op")?;
+    on_operation(verb, key)
+}
+
+// The request of this `do` on an operation.
+fn on_operation(verb: &str, key: OpKey) -> Option<What>
+    ensures { MatchOption result ((x : What) → (k : OpKey) → ¬ (on_operation x ≡ Some (verb.now, k)))
+        (λ x. on_operation x ≡ Some (verb.now, key)) }
+{
+    match verb {
+        "started" => Some(What::Started(key)),
+        "ended" => Some(What::Ended(key)),
+        "interrupted" => Some(What::Interrupted(key)),
+        "unknown" => Some(What::Unknown(key)),
+        "hold" => Some(What::Hold(key)),
+        "release" => Some(What::Release(key)),
+        "nop" => Some(What::Nop(key)),
+        "unnop" => Some(What::Unnop(key)),
+        "rerun" => Some(What::Rerun(key)),
+        "complete" => Some(What::Complete(key)),
+        _ => None,
+    }
+}

@@ -1,0 +1,68 @@
+use Rattle.std.proofs.Common.{◌≡◌, ◌∙◌, sym, subst, ap, arith, length}
+use Rattle.std.specs.FinMap.{entries}
+use Rattle.request_outcomes.proofs.LedTo.{needs_plan, whole_looks}
+use Rattle.request_outcomes.proofs.Preparing.{is_clear, made_sound, sound_at}
+use Rattle.request_outcomes.proofs.whole.whole_outcome.Goals as goal
+use Rattle.request_outcomes.proofs.whole.whole_outcome.Goals.{After-anew_of, In_ok-new}
+use Rattle.request_outcomes.specs.Anew.{IsAnewOf}
+use Rattle.request_outcomes.specs.Asked.{IsAcceptable, plan_asked}
+use Rattle.request_outcomes.specs.Requested.{AreMadeBy}
+use Rattle.plan_records.specs.Acceptance.{MayBeDone, minute_of}
+use Rattle.plan_basics.specs.Refusals.{NoneRefuses}
+use Rattle.plan_model.specs.Contents.{Contents}
+use Rattle.plan_model.specs.Valid.{IsSound}
+use Rattle.small_requests.specs.plan_changes.proofs.Answered.{if_ok}
+use Rattle.small_requests.specs.derived_figures.specs.Frames.{IsFrameOf}
+use Rattle.small_requests.specs.counted_records.specs.States.{ShownState}
+
+pub changed-requires-clause-sound : goal.changed-requires-clause-sound
+changed-requires-clause-sound c = subst IsSound (sym c.in_ok-copy.ensures.copy) c.beside.ensures.sound
+
+pub changed-requires-clause-needs : goal.changed-requires-clause-needs
+changed-requires-clause-needs c = needs_plan c.args.shown.now.contents c.args.asked.now.clock c.args.asked.now.request.now c.requires.acceptable.clear
+
+pub changed-requires-clause-clear : goal.changed-requires-clause-clear
+changed-requires-clause-clear c =
+    let q = c.args.asked.now.request.now in
+    subst (λ (P : Contents). (at : _) × NoneRefuses (MayBeDone P at q.what)) (sym c.in_ok-copy.ensures.copy) (minute_of q.at, is_clear (plan_asked c.args.shown.now.contents c.args.asked.now) q c.requires.acceptable.clear)
+
+-- what is made of the copy is made of the plan
+made : (c : In_ok-new) → AreMadeBy c.args.shown.now.contents c.args.asked.now.request.now.what c.in_ok-new.new
+made c = subst (λ (P : Contents). AreMadeBy P c.args.asked.now.request.now.what c.in_ok-new.new) c.in_ok-copy.ensures.copy c.in_ok-new.ensures.made
+
+pub into_shown-requires : goal.into_shown-requires
+into_shown-requires c =
+    let P = c.args.shown.now.contents in
+    let q = c.args.asked.now in
+    made_sound (plan_asked P q) q.request.now c.requires.acceptable.clear c.in_ok-new.new (made ((goal.at.into_shown-requires c).In_ok-new)) (sound_at q.clock P c.requires.acceptable.clock c.beside.ensures.sound)
+
+pub anew_of-requires-clause-frame : goal.anew_of-requires-clause-frame
+anew_of-requires-clause-frame c = subst (λ (P : Contents). IsFrameOf P c.args.frame) (sym (c.beside-2.ensures.contents ∙ c.in_ok-copy.ensures.contents)) c.requires.frame
+
+pub anew_of-requires-clause-acceptable : goal.anew_of-requires-clause-acceptable
+anew_of-requires-clause-acceptable c = subst (λ (P : Contents). IsAcceptable P c.args.asked.now) (sym (c.beside-2.ensures.contents ∙ c.in_ok-copy.ensures.contents)) c.requires.acceptable
+
+pub anew_of-requires-clause-made : goal.anew_of-requires-clause-made
+anew_of-requires-clause-made c =
+    let w = c.args.asked.now.request.now.what in
+    subst (λ (P : Contents). AreMadeBy P w c.into_shown.result.contents) (sym (c.beside-2.ensures.contents ∙ c.in_ok-copy.ensures.contents))
+    (subst (λ (s : ShownState). AreMadeBy c.args.shown.now.contents w s.contents) (sym c.into_shown.ensures) (made ((goal.at.anew_of-requires-clause-made c).In_ok-new)))
+
+-- it is what the request leads to in the plan
+is_anew : (c : After-anew_of) → IsAnewOf (plan_asked c.args.shown.now.contents c.args.asked.now) c.args.asked.now.request.now c.args.asked.now.at c.anew_of.result
+is_anew c = subst (λ (P : Contents). IsAnewOf (plan_asked P c.args.asked.now) c.args.asked.now.request.now c.args.asked.now.at c.anew_of.result) (c.beside-2.ensures.contents ∙ c.in_ok-copy.ensures.contents) c.anew_of.ensures.anew
+
+pub returns-clause-anew : goal.returns-clause-anew
+returns-clause-anew c = is_anew ((goal.at.returns-clause-anew c).After-anew_of)
+
+pub returns-clause-looked : goal.returns-clause-looked
+returns-clause-looked c =
+    let P = c.args.shown.now.contents in
+    let q = c.args.asked.now in
+    let Q = c.into_shown.result.contents in
+    let a = c.anew_of.result in
+    let copy = c.in_ok-copy.ensures in
+    let same = ap (λ (P : Contents). length (entries P.operations)) (c.beside-2.ensures.contents ∙ copy.contents) in
+    let none : c.into_shown.result.looks ≡ 0 = ap (λ (s : ShownState). s.looks) c.into_shown.ensures in
+    whole_looks c.whole_plans_look_few.ensures P q.clock q.request.now q.at c.args.shown.now.looks c.copied.new.self.looks c.beside.ensures.sound c.requires.whole Q a (is_anew ((goal.at.returns-clause-looked c).After-anew_of))
+    (omega (arith, copy.most, c.requires.few)) (if_ok a.remade (λ x most. omega (arith, most, same, none)) c.anew_of.ensures.most) c.anew_of.ensures.operations copy.least

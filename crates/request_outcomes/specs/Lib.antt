@@ -1,0 +1,10 @@
+pub use Rattle.small_requests.specs.plan_checks
+pub use Rattle.small_requests
+pub mod Leaving
+pub mod Next
+pub mod Looked
+pub mod Outcomes
+pub mod Asked
+pub mod Anew
+pub mod Led
+pub mod Requested

@@ -1,0 +1,215 @@
+// What a request leads to in what is shown of a loaded plan.
+ghost use Rattle.std.specs.Prelude.{◌≡◌, ◌⊎◌, ◌+◌, ◌≤◌, ◌≤ℤ◌, ℕ, pos, Some, IfErr, IfOk, OnOk};
+ghost use Rattle.plan_basics.specs.Minutes.{IsMoment};
+ghost use Rattle.plan_basics.specs.Refusals.{IsLeastRefusal, NoneRefuses};
+ghost use Rattle.plan_basics.specs.declared.Refusal.{Refusal};
+ghost use Rattle.request_outcomes.specs.Asked.{IsAcceptable, plan_asked};
+ghost use Rattle.request_outcomes.specs.Led.{AreLooksLed, IsLedFor};
+ghost use Rattle.request_outcomes.specs.Requested.{MayBeMadeAt};
+ghost use Rattle.plan_records.specs.Answer.{refused};
+ghost use Rattle.plan_records.specs.Step.{Step};
+ghost use Rattle.small_requests.specs.KeptEdits.{IsSmall};
+ghost use Rattle.small_requests.specs.plan_checks.specs.Commands.{Extends};
+ghost use Rattle.small_requests.specs.start_choice.specs.Choices.{AreLatestStarts};
+ghost use Rattle.plan_drafts.specs.PlanGraphs.{IsGraphFor};
+ghost use Rattle.plan_model.specs.Plan.{plan_held};
+ghost use Rattle.small_requests.specs.derived_figures.specs.Figures.{AreFigures};
+ghost use Rattle.small_requests.specs.derived_figures.specs.Frames.{IsFrameOf};
+
+use super::asked::Asked;
+use super::extending::extended_outcome;
+use super::led::Led;
+use super::telling::told;
+use super::whole::whole_outcome;
+use operation_graph::Graph;
+use plan_basics::{Moment, Refusal};
+use plan_model::Latest;
+use plan_records::What;
+use small_requests::{
+    Figures, Frame, Setting, Shown, check_load, check_request, is_small, small_trial,
+};
+use std::alloc::Global;
+
+// What stands in the way of a request that extends nothing and is made at a moment where a plan is loaded, but for that moment: by one
+// look at most.
+fn check_in(
+    alloc: Global,
+    shown: &mut Shown,
+    frame: Frame<'_>,
+    what: &What,
+    at: Moment,
+) -> Result<(), Refusal>
+    requires frame { IsFrameOf shown.old.contents frame }
+    requires stays { ¬ Extends what.now }
+    ensures ok { (clock : ℕ) → OnOk result (NoneRefuses (MayBeMadeAt (plan_held clock (Some shown.old.contents)) at what.now)) }
+    ensures refused { (clock : ℕ) → IfErr result (λ r. (r ≡ Refusal.Memory) ⊎ IsLeastRefusal (MayBeMadeAt (plan_held clock (Some shown.old.contents)) at what.now) r) }
+    ensures contents { shown.new.contents ≡ shown.old.contents }
+    ensures most { shown.new.looks ≤ shown.old.looks + 1 }
+{
+    if let What::Load(draft) = what {
+        check_load(true, draft)
+    } else {
+        check_request(alloc, shown, frame, what, at)
+    }
+}
+
+// What a small request in whose way nothing stands leads to in a plan, of which this is shown: it is tried there, and told by that.
+// All comes back as it was. The error is always `Memory`.
+fn small_outcome(
+    alloc: Global,
+    shown: Shown,
+    graph: &Graph,
+    latest: &Latest,
+    figures: Figures,
+    asked: &Asked<'_>,
+) -> (Shown, Figures, Result<Led, Refusal>)
+    requires graph { IsGraphFor shown.contents graph.now }
+    requires latest { AreLatestStarts shown.contents latest.now.starts }
+    requires figures { AreFigures shown.contents figures }
+    requires acceptable { IsAcceptable shown.contents asked.now }
+    requires small { IsSmall asked.now.request.now.what }
+    requires few { shown.looks ≤ 1 }
+    ensures contents { result.0.contents ≡ shown.contents }
+    ensures figures { AreFigures shown.contents result.1 }
+    ensures led { IfOk result.2 (IsLedFor shown.contents asked.now) }
+    ensures looked { IfOk result.2 (λ l. AreLooksLed shown.contents asked.now.request.now.what l result.0.looks) }
+    ensures refused { IfErr result.2 (λ r. r ≡ Refusal.Memory) }
+{
+    let setting = Setting {
+        alloc,
+        graph,
+        latest,
+        at: asked.at,
+    };
+    let (mut shown, figures, trial) = small_trial(&setting, shown, figures, &asked.request.what);
+    match trial {
+        Ok((edit, step)) => {
+            let frame = Frame {
+                graph,
+                latest,
+                figures: &figures,
+            };
+            match told(alloc, &mut shown, frame, asked, edit, step) {
+                Ok(outcome) => (shown, figures, Ok(Led::Small(outcome))),
+                Err(refusal) => (shown, figures, Err(refusal)),
+            }
+        }
+        Err(refusal) => (shown, figures, Err(refusal)),
+    }
+}
+
+// What a request that extends nothing and in whose way nothing stands leads to in a plan, of which this is shown: tried there where it is
+// small, or else worked out over a copy. All comes back as it was. The error is always `Memory`.
+fn accepted_outcome(
+    alloc: Global,
+    shown: Shown,
+    graph: &Graph,
+    latest: &Latest,
+    figures: Figures,
+    asked: &Asked<'_>,
+) -> (Shown, Figures, Result<Led, Refusal>)
+    requires graph { IsGraphFor shown.contents graph.now }
+    requires latest { AreLatestStarts shown.contents latest.now.starts }
+    requires figures { AreFigures shown.contents figures }
+    requires acceptable { IsAcceptable shown.contents asked.now }
+    requires stays { ¬ Extends asked.now.request.now.what }
+    requires few { shown.looks ≤ 1 }
+    ensures contents { result.0.contents ≡ shown.contents }
+    ensures figures { AreFigures shown.contents result.1 }
+    ensures led { IfOk result.2 (IsLedFor shown.contents asked.now) }
+    ensures looked { IfOk result.2 (λ l. AreLooksLed shown.contents asked.now.request.now.what l result.0.looks) }
+    ensures refused { IfErr result.2 (λ r. r ≡ Refusal.Memory) }
+{
+    if is_small(&asked.request.what) {
+        return small_outcome(alloc, shown, graph, latest, figures, asked);
+    }
+    let mut shown = shown;
+    let frame = Frame {
+        graph,
+        latest,
+        figures: &figures,
+    };
+    match whole_outcome(alloc, &mut shown, frame, asked) {
+        Ok(anew) => (shown, figures, Ok(Led::Whole(anew))),
+        Err(refusal) => (shown, figures, Err(refusal)),
+    }
+}
+
+// What a request that extends nothing and is made at a moment leads to in a plan at its clock, of which this is shown and nothing was
+// looked at; or the least refusal that applies, or that no memory is found. What is shown and what is kept come back as they were.
+fn checked_outcome(
+    alloc: Global,
+    shown: Shown,
+    graph: &Graph,
+    latest: &Latest,
+    figures: Figures,
+    asked: &Asked<'_>,
+) -> (Shown, Figures, Result<Led, Refusal>)
+    requires graph { IsGraphFor shown.contents graph.now }
+    requires latest { AreLatestStarts shown.contents latest.now.starts }
+    requires figures { AreFigures shown.contents figures }
+    requires clock { IsMoment asked.now.clock }
+    requires moment { IsMoment asked.now.at }
+    requires at { asked.now.request.now.at ≡ pos asked.now.at }
+    requires onward { pos asked.now.clock ≤ℤ asked.now.request.now.at }
+    requires stays { ¬ Extends asked.now.request.now.what }
+    requires none { shown.looks ≡ 0 }
+    ensures contents { result.0.contents ≡ shown.contents }
+    ensures figures { AreFigures shown.contents result.1 }
+    ensures led { IfOk result.2 (IsLedFor shown.contents asked.now) }
+    ensures looked { IfOk result.2 (λ l. AreLooksLed shown.contents asked.now.request.now.what l result.0.looks) }
+    ensures refused { IfErr result.2 (λ r. (r ≡ Refusal.Memory) ⊎ Step (plan_asked shown.contents asked.now) asked.now.request.now (refused r) (plan_asked shown.contents asked.now)) }
+{
+    let mut shown = shown;
+    let frame = Frame {
+        graph,
+        latest,
+        figures: &figures,
+    };
+    match check_in(alloc, &mut shown, frame, &asked.request.what, asked.at) {
+        Ok(()) => accepted_outcome(alloc, shown, graph, latest, figures, asked),
+        Err(refusal) => (shown, figures, Err(refusal)),
+    }
+}
+
+/// What a request that is made at a moment leads to in a plan at its clock, of which this is shown and nothing was looked at; or
+/// the least refusal that applies, or that no memory is found. What is shown and what is kept come back as they were. A request by
+/// which only marks and flags change, which special resources are available, or when workstations are open, is tried in what is
+/// shown; any other works all out afresh over a copy, of which what is over has left for an extension.
+pub fn outcome_of(
+    alloc: Global,
+    shown: Shown,
+    graph: &Graph,
+    latest: &Latest,
+    figures: Figures,
+    asked: &Asked<'_>,
+) -> (Shown, Figures, Result<Led, Refusal>)
+    requires graph { IsGraphFor shown.contents graph.now }
+    requires latest { AreLatestStarts shown.contents latest.now.starts }
+    requires figures { AreFigures shown.contents figures }
+    requires clock { IsMoment asked.now.clock }
+    requires moment { IsMoment asked.now.at }
+    requires at { asked.now.request.now.at ≡ pos asked.now.at }
+    requires onward { pos asked.now.clock ≤ℤ asked.now.request.now.at }
+    requires none { shown.looks ≡ 0 }
+    ensures contents { result.0.contents ≡ shown.contents }
+    ensures figures { AreFigures shown.contents result.1 }
+    ensures led { IfOk result.2 (IsLedFor shown.contents asked.now) }
+    ensures looked { IfOk result.2 (λ l. AreLooksLed shown.contents asked.now.request.now.what l result.0.looks) }
+    ensures refused { IfErr result.2 (λ r. (r ≡ Refusal.Memory) ⊎ Step (plan_asked shown.contents asked.now) asked.now.request.now (refused r) (plan_asked shown.contents asked.now)) }
+{
+    if let What::Extend(extension) = &asked.request.what {
+        let mut shown = shown;
+        let frame = Frame {
+            graph,
+            latest,
+            figures: &figures,
+        };
+        match extended_outcome(alloc, &mut shown, frame, asked, extension) {
+            Ok(anew) => (shown, figures, Ok(Led::Whole(anew))),
+            Err(refusal) => (shown, figures, Err(refusal)),
+        }
+    } else {
+        checked_outcome(alloc, shown, graph, latest, figures, asked)
+    }
+}

@@ -1,7 +1,0 @@
-use Rattle.std.proofs.Common.{refl, take}
-use Rattle.request_texts.specs.Replies.{ready_data}
-use Rattle.request_texts.proofs.Written.{no_float}
-use Rattle.request_texts.proofs.rows.ready_text.Goals as goal
-
-pub array_text-requires : goal.array_text-requires
-array_text-requires c = rw c.loop-row.invariant (no_float ready_data (λ row. refl) (take c.loop-row.row-index c.args.rows.now))

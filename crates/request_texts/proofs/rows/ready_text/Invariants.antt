@@ -1,7 +1,0 @@
-use Rattle.std.proofs.Common.{◌≡◌, map, take}
-use Rattle.request_texts.specs.Replies.{ready_data}
-use Rattle.serde_json.specs.View.{view}
-use Rattle.request_texts.proofs.rows.ready_text.Given as goal
-
-abbrev pub invariant-loop-row : goal.invariant-loop-row
-invariant-loop-row l = map view l.values.items ≡ map ready_data (take l.row-index l.rows)

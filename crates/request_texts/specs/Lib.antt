@@ -1,6 +1,0 @@
-pub use Rattle.plan_import.specs.plan_model
-pub mod Members
-pub mod Intervals
-pub mod Requests
-pub mod Counted
-pub mod Replies

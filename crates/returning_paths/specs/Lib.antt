@@ -1,3 +1,0 @@
-pub use Rattle.operation_graph
-pub mod Returns
-pub mod Reached

@@ -1,0 +1,20 @@
+use Rattle.std.proofs.Common.{◌≡◌, ◌+◌, ◌*◌, ◌≤◌, [], drop, vec_len}
+use Rattle.operation_graph.specs.Graphs.{Digraph, IsGraph}
+use Rattle.satisfaction.specs.Counters.{IsCascade, unsatisfied_count, waiting_count}
+use Rattle.satisfaction.specs.Changes.{IsLowering}
+use Rattle.satisfaction.specs.Journal.{IsJournaled}
+use Rattle.satisfaction.proofs.settling.lower_all.Given as goal
+
+abbrev pub invariant-loop-node : goal.invariant-loop-node
+invariant-loop-node g l =
+    let listed = g.R.Rules.listed in
+    record {
+      source : g.R.Rules.source l.rules ≡ g.R.Rules.source l.fn.rules;
+      fewest : g.R.Rules.looks l.fn.rules ≤ g.R.Rules.looks l.rules;
+      most : g.R.Rules.looks l.rules + waiting_count l.kept ≤ g.R.Rules.looks l.fn.rules + waiting_count l.fn.kept;
+      rules : listed l.rules ≡ listed l.fn.rules;
+      step : (d : Digraph) → IsGraph d → IsCascade d (listed l.fn.rules) [] l.fn.kept l.fn.work.items l.nodes → IsCascade d (listed l.fn.rules) [] l.kept l.work.items (drop l.node-index l.nodes);
+      nearer : 2 * unsatisfied_count l.kept + vec_len l.work ≤ 2 * unsatisfied_count l.fn.kept + vec_len l.fn.work;
+      places : IsLowering [] l.fn.kept l.fn.journal.items l.kept l.journal.items;
+      journaled : IsJournaled l.fn.kept l.fn.journal.items l.kept l.journal.items;
+    }

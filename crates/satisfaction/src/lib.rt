@@ -1,0 +1,16 @@
+//! Which nodes of a graph are satisfied, and how many predecessors each waits for: both kept through changes, by the cascades
+//! that follow from them.
+#![tactic(auto)]
+
+mod clearing;
+mod journal;
+mod kept;
+mod rules;
+mod settling;
+
+pub use clearing::rerun;
+pub use journal::{take_back, write};
+pub use kept::{Kept, Rule};
+pub use operation_graph::Graph;
+pub use rules::Rules;
+pub use settling::{settle, settle_up};

@@ -1,0 +1,166 @@
+// What a small request edits.
+ghost use Rattle.std.specs.Prelude.{◌≡◌, ◌<◌, ◌≤◌, ◌+◌, ℕ, true, false, All, Contains, Decides, IfErr, IfOk, Some, length, slice_get};
+ghost use Rattle.std.specs.FinMap.{entries, keys as keys_in};
+ghost use Rattle.plan_basics.specs.Minutes.{IsMoment};
+ghost use Rattle.plan_basics.specs.Refusals.{NoneRefuses};
+ghost use Rattle.plan_basics.specs.declared.Refusal.{Refusal};
+ghost use Rattle.small_requests.specs.KeptEdits.{IsRerun, IsSmall};
+ghost use Rattle.plan_drafts.specs.PlanGraphs.{StandAt};
+ghost use Rattle.plan_checks.specs.derived_figures.specs.Frames.{IsFrameOf};
+ghost use Rattle.small_requests.specs.StepLooks.{AreWorkedAt, one_at_least};
+ghost use Rattle.plan_model.specs.declared.moves.Marking.{Marking as MarkingValue};
+ghost use Rattle.plan_records.specs.Acceptance.{MayBeDone};
+ghost use Rattle.plan_records.specs.Changes.{Changes, IsRequest};
+ghost use Rattle.small_requests.specs.Edits.{IsEditFor, IsNotedEdit, edited};
+ghost use Rattle.small_requests.specs.Idle.{IsIdle, IsOfNothing};
+
+use super::kept_edits::edited_places;
+use super::requests::revision_of;
+use super::revisions::Revision;
+use plan_basics::{OpKey, Refusal};
+use plan_checks::{Beside, Outline, Shown};
+use plan_model::Marking;
+use plan_records::What;
+use plan_rows::Frame;
+use std::alloc::{AllocError, Global};
+
+/// What a request edits.
+#[derive(Drop)]
+pub struct Edit {
+    /// The operations whose marks or flags it changes, by their indices in key order, ascending.
+    pub places: Vec<usize>,
+    /// Their keys.
+    pub keys: Vec<OpKey>,
+    /// The markings that they have before.
+    pub marks: Vec<Marking>,
+    /// What it writes.
+    pub revision: Revision,
+    /// Whether it takes back what was reported of them.
+    pub is_rerun: bool,
+}
+
+// Whether a request takes back what was reported.
+fn is_rerun(what: &What) -> bool
+    ensures { Decides result (IsRerun what.now) }
+{
+    matches!(what, What::Rerun(_))
+}
+
+// The key of the operation at an index.
+fn key_at(beside: &Beside<'_>, place: usize) -> OpKey
+    requires { place < length (entries beside.now.contents.now.operations) }
+    ensures { slice_get (keys_in beside.now.contents.now.operations) place ≡ Some result }
+{
+    *beside.operation_key(place)
+}
+
+// The keys of the operations at these indices.
+fn keys_at(alloc: Global, beside: &Beside<'_>, places: &[usize]) -> Result<Vec<OpKey>, AllocError>
+    requires { All (λ place. place < length (entries beside.now.contents.now.operations)) places.now }
+    ensures { IfOk result (λ keys. StandAt (keys_in beside.now.contents.now.operations) places.now keys.items) }
+{
+    let mut keys = Vec::with_capacity(alloc, places.len())?;
+    for place in places {
+        keys.push(key_at(beside, *place))?;
+    }
+    Ok(keys)
+}
+
+// Whether a flag of an operation with this marking stands already as a request would write it.
+fn is_idle(what: &What, marking: &Marking) -> bool
+    ensures { Decides result (IsIdle what.now marking.now) }
+{
+    match what {
+        What::Hold(_) => marking.held,
+        What::Release(_) => !marking.held,
+        What::Nop(_) => marking.nop,
+        What::Unnop(_) => !marking.nop,
+        _ => false,
+    }
+}
+
+// Whether a flag of one of the operations with these markings stands already as a request would write it.
+fn is_idle_at_one(what: &What, marks: &[Marking]) -> bool
+    ensures idle { result ≡ true → (m : MarkingValue) × Contains marks.now m × IsIdle what.now m }
+    ensures others { result ≡ false → (m : MarkingValue) → Contains marks.now m → ¬ IsIdle what.now m }
+{
+    for marking in marks {
+        if is_idle(what, marking) {
+            return true;
+        }
+    }
+    false
+}
+
+// The edit of nothing.
+fn nothing_edited(alloc: Global) -> Edit
+    ensures { IsOfNothing result }
+{
+    Edit {
+        places: Vec::new(alloc),
+        keys: Vec::new(alloc),
+        marks: Vec::new(alloc),
+        revision: Revision::Nothing,
+        is_rerun: false,
+    }
+}
+
+// What is noted of what a small request edits in whose way nothing stands: a look at each operation.
+fn noted_edit(
+    alloc: Global,
+    shown: &mut Shown,
+    frame: Frame<'_>,
+    what: &What,
+) -> Result<Edit, Refusal>
+    requires frame { IsFrameOf shown.old.contents frame }
+    requires small { IsSmall what.now }
+    requires clear { (at : ℕ) × NoneRefuses (MayBeDone shown.old.contents at what.now) }
+    ensures noted { IfOk result (IsNotedEdit shown.old.contents what.now) }
+    ensures refused { IfErr result (λ r. r ≡ Refusal.Memory) }
+    ensures contents { shown.new.contents ≡ shown.old.contents }
+    ensures fewest { shown.old.looks ≤ shown.new.looks }
+    ensures most { IfOk result (λ edit. shown.new.looks ≤ shown.old.looks + length edit.places.items) }
+{
+    let outline = Outline::of(shown.beside(), frame);
+    let places = edited_places(alloc, &outline, what)?;
+    let revision = revision_of(alloc, &outline.beside(), what)?;
+    let keys = keys_at(alloc, &outline.beside(), &places)?;
+    let marks = shown.markings_of(alloc, &keys)?;
+    Ok(Edit {
+        places,
+        keys,
+        marks,
+        revision,
+        is_rerun: is_rerun(what),
+    })
+}
+
+/// What a small request edits in whose way nothing stands at its moment: nothing where the flag that it writes stands so already. It
+/// takes a look at each operation that it edits, and one where it edits nothing. The error is always `Memory`.
+pub fn edit_of(
+    alloc: Global,
+    shown: &mut Shown,
+    frame: Frame<'_>,
+    what: &What,
+) -> Result<Edit, Refusal>
+    requires frame { IsFrameOf shown.old.contents frame }
+    requires small { IsSmall what.now }
+    requires clear { (at : ℕ) × IsMoment at × NoneRefuses (MayBeDone shown.old.contents at what.now) }
+    ensures edit { IfOk result (IsEditFor shown.old.contents) }
+    ensures changes { IfOk result (λ edit. Changes shown.old.contents what.now (edited edit shown.old.contents)) }
+    ensures legal { IfOk result (λ edit. IsRequest what.now) }
+    ensures worked { IfOk result (λ edit. AreWorkedAt shown.old.contents (edited edit shown.old.contents) what.now edit.places.items) }
+    ensures rerun { IfOk result (λ edit. edit.is_rerun ≡ true → IsRerun what.now) }
+    ensures refused { IfErr result (λ r. r ≡ Refusal.Memory) }
+    ensures contents { shown.new.contents ≡ shown.old.contents }
+    ensures fewest { shown.old.looks ≤ shown.new.looks }
+    ensures most { IfOk result (λ edit. shown.new.looks ≤ shown.old.looks + one_at_least (length edit.places.items)) }
+{
+    shown.beside().are_sound();
+    let edit = noted_edit(alloc, shown, frame, what)?;
+    if is_idle_at_one(what, &edit.marks) {
+        Ok(nothing_edited(alloc))
+    } else {
+        Ok(edit)
+    }
+}

@@ -1,0 +1,84 @@
+// What an edit writes into what a plan holds.
+ghost use Rattle.std.specs.Prelude.{◌≡◌, true, IfOk, List, Some};
+ghost use Rattle.std.specs.FinMap.{contains_key, get};
+ghost use Rattle.plan_rows.specs.Touched.{StaysBeside};
+ghost use Rattle.plan_model.specs.Contents.{Contents};
+ghost use Rattle.plan_basics.specs.declared.keys.OpKey.{OpKey as OpKeyValue};
+ghost use Rattle.small_requests.specs.Revisions.{HasPlaceFor, PutsBack, written};
+
+use plan_basics::{OpKey, ResName, WsName};
+use plan_checks::Shown;
+use plan_rows::ChangeBeside;
+use status_rules::Mark;
+use std::alloc::AllocError;
+use workstations::Workstation;
+
+/// What an edit writes.
+#[derive(Drop)]
+pub enum Revision {
+    /// Nothing.
+    Nothing,
+    /// A mark, on all operations of the edit.
+    Mark(Mark),
+    /// That an operation is held, or isn't any more.
+    Held(OpKey, bool),
+    /// That an operation is a no-operation, or is carried out again.
+    Nop(OpKey, bool),
+    /// Whether a special resource is available.
+    Available(ResName, bool),
+    /// A workstation, open in other intervals.
+    Opened(Workstation),
+}
+
+impl Revision {
+    /// An equal one.
+    pub fn try_clone(&self) -> Result<Revision, AllocError>
+        ensures { IfOk result (λ new. new ≡ self.now) }
+    {
+        match self {
+            Revision::Nothing => Ok(Revision::Nothing),
+            Revision::Mark(mark) => Ok(Revision::Mark(*mark)),
+            Revision::Held(key, held) => Ok(Revision::Held(*key, *held)),
+            Revision::Nop(key, nop) => Ok(Revision::Nop(*key, *nop)),
+            Revision::Available(name, available) => Ok(Revision::Available(*name, *available)),
+            Revision::Opened(workstation) => Ok(Revision::Opened(workstation.try_clone()?)),
+        }
+    }
+
+    /// What it may change beside operations.
+    pub fn beside(&self) -> ChangeBeside
+        ensures { (keys : List OpKeyValue) (P : Contents) → StaysBeside result P (written keys self.now P) }
+    {
+        match self {
+            Revision::Available(_, _) => ChangeBeside::Resources,
+            Revision::Opened(_) => ChangeBeside::Workstations,
+            _ => ChangeBeside::Nothing,
+        }
+    }
+}
+
+// A copy of the workstation of this name, which is there.
+fn standing_workstation(shown: &Shown, name: &WsName) -> Result<Workstation, AllocError>
+    requires { contains_key shown.now.contents.workstations name.now ≡ true }
+    ensures { IfOk result (λ w. (w.0 ≡ name.now) × (get shown.now.contents.workstations name.now ≡ Some w.1)) }
+{
+    shown.beside().workstation(name).unwrap().try_clone()
+}
+
+/// What stands beside operations where it is going to be written: that, written after it, puts back what stood there.
+pub fn standing(shown: &Shown, revision: &Revision) -> Result<Revision, AllocError>
+    requires { HasPlaceFor shown.now.contents revision.now }
+    ensures { IfOk result (PutsBack shown.now.contents revision.now) }
+{
+    match revision {
+        Revision::Available(name, _) => Ok(Revision::Available(
+            *name,
+            shown.beside().resource(name).unwrap().available,
+        )),
+        Revision::Opened(workstation) => Ok(Revision::Opened(standing_workstation(
+            shown,
+            &workstation.name(),
+        )?)),
+        _ => Ok(Revision::Nothing),
+    }
+}

@@ -1,0 +1,13 @@
+use Rattle.std.proofs.Common.{◌≡◌, ◌+◌, ◌≤◌, take}
+use Rattle.start_choice.specs.BriefedTakings.{holder_count}
+use Rattle.start_choice.proofs.HeldRows.{AreHeldAmong}
+use Rattle.start_choice.proofs.holders.holdings_of.Given as goal
+
+-- these are the holders among the rows that are gone through, and each that may hold something was looked at
+abbrev pub invariant-loop-place : goal.invariant-loop-place
+invariant-loop-place l = record {
+  contents : l.shown.contents ≡ l.fn.shown.contents;
+  fewest : l.fn.shown.looks ≤ l.shown.looks;
+  most : l.shown.looks ≤ l.fn.shown.looks + holder_count (take l.place l.briefs);
+  held : AreHeldAmong l.fn.shown.contents l.place l.holdings.held;
+}

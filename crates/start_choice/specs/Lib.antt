@@ -1,0 +1,14 @@
+pub use Rattle.counted_records
+pub use Rattle.counted_records.specs.plan_changes
+pub use Rattle.counted_records.specs.plan_drafts
+pub use Rattle.counted_records.specs.plan_laws
+pub use Rattle.counted_records.specs.plan_records
+pub use Rattle.counted_records.specs.plan_status
+pub use Rattle.counted_records.specs.satisfaction
+pub mod BriefedTakings
+pub mod Choices
+pub mod ReadyItems
+pub mod Shut
+pub mod StartGates
+pub mod StartItems
+pub mod Takings

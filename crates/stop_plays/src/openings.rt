@@ -1,0 +1,145 @@
+// An opening of tables of the first version, which makes those of the second of them, stopped in its midst; and the night that
+// goes on after it.
+use super::disks::{
+    Bytes, End, FusedFiles, FusedStore, Stop, begun, bytes_of, connected, connected_again,
+    files_of, files_with,
+};
+use super::outcomes::Outcome;
+use super::script::{REST, Told, make};
+use plan_basics::Refusal;
+use sqlite::{Alter, Connection, MemStore};
+use std::alloc::Global;
+use tracker_http::Desk;
+use wires::{makes_first_night, tables_text};
+
+/// What stands in the files before the opening, and what the tables hold: before it, after it, after the rest of the night.
+#[derive(Drop)]
+pub struct Opening {
+    files: Bytes,
+    first: Vec<u8>,
+    second: Vec<u8>,
+    last: Vec<u8>,
+}
+
+// The connection to a database in memory in which the tables of the first version are made, with a night.
+fn first_in_memory(alloc: Global) -> Option<Connection<MemStore>> {
+    let mut conn = Connection::open_in_memory(alloc).ok()?;
+    if makes_first_night(&mut conn) {
+        Some(conn)
+    } else {
+        None
+    }
+}
+
+// The files of a connection over which they are made.
+fn files_made(mut conn: Connection<FusedStore>) -> Option<FusedFiles> {
+    if makes_first_night(&mut conn) {
+        Some(files_of(conn))
+    } else {
+        None
+    }
+}
+
+// What stands in the files in which they are made.
+fn first_bytes(alloc: Global) -> Option<Bytes> {
+    match begun(alloc, Stop::NEVER) {
+        Ok(conn) => bytes_of(alloc, &files_made(conn)?).ok(),
+        Err(_) => None,
+    }
+}
+
+// The connection once a desk was opened over it.
+fn opened<S: Alter + Drop>(alloc: Global, conn: Connection<S>) -> Option<Connection<S>> {
+    Some(Desk::open(alloc, conn).ok()?.close())
+}
+
+// Whether a desk answers the rest of the night as it says.
+fn plays_rest<S: Alter + Drop>(alloc: Global, desk: &mut Desk<S>) -> bool {
+    for step in &REST {
+        if make(alloc, desk, step) != Told::Done {
+            return false;
+        }
+    }
+    true
+}
+
+// The connection once a desk was opened over it, and has answered the rest of the night.
+fn rest_played<S: Alter + Drop>(alloc: Global, conn: Connection<S>) -> Option<Connection<S>> {
+    let mut desk = Desk::open(alloc, conn).ok()?;
+    if plays_rest(alloc, &mut desk) {
+        Some(desk.close())
+    } else {
+        None
+    }
+}
+
+// What the tables hold then.
+fn text_after_rest<S: Alter + Drop>(alloc: Global, conn: Connection<S>) -> Option<Vec<u8>> {
+    let mut conn = rest_played(alloc, conn)?;
+    tables_text(alloc, &mut conn).ok()
+}
+
+/// The opening, and what comes of it without a stop.
+pub fn first_opening(alloc: Global) -> Option<Opening> {
+    let files = first_bytes(alloc)?;
+    let mut conn = first_in_memory(alloc)?;
+    let first = tables_text(alloc, &mut conn).ok()?;
+    let mut conn = opened(alloc, conn)?;
+    let second = tables_text(alloc, &mut conn).ok()?;
+    let last = text_after_rest(alloc, conn)?;
+    Some(Opening {
+        files,
+        first,
+        second,
+        last,
+    })
+}
+
+// The files that an opening over a connection leaves that is stopped; or what comes of it otherwise.
+fn stopped(alloc: Global, conn: Connection<FusedStore>) -> Result<FusedFiles, Outcome> {
+    match Desk::open(alloc, conn) {
+        Ok(_) => Err(Outcome::NoStop),
+        Err((Refusal::Store, conn)) => Ok(files_of(conn)),
+        Err(_) => Err(Outcome::Otherwise("a stop in an opening isn't told as Store")),
+    }
+}
+
+// The files that an opening leaves that is stopped so.
+fn left_by(alloc: Global, bytes: &Bytes, stop: Stop) -> Result<FusedFiles, Outcome> {
+    let Ok(files) = files_with(alloc, bytes, stop) else {
+        return Err(Outcome::Otherwise(super::FAILED));
+    };
+    match connected(alloc, files) {
+        Ok(conn) => stopped(alloc, conn),
+        Err(files) => Ok(files),
+    }
+}
+
+// What comes of it over the connection to what was left: the tables of one version or the other, whole, and then the rest of
+// the night.
+fn recovered<S: Alter + Drop>(
+    alloc: Global,
+    opening: &Opening,
+    mut conn: Connection<S>,
+) -> Outcome {
+    match tables_text(alloc, &mut conn) {
+        Ok(text) if text == opening.first || text == opening.second => {}
+        _ => return Outcome::Otherwise("a stopped opening leaves tables of no version"),
+    }
+    match text_after_rest(alloc, conn) {
+        Some(text) if text == opening.last => Outcome::Recovered,
+        _ => Outcome::Otherwise("the night of a stopped opening ends in other tables"),
+    }
+}
+
+/// What comes of an opening where the files stop so and stand so afterwards.
+pub fn outcome_of_opening(alloc: Global, opening: &Opening, stop: Stop, end: End) -> Outcome {
+    let files = match left_by(alloc, &opening.files, stop) {
+        Ok(files) => files,
+        Err(outcome) => return outcome,
+    };
+    match connected_again(alloc, files, end) {
+        Some(conn) => recovered(alloc, opening, conn),
+        None => Outcome::Otherwise("what a stopped opening left can't be opened"),
+    }
+}

@@ -1,0 +1,189 @@
+// What comes of one stop: how the desk answers from then on, what is found when it is opened again, and how the script
+// ends.
+use super::disks::{End, FusedFiles, Stop, begun, connected_again, files_of};
+use super::script::{STEPS, Told, is_reopen, make, written};
+use plan_basics::Refusal;
+use sqlite::{Alter, Connection};
+use std::alloc::Global;
+use tracker_http::Desk;
+use wires::{get, lacks_all, tables_text};
+
+/// What comes of a stop.
+#[derive(Clone, Copy, Debug, PartialEq)]
+pub enum Outcome {
+    /// The script ended before it.
+    NoStop,
+    /// The tables were as before the step that was stopped, or after it, and the script went on to its end.
+    Recovered,
+    /// What goes otherwise.
+    Otherwise(&'static str),
+}
+
+// What is left of the files where the script stopped, and in which of its steps; the first is the making of the tables.
+struct Left {
+    at: usize,
+    files: FusedFiles,
+}
+
+// How a run of the script ends over a connection: to its end, stopped in a step, or otherwise than it may.
+#[derive(Clone, Copy, Debug, PartialEq)]
+enum Ran {
+    Whole,
+    Stopped(usize),
+    Wrong(&'static str),
+}
+
+// Whether a desk refuses a list, since it is to be opened again.
+fn is_list_refused<S: Alter + Drop>(alloc: Global, desk: &mut Desk<S>, path: &str) -> Option<bool> {
+    let input = get(alloc, path)?;
+    let bytes = written(alloc, desk, &input)?;
+    Some(is_reopen(alloc, &bytes))
+}
+
+// Whether a desk whose store failed refuses what is asked then: the steps from this one on, and both lists.
+fn refuses_all<S: Alter + Drop>(alloc: Global, desk: &mut Desk<S>, at: usize) -> bool {
+    for step in STEPS.iter().skip(at) {
+        if make(alloc, desk, step) != Told::Reopen {
+            return false;
+        }
+    }
+    is_list_refused(alloc, desk, "/ready/SETP") == Some(true)
+        && is_list_refused(alloc, desk, "/occurrences") == Some(true)
+}
+
+// How the run ends at a desk whose store failed in this one of the steps after the making of the tables.
+fn stopped<S: Alter + Drop>(alloc: Global, desk: &mut Desk<S>, at: usize) -> Ran {
+    if refuses_all(alloc, desk, at) {
+        Ran::Stopped(at.saturating_add(1))
+    } else {
+        Ran::Wrong("a desk whose store failed answers otherwise than Reopen")
+    }
+}
+
+// Where a desk's store fails in the steps, if it does; or that a step is answered otherwise.
+fn failing_step<S: Alter + Drop>(alloc: Global, desk: &mut Desk<S>) -> Result<Option<usize>, ()> {
+    for (at, step) in STEPS.iter().enumerate() {
+        match make(alloc, desk, step) {
+            Told::Done => {}
+            Told::Store => return Ok(Some(at)),
+            _ => return Err(()),
+        }
+    }
+    Ok(None)
+}
+
+// How the script ends at a desk.
+fn ran_at<S: Alter + Drop>(alloc: Global, desk: &mut Desk<S>) -> Ran {
+    match failing_step(alloc, desk) {
+        Ok(None) => Ran::Whole,
+        Ok(Some(at)) => stopped(alloc, desk, at),
+        Err(()) => Ran::Wrong("a step before the stop is answered otherwise"),
+    }
+}
+
+// How the script ends over a connection without tables, which comes back.
+fn ran_over<S: Alter + Drop>(alloc: Global, conn: Connection<S>) -> (Connection<S>, Ran) {
+    match Desk::create(alloc, conn) {
+        Ok(mut desk) => {
+            let ran = ran_at(alloc, &mut desk);
+            (desk.close(), ran)
+        }
+        Err((Refusal::Store, conn)) => (conn, Ran::Stopped(0)),
+        Err((_, conn)) => (
+            conn,
+            Ran::Wrong("a stop in the making of the tables isn't told as Store"),
+        ),
+    }
+}
+
+// What is left where the script stops on files that stop so; or what comes of it otherwise.
+fn left_by(alloc: Global, stop: Stop) -> Result<Left, Outcome> {
+    let (files, ran) = match begun(alloc, stop) {
+        Ok(conn) => {
+            let (conn, ran) = ran_over(alloc, conn);
+            (files_of(conn), ran)
+        }
+        Err(files) => (files, Ran::Stopped(0)),
+    };
+    match ran {
+        Ran::Whole => Err(Outcome::NoStop),
+        Ran::Stopped(at) => Ok(Left { at, files }),
+        Ran::Wrong(what) => Err(Outcome::Otherwise(what)),
+    }
+}
+
+// Whether this is what a stop in this step may leave: the tables before it, or after it; before the first there is none.
+fn may_be_left(texts: &[Vec<u8>], at: usize, text: &[u8]) -> bool {
+    let before = match at.checked_sub(1) {
+        Some(before) => texts.get(before).is_some_and(|it| it.as_slice() == text),
+        None => lacks_all(text),
+    };
+    before || texts.get(at).is_some_and(|it| it.as_slice() == text)
+}
+
+// The desk over what was left: made where there is no table, else opened.
+fn desk_over<S: Alter + Drop>(alloc: Global, conn: Connection<S>, text: &[u8]) -> Option<Desk<S>> {
+    if lacks_all(text) {
+        Desk::create(alloc, conn).ok()
+    } else {
+        Desk::open(alloc, conn).ok()
+    }
+}
+
+// Whether a desk answers the steps from this one on as they say; a load that is in already is refused.
+fn goes_on<S: Alter + Drop>(alloc: Global, desk: &mut Desk<S>, first: usize) -> bool {
+    for step in STEPS.iter().skip(first) {
+        match make(alloc, desk, step) {
+            Told::Done => {}
+            Told::Loaded => {}
+            _ => return false,
+        }
+    }
+    true
+}
+
+// What comes of the script where it goes on at a desk, from the step that was stopped.
+fn gone_on<S: Alter + Drop>(
+    alloc: Global,
+    texts: &[Vec<u8>],
+    mut desk: Desk<S>,
+    at: usize,
+) -> Outcome {
+    if !goes_on(alloc, &mut desk, at.saturating_sub(1)) {
+        return Outcome::Otherwise("a step after the stop is answered otherwise");
+    }
+    let mut conn = desk.close();
+    match tables_text(alloc, &mut conn) {
+        Ok(text) if texts.last().is_some_and(|last| *last == text) => Outcome::Recovered,
+        _ => Outcome::Otherwise("the script ends in other tables"),
+    }
+}
+
+// What comes of a stop, over the connection to what it left.
+fn recovered<S: Alter + Drop>(
+    alloc: Global,
+    texts: &[Vec<u8>],
+    mut conn: Connection<S>,
+    at: usize,
+) -> Outcome {
+    let text = match tables_text(alloc, &mut conn) {
+        Ok(text) if may_be_left(texts, at, &text) => text,
+        _ => return Outcome::Otherwise("a stop leaves other tables"),
+    };
+    match desk_over(alloc, conn, &text) {
+        Some(desk) => gone_on(alloc, texts, desk, at),
+        None => Outcome::Otherwise("no desk is opened over what a stop left"),
+    }
+}
+
+/// What comes of the script where the files stop so and stand so afterwards, by the texts of a run without a stop.
+pub fn outcome_of(alloc: Global, texts: &[Vec<u8>], stop: Stop, end: End) -> Outcome {
+    let Left { at, files } = match left_by(alloc, stop) {
+        Ok(left) => left,
+        Err(outcome) => return outcome,
+    };
+    match connected_again(alloc, files, end) {
+        Some(conn) => recovered(alloc, texts, conn, at),
+        None => Outcome::Otherwise("what a stop left can't be opened"),
+    }
+}

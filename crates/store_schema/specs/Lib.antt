@@ -1,0 +1,13 @@
+pub use Rattle.tracker_receipts.specs.plan_drafts
+pub use Rattle.tracker_receipts.specs.plan_items
+pub use Rattle.tracker_receipts.specs.plan_records
+pub use Rattle.tracker_receipts
+pub mod Tables
+pub mod Commands
+pub mod Rows
+pub mod Stored
+pub mod Schema
+pub mod StoredPlans
+pub mod Columns
+pub mod WrittenTables
+pub mod Receipts

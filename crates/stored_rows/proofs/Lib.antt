@@ -1,4 +1,0 @@
-mod Appended
-pub mod Decoded
-mod OperationLaws
-mod RecordLaws

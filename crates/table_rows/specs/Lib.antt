@@ -1,4 +1,0 @@
-pub mod Tables
-pub mod Commands
-pub mod Rows
-pub mod Stored

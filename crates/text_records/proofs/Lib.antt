@@ -1,4 +1,0 @@
-pub mod Taken
-pub mod DenotingLaws
-pub mod LineLaws
-pub mod Marks

@@ -1,6 +1,0 @@
-use Rattle.std.proofs.Common.{true, false, drop}
-use Rattle.upstream.specs.Walking.{IsSift}
-use Rattle.upstream.proofs.sifting.sift.Given as goal
-
-abbrev pub invariant-loop-node : goal.invariant-loop-node
-invariant-loop-node g l = IsSift (λ n. goal.F-post g l.keep n true) (λ n. goal.F-post g l.keep n false) l.nodes l.kept.items (drop l.node-index l.nodes)

@@ -1,2 +1,0 @@
-pub mod Upstream
-pub mod Walking
