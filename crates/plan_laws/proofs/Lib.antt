@@ -13,6 +13,7 @@ pub mod Elements
 pub mod Entries
 pub mod Every
 pub mod Flags
+pub mod Keeping
 pub mod Kept
 pub mod KeptByStep
 pub mod Latest

@@ -1,5 +1,5 @@
 -- The rows of a valid plan, and those that change: they are there, and they determine the plan.
-use Rattle.std.specs.Prelude.{◌≡◌, ◌↔◌, List, Contains}
+use Rattle.std.specs.Prelude.{◌≡◌, ◌↔◌, ℕ, List, Contains}
 use Rattle.plan_basics.specs.declared.keys.OpKey.{OpKey}
 use Rattle.plan_model.specs.Plan.{Plan, IsSoundPlan}
 use Rattle.plan_model.specs.Contents.{Contents, IsInPlan}
@@ -12,6 +12,8 @@ use Rattle.plan_records.specs.Step.{Receipt, Receipts, Step}
 use Rattle.plan_records.specs.declared.OperationRow.{OperationRow}
 use Rattle.plan_records.specs.declared.PlanRow.{PlanRow}
 use Rattle.plan_records.specs.declared.Request.{Request}
+use Rattle.plan_records.specs.declared.What.{What}
+use Rattle.plan_records.specs.declared.What.TheVariants as what
 use Rattle.plan_records.specs.plan_drafts.specs.declared.RowKey.{RowKey}
 use Rattle.plan_records.specs.plan_drafts.specs.declared.RowKey.TheVariants as key
 
@@ -50,3 +52,17 @@ MayGo _ = Unit {0}
 -- no request takes out of the tables of a sound plan anything but these
 abbrev pub OnlyTheseGo : Type 0
 OnlyTheseGo = (P Q : Plan) (q : Request) (reply : Answer) (rows : List PlanRow) (gone : List RowKey) → IsSoundPlan P → Step P q reply Q → AreChanges P Q rows gone → (k : RowKey) → Contains gone k → MayGo k
+
+-- a request is an extension, by which occurrences may leave
+abbrev pub IsExtending : What → Type 0
+IsExtending (what.Extend a) = Unit {0}
+IsExtending _ = ⊥
+
+-- the key of an interval of a workstation
+abbrev pub IsIntervalKey : RowKey → Type 0
+IsIntervalKey k = (w : Name) × (from : ℕ) × (k ≡ key.Interval w from)
+
+-- no request but an extension takes out of the tables of a sound plan anything but intervals
+abbrev pub OnlyIntervalsGo : Type 0
+OnlyIntervalsGo =
+    (P Q : Plan) (q : Request) (reply : Answer) (rows : List PlanRow) (gone : List RowKey) → ¬ IsExtending q.what → IsSoundPlan P → Step P q reply Q → AreChanges P Q rows gone → (k : RowKey) → Contains gone k → IsIntervalKey k

@@ -26,7 +26,7 @@ ghost use Rattle.plan_model.specs.Status.{IsSatisfied, HasStatus, AllPredecessor
 ghost use Rattle.plan_laws.specs.Steps.{OneStep, OneNumberedStep, OneRun, SomeStep, SomeNumberedStep, SomeRun, PlanAnswers};
 ghost use Rattle.plan_laws.specs.Derived.{SatisfiedIsTold, SatisfiedByStatus, ClassesOfStatus, EachHasOneStatus, EachHasOneLatestStart, SomeReadyList, OneReadyList, SomeChoice, EachHasOneOccurrenceStatus, EachLeavesOneSoundPlan};
 ghost use Rattle.plan_laws.specs.Denoting.{OrderDoesNotMatter, OrderDoesNotMatterToAdditions, OrderDoesNotMatterToExtensions};
-ghost use Rattle.plan_laws.specs.Tables.{EachHasOneRow, OneListOfChanges, OnlyTheseGo, RowsTellPlan, RowsTellReceipts, SomeChanges, SomeRows};
+ghost use Rattle.plan_laws.specs.Tables.{EachHasOneRow, OneListOfChanges, OnlyIntervalsGo, OnlyTheseGo, RowsTellPlan, RowsTellReceipts, SomeChanges, SomeRows};
 ghost use Rattle.plan_laws.specs.Work.{OneAllowance, SomeAllowance};
 ghost use Rattle.plan_laws.specs.Ranks.{ValidHasRank, PathsAreTold, CyclesAreTold};
 ghost use Rattle.std.specs.Prelude.{◌≡◌, ◌≢◌, ◌⊎◌, ◌↔◌, ℕ};
@@ -187,6 +187,11 @@ pub fn one_list_of_changes()
 /// workstations and special resources stay.
 pub fn only_these_go()
     ensures { OnlyTheseGo }
+{}
+
+/// And no request but an extension takes out anything but intervals: what else a plan has stays under its key.
+pub fn only_intervals_go()
+    ensures { OnlyIntervalsGo }
 {}
 
 /// A valid plan has a ready list.
